@@ -1,0 +1,6 @@
+pub mod Check
+pub mod Block
+pub mod Frame
+pub mod Reading
+pub mod Reader
+pub mod Control

@@ -1,0 +1,172 @@
+-- What is written is read.
+use Rattle.std.proofs.Common.{◌≡◌, ◌≢◌, ℕ, zero, suc, ◌+◌, ◌-◌, ◌<◌, ◌≤◌, ◌^◌, Bool, true, false, not, List, [], ◌∷◌, ◌++◌, length, get_or, take, drop, All, decimal, replicate, sym, refl, ap, ◌∙◌, subst, arith}
+use Rattle.std.specs.Char.{is_ascii_digit, digit_value}
+use Rattle.std.specs.List.{prefix_len}
+use Rattle.std.specs.Str.Parse.{AllDigits, IsNumeral, digits_value}
+use Rattle.std.proofs.lemmas.Bool.Decides.{nat_tests}
+use Rattle.std.proofs.lemmas.Fmt.{digits_is_IsNumeral, decimal_is_IsNumeral}
+use Rattle.std.proofs.lemmas.List.{append_assoc, take_at, drop_at, drop-drop}
+use Rattle.std.proofs.lemmas.List.Elements.{All-head, All-tail}
+use Rattle.std.proofs.lemmas.Str.Parse.{digit_from_value}
+use Rattle.ym_header.specs.declared.stamp.Stamp.{Stamp}
+use Rattle.ym_header.specs.declared.stamp.Stamp.TheVariants.{Nothing, Time, TimeMode}
+use Rattle.ym_header.specs.declared.reading.Zero.{Zero}
+use Rattle.ym_header.specs.declared.reading.Zero.TheVariants.{File}
+use Rattle.ym_header.specs.Header.{HeaderParts, IsName, IsSafe, IsStamp, IsHeader}
+use Rattle.ym_header.specs.Split.{is_zero, ends_field, name_in, behind_name, digits_in, behind_digits, field_in, behind_field, HasField, HasNoField, ReadsStamp}
+use Rattle.ym_header.specs.Reading.{Reads, ReadsHeader}
+use Rattle.ym_header.specs.Text.{octal, stamp_text, fields, text, size_for}
+use Rattle.ym_header.proofs.MeaningLemmas.{one_value}
+
+-- ---- Runs
+
+abbrev Passes : (ℕ → Bool) → List ℕ → Type 0
+Passes p [] = Unit {0}
+Passes p (x ∷ xs) = (p x ≡ true) × Passes p xs
+
+-- a run ends where what follows begins with none
+run_at : (p : ℕ → Bool) (xs ys : List ℕ) → Passes p xs → prefix_len p ys ≡ 0 → prefix_len p (xs ++ ys) ≡ length xs
+run_at p [] ys h e = e
+run_at p (x ∷ xs) ys h e = let here = h.0 in rw (here, run_at p xs ys h.1 e) (omega arith)
+
+front_at : (p : ℕ → Bool) (xs ys : List ℕ) → Passes p xs → prefix_len p ys ≡ 0 → take (prefix_len p (xs ++ ys)) (xs ++ ys) ≡ xs
+front_at p xs ys h e = ap (λ n. take n (xs ++ ys)) (run_at p xs ys h e) ∙ take_at xs ys (length xs) refl
+
+-- ---- The name
+
+name_byte : (b : ℕ) → 0x20 ≤ b → not (is_zero b) ≡ true
+name_byte b h = grind (arith, nat_tests)
+
+name_passes : (name : List ℕ) → All (λ b. (0x20 ≤ b) × (b ≢ 0x2f)) name → Passes (λ b. not (is_zero b)) name
+name_passes [] h = tt
+name_passes (b ∷ bs) h = (name_byte b (All-head (λ b. (0x20 ≤ b) × (b ≢ 0x2f)) b bs h).0, name_passes bs (All-tail (λ b. (0x20 ≤ b) × (b ≢ 0x2f)) b bs h))
+
+name_at : (name rest : List ℕ) → IsSafe name → name_in (name ++ 0 ∷ rest) ≡ name
+name_at name rest safe = front_at (λ b. not (is_zero b)) name (0 ∷ rest) (name_passes name safe.bytes) refl
+
+behind_name_at : (name rest : List ℕ) → IsSafe name → behind_name (name ++ 0 ∷ rest) ≡ rest
+behind_name_at name rest safe =
+    ap (λ n. drop (n + 1) (name ++ 0 ∷ rest)) (run_at (λ b. not (is_zero b)) name (0 ∷ rest) (name_passes name safe.bytes) refl)
+    ∙ sym (drop-drop 1 (length name) (name ++ 0 ∷ rest))
+    ∙ ap (λ bs. drop 1 bs) (drop_at name (0 ∷ rest) (length name) refl)
+
+-- ---- The length
+
+digit_passes : (c : ℕ) → digit_value c < 10 → is_ascii_digit c ≡ true
+digit_passes c h = let range = digit_from_value c h in grind (arith, nat_tests)
+
+digits_pass : (ds : List ℕ) → AllDigits 10 ds → Passes is_ascii_digit ds
+digits_pass [] h = tt
+digits_pass (c ∷ cs) h = (digit_passes c h.0, digits_pass cs h.1)
+
+digits_at : (ds rest : List ℕ) → AllDigits 10 ds → prefix_len is_ascii_digit rest ≡ 0 → digits_in (ds ++ rest) ≡ ds
+digits_at ds rest h e = front_at is_ascii_digit ds rest (digits_pass ds h) e
+
+behind_digits_at : (ds rest : List ℕ) → AllDigits 10 ds → prefix_len is_ascii_digit rest ≡ 0 → behind_digits (ds ++ rest) ≡ rest
+behind_digits_at ds rest h e = ap (λ front. drop (length front) (ds ++ rest)) (digits_at ds rest h e) ∙ drop_at ds rest (length ds) refl
+
+-- ---- The fields
+
+octal_passes : (c : ℕ) → digit_value c < 8 → not (ends_field c) ≡ true
+octal_passes c h = let range = digit_from_value c (omega (arith, h)) in grind (arith, nat_tests)
+
+octals_pass : (ds : List ℕ) → AllDigits 8 ds → Passes (λ c. not (ends_field c)) ds
+octals_pass [] h = tt
+octals_pass (c ∷ cs) h = (octal_passes c h.0, octals_pass cs h.1)
+
+field_at : (ds rest : List ℕ) → AllDigits 8 ds → prefix_len (λ c. not (ends_field c)) rest ≡ 0 → field_in (0x20 ∷ (ds ++ rest)) ≡ ds
+field_at ds rest h e = front_at (λ c. not (ends_field c)) ds rest (octals_pass ds h) e
+
+behind_field_at : (ds rest : List ℕ) → AllDigits 8 ds → prefix_len (λ c. not (ends_field c)) rest ≡ 0 → behind_field (0x20 ∷ (ds ++ rest)) ≡ rest
+behind_field_at ds rest h e =
+    ap (λ front. drop (1 + length front) (0x20 ∷ (ds ++ rest))) (field_at ds rest h e)
+    ∙ sym (drop-drop (length ds) 1 (0x20 ∷ (ds ++ rest)))
+    ∙ drop_at ds rest (length ds) refl
+
+octal_is : (n : ℕ) → n < 2 ^ 64 → IsNumeral 8 (octal n) × (digits_value 8 (octal n) ≡ n)
+octal_is n h = digits_is_IsNumeral 8 false (omega arith) (omega arith) n (omega (arith, h))
+
+has_field : (bound n : ℕ) (rest : List ℕ) → n < 2 ^ 64 → n < bound → prefix_len (λ c. not (ends_field c)) rest ≡ 0 → HasField bound (0x20 ∷ (octal n ++ rest)) n
+has_field bound n rest h fits e =
+    let o = octal_is n h in
+    let at = field_at (octal n) rest o.0.1 e in
+    record {
+      numeral = subst (λ ds. IsNumeral 8 ds) (sym at) o.0;
+      value = sym o.1 ∙ ap (λ ds. digits_value 8 ds) (sym at);
+      fits = fits;
+    }
+
+zeros_stop : (n : ℕ) → prefix_len (λ c. not (ends_field c)) (replicate n 0) ≡ 0
+zeros_stop zero = refl
+zeros_stop (suc n) = refl
+
+zeros_have_none : (bound n : ℕ) → HasNoField bound (replicate n 0)
+zeros_have_none bound zero m h = absurd (omega (arith, h.numeral.0))
+zeros_have_none bound (suc n) m h = absurd (omega (arith, h.numeral.0))
+
+stamp_at : (s : Stamp) (n : ℕ) → IsStamp s → ReadsStamp (stamp_text s ++ replicate n 0) s
+stamp_at Nothing n fits = zeros_have_none (2 ^ 64) n
+stamp_at (Time time) n fits = (
+  has_field (2 ^ 64) time (replicate n 0) fits fits (zeros_stop n),
+  subst (λ rest. HasNoField (2 ^ 32) rest) (sym (behind_field_at (octal time) (replicate n 0) (octal_is time fits).0.1 (zeros_stop n)))
+      (zeros_have_none (2 ^ 32) n),
+)
+stamp_at (TimeMode time mode) n fits =
+    let rest = 0x20 ∷ (octal mode ++ replicate n 0) in
+    let regrouped : stamp_text (TimeMode time mode) ++ replicate n 0 ≡ 0x20 ∷ (octal time ++ rest) =
+    ap (λ bs. 0x20 ∷ bs) (append_assoc (octal time) (0x20 ∷ octal mode) (replicate n 0)) in
+    let first : HasField (2 ^ 64) (0x20 ∷ (octal time ++ rest)) time = has_field (2 ^ 64) time rest fits.0 fits.0 refl in
+    let second : HasField (2 ^ 32) rest mode = has_field (2 ^ 32) mode (replicate n 0) (omega (arith, fits.1)) fits.1 (zeros_stop n) in
+    subst (λ bs. ReadsStamp bs (TimeMode time mode)) (sym regrouped)
+    (first, subst (λ bs. HasField (2 ^ 32) bs mode) (sym (behind_field_at (octal time) rest (octal_is time fits.0).0.1 refl)) second)
+
+-- no digit stands behind the length
+no_digit : (s : Stamp) (n : ℕ) → prefix_len is_ascii_digit (stamp_text s ++ replicate n 0) ≡ 0
+no_digit Nothing zero = refl
+no_digit Nothing (suc n) = refl
+no_digit (Time time) n = refl
+no_digit (TimeMode time mode) n = refl
+
+-- ---- The whole
+
+body_read : (limit n : ℕ) (h : HeaderParts) → h.length < 2 ^ 64 → IsHeader limit h →
+    ReadsHeader limit (h.name ++ 0 ∷ (decimal h.length ++ (stamp_text h.stamp ++ replicate n 0))) h
+body_read limit n h room ok =
+    let behind = stamp_text h.stamp ++ replicate n 0 in
+    let rest = decimal h.length ++ behind in
+    let numeral = decimal_is_IsNumeral h.length room in
+    let after : behind_name (h.name ++ 0 ∷ rest) ≡ rest = behind_name_at h.name rest ok.name.safe in
+    let run : digits_in (behind_name (h.name ++ 0 ∷ rest)) ≡ decimal h.length =
+    ap digits_in after ∙ digits_at (decimal h.length) behind numeral.0.1 (no_digit h.stamp n) in
+    let left : behind_digits (behind_name (h.name ++ 0 ∷ rest)) ≡ behind =
+    ap behind_digits after ∙ behind_digits_at (decimal h.length) behind numeral.0.1 (no_digit h.stamp n) in
+    record {
+      name = sym (name_at h.name rest ok.name.safe);
+      safe = ok.name;
+      digits = subst (λ ds. 0 < length ds) (sym run) numeral.0.0;
+      length = sym numeral.1 ∙ ap (λ ds. digits_value 10 ds) (sym run);
+      fits = ok.length;
+      stamp = subst (λ bs. ReadsStamp bs h.stamp) (sym left) (stamp_at h.stamp n ok.stamp);
+    }
+
+regrouped_text : (name dec stamp pad : List ℕ) → name ++ (0 ∷ []) ++ dec ++ stamp ++ pad ≡ name ++ 0 ∷ (dec ++ (stamp ++ pad))
+regrouped_text name dec stamp pad = simp append_assoc
+
+pub text_read : (limit : ℕ) (h : HeaderParts) → limit < 2 ^ 64 → IsHeader limit h → Reads limit (text h) (File h)
+text_read limit h small ok =
+    let n = size_for (length (fields h)) - length (fields h) in
+    let room : h.length < 2 ^ 64 = omega (arith, ok.length, small) in
+    subst (λ body. ReadsHeader limit body h) (sym (regrouped_text h.name (decimal h.length) (stamp_text h.stamp) (replicate n 0))) (body_read limit n h room ok)
+
+pub text_read_alone : (limit : ℕ) (h : HeaderParts) (z : Zero) → limit < 2 ^ 64 → IsHeader limit h → Reads limit (text h) z → z ≡ File h
+text_read_alone limit h z small ok reads = one_value limit (text h) z (File h) reads (text_read limit h small ok)
+
+first_of_name : (name rest : List ℕ) → IsName name → get_or (name ++ rest) 0 0 ≢ 0
+first_of_name [] rest ok = absurd (omega (arith, ok.some))
+first_of_name (b ∷ bs) rest ok = λ e. absurd (omega (arith, e, (All-head (λ b. (0x20 ≤ b) × (b ≢ 0x2f)) b bs ok.safe.bytes).0))
+
+pub first_byte : (h : HeaderParts) → IsName h.name → get_or (text h) 0 0 ≢ 0
+first_byte h ok =
+    let pad = replicate (size_for (length (fields h)) - length (fields h)) 0 in
+    let rest = 0 ∷ (decimal h.length ++ (stamp_text h.stamp ++ pad)) in
+    subst (λ body. get_or body 0 0 ≢ 0) (sym (regrouped_text h.name (decimal h.length) (stamp_text h.stamp) pad)) (first_of_name h.name rest ok)

@@ -1,0 +1,56 @@
+-- What a header says, and which headers there are.
+use Rattle.std.specs.Prelude.{◌≡◌, ◌≢◌, ◌<◌, ◌≤◌, ◌^◌, ◌-◌, ℕ, List, [], length, codes, All, IsTrue}
+use Rattle.std.specs.Str.{is_utf8}
+use Rattle.ym_header.specs.declared.stamp.Stamp.{Stamp}
+use Rattle.ym_header.specs.declared.stamp.Stamp.TheVariants.{Nothing, Time, TimeMode}
+use Rattle.ym_header.specs.declared.fault.HeaderFault.{HeaderFault}
+use Rattle.ym_header.specs.declared.fault.HeaderFault.TheVariants.{NameEmpty, NameLong, NameUnsafe, NoLength, LengthLarge, Memory}
+
+-- a header as contracts see it
+pub record HeaderParts : Type 0 where
+  pub name : List ℕ
+  pub length : ℕ
+  pub stamp : Stamp
+
+-- the largest length
+abbrev pub length_limit : ℕ
+length_limit = 2 ^ 63 - 1
+
+-- UTF-8 without control characters and slashes, and no name of a directory
+pub record IsSafe (name : List ℕ) : Type 0 where
+  pub utf8 : IsTrue (is_utf8 name)
+  pub bytes : All (λ b. (0x20 ≤ b) × (b ≢ 0x2f)) name
+  pub not_here : name ≢ codes "."
+  pub not_above : name ≢ codes ".."
+
+pub record IsName (name : List ℕ) : Type 0 where
+  pub some : 0 < length name
+  pub short : length name ≤ 255
+  pub safe : IsSafe name
+
+-- the numbers fit the fields' types
+abbrev pub IsStamp : Stamp → Type 0
+IsStamp Nothing = Unit {0}
+IsStamp (Time time) = time < 2 ^ 64
+IsStamp (TimeMode time mode) = (time < 2 ^ 64) × (mode < 2 ^ 32)
+
+-- a header within the limits, of which that on the length is given
+pub record IsHeader (limit : ℕ) (h : HeaderParts) : Type 0 where
+  pub name : IsName h.name
+  pub length : h.length ≤ limit
+  pub stamp : IsStamp h.stamp
+
+-- the first fault of a name that has some bytes
+abbrev pub IsNameFault : List ℕ → HeaderFault → Type 0
+IsNameFault name NameLong = 255 < length name
+IsNameFault name NameUnsafe = (0 < length name) × (length name ≤ 255) × ¬ IsSafe name
+IsNameFault name _ = ⊥
+
+-- why there is no header of this name and length, the first that applies; want of memory where nothing else does
+abbrev pub IsRefused : ℕ → List ℕ → ℕ → HeaderFault → Type 0
+IsRefused limit name len NameEmpty = name ≡ []
+IsRefused limit name len NameLong = IsNameFault name NameLong
+IsRefused limit name len NameUnsafe = IsNameFault name NameUnsafe
+IsRefused limit name len NoLength = ⊥
+IsRefused limit name len LengthLarge = IsName name × (limit < len)
+IsRefused limit name len Memory = IsName name × (len ≤ limit)

@@ -1,0 +1,111 @@
+//! The header of a file.
+
+ghost use Rattle.std.specs.Prelude.{◌≡◌, ◌≢◌, All, ◌≤◌, ◌<◌, ◌^◌, ◌↔◌, IsTrue, IfOk, IfErr, length};
+ghost use Rattle.ym_header.specs.Header.{IsName, IsSafe, IsHeader, IsRefused, IsStamp, length_limit};
+
+use crate::fault::HeaderFault;
+use crate::stamp::Stamp;
+use std::alloc::{AllocError, Global};
+use std::marker::Model;
+
+/// The largest length that a header may tell.
+pub(crate) const LENGTH_LIMIT: u64 = 0x7fff_ffff_ffff_ffff;
+
+/// A file's name and length, and its stamp.
+#[derive(Drop)]
+pub struct Header {
+    name: String,
+    size: u64,
+    stamp: Stamp,
+}
+
+impl Model for Header {
+    ghost use Rattle.std.specs.Prelude.{string_bytes};
+    ghost use Rattle.ym_header.specs.Header.{HeaderParts, IsHeader, length_limit};
+
+    ghost Value = { HeaderParts };
+
+    ghost view = { λ h. record { name = string_bytes h.name; length = h.size; stamp = h.stamp } };
+
+    ghost invariant = { λ h. IsHeader length_limit (record { name = string_bytes h.name; length = h.size; stamp = h.stamp }) };
+}
+
+fn has_safe_bytes(name: &[u8]) -> bool
+    ensures { IsTrue result ↔ All (λ b. (0x20 ≤ b) × (b ≢ 0x2f)) name.now }
+{
+    name.iter().all(|byte| *byte >= 0x20 && *byte != b'/')
+}
+
+/// Whether a text of some length is safe as a file's name.
+pub(crate) fn is_safe(name: &str) -> bool
+    ensures { IsTrue result ↔ IsSafe name.now }
+{
+    if name == "." || name == ".." {
+        return false;
+    }
+    has_safe_bytes(name.as_bytes())
+}
+
+impl Header {
+    /// The header of a file, or the first fault.
+    pub fn new(alloc: Global, name: &str, length: u64, stamp: Stamp) -> Result<Header, HeaderFault>
+        ensures ok { IfOk result (λ header. header ≡ record { name = name.now; length = length; stamp = stamp }) }
+        ensures within { IfOk result (λ header. IsHeader length_limit header) }
+        ensures refused { IfErr result (λ fault. IsRefused length_limit name.now length fault) }
+    {
+        if name.is_empty() {
+            return Err(HeaderFault::NameEmpty);
+        }
+        if name.len() > 255 {
+            return Err(HeaderFault::NameLong);
+        }
+        if !is_safe(name) {
+            return Err(HeaderFault::NameUnsafe);
+        }
+        if length > LENGTH_LIMIT {
+            return Err(HeaderFault::LengthLarge);
+        }
+        Ok(Header::from_parts(alloc, name, length, stamp)?)
+    }
+
+    /// The header of parts that are within the limits.
+    pub(crate) fn from_parts(
+        alloc: Global,
+        name: &str,
+        length: u64,
+        stamp: Stamp,
+    ) -> Result<Header, AllocError>
+        requires name { IsName name.now }
+        requires length { length ≤ length_limit }
+        ensures parts { IfOk result (λ header. header ≡ record { name = name.now; length = length; stamp = stamp }) }
+        ensures within { IfOk result (λ header. IsHeader length_limit header) }
+    {
+        let name = String::from_str(alloc, name)?;
+        Ok(Header {
+            name,
+            size: length,
+            stamp,
+        })
+    }
+
+    pub fn name(&self) -> &str
+        ensures value { result.now ≡ self.now.name }
+        ensures within { IsName result.now }
+    {
+        self.name.as_str()
+    }
+
+    pub fn length(&self) -> u64
+        ensures value { result ≡ self.now.length }
+        ensures within { result ≤ length_limit }
+    {
+        self.size
+    }
+
+    pub fn stamp(&self) -> Stamp
+        ensures value { result ≡ self.now.stamp }
+        ensures within { IsStamp result }
+    {
+        self.stamp
+    }
+}
