@@ -27,8 +27,8 @@ def rounds(count):
 
 
 def files(count):
-    """So many files of 0 bytes, and as many rounds as a script may have."""
-    return b"".join(b"file a -\n" for _ in range(count)) + b"ok 65535\n"
+    """So many files of 0 bytes, and as many whole rounds."""
+    return b"".join(b"file a -\n" for _ in range(count)) + b"ok %d\n" % count
 
 
 def largest():
@@ -113,7 +113,7 @@ def table(title, unit, small, large, make):
 
 def main():
     table("rounds of one file of 500,000 bytes, all whole", "round", 8192, 65535, rounds)
-    table("files of 0 bytes, 65,535 whole rounds", "file", 8191, 65535, files)
+    table("files of 0 bytes, and as many whole rounds", "file", 8191, 65535, files)
     print("peak memory")
     for name, script in (("one file, 1 MiB script", largest()), ("65,535 files of 0 bytes", files(65535)), ("long blocks 0, each repeated, 1 MiB script", most_recorded())):
         print("  %-45s %6.1f MiB (script of %d bytes)" % (name, peak(script) / 1024, len(script)))
