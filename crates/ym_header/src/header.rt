@@ -8,10 +8,10 @@ use crate::stamp::Stamp;
 use std::alloc::{AllocError, Global};
 use std::marker::Model;
 
-/// The largest length that a header may tell.
+/// The largest length that a header may tell: 2^63 - 1.
 pub(crate) const LENGTH_LIMIT: u64 = 0x7fff_ffff_ffff_ffff;
 
-/// A file's name and length, and its stamp.
+/// A file's name, its length in bytes, and its stamp. The name is a safe one of 1 to 255 bytes, and the length at most 2^63 - 1.
 #[derive(Drop)]
 pub struct Header {
     name: String,
@@ -47,7 +47,8 @@ pub(crate) fn is_safe(name: &str) -> bool
 }
 
 impl Header {
-    /// The header of a file, or the first fault.
+    /// The header of a file. A name of 1 to 255 bytes without control characters and slashes, which is neither `.` nor `..`, and
+    /// a length of at most 2^63 - 1 are accepted; else the first fault is told, in the order of `HeaderFault`.
     pub fn new(alloc: Global, name: &str, length: u64, stamp: Stamp) -> Result<Header, HeaderFault>
         ensures ok { IfOk result (λ header. header ≡ record { name = name.now; length = length; stamp = stamp }) }
         ensures within { IfOk result (λ header. IsHeader length_limit header) }
@@ -88,6 +89,7 @@ impl Header {
         })
     }
 
+    /// The file's name.
     pub fn name(&self) -> &str
         ensures value { result.now ≡ self.now.name }
         ensures within { IsName result.now }
@@ -95,6 +97,7 @@ impl Header {
         self.name.as_str()
     }
 
+    /// The file's length in bytes.
     pub fn length(&self) -> u64
         ensures value { result ≡ self.now.length }
         ensures within { result ≤ length_limit }
@@ -102,6 +105,7 @@ impl Header {
         self.size
     }
 
+    /// When the file was last changed, and its mode, as far as they are told.
     pub fn stamp(&self) -> Stamp
         ensures value { result ≡ self.now.stamp }
         ensures within { IsStamp result }
