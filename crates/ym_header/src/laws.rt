@@ -1,7 +1,7 @@
 //! Laws of the definitions: each is the promise of a function that does nothing.
 
-ghost use Rattle.std.specs.Prelude.{◌≡◌, ◌≢◌, ◌⊎◌, ◌<◌, ◌≤◌, ◌^◌, ◌++◌, List, ℕ, slice_index};
-ghost use Rattle.ym_header.specs.Header.{HeaderParts, IsName, IsHeader};
+ghost use Rattle.std.specs.Prelude.{◌≡◌, ◌≢◌, ◌⊎◌, ◌<◌, ◌≤◌, ◌^◌, ◌++◌, List, ℕ, slice_index, length};
+ghost use Rattle.ym_header.specs.Header.{HeaderParts, IsName, IsHeader, length_limit};
 ghost use Rattle.ym_header.specs.Reading.{Reads, IsFault};
 ghost use Rattle.ym_header.specs.Text.{text, end_text};
 ghost use Rattle.ym_header.specs.declared.fault.HeaderFault.{HeaderFault};
@@ -21,6 +21,16 @@ pub fn written_is_read()
     ensures alone { (limit : ℕ) (h : HeaderParts) (z : Zero) → limit < 2 ^ 64 → IsHeader limit h → Reads limit (text h) z → z ≡ Zero.File h }
     ensures end { (limit : ℕ) → Reads limit end_text Zero.End }
     ensures first_byte { (h : HeaderParts) → IsName h.name → slice_index (text h) 0 ≢ 0 }
+{}
+
+/// What is written of a header fills a short or a long body.
+pub fn written_is_body()
+    ensures { (h : HeaderParts) → IsHeader length_limit h → (length (text h) ≡ 128) ⊎ (length (text h) ≡ 1024) }
+{}
+
+/// A header that is read is within the limits.
+pub fn read_is_within()
+    ensures { (limit : ℕ) (body : List ℕ) (h : HeaderParts) → Reads limit body (Zero.File h) → IsHeader limit h }
 {}
 
 /// What a body stands for stays under a wider limit on the length, as from 2^32 - 1 to 2^63 - 1.
