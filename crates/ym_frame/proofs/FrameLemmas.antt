@@ -11,7 +11,7 @@ use Rattle.std.proofs.lemmas.List.{take-append-le, drop-append-le, take-append-d
 use Rattle.ym_frame.proofs.TableWords.{and_first, and_second}
 use Rattle.ym_frame.specs.Check.{check_of}
 use Rattle.ym_frame.specs.Block.{BlockParts}
-use Rattle.ym_frame.specs.Frame.{IsFrame, BeginsWith, HasNoFrame, IsVerdict, IsBytes, IsOpen, verdict_of, block_verdict, cancel_verdict, fault_of, block_frame, body_at, field, there, at}
+use Rattle.ym_frame.specs.Frame.{IsFrame, BeginsWith, HasNoFrame, IsVerdict, IsBytes, IsOpen, verdict_of, block_verdict, cancel_verdict, fault_of, block_frame, body_of, check_field, has_byte_where, fault_at}
 use Rattle.ym_frame.specs.declared.frame.Item.{Item}
 use Rattle.ym_frame.specs.declared.frame.Item.TheVariants.{Block, Eot, Cancel}
 use Rattle.ym_frame.specs.declared.frame.Why.{Why}
@@ -41,7 +41,7 @@ unfoldable pub wrong_by : Bool → ℕ → ℕ → Bool
 wrong_by longer complement number = longer && not (complement == 255 - number)
 
 abbrev pub wrong_at : List ℕ → Bool
-wrong_at bytes = there bytes 2 (λ b. not (b == 255 - slice_index bytes 1))
+wrong_at bytes = has_byte_where bytes 2 (λ b. not (b == 255 - slice_index bytes 1))
 
 wrong_is : (bytes : List ℕ) → wrong_at bytes ≡ wrong_by (nat_lt 2 (length bytes)) (slice_index bytes 2) (slice_index bytes 1)
 unfolding wrong_by
@@ -51,12 +51,12 @@ wrong_longer : (bytes : List ℕ) → wrong_at bytes ≡ true → 2 < length byt
 wrong_longer bytes h = ltb-true 2 (length bytes) (and_first (nat_lt 2 (length bytes)) _ h)
 
 unfoldable pub judged : Bool → Bool → ℕ → ℕ → ℕ → List ℕ → ℕ → Result (Item × ℕ) Broken
-judged wrong short size len number body field =
-    cond wrong (Err (at 2 Complement))
-    (cond short (Err (at len Cut))
-    (cond (check_of body == field) (Ok (Block (record { number = number; body = body }), size + 5)) (Err (at (size + 3) Check))))
+judged wrong short size len number body check_field =
+    cond wrong (Err (fault_at 2 Complement))
+    (cond short (Err (fault_at len Cut))
+    (cond (check_of body == check_field) (Ok (Block (record { number = number; body = body }), size + 5)) (Err (fault_at (size + 3) Check))))
 
-judged_is : (size : ℕ) (bytes : List ℕ) → block_verdict size bytes ≡ judged (wrong_at bytes) (nat_lt (length bytes) (size + 5)) size (length bytes) (slice_index bytes 1) (body_at size bytes) (field size bytes)
+judged_is : (size : ℕ) (bytes : List ℕ) → block_verdict size bytes ≡ judged (wrong_at bytes) (nat_lt (length bytes) (size + 5)) size (length bytes) (slice_index bytes 1) (body_of size bytes) (check_field size bytes)
 unfolding judged
 judged_is size bytes = refl
 
@@ -64,44 +64,44 @@ judged_whole : (wrong : Bool) (size len other number : ℕ) (body : List ℕ) (f
 unfolding judged
 judged_whole wrong size len other number body fld = refl
 
-judged_wrong : (short : Bool) (size len number : ℕ) (body : List ℕ) (fld : ℕ) → judged true short size len number body fld ≡ Err (at 2 Complement)
+judged_wrong : (short : Bool) (size len number : ℕ) (body : List ℕ) (fld : ℕ) → judged true short size len number body fld ≡ Err (fault_at 2 Complement)
 unfolding judged
 judged_wrong short size len number body fld = refl
 
 pub data BlockCase (size : ℕ) (bytes : List ℕ) : Type 0 where
-  wrong : wrong_at bytes ≡ true → block_verdict size bytes ≡ Err (at 2 Complement) → BlockCase size bytes
-  cut : wrong_at bytes ≡ false → length bytes < size + 5 → block_verdict size bytes ≡ Err (at (length bytes) Cut) → BlockCase size bytes
-  good : wrong_at bytes ≡ false → size + 5 ≤ length bytes → check_of (body_at size bytes) ≡ field size bytes →
-      block_verdict size bytes ≡ Ok (Block (record { number = slice_index bytes 1; body = body_at size bytes }), size + 5) → BlockCase size bytes
-  bad : wrong_at bytes ≡ false → size + 5 ≤ length bytes → (check_of (body_at size bytes) == field size bytes) ≡ false →
-      block_verdict size bytes ≡ Err (at (size + 3) Check) → BlockCase size bytes
+  wrong : wrong_at bytes ≡ true → block_verdict size bytes ≡ Err (fault_at 2 Complement) → BlockCase size bytes
+  cut : wrong_at bytes ≡ false → length bytes < size + 5 → block_verdict size bytes ≡ Err (fault_at (length bytes) Cut) → BlockCase size bytes
+  good : wrong_at bytes ≡ false → size + 5 ≤ length bytes → check_of (body_of size bytes) ≡ check_field size bytes →
+      block_verdict size bytes ≡ Ok (Block (record { number = slice_index bytes 1; body = body_of size bytes }), size + 5) → BlockCase size bytes
+  bad : wrong_at bytes ≡ false → size + 5 ≤ length bytes → (check_of (body_of size bytes) == check_field size bytes) ≡ false →
+      block_verdict size bytes ≡ Err (fault_at (size + 3) Check) → BlockCase size bytes
 
-cases_by : (size : ℕ) (bytes : List ℕ) (w s m : Bool) → wrong_at bytes ≡ w → nat_lt (length bytes) (size + 5) ≡ s → (check_of (body_at size bytes) == field size bytes) ≡ m → BlockCase size bytes
+cases_by : (size : ℕ) (bytes : List ℕ) (w s m : Bool) → wrong_at bytes ≡ w → nat_lt (length bytes) (size + 5) ≡ s → (check_of (body_of size bytes) == check_field size bytes) ≡ m → BlockCase size bytes
 unfolding judged
 cases_by size bytes true s m w l e =
     wrong w
     (judged_is size bytes ∙
-    ap (λ t. judged t (nat_lt (length bytes) (size + 5)) size (length bytes) (slice_index bytes 1) (body_at size bytes) (field size bytes)) w)
+    ap (λ t. judged t (nat_lt (length bytes) (size + 5)) size (length bytes) (slice_index bytes 1) (body_of size bytes) (check_field size bytes)) w)
 cases_by size bytes false true m w l e =
     cut w (ltb-true (length bytes) (size + 5) l)
     (judged_is size bytes ∙
-    ap (λ t. judged t (nat_lt (length bytes) (size + 5)) size (length bytes) (slice_index bytes 1) (body_at size bytes) (field size bytes)) w ∙
-    ap (λ t. judged false t size (length bytes) (slice_index bytes 1) (body_at size bytes) (field size bytes)) l)
+    ap (λ t. judged t (nat_lt (length bytes) (size + 5)) size (length bytes) (slice_index bytes 1) (body_of size bytes) (check_field size bytes)) w ∙
+    ap (λ t. judged false t size (length bytes) (slice_index bytes 1) (body_of size bytes) (check_field size bytes)) l)
 cases_by size bytes false false true w l e =
-    good w (ltb-false (length bytes) (size + 5) l) (eqb-true (check_of (body_at size bytes)) (field size bytes) e)
+    good w (ltb-false (length bytes) (size + 5) l) (eqb-true (check_of (body_of size bytes)) (check_field size bytes) e)
     (judged_is size bytes ∙
-    ap (λ t. judged t (nat_lt (length bytes) (size + 5)) size (length bytes) (slice_index bytes 1) (body_at size bytes) (field size bytes)) w ∙
-    ap (λ t. judged false t size (length bytes) (slice_index bytes 1) (body_at size bytes) (field size bytes)) l ∙
-    ap (λ t. cond t (Ok (Block (record { number = slice_index bytes 1; body = body_at size bytes }), size + 5)) (Err (at (size + 3) Check))) e)
+    ap (λ t. judged t (nat_lt (length bytes) (size + 5)) size (length bytes) (slice_index bytes 1) (body_of size bytes) (check_field size bytes)) w ∙
+    ap (λ t. judged false t size (length bytes) (slice_index bytes 1) (body_of size bytes) (check_field size bytes)) l ∙
+    ap (λ t. cond t (Ok (Block (record { number = slice_index bytes 1; body = body_of size bytes }), size + 5)) (Err (fault_at (size + 3) Check))) e)
 cases_by size bytes false false false w l e =
     bad w (ltb-false (length bytes) (size + 5) l) e
     (judged_is size bytes ∙
-    ap (λ t. judged t (nat_lt (length bytes) (size + 5)) size (length bytes) (slice_index bytes 1) (body_at size bytes) (field size bytes)) w ∙
-    ap (λ t. judged false t size (length bytes) (slice_index bytes 1) (body_at size bytes) (field size bytes)) l ∙
-    ap (λ t. cond t (Ok (Block (record { number = slice_index bytes 1; body = body_at size bytes }), size + 5)) (Err (at (size + 3) Check))) e)
+    ap (λ t. judged t (nat_lt (length bytes) (size + 5)) size (length bytes) (slice_index bytes 1) (body_of size bytes) (check_field size bytes)) w ∙
+    ap (λ t. judged false t size (length bytes) (slice_index bytes 1) (body_of size bytes) (check_field size bytes)) l ∙
+    ap (λ t. cond t (Ok (Block (record { number = slice_index bytes 1; body = body_of size bytes }), size + 5)) (Err (fault_at (size + 3) Check))) e)
 
 pub block_case : (size : ℕ) (bytes : List ℕ) → BlockCase size bytes
-block_case size bytes = cases_by size bytes (wrong_at bytes) (nat_lt (length bytes) (size + 5)) (check_of (body_at size bytes) == field size bytes) refl refl refl
+block_case size bytes = cases_by size bytes (wrong_at bytes) (nat_lt (length bytes) (size + 5)) (check_of (body_of size bytes) == check_field size bytes) refl refl refl
 
 -- ---- more bytes behind
 wrong_more : (bytes more : List ℕ) → 2 < length bytes → wrong_at (bytes ++ more) ≡ wrong_at bytes
@@ -117,8 +117,8 @@ wrong_more bytes more h =
     ap (λ t. wrong_by (nat_lt 2 (length bytes)) (slice_index bytes 2) t) fourth ∙
     sym (wrong_is bytes)
 
-pub body_at-more : (size : ℕ) (bytes more : List ℕ) → size + 3 ≤ length bytes → body_at size (bytes ++ more) ≡ body_at size bytes
-body_at-more size bytes more h =
+pub body_of-more : (size : ℕ) (bytes more : List ℕ) → size + 3 ≤ length bytes → body_of size (bytes ++ more) ≡ body_of size bytes
+body_of-more size bytes more h =
     ap (take size) (drop-append-le 3 bytes more (omega arith)) ∙
     take-append-le size (drop 3 bytes) more (omega (arith, length-drop 3 bytes))
 
@@ -130,16 +130,16 @@ block_more size bytes more h =
     let number : slice_index (bytes ++ more) 1 ≡ slice_index bytes 1 = get_or-append bytes more 0 1 (omega arith) in
     let high : slice_index (bytes ++ more) (size + 3) ≡ slice_index bytes (size + 3) = get_or-append bytes more 0 (size + 3) (omega arith) in
     let low : slice_index (bytes ++ more) (size + 4) ≡ slice_index bytes (size + 4) = get_or-append bytes more 0 (size + 4) (omega arith) in
-    let fld : field size (bytes ++ more) ≡ field size bytes = ap (λ t. t * 256 + slice_index (bytes ++ more) (size + 4)) high ∙ ap (λ t. slice_index bytes (size + 3) * 256 + t) low in
-    let body : body_at size (bytes ++ more) ≡ body_at size bytes = body_at-more size bytes more (omega arith) in
+    let fld : check_field size (bytes ++ more) ≡ check_field size bytes = ap (λ t. t * 256 + slice_index (bytes ++ more) (size + 4)) high ∙ ap (λ t. slice_index bytes (size + 3) * 256 + t) low in
+    let body : body_of size (bytes ++ more) ≡ body_of size bytes = body_of-more size bytes more (omega arith) in
     judged_is size (bytes ++ more) ∙
-    ap (λ t. judged t (nat_lt (length (bytes ++ more)) (size + 5)) size (length (bytes ++ more)) (slice_index (bytes ++ more) 1) (body_at size (bytes ++ more)) (field size (bytes ++ more))) wrong_same ∙
-    ap (λ t. judged (wrong_at bytes) t size (length (bytes ++ more)) (slice_index (bytes ++ more) 1) (body_at size (bytes ++ more)) (field size (bytes ++ more))) first ∙
-    judged_whole (wrong_at bytes) size (length (bytes ++ more)) (length bytes) (slice_index (bytes ++ more) 1) (body_at size (bytes ++ more)) (field size (bytes ++ more)) ∙
-    ap (λ t. judged (wrong_at bytes) false size (length bytes) t (body_at size (bytes ++ more)) (field size (bytes ++ more))) number ∙
-    ap (λ t. judged (wrong_at bytes) false size (length bytes) (slice_index bytes 1) t (field size (bytes ++ more))) body ∙
-    ap (λ t. judged (wrong_at bytes) false size (length bytes) (slice_index bytes 1) (body_at size bytes) t) fld ∙
-    ap (λ t. judged (wrong_at bytes) t size (length bytes) (slice_index bytes 1) (body_at size bytes) (field size bytes)) (sym second) ∙
+    ap (λ t. judged t (nat_lt (length (bytes ++ more)) (size + 5)) size (length (bytes ++ more)) (slice_index (bytes ++ more) 1) (body_of size (bytes ++ more)) (check_field size (bytes ++ more))) wrong_same ∙
+    ap (λ t. judged (wrong_at bytes) t size (length (bytes ++ more)) (slice_index (bytes ++ more) 1) (body_of size (bytes ++ more)) (check_field size (bytes ++ more))) first ∙
+    judged_whole (wrong_at bytes) size (length (bytes ++ more)) (length bytes) (slice_index (bytes ++ more) 1) (body_of size (bytes ++ more)) (check_field size (bytes ++ more)) ∙
+    ap (λ t. judged (wrong_at bytes) false size (length bytes) t (body_of size (bytes ++ more)) (check_field size (bytes ++ more))) number ∙
+    ap (λ t. judged (wrong_at bytes) false size (length bytes) (slice_index bytes 1) t (check_field size (bytes ++ more))) body ∙
+    ap (λ t. judged (wrong_at bytes) false size (length bytes) (slice_index bytes 1) (body_of size bytes) t) fld ∙
+    ap (λ t. judged (wrong_at bytes) t size (length bytes) (slice_index bytes 1) (body_of size bytes) (check_field size bytes)) (sym second) ∙
     sym (judged_is size bytes)
 
 -- ---- the verdict of any bytes, by its first byte
@@ -165,11 +165,12 @@ first_case (first ∷ more) = first_by first more (first == 0x04) (first == 0x18
 
 -- another first byte
 pub other_verdict : (first : ℕ) (more : List ℕ) → (first == 0x04) ≡ false → (first == 0x18) ≡ false → (first == 0x01) ≡ false → (first == 0x02) ≡ false →
-    verdict_of (first ∷ more) ≡ Err (at 0 FirstByte)
+    verdict_of (first ∷ more) ≡ Err (fault_at 0 FirstByte)
+unfolding verdict_of
 other_verdict first more e c s l = rw (e, c, s, l) refl
 
 -- ---- what is not open stays
-open_cut : (v : Result (Item × ℕ) Broken) (n : ℕ) → v ≡ Err (at n Cut) → IsOpen v
+open_cut : (v : Result (Item × ℕ) Broken) (n : ℕ) → v ≡ Err (fault_at n Cut) → IsOpen v
 open_cut v n e = subst IsOpen (sym e) refl
 
 pub block_stays : (size : ℕ) (bytes more : List ℕ) → (IsOpen (block_verdict size bytes) → ⊥) → block_verdict size (bytes ++ more) ≡ block_verdict size bytes
@@ -177,9 +178,9 @@ block_stays size bytes more shut =
     elim (block_case size bytes) [
       | wrong w e ↦
           judged_is size (bytes ++ more) ∙
-          ap (λ t. judged t (nat_lt (length (bytes ++ more)) (size + 5)) size (length (bytes ++ more)) (slice_index (bytes ++ more) 1) (body_at size (bytes ++ more)) (field size (bytes ++ more)))
+          ap (λ t. judged t (nat_lt (length (bytes ++ more)) (size + 5)) size (length (bytes ++ more)) (slice_index (bytes ++ more) 1) (body_of size (bytes ++ more)) (check_field size (bytes ++ more)))
           (wrong_more bytes more (wrong_longer bytes w) ∙ w) ∙
-          judged_wrong (nat_lt (length (bytes ++ more)) (size + 5)) size (length (bytes ++ more)) (slice_index (bytes ++ more) 1) (body_at size (bytes ++ more)) (field size (bytes ++ more)) ∙
+          judged_wrong (nat_lt (length (bytes ++ more)) (size + 5)) size (length (bytes ++ more)) (slice_index (bytes ++ more) 1) (body_of size (bytes ++ more)) (check_field size (bytes ++ more)) ∙
           sym e
       | cut w l e ↦ absurd (shut (open_cut (block_verdict size bytes) (length bytes) e))
       | good w l m e ↦ block_more size bytes more l
@@ -191,6 +192,7 @@ cancel_stays [] more shut = absurd (shut refl)
 cancel_stays (second ∷ bytes) more shut = refl
 
 stays_at : (bytes : List ℕ) → FirstCase bytes → (more : List ℕ) → (IsOpen (verdict_of bytes) → ⊥) → verdict_of (bytes ++ more) ≡ verdict_of bytes
+unfolding verdict_of
 stays_at bytes (nothing e) more shut = absurd (shut (open_cut (verdict_of bytes) 0 (ap verdict_of e)))
 stays_at bytes (eot rest e) more shut = ap (λ b. verdict_of (b ++ more)) e ∙ sym (ap verdict_of e)
 stays_at bytes (can rest e) more shut =
@@ -222,7 +224,7 @@ block_again size first b more long =
     let front = first ∷ b.number ∷ (255 - b.number) ∷ b.body in
     let split : bytes ≡ front ++ (check / 256 ∷ check % 256 ∷ more) = ap (λ t. first ∷ b.number ∷ (255 - b.number) ∷ t) (append_assoc b.body (check / 256 ∷ check % 256 ∷ []) more) in
     let enough : size + 5 ≤ length bytes = omega (arith, ap length split, length-append front (check / 256 ∷ check % 256 ∷ more)) in
-    let body : body_at size bytes ≡ b.body = ap (body_at size) split ∙ take_at b.body (check / 256 ∷ check % 256 ∷ more) size long in
+    let body : body_of size bytes ≡ b.body = ap (body_of size) split ∙ take_at b.body (check / 256 ∷ check % 256 ∷ more) size long in
     let place : size + 3 ≡ length front + 0 = omega arith in
     let next_place : size + 4 ≡ length front + 1 = omega arith in
     let high : slice_index bytes (size + 3) ≡ check / 256 =
@@ -230,16 +232,17 @@ block_again size first b more long =
     let low : slice_index bytes (size + 4) ≡ check % 256 =
     ap (slice_index bytes) next_place ∙ ap (λ t. slice_index t (length front + 1)) split ∙ get_or-append-add front (check / 256 ∷ check % 256 ∷ more) 1 0 in
     let whole : check / 256 * 256 + check % 256 ≡ check = omega arith in
-    let same : field size bytes ≡ check_of (body_at size bytes) =
+    let same : check_field size bytes ≡ check_of (body_of size bytes) =
     ap (λ t. t * 256 + slice_index bytes (size + 4)) high ∙ ap (λ t. check / 256 * 256 + t) low ∙ whole ∙ sym (ap check_of body) in
     elim (block_case size bytes) [
       | wrong w e ↦ absurd (not_itself (255 - b.number) (and_second (nat_lt 2 (length bytes)) _ w))
       | cut w l e ↦ absurd (omega arith)
       | good w l m e ↦ e ∙ ap (λ t. Ok (Block (record { number = b.number; body = t }), size + 5)) body
-      | bad w l m e ↦ absurd (false_true (sym m ∙ eq-eqb (check_of (body_at size bytes)) (field size bytes) (sym same)))
+      | bad w l m e ↦ absurd (false_true (sym m ∙ eq-eqb (check_of (body_of size bytes)) (check_field size bytes) (sym same)))
     ]
 
 pub found_again : (item : Item) (frame more : List ℕ) → IsFrame item frame → verdict_of (frame ++ more) ≡ Ok (item, length frame)
+unfolding verdict_of
 found_again Eot frame more e = ap (λ f. verdict_of (f ++ more)) e ∙ ap (λ f. Ok (Eot, length f)) (sym e)
 found_again Cancel frame more e = ap (λ f. verdict_of (f ++ more)) e ∙ ap (λ f. Ok (Cancel, length f)) (sym e)
 found_again (Block b) frame more h =
@@ -289,8 +292,8 @@ two_bytes size rest h fits check e =
     ap (λ t. take size rest ++ check / 256 ∷ t ∷ []) second
 
 pub block_found : (size first : ℕ) (more : List ℕ) → IsBytes (first ∷ more) → wrong_at (first ∷ more) ≡ false → size + 5 ≤ length (first ∷ more) →
-    check_of (body_at size (first ∷ more)) ≡ field size (first ∷ more) →
-    (take (size + 5) (first ∷ more) ≡ block_frame first (record { number = slice_index (first ∷ more) 1; body = body_at size (first ∷ more) })) × (length (body_at size (first ∷ more)) ≡ size)
+    check_of (body_of size (first ∷ more)) ≡ check_field size (first ∷ more) →
+    (take (size + 5) (first ∷ more) ≡ block_frame first (record { number = slice_index (first ∷ more) 1; body = body_of size (first ∷ more) })) × (length (body_of size (first ∷ more)) ≡ size)
 block_found size first [] fits w l m = absurd (omega arith)
 block_found size first (n ∷ []) fits w l m = absurd (omega arith)
 block_found size first (n ∷ c ∷ rest) fits w l m =
@@ -325,50 +328,58 @@ fits_err : (v : Result (Item × ℕ) Broken) (bytes : List ℕ) (broken : Broken
 fits_err v bytes broken h e = subst (Fits bytes) (sym e) h
 
 cancel_fits : (more : List ℕ) → Fits (0x18 ∷ more) (cancel_verdict more)
+unfolding fault_of
 cancel_fits [] = refl
 cancel_fits (second ∷ more) =
-    let C : Bool → Type 0 = λ b. (second == 0x18) ≡ b → Fits (0x18 ∷ second ∷ more) (cond b (Ok (Cancel, 2)) (Err (at 1 SecondCan))) in
+    let C : Bool → Type 0 = λ b. (second == 0x18) ≡ b → Fits (0x18 ∷ second ∷ more) (cond b (Ok (Cancel, 2)) (Err (fault_at 1 SecondCan))) in
     let go : (b : Bool) → C b = λ b. elim b as C [
       | true ↦ λ e. record { within = omega arith; frame = ap (λ t. 0x18 ∷ t ∷ []) (eqb-true second 0x18 e) }
       | false ↦ λ e.
           let z : nat_lt 0 (length (0x18 ∷ second ∷ more)) ≡ true = lt-ltb 0 (length (0x18 ∷ second ∷ more)) (omega arith) in
           let o : nat_lt 1 (length (0x18 ∷ second ∷ more)) ≡ true = lt-ltb 1 (length (0x18 ∷ second ∷ more)) (omega arith) in
-          let f : fault_of (0x18 ∷ second ∷ more) ≡ at 1 SecondCan = rw (z, o, e) refl in sym f
+          let f : fault_of (0x18 ∷ second ∷ more) ≡ fault_at 1 SecondCan = rw (z, o, e) refl in sym f
     ] in
     go (second == 0x18) refl
 
 other_fault : (first : ℕ) (more : List ℕ) → (first == 0x04) ≡ false → (first == 0x18) ≡ false → (first == 0x01) ≡ false → (first == 0x02) ≡ false →
-    fault_of (first ∷ more) ≡ at 0 FirstByte
+    fault_of (first ∷ more) ≡ fault_at 0 FirstByte
+unfolding fault_of
 other_fault first more e c s l =
     let z : nat_lt 0 (length (first ∷ more)) ≡ true = lt-ltb 0 (length (first ∷ more)) (omega arith) in
     rw (z, s, l, e, c) refl
 
-soh_wrong : (more : List ℕ) → wrong_at (0x01 ∷ more) ≡ true → fault_of (0x01 ∷ more) ≡ at 2 Complement
+soh_wrong : (more : List ℕ) → wrong_at (0x01 ∷ more) ≡ true → fault_of (0x01 ∷ more) ≡ fault_at 2 Complement
+unfolding fault_of
 soh_wrong more w =
     let z : nat_lt 0 (length (0x01 ∷ more)) ≡ true = lt-ltb 0 (length (0x01 ∷ more)) (omega arith) in
     rw (z, w) refl
 
-soh_cut : (more : List ℕ) → wrong_at (0x01 ∷ more) ≡ false → nat_lt 132 (length (0x01 ∷ more)) ≡ false → fault_of (0x01 ∷ more) ≡ at (length (0x01 ∷ more)) Cut
+soh_cut : (more : List ℕ) → wrong_at (0x01 ∷ more) ≡ false → nat_lt 132 (length (0x01 ∷ more)) ≡ false → fault_of (0x01 ∷ more) ≡ fault_at (length (0x01 ∷ more)) Cut
+unfolding fault_of
 soh_cut more w l =
     let z : nat_lt 0 (length (0x01 ∷ more)) ≡ true = lt-ltb 0 (length (0x01 ∷ more)) (omega arith) in
     rw (z, w, l) refl
 
-soh_bad : (more : List ℕ) → wrong_at (0x01 ∷ more) ≡ false → nat_lt 132 (length (0x01 ∷ more)) ≡ true → (check_of (body_at 128 (0x01 ∷ more)) == field 128 (0x01 ∷ more)) ≡ false → fault_of (0x01 ∷ more) ≡ at 131 Check
+soh_bad : (more : List ℕ) → wrong_at (0x01 ∷ more) ≡ false → nat_lt 132 (length (0x01 ∷ more)) ≡ true → (check_of (body_of 128 (0x01 ∷ more)) == check_field 128 (0x01 ∷ more)) ≡ false → fault_of (0x01 ∷ more) ≡ fault_at 131 Check
+unfolding fault_of
 soh_bad more w l e =
     let z : nat_lt 0 (length (0x01 ∷ more)) ≡ true = lt-ltb 0 (length (0x01 ∷ more)) (omega arith) in
     rw (z, w, l, e) refl
 
-stx_wrong : (more : List ℕ) → wrong_at (0x02 ∷ more) ≡ true → fault_of (0x02 ∷ more) ≡ at 2 Complement
+stx_wrong : (more : List ℕ) → wrong_at (0x02 ∷ more) ≡ true → fault_of (0x02 ∷ more) ≡ fault_at 2 Complement
+unfolding fault_of
 stx_wrong more w =
     let z : nat_lt 0 (length (0x02 ∷ more)) ≡ true = lt-ltb 0 (length (0x02 ∷ more)) (omega arith) in
     rw (z, w) refl
 
-stx_cut : (more : List ℕ) → wrong_at (0x02 ∷ more) ≡ false → nat_lt 1028 (length (0x02 ∷ more)) ≡ false → fault_of (0x02 ∷ more) ≡ at (length (0x02 ∷ more)) Cut
+stx_cut : (more : List ℕ) → wrong_at (0x02 ∷ more) ≡ false → nat_lt 1028 (length (0x02 ∷ more)) ≡ false → fault_of (0x02 ∷ more) ≡ fault_at (length (0x02 ∷ more)) Cut
+unfolding fault_of
 stx_cut more w l =
     let z : nat_lt 0 (length (0x02 ∷ more)) ≡ true = lt-ltb 0 (length (0x02 ∷ more)) (omega arith) in
     rw (z, w, l) refl
 
-stx_bad : (more : List ℕ) → wrong_at (0x02 ∷ more) ≡ false → nat_lt 1028 (length (0x02 ∷ more)) ≡ true → (check_of (body_at 1024 (0x02 ∷ more)) == field 1024 (0x02 ∷ more)) ≡ false → fault_of (0x02 ∷ more) ≡ at 1027 Check
+stx_bad : (more : List ℕ) → wrong_at (0x02 ∷ more) ≡ false → nat_lt 1028 (length (0x02 ∷ more)) ≡ true → (check_of (body_of 1024 (0x02 ∷ more)) == check_field 1024 (0x02 ∷ more)) ≡ false → fault_of (0x02 ∷ more) ≡ fault_at 1027 Check
+unfolding fault_of
 stx_bad more w l e =
     let z : nat_lt 0 (length (0x02 ∷ more)) ≡ true = lt-ltb 0 (length (0x02 ∷ more)) (omega arith) in
     rw (z, w, l, e) refl
@@ -378,12 +389,12 @@ soh_fits more bytes =
     let all = 0x01 ∷ more in
     let v = block_verdict 128 all in
     elim (block_case 128 all) [
-      | wrong w e ↦ fits_err v all (at 2 Complement) (sym (soh_wrong more w)) e
-      | cut w l e ↦ fits_err v all (at (length all) Cut) (sym (soh_cut more w (le-ltb 132 (length all) (omega arith)))) e
+      | wrong w e ↦ fits_err v all (fault_at 2 Complement) (sym (soh_wrong more w)) e
+      | cut w l e ↦ fits_err v all (fault_at (length all) Cut) (sym (soh_cut more w (le-ltb 132 (length all) (omega arith)))) e
       | good w l m e ↦
           let f = block_found 128 0x01 more bytes w l m in
-          begins_at v all (Block (record { number = slice_index all 1; body = body_at 128 all })) (128 + 5) l (inl (f.1, f.0)) e
-      | bad w l m e ↦ fits_err v all (at 131 Check) (sym (soh_bad more w (lt-ltb 132 (length all) (omega arith)) m)) e
+          begins_at v all (Block (record { number = slice_index all 1; body = body_of 128 all })) (128 + 5) l (inl (f.1, f.0)) e
+      | bad w l m e ↦ fits_err v all (fault_at 131 Check) (sym (soh_bad more w (lt-ltb 132 (length all) (omega arith)) m)) e
     ]
 
 stx_fits : (more : List ℕ) → IsBytes (0x02 ∷ more) → Fits (0x02 ∷ more) (block_verdict 1024 (0x02 ∷ more))
@@ -391,15 +402,16 @@ stx_fits more bytes =
     let all = 0x02 ∷ more in
     let v = block_verdict 1024 all in
     elim (block_case 1024 all) [
-      | wrong w e ↦ fits_err v all (at 2 Complement) (sym (stx_wrong more w)) e
-      | cut w l e ↦ fits_err v all (at (length all) Cut) (sym (stx_cut more w (le-ltb 1028 (length all) (omega arith)))) e
+      | wrong w e ↦ fits_err v all (fault_at 2 Complement) (sym (stx_wrong more w)) e
+      | cut w l e ↦ fits_err v all (fault_at (length all) Cut) (sym (stx_cut more w (le-ltb 1028 (length all) (omega arith)))) e
       | good w l m e ↦
           let f = block_found 1024 0x02 more bytes w l m in
-          begins_at v all (Block (record { number = slice_index all 1; body = body_at 1024 all })) (1024 + 5) l (inr (f.1, f.0)) e
-      | bad w l m e ↦ fits_err v all (at 1027 Check) (sym (stx_bad more w (lt-ltb 1028 (length all) (omega arith)) m)) e
+          begins_at v all (Block (record { number = slice_index all 1; body = body_of 1024 all })) (1024 + 5) l (inr (f.1, f.0)) e
+      | bad w l m e ↦ fits_err v all (fault_at 1027 Check) (sym (stx_bad more w (lt-ltb 1028 (length all) (omega arith)) m)) e
     ]
 
 fits_at : (bytes : List ℕ) → FirstCase bytes → IsBytes bytes → Fits bytes (verdict_of bytes)
+unfolding verdict_of fault_of
 fits_at bytes (nothing e) f = let P : List ℕ → Type 0 = λ b. Fits b (verdict_of b) in subst P (sym e) refl
 fits_at bytes (eot more e) f = let P : List ℕ → Type 0 = λ b. Fits b (verdict_of b) in subst P (sym e) (record { within = omega arith; frame = refl })
 fits_at bytes (can more e) f = let P : List ℕ → Type 0 = λ b. Fits b (verdict_of b) in subst P (sym e) (cancel_fits more)
@@ -407,7 +419,7 @@ fits_at bytes (soh more e) f = let P : List ℕ → Type 0 = λ b. Fits b (verdi
 fits_at bytes (stx more e) f = let P : List ℕ → Type 0 = λ b. Fits b (verdict_of b) in subst P (sym e) (stx_fits more (subst IsBytes e f))
 fits_at bytes (other first more e a b c d) f =
     let P : List ℕ → Type 0 = λ b. Fits b (verdict_of b) in
-    subst P (sym e) (fits_err (verdict_of (first ∷ more)) (first ∷ more) (at 0 FirstByte) (sym (other_fault first more a b c d)) (other_verdict first more a b c d))
+    subst P (sym e) (fits_err (verdict_of (first ∷ more)) (first ∷ more) (fault_at 0 FirstByte) (sym (other_fault first more a b c d)) (other_verdict first more a b c d))
 
 no_frame : (bytes : List ℕ) (broken : Broken) → verdict_of bytes ≡ Err broken → HasNoFrame bytes
 no_frame bytes broken e item len h =
@@ -451,12 +463,12 @@ differ a b h =
     let go : (t : Bool) → C t = λ t. elim t as C [ true ↦ λ e. absurd (h (eqb-true a b e)) | false ↦ λ e. e ] in
     go (a == b) refl
 
-pub not_open : (v : Result (Item × ℕ) Broken) (place : ℕ) (why : Why) → v ≡ Err (at place why) → IsOpen v → why ≡ Cut
+pub not_open : (v : Result (Item × ℕ) Broken) (place : ℕ) (why : Why) → v ≡ Err (fault_at place why) → IsOpen v → why ≡ Cut
 not_open v place why e h = subst IsOpen e h
 
 pub block_last : (size : ℕ) (held : List ℕ) (byte : ℕ) → IsOpen (block_verdict size held) → size + 4 ≤ length held →
     block_verdict size (held ++ byte ∷ []) ≡
-    cond (check_of (body_at size held) == slice_index held (size + 3) * 256 + byte) (Ok (Block (record { number = slice_index held 1; body = body_at size held }), size + 5)) (Err (at (size + 3) Check))
+    cond (check_of (body_of size held) == slice_index held (size + 3) * 256 + byte) (Ok (Block (record { number = slice_index held 1; body = body_of size held }), size + 5)) (Err (fault_at (size + 3) Check))
 unfolding judged
 block_last size held byte still h =
     elim (block_case size held) [
@@ -472,31 +484,31 @@ block_last size held byte still h =
           let high : slice_index all (size + 3) ≡ slice_index held (size + 3) = get_or-append held (byte ∷ []) 0 (size + 3) (omega arith) in
           let place : size + 4 ≡ length held = omega arith in
           let low : slice_index all (size + 4) ≡ byte = ap (slice_index all) place ∙ get_or-append_seam held byte [] 0 in
-          let body : body_at size all ≡ body_at size held = body_at-more size held (byte ∷ []) (omega arith) in
+          let body : body_of size all ≡ body_of size held = body_of-more size held (byte ∷ []) (omega arith) in
           judged_is size all ∙
-          ap (λ t. judged t (nat_lt (length all) (size + 5)) size (length all) (slice_index all 1) (body_at size all) (field size all)) right ∙
-          ap (λ t. judged false t size (length all) (slice_index all 1) (body_at size all) (field size all)) whole ∙
-          ap (λ t. judged false false size (length all) t (body_at size all) (field size all)) number ∙
-          ap (λ t. judged false false size (length all) (slice_index held 1) t (field size all)) body ∙
-          ap (λ t. judged false false size (length all) (slice_index held 1) (body_at size held) (t * 256 + slice_index all (size + 4))) high ∙
-          ap (λ t. judged false false size (length all) (slice_index held 1) (body_at size held) (slice_index held (size + 3) * 256 + t)) low
+          ap (λ t. judged t (nat_lt (length all) (size + 5)) size (length all) (slice_index all 1) (body_of size all) (check_field size all)) right ∙
+          ap (λ t. judged false t size (length all) (slice_index all 1) (body_of size all) (check_field size all)) whole ∙
+          ap (λ t. judged false false size (length all) t (body_of size all) (check_field size all)) number ∙
+          ap (λ t. judged false false size (length all) (slice_index held 1) t (check_field size all)) body ∙
+          ap (λ t. judged false false size (length all) (slice_index held 1) (body_of size held) (t * 256 + slice_index all (size + 4))) high ∙
+          ap (λ t. judged false false size (length all) (slice_index held 1) (body_of size held) (slice_index held (size + 3) * 256 + t)) low
     ]
 
 pub block_last_good : (size : ℕ) (held : List ℕ) (byte : ℕ) → IsOpen (block_verdict size held) → size + 4 ≤ length held →
-    check_of (body_at size held) ≡ slice_index held (size + 3) * 256 + byte →
-    block_verdict size (held ++ byte ∷ []) ≡ Ok (Block (record { number = slice_index held 1; body = body_at size held }), size + 5)
+    check_of (body_of size held) ≡ slice_index held (size + 3) * 256 + byte →
+    block_verdict size (held ++ byte ∷ []) ≡ Ok (Block (record { number = slice_index held 1; body = body_of size held }), size + 5)
 block_last_good size held byte still h m =
     block_last size held byte still h ∙
-    ap (λ t. cond t (Ok (Block (record { number = slice_index held 1; body = body_at size held }), size + 5)) (Err (at (size + 3) Check)))
-    (eq-eqb (check_of (body_at size held)) (slice_index held (size + 3) * 256 + byte) m)
+    ap (λ t. cond t (Ok (Block (record { number = slice_index held 1; body = body_of size held }), size + 5)) (Err (fault_at (size + 3) Check)))
+    (eq-eqb (check_of (body_of size held)) (slice_index held (size + 3) * 256 + byte) m)
 
 pub block_last_bad : (size : ℕ) (held : List ℕ) (byte : ℕ) → IsOpen (block_verdict size held) → size + 4 ≤ length held →
-    (check_of (body_at size held) ≡ slice_index held (size + 3) * 256 + byte → ⊥) →
-    block_verdict size (held ++ byte ∷ []) ≡ Err (at (size + 3) Check)
+    (check_of (body_of size held) ≡ slice_index held (size + 3) * 256 + byte → ⊥) →
+    block_verdict size (held ++ byte ∷ []) ≡ Err (fault_at (size + 3) Check)
 block_last_bad size held byte still h m =
     block_last size held byte still h ∙
-    ap (λ t. cond t (Ok (Block (record { number = slice_index held 1; body = body_at size held }), size + 5)) (Err (at (size + 3) Check)))
-    (differ (check_of (body_at size held)) (slice_index held (size + 3) * 256 + byte) m)
+    ap (λ t. cond t (Ok (Block (record { number = slice_index held 1; body = body_of size held }), size + 5)) (Err (fault_at (size + 3) Check)))
+    (differ (check_of (body_of size held)) (slice_index held (size + 3) * 256 + byte) m)
 
 -- the beginning of a frame is shorter than the longest frame
 block_short : (size : ℕ) (bytes : List ℕ) → IsOpen (block_verdict size bytes) → length bytes < size + 5
@@ -511,11 +523,12 @@ block_short size bytes still =
 cancel_short : (more : List ℕ) → IsOpen (cancel_verdict more) → more ≡ []
 cancel_short [] h = refl
 cancel_short (second ∷ more) h =
-    let C : Bool → Type 0 = λ t. IsOpen (cond t (Ok (Cancel, 2)) (Err (at 1 SecondCan))) → second ∷ more ≡ [] in
+    let C : Bool → Type 0 = λ t. IsOpen (cond t (Ok (Cancel, 2)) (Err (fault_at 1 SecondCan))) → second ∷ more ≡ [] in
     let go : (t : Bool) → C t = λ t. elim t as C [ true ↦ λ e. absurd e | false ↦ λ e. cc ] in
     go (second == 0x18) h
 
 short_at : (bytes : List ℕ) → FirstCase bytes → IsOpen (verdict_of bytes) → length bytes < 1029
+unfolding verdict_of
 short_at bytes (nothing e) h = omega (arith, ap length e)
 short_at bytes (eot more e) h = let P : List ℕ → Type 0 = λ b. IsOpen (verdict_of b) in absurd (subst P e h)
 short_at bytes (can more e) h =
