@@ -2,19 +2,50 @@
 
 ghost use Rattle.std.specs.Prelude.{◌≡◌, ◌⊎◌, ◌↔◌, length, IfOk, IsErr, IsOk};
 
+use std::error::Error;
+use std::fmt;
 use std::marker::Model;
 
 /// The size of a block's body.
 #[derive(Clone, Copy, Debug, PartialEq, Eq)]
 pub enum Size {
+    /// 128 data bytes.
     Short,
+    /// 1024 data bytes.
     Long,
 }
 
+impl Size {
+    ghost use Rattle.ym_frame.specs.Block.{length_of};
+
+    /// The number of data bytes: 128 or 1024.
+    pub fn body_len(self) -> usize
+        ensures length { result ≡ length_of self }
+        ensures valid { (result ≡ 128) ⊎ (result ≡ 1024) }
+    {
+        match self {
+            Size::Short => 128,
+            Size::Long => 1024,
+        }
+    }
+}
+
+/// Why there is no block of some bytes.
 #[derive(Clone, Copy, Debug, PartialEq, Eq)]
 pub enum BlockFault {
+    /// A body has 128 or 1024 bytes, and these are more or fewer.
     Length,
 }
+
+impl fmt::Display for BlockFault {
+    fn fmt<W: fmt::Write>(&self, f: &mut fmt::Formatter<W>) -> fmt::Result {
+        match self {
+            BlockFault::Length => f.write_str("a block's body has 128 or 1024 bytes"),
+        }
+    }
+}
+
+impl Error for BlockFault {}
 
 #[derive(Drop)]
 enum Body {
@@ -22,7 +53,7 @@ enum Body {
     Long([u8; 1024]),
 }
 
-/// A block's number and its body of 128 or 1024 bytes.
+/// A block's number and its body of 128 or 1024 bytes. Contracts see it as these two parts.
 #[derive(Drop)]
 pub struct Block {
     number: u8,
@@ -66,12 +97,14 @@ impl Block {
         Ok(Block { number, body })
     }
 
+    /// The number, which counts the blocks of a file modulo 256.
     pub fn number(&self) -> u8
         ensures { result ≡ self.now.number }
     {
         self.number
     }
 
+    /// Whether the body has 128 or 1024 bytes.
     pub fn size(&self) -> Size
         ensures { IsSizeOf result (length self.now.body) }
     {
@@ -81,6 +114,7 @@ impl Block {
         }
     }
 
+    /// The data bytes, 128 or 1024 of them.
     pub fn body(&self) -> &[u8]
         ensures { result.now ≡ self.now.body }
     {
