@@ -211,7 +211,7 @@ pub verdict_stays : (bytes more : List ℕ) → (IsOpen (verdict_of bytes) → �
 verdict_stays bytes more shut = stays_at bytes (first_case bytes) more shut
 
 -- ---- what is a frame is found, whatever follows it
-false_true : false ≡ true → ⊥
+pub false_true : false ≡ true → ⊥
 false_true e = cc
 
 not_itself : (x : ℕ) → not (x == x) ≡ true → ⊥
@@ -510,6 +510,23 @@ block_last_bad size held byte still h m =
     ap (λ t. cond t (Ok (Block (record { number = slice_index held 1; body = body_of size held }), size + 5)) (Err (fault_at (size + 3) Check)))
     (differ (check_of (body_of size held)) (slice_index held (size + 3) * 256 + byte) m)
 
+-- once its complement has passed, a block that is not whole goes on
+pub block_goes_on : (size : ℕ) (held more : List ℕ) → IsOpen (block_verdict size held) → 2 < length held → length held + length more < size + 5 →
+    IsOpen (block_verdict size (held ++ more))
+block_goes_on size held more still longer short =
+    elim (block_case size held) [
+      | wrong w e ↦ let no : Complement ≡ Cut = not_open (block_verdict size held) 2 Complement e still in cc
+      | good w l m e ↦ absurd (subst IsOpen e still)
+      | bad w l m e ↦ let no : Check ≡ Cut = not_open (block_verdict size held) (size + 3) Check e still in cc
+      | cut w l e ↦
+          elim (block_case size (held ++ more)) [
+            | wrong v f ↦ absurd (false_true (sym w ∙ sym (wrong_more held more longer) ∙ v))
+            | cut v k f ↦ open_cut (block_verdict size (held ++ more)) (length (held ++ more)) f
+            | good v k m f ↦ absurd (omega (arith, length-append held more))
+            | bad v k m f ↦ absurd (omega (arith, length-append held more))
+          ]
+    ]
+
 -- the beginning of a frame is shorter than the longest frame
 block_short : (size : ℕ) (bytes : List ℕ) → IsOpen (block_verdict size bytes) → length bytes < size + 5
 block_short size bytes still =
@@ -520,7 +537,7 @@ block_short size bytes still =
       | cut w l e ↦ l
     ]
 
-cancel_short : (more : List ℕ) → IsOpen (cancel_verdict more) → more ≡ []
+pub cancel_short : (more : List ℕ) → IsOpen (cancel_verdict more) → more ≡ []
 cancel_short [] h = refl
 cancel_short (second ∷ more) h =
     let C : Bool → Type 0 = λ t. IsOpen (cond t (Ok (Cancel, 2)) (Err (fault_at 1 SecondCan))) → second ∷ more ≡ [] in
