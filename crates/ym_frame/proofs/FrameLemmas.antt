@@ -450,6 +450,14 @@ verdict_by bytes (Err broken) (Err second) h k = ap (λ b. Err b) (h.1 ∙ sym k
 pub one_verdict : (bytes : List ℕ) (v w : Result (Item × ℕ) Broken) → IsVerdict bytes v → IsVerdict bytes w → v ≡ w
 one_verdict = verdict_by
 
+-- the verdict where no prefix is a frame
+pub fault_told : (bytes : List ℕ) → IsBytes bytes → HasNoFrame bytes → verdict_of bytes ≡ Err (fault_of bytes)
+fault_told bytes fits none = one_verdict bytes (verdict_of bytes) (Err (fault_of bytes)) (verdict_of-IsVerdict bytes fits) (none, refl)
+
+pub nothing_is_cut : verdict_of [] ≡ Err (fault_at 0 Cut)
+unfolding verdict_of
+nothing_is_cut = refl
+
 pub IsVerdict_stays : (bytes more : List ℕ) (v : Result (Item × ℕ) Broken) → IsBytes bytes → IsBytes (bytes ++ more) → IsVerdict bytes v → (IsOpen v → ⊥) → IsVerdict (bytes ++ more) v
 IsVerdict_stays bytes more v f g h shut =
     let is : verdict_of bytes ≡ v = one_verdict bytes (verdict_of bytes) v (verdict_of-IsVerdict bytes f) h in
