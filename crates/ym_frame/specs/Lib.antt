@@ -4,3 +4,4 @@ pub mod Frame
 pub mod Reading
 pub mod Reader
 pub mod Control
+pub mod Seal
