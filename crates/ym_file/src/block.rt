@@ -64,6 +64,7 @@ pub fn frame_from<S: Source>(
     requires from_one { 1 ≤ k }
     requires within { k ≤ count_of shape (S.size source.old) }
     ensures length { IfOk result (λ len. len ≡ size_at shape (S.size source.old) k + 5) }
+    ensures buffer { list_length buffer.new ≡ 1029 }
     ensures frame { IfOk result (λ len. (body : List ℕ) × (list_length body ≡ size_at shape (S.size source.old) k) × IsBlockFrame (k % 256) body (take len buffer.new)) }
     ensures body { IfOk result (λ len. IfSome (S.bytes source.old) (λ all. IsBlockFrame (k % 256) (piece_at shape all k) (take len buffer.new))) }
     ensures size_stays { S.size source.new ≡ S.size source.old }
