@@ -1,5 +1,5 @@
 -- The definitions, computed on files that are written out.
-use Rattle.std.specs.Prelude.{◌≡◌, ℕ, ◌-◌, ◌^◌, false, List, [], ◌∷◌, ◌++◌, replicate, refl}
+use Rattle.std.specs.Prelude.{◌≡◌, ◌-◌, ◌^◌, false, [], ◌∷◌, ◌++◌, replicate, refl}
 use Rattle.ym_file.specs.Plan.{sizes_of, padded, cut, pieces_of, count_of}
 use Rattle.ym_file.specs.Collecting.{keeps_some, keep_all}
 use Rattle.ym_file.specs.Counts.{raised}

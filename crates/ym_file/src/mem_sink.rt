@@ -1,9 +1,9 @@
 //! A sink in memory.
 
-ghost use Rattle.std.specs.Prelude.{◌≡◌, ◌≢◌, ◌↔◌, ◌<◌, ◌≤◌, ◌++◌, [], None, Some, option_to_list, OnOk, OnErr, IsTrue, length as list_length};
-ghost use Rattle.ym_file.specs.Counts.{Rose, fails_next, counted, new_tally};
+ghost use Rattle.std.specs.Prelude.{◌≡◌, ◌≢◌, ◌↔◌, ◌<◌, ◌≤◌, ◌++◌, [], None, Some, OnOk, OnErr, IsTrue, length as list_length};
+ghost use Rattle.ym_file.specs.Counts.{Rose, fails_next, new_tally};
 ghost use Rattle.ym_file.specs.Kept.{room, IsCoveredFile, IsNew};
-ghost use Rattle.ym_file.specs.MemSink.{kept_of, with_bytes};
+ghost use Rattle.ym_file.specs.MemSink.{kept_of, after_begin, after_add, after_commit, after_refusal};
 
 use crate::collector::Collector;
 use crate::countdown::Countdown;
@@ -71,8 +71,8 @@ impl Sink for MemSink {
 
     fn begin(&mut self, header: Header) -> Result<(), SinkFault>
         requires { self.old.opened ≡ None }
-        ensures done { OnOk result (self.new ≡ record { opened = Some (record { header = header; bytes = [] }); files = self.old.files; tally = counted self.old.tally }) }
-        ensures refused { OnErr result (self.new ≡ record { opened = self.old.opened; files = self.old.files; tally = counted self.old.tally }) }
+        ensures done { OnOk result (self.new ≡ after_begin header self.old) }
+        ensures refused { OnErr result (self.new ≡ after_refusal self.old) }
         ensures fails { (result ≡ Err SinkFault.Failed) ↔ IsTrue (fails_next self.old.tally) }
         ensures failed { result ≡ Err SinkFault.Failed → Rose self.old.tally.failures self.new.tally.failures }
     {
@@ -90,8 +90,8 @@ impl Sink for MemSink {
     fn add(&mut self, bytes: &[u8]) -> Result<(), SinkFault>
         requires some { 0 < list_length bytes.now }
         requires fit { list_length bytes.now ≤ room (kept_of self.old) }
-        ensures done { OnOk result (self.new ≡ record { opened = with_bytes bytes.now self.old.opened; files = self.old.files; tally = counted self.old.tally }) }
-        ensures refused { OnErr result (self.new ≡ record { opened = self.old.opened; files = self.old.files; tally = counted self.old.tally }) }
+        ensures done { OnOk result (self.new ≡ after_add bytes.now self.old) }
+        ensures refused { OnErr result (self.new ≡ after_refusal self.old) }
         ensures fails { (result ≡ Err SinkFault.Failed) ↔ IsTrue (fails_next self.old.tally) }
         ensures failed { result ≡ Err SinkFault.Failed → Rose self.old.tally.failures self.new.tally.failures }
     {
@@ -109,8 +109,8 @@ impl Sink for MemSink {
 
     fn commit(&mut self) -> Result<(), SinkFault>
         requires { IsCoveredFile (kept_of self.old) }
-        ensures done { OnOk result (self.new ≡ record { opened = None; files = self.old.files ++ option_to_list self.old.opened; tally = counted self.old.tally }) }
-        ensures refused { OnErr result (self.new ≡ record { opened = self.old.opened; files = self.old.files; tally = counted self.old.tally }) }
+        ensures done { OnOk result (self.new ≡ after_commit self.old) }
+        ensures refused { OnErr result (self.new ≡ after_refusal self.old) }
         ensures memory { result ≢ Err SinkFault.Memory }
         ensures fails { (result ≡ Err SinkFault.Failed) ↔ IsTrue (fails_next self.old.tally) }
         ensures failed { result ≡ Err SinkFault.Failed → Rose self.old.tally.failures self.new.tally.failures }

@@ -1,5 +1,5 @@
-use Rattle.std.specs.Prelude.{◌≡◌, length, take, drop}
-use Rattle.std.proofs.Common.{sym, ◌∙◌, ap, ap₂, arith}
+use Rattle.std.specs.Prelude.{◌≡◌, length}
+use Rattle.std.proofs.Common.{sym, ◌∙◌, ap, ap₂}
 use Rattle.ym_file.specs.Plan.{padded, size_at}
 use Rattle.ym_file.proofs.Pieces.{on_both, take-filled}
 use Rattle.ym_file.proofs.block.read_body.Goals as goal

@@ -1,4 +1,4 @@
-use Rattle.std.specs.Prelude.{◌≡◌, ℕ, ◌+◌, ◌-◌, ◌%◌, List, length}
+use Rattle.std.specs.Prelude.{ℕ, ◌+◌, ◌-◌, ◌%◌, List, length}
 use Rattle.std.proofs.Common.{◌∙◌, subst, arith}
 use Rattle.ym_frame.specs.Seal.{IsBlockFrame}
 use Rattle.ym_file.proofs.Pieces.{on_both, body-put}
