@@ -5,3 +5,4 @@ pub mod Reading
 pub mod Reader
 pub mod Control
 pub mod Words
+pub mod Seal
