@@ -12,8 +12,9 @@ use Rattle.ym_machine.proofs.Whole.{ReceiverIdle, SenderIdle, not-below, sends-o
 use Rattle.ym_machine.specs.Frames.{BlockZero, EndBlock, EndsOnce, Eot, Frame, Piece, frame_at, frame_before}
 use Rattle.ym_machine.specs.State.{ReceiverEnd, SenderEnd, State}
 use Rattle.ym_machine.specs.Halves.{Answer, Bad, acknowledged_at, asks_again, back, controls, gets, hears, hears_last, hears_next, holds_start, is_within, nothing_gained, nothing_taken, running_gets, sends, takes, there}
+use Rattle.ym_machine.specs.Run.{whole}
 use Rattle.ym_machine.specs.Left.{IsGoing, ReceiverGoes}
-use Rattle.ym_machine.specs.Machine.{IsMachine}
+use Rattle.ym_machine.specs.Machine.{CountersAgree}
 
 -- the half there leaves the sender
 pub record Same (old new : State) : Type 0 where
@@ -58,7 +59,7 @@ pub data ThereFacts {H : Type 0} (confirm : Confirm) (frames : List (Frame H)) (
 abbrev pub NoCancel : Reply → Type 0
 NoCancel reply = reply ≢ Cancel
 
-module _ {H : Type 0} (confirm : Confirm) (frames : List (Frame H)) (sink : Bool) (st : State) (ends_once : EndsOnce frames) (m : IsMachine confirm frames st) (going : IsGoing st) (sending : st.sender ≡ SenderEnd.Running) where
+module _ {H : Type 0} (confirm : Confirm) (frames : List (Frame H)) (sink : Bool) (st : State) (ends_once : EndsOnce frames) (m : CountersAgree confirm frames st) (going : IsGoing st) (sending : st.sender ≡ SenderEnd.Running) where
   abbrev pub Facts : Answer → Type 0
   Facts answer = ThereFacts confirm frames sink st answer
 
@@ -182,7 +183,7 @@ pub data BackFacts (source : Bool) (reply : Reply) (old new : State) : Type 0 wh
   source_broke : source ≡ true → new.sender ≡ SenderEnd.SourceFailed → BackFacts source reply old new
 
 -- two CAN come only from Cancel
-cans-honest : (reply : Reply) → is_within (control.Can ∷ control.Can ∷ []) (controls reply) ≡ true → reply ≡ Cancel
+pub cans-honest : (reply : Reply) → is_within (control.Can ∷ control.Can ∷ []) (controls reply) ≡ true → reply ≡ Cancel
 cans-honest Silence w = cc
 cans-honest Start w = cc
 cans-honest Ack w = cc
@@ -190,7 +191,7 @@ cans-honest AckStart w = cc
 cans-honest Nak w = cc
 cans-honest Cancel w = refl
 
-module _ {H : Type 0} (confirm : Confirm) (frames : List (Frame H)) (source : Bool) (reply : Reply) (st : State) (ends_once : EndsOnce frames) (m : IsMachine confirm frames st) (honest : Acknowledges reply st) (sending : st.sender ≡ SenderEnd.Running) where
+module _ {H : Type 0} (confirm : Confirm) (frames : List (Frame H)) (source : Bool) (reply : Reply) (st : State) (ends_once : EndsOnce frames) (m : CountersAgree confirm frames st) (honest : Acknowledges reply st) (sending : st.sender ≡ SenderEnd.Running) where
   abbrev pub BackTo : State → Type 0
   BackTo new = BackFacts source reply st new
 

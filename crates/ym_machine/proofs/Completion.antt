@@ -15,12 +15,12 @@ use Rattle.ym_machine.proofs.Any.{Took, TookEot, ThereFacts, quiet, took, took_e
 use Rattle.ym_machine.specs.Frames.{BlockZero, EndBlock, EndsOnce, Eot, File, Frame, Piece, eots, files_within, frame_at, frames_of, numbered_from}
 use Rattle.ym_machine.specs.State.{ReceiverEnd, SenderEnd, State, committed, reported, said, said_by, start}
 use Rattle.ym_machine.specs.Halves.{Answer, Bad, back, controls, gets, heard, hears, is_within, there}
-use Rattle.ym_machine.specs.Run.{AllWhole, IsDamage, NoFailure, Turn, after_turn, after_turns, came_back, is_whole, longest_bad_run, whole_turns}
+use Rattle.ym_machine.specs.Run.{AllWhole, IsDamage, NoFailure, Turn, after_turn, after_turns, came_back, is_whole, longest_bad_run, whole, whole_turns}
 use Rattle.ym_machine.specs.Left.{CountsWithin, IsComplete, IsGoing, ReceiverGoes, SenderGoes, left, left_at, left_unfinished, needed_by, rounds_needed, weight, weights, weights_from}
-use Rattle.ym_machine.specs.Machine.{IsMachine}
+use Rattle.ym_machine.specs.Machine.{CountersAgree}
 
 -- a turn of a sender that has finished changes nothing
-pub turn-done : {H : Type 0} (frames : List (Frame H)) (confirm : Confirm) (turn : Turn) (st : State) → IsMachine confirm frames st → st.sender ≡ SenderEnd.Finished → after_turn frames confirm turn st ≡ st
+pub turn-done : {H : Type 0} (frames : List (Frame H)) (confirm : Confirm) (turn : Turn) (st : State) → CountersAgree confirm frames st → st.sender ≡ SenderEnd.Finished → after_turn frames confirm turn st ≡ st
 turn-done frames confirm turn st m done = go turn.whole_there turn.back
   where
     taken : st.taken ≡ length frames
@@ -47,7 +47,7 @@ whole-is turn e = go turn.whole_there turn.back e
     go false (Some cs) e = cc
 
 -- the whole turn by what it does
-pub any-whole-turn : {H : Type 0} (frames : List (Frame H)) (confirm : Confirm) (turn : Turn) (st : State) → EndsOnce frames → IsMachine confirm frames st → IsGoing st → st.sender ≡ SenderEnd.Running → is_whole turn ≡ true → WholeTurn confirm frames turn st (after_turn frames confirm turn st)
+pub any-whole-turn : {H : Type 0} (frames : List (Frame H)) (confirm : Confirm) (turn : Turn) (st : State) → EndsOnce frames → CountersAgree confirm frames st → IsGoing st → st.sender ≡ SenderEnd.Running → is_whole turn ≡ true → WholeTurn confirm frames turn st (after_turn frames confirm turn st)
 any-whole-turn frames confirm turn st ends_once m going sending whole =
     subst (λ t. WholeTurn confirm frames t st (after_turn frames confirm t st)) (sym (whole-is turn whole)) (whole-turn frames confirm turn.sink_failed turn.source_failed st ends_once m going sending)
 
@@ -66,7 +66,7 @@ pub left-done : {H : Type 0} (confirm : Confirm) (frames : List (Frame H)) (st :
 left-done confirm frames st done = ap (λ x. left_at confirm frames x st) done
 
 -- each whole turn lowers what is left by one
-pub whole-lowers : {H : Type 0} (frames : List (Frame H)) (confirm : Confirm) (turn : Turn) (st : State) → EndsOnce frames → IsMachine confirm frames st → IsGoing st → IsGoing (after_turn frames confirm turn st) → is_whole turn ≡ true → 0 < left confirm frames st → left confirm frames st ≡ left confirm frames (after_turn frames confirm turn st) + 1
+pub whole-lowers : {H : Type 0} (frames : List (Frame H)) (confirm : Confirm) (turn : Turn) (st : State) → EndsOnce frames → CountersAgree confirm frames st → IsGoing st → IsGoing (after_turn frames confirm turn st) → is_whole turn ≡ true → 0 < left confirm frames st → left confirm frames st ≡ left confirm frames (after_turn frames confirm turn st) + 1
 whole-lowers frames confirm turn st ends_once m going after whole some = by (sender-is st going)
   where
     new : State
@@ -110,7 +110,7 @@ left-same : {H : Type 0} (confirm : Confirm) (frames : List (Frame H)) (old new 
 left-same confirm frames old new s n a b c d = let x = left-of confirm frames old s in let y = left-of confirm frames new n in cc
 
 -- any turn of a sender that runs
-module _ {H : Type 0} (frames : List (Frame H)) (confirm : Confirm) (turn : Turn) (st : State) (ends_once : EndsOnce frames) (m : IsMachine confirm frames st) (going : IsGoing st) (sending : st.sender ≡ SenderEnd.Running)
+module _ {H : Type 0} (frames : List (Frame H)) (confirm : Confirm) (turn : Turn) (st : State) (ends_once : EndsOnce frames) (m : CountersAgree confirm frames st) (going : IsGoing st) (sending : st.sender ≡ SenderEnd.Running)
     (damage : is_within (came_back turn.back (there frames confirm turn.sink_failed turn.whole_there st).1) (controls (there frames confirm turn.sink_failed turn.whole_there st).1) ≡ true) where
   abbrev answer : Answer
   answer = there frames confirm turn.sink_failed turn.whole_there st
@@ -127,7 +127,7 @@ module _ {H : Type 0} (frames : List (Frame H)) (confirm : Confirm) (turn : Turn
   pub second-half : answer.0.sender ≡ SenderEnd.Running → BackFacts turn.source_failed answer.1 answer.0 new
   second-half runs = back-facts confirm frames turn.source_failed answer.1 answer.0 ends_once answers.machine answers.honest runs (came_back turn.back answer.1) damage
 
-  pub new-machine : IsMachine confirm frames new
+  pub new-machine : CountersAgree confirm frames new
   new-machine = turn-machine frames confirm turn st ends_once m damage
 
   pub new-receiver : new.receiver ≡ answer.0.receiver
@@ -207,7 +207,7 @@ module _ {H : Type 0} (frames : List (Frame H)) (confirm : Confirm) (turn : Turn
 -- what holds while no bad run is longer than four turns: b turns of the present one are over. An end that the next
 -- whole turn brings nothing has nothing_gained no more than those, and any other one five more
 pub record IsFine {H : Type 0} (confirm : Confirm) (frames : List (Frame H)) (b : ℕ) (st : State) : Type 0 where
-  pub machine : IsMachine confirm frames st
+  pub machine : CountersAgree confirm frames st
   pub going : IsGoing st
   pub sender_count : st.sender ≡ SenderEnd.Running → st.sender_count ≤ b + 5
   pub misses_idle : st.sender ≡ SenderEnd.Running → SenderIdle confirm frames st → st.sender_count ≤ b
@@ -225,17 +225,17 @@ pub record IsMiddle {H : Type 0} (confirm : Confirm) (frames : List (Frame H)) (
   pub faults_idle : answer.0.receiver ≡ ReceiverEnd.Running → ReceiverIdle answer.0 → answer.0.receiver_count ≤ b + 1
 
 -- a finished sender has a finished receiver
-got-all : {H : Type 0} (confirm : Confirm) (frames : List (Frame H)) (st : State) → IsMachine confirm frames st → st.sender ≡ SenderEnd.Finished → st.receiver ≡ ReceiverEnd.Finished
+got-all : {H : Type 0} (confirm : Confirm) (frames : List (Frame H)) (st : State) → CountersAgree confirm frames st → st.sender ≡ SenderEnd.Finished → st.receiver ≡ ReceiverEnd.Finished
 got-all confirm frames st m done = m.receiver_done.0 (let x = m.sender_done.1 done in let w = m.within in let a = m.ahead in omega arith)
 
-fine-done : {H : Type 0} (confirm : Confirm) (frames : List (Frame H)) (b : ℕ) (st : State) → IsMachine confirm frames st → st.sender ≡ SenderEnd.Finished → IsFine confirm frames b st
+fine-done : {H : Type 0} (confirm : Confirm) (frames : List (Frame H)) (b : ℕ) (st : State) → CountersAgree confirm frames st → st.sender ≡ SenderEnd.Finished → IsFine confirm frames b st
 fine-done confirm frames b st m done =
     let got = got-all confirm frames st m done in
     record { machine = m; going = (subst SenderGoes (sym done) tt, subst ReceiverGoes (sym got) tt); sender_count = λ w. cc; misses_idle = λ w. cc; receiver_count = λ w. cc; faults_idle = λ w. cc }
 
 -- a whole turn ends the bad run
 pub whole-fine : {H : Type 0} (frames : List (Frame H)) (confirm : Confirm) (turn : Turn) (b : ℕ) (st : State) → EndsOnce frames → IsFine confirm frames b st → b ≤ 4 → turn.sink_failed ≡ false → turn.source_failed ≡ false → is_whole turn ≡ true
-    → IsMachine confirm frames (after_turn frames confirm turn st) → IsFine confirm frames 0 (after_turn frames confirm turn st)
+    → CountersAgree confirm frames (after_turn frames confirm turn st) → IsFine confirm frames 0 (after_turn frames confirm turn st)
 whole-fine frames confirm turn b st ends_once f few sink source whole machine = by (sender-is st f.going)
   where
     new : State
@@ -284,7 +284,7 @@ bad-fine frames confirm turn b st ends_once f few sink source damage = by (sende
     answer : Answer
     answer = there frames confirm turn.sink_failed turn.whole_there st
 
-    machine : IsMachine confirm frames new
+    machine : CountersAgree confirm frames new
     machine = turn-machine frames confirm turn st ends_once f.machine damage
 
     done : new.sender ≡ SenderEnd.Finished → IsFine confirm frames (b + 1) new
@@ -384,7 +384,7 @@ start-fine frames confirm ends_once = record {
 }
 
 -- any turn leaves what is left, or lowers it
-pub turn-left : {H : Type 0} (frames : List (Frame H)) (confirm : Confirm) (turn : Turn) (st : State) → EndsOnce frames → IsMachine confirm frames st → IsGoing st → IsGoing (after_turn frames confirm turn st)
+pub turn-left : {H : Type 0} (frames : List (Frame H)) (confirm : Confirm) (turn : Turn) (st : State) → EndsOnce frames → CountersAgree confirm frames st → IsGoing st → IsGoing (after_turn frames confirm turn st)
     → is_within (came_back turn.back (there frames confirm turn.sink_failed turn.whole_there st).1) (controls (there frames confirm turn.sink_failed turn.whole_there st).1) ≡ true
     → left confirm frames (after_turn frames confirm turn st) ≤ left confirm frames st
 turn-left frames confirm turn st ends_once m going after damage = by (sender-is st going)
@@ -394,7 +394,7 @@ turn-left frames confirm turn st ends_once m going after damage = by (sender-is 
     by (inr done) = let e = ap (left confirm frames) (turn-done frames confirm turn st m done) in omega (arith, e)
 
 -- something is left while the sender runs
-pub left-some : {H : Type 0} (frames : List (Frame H)) (confirm : Confirm) (st : State) → IsMachine confirm frames st → st.sender ≡ SenderEnd.Running → 0 < left confirm frames st
+pub left-some : {H : Type 0} (frames : List (Frame H)) (confirm : Confirm) (st : State) → CountersAgree confirm frames st → st.sender ≡ SenderEnd.Running → 0 < left confirm frames st
 left-some frames confirm st m sending = go st.sent refl
   where
     below : st.acknowledged < length frames
@@ -432,7 +432,7 @@ turns-left frames confirm (turn ∷ turns) b st ends_once f few none damage =
     go after rest false e = let n = turn-left frames confirm turn st ends_once f.machine f.going after damage.0 in omega (arith, rest, n)
 
 -- nothing is left only where both have finished
-pub none-left : {H : Type 0} (frames : List (Frame H)) (confirm : Confirm) (st : State) → IsMachine confirm frames st → IsGoing st → left confirm frames st ≡ 0 → (st.sender ≡ SenderEnd.Finished) × (st.receiver ≡ ReceiverEnd.Finished)
+pub none-left : {H : Type 0} (frames : List (Frame H)) (confirm : Confirm) (st : State) → CountersAgree confirm frames st → IsGoing st → left confirm frames st ≡ 0 → (st.sender ≡ SenderEnd.Finished) × (st.receiver ≡ ReceiverEnd.Finished)
 none-left frames confirm st m going none = elim (sender-is st going) [ inl s ↦ absurd (let x = left-some frames confirm st m s in omega (arith, x, none)) | inr d ↦ (d, got-all confirm frames st m d) ]
 
 -- whole turns alone are no bad run
@@ -471,7 +471,7 @@ eots-pieces : {H : Type 0} (k : ℕ) (pieces : List (List ℕ)) (rest : List (Fr
 eots-pieces k [] rest = refl
 eots-pieces k (piece ∷ pieces) rest = eots-pieces (k + 1) pieces rest
 
-eots-frames : {H : Type 0} (files : List (File H)) → eots (frames_of files) ≡ length files
+pub eots-frames : {H : Type 0} (files : List (File H)) → eots (frames_of files) ≡ length files
 eots-frames [] = refl
 eots-frames (file ∷ files) = let x = eots-pieces 1 file.pieces (Eot ∷ frames_of files) in let z = eots-frames files in omega (arith, x, z)
 
@@ -479,7 +479,7 @@ pub all-within : {H : Type 0} (files : List (File H)) → files_within files (le
 all-within files = ap (λ fs. take (eots fs) files) (take-length (frames_of files)) ∙ ap (λ n. take n files) (eots-frames files) ∙ take-length files
 
 -- what comes back whole is no damage
-all-of-it : (reply : Reply) → is_within (controls reply) (controls reply) ≡ true
+pub all-of-it : (reply : Reply) → is_within (controls reply) (controls reply) ≡ true
 all-of-it Silence = refl
 all-of-it Start = refl
 all-of-it Ack = refl

@@ -10,8 +10,8 @@ use Rattle.ym_frame.specs.declared.control.Control.TheVariants as control
 use Rattle.ym_machine.specs.Frames.{BlockZero, EndBlock, EndsOnce, Eot, File, Frame, Piece, frame_at, frame_before, frames_of, numbered_from}
 use Rattle.ym_machine.specs.State.{ReceiverEnd, SenderEnd, State, said, said_by, start}
 use Rattle.ym_machine.specs.Halves.{Answer, At, Bad, Can, Sound, acknowledged_at, asks_again, back, controls, gets, heard, hears, hears_last, hears_next, holds_start, is_within, nothing_gained, nothing_taken, running_gets, sends, takes, there}
-use Rattle.ym_machine.specs.Run.{IsDamage, Turn, after_turn, after_turns, came_back}
-use Rattle.ym_machine.specs.Machine.{CallsForStart, IsMachine}
+use Rattle.ym_machine.specs.Run.{IsDamage, Turn, after_turn, after_turns, came_back, whole}
+use Rattle.ym_machine.specs.Machine.{CallsForStart, CountersAgree}
 
 -- a sound that comes from the sender
 abbrev pub Fits : State → Sound → Type 0
@@ -39,7 +39,7 @@ Acknowledges AckStart st = st.sender ≡ SenderEnd.Running → (st.sent ≡ true
 Acknowledges _ st = Unit {0}
 
 pub record Answers {H : Type 0} (confirm : Confirm) (frames : List (Frame H)) (old : State) (answer : Answer) : Type 0 where
-  pub machine : IsMachine confirm frames answer.0
+  pub machine : CountersAgree confirm frames answer.0
   pub honest : Acknowledges answer.1 answer.0
 
 -- a choice, by its two cases
@@ -55,7 +55,7 @@ pub differs : (i j : ℕ) → (i == j) ≡ false → i ≢ j
 differs i j e = grind (arith, nat_tests)
 
 -- a delivery that brought nothing
-pub faulted-answers : {H : Type 0} (confirm : Confirm) (frames : List (Frame H)) (st : State) (reply : Reply) → IsMachine confirm frames st → st.receiver ≡ ReceiverEnd.Running → Acknowledges reply st → Answers confirm frames st (nothing_taken st reply)
+pub faulted-answers : {H : Type 0} (confirm : Confirm) (frames : List (Frame H)) (st : State) (reply : Reply) → CountersAgree confirm frames st → st.receiver ≡ ReceiverEnd.Running → Acknowledges reply st → Answers confirm frames st (nothing_taken st reply)
 faulted-answers confirm frames st reply m running honest = on_cond (λ a. Answers confirm frames st a) (nat_lt (st.receiver_count + 1) 10) _ _
     (λ e. record {
       machine = record { ahead = m.ahead; within = m.within; waiting = m.waiting; first_eot = m.first_eot; sender_done = m.sender_done; receiver_done = m.receiver_done; sender_count = m.sender_count; receiver_count = λ _. grind (arith, nat_tests) };
@@ -80,7 +80,7 @@ pub none_behind : {H : Type 0} (frames : List (Frame H)) (i : ℕ) → EndsOnce 
 none_behind frames i ends below is = let no : i + 1 < length frames → ⊥ = λ w. ends.only i w is in omega arith
 
 -- the receiver takes a frame that is not the end block
-pub takes-answers : {H : Type 0} (confirm : Confirm) (frames : List (Frame H)) (st : State) (reply : Reply) (failed : Bool) → IsMachine confirm frames st → st.receiver ≡ ReceiverEnd.Running → st.sent ≡ true → st.taken ≡ st.acknowledged → st.taken + 1 < length frames → Answers confirm frames st (takes st reply failed)
+pub takes-answers : {H : Type 0} (confirm : Confirm) (frames : List (Frame H)) (st : State) (reply : Reply) (failed : Bool) → CountersAgree confirm frames st → st.receiver ≡ ReceiverEnd.Running → st.sent ≡ true → st.taken ≡ st.acknowledged → st.taken + 1 < length frames → Answers confirm frames st (takes st reply failed)
 takes-answers confirm frames st reply false m running sent at more = record {
   machine = record {
     ahead = inr (ap (λ n. n + 1) at);
@@ -114,7 +114,7 @@ takes-answers confirm frames st reply true m running sent at more = record {
 }
 
 -- the next frame, where the sender has sent it
-pub next-answers : {H : Type 0} (frames : List (Frame H)) (confirm : Confirm) (failed : Bool) (frame : Frame H) (st : State) → EndsOnce frames → IsMachine confirm frames st → st.receiver ≡ ReceiverEnd.Running → st.sender ≡ SenderEnd.Running → st.sent ≡ true → st.taken ≡ st.acknowledged → frame_at frames st.acknowledged ≡ frame → Answers confirm frames st (hears_next confirm failed frame st)
+pub next-answers : {H : Type 0} (frames : List (Frame H)) (confirm : Confirm) (failed : Bool) (frame : Frame H) (st : State) → EndsOnce frames → CountersAgree confirm frames st → st.receiver ≡ ReceiverEnd.Running → st.sender ≡ SenderEnd.Running → st.sent ≡ true → st.taken ≡ st.acknowledged → frame_at frames st.acknowledged ≡ frame → Answers confirm frames st (hears_next confirm failed frame st)
 next-answers {H} frames confirm failed frame st ends m running sending sent at is = go confirm refl frame is
   where
     below : st.taken < length frames
@@ -163,7 +163,7 @@ next-answers {H} frames confirm failed frame st ends m running sending sent at i
     go Once is_c EndBlock e = done e
 
 -- the last frame once more
-pub last-answers : {H : Type 0} (confirm : Confirm) (frames : List (Frame H)) (frame : Frame H) (st : State) → EndsOnce frames → IsMachine confirm frames st → st.receiver ≡ ReceiverEnd.Running → st.sender ≡ SenderEnd.Running → st.sent ≡ true → st.taken ≡ st.acknowledged + 1 → frame_at frames st.acknowledged ≡ frame → Answers confirm frames st (hears_last frame st)
+pub last-answers : {H : Type 0} (confirm : Confirm) (frames : List (Frame H)) (frame : Frame H) (st : State) → EndsOnce frames → CountersAgree confirm frames st → st.receiver ≡ ReceiverEnd.Running → st.sender ≡ SenderEnd.Running → st.sent ≡ true → st.taken ≡ st.acknowledged + 1 → frame_at frames st.acknowledged ≡ frame → Answers confirm frames st (hears_last frame st)
 last-answers confirm frames (BlockZero header) st ends m running sending sent at is = faulted-answers confirm frames st AckStart m running (λ _. (sent, at))
 last-answers confirm frames (Piece number body) st ends m running sending sent at is = faulted-answers confirm frames st Ack m running (λ _. (sent, at))
 last-answers confirm frames Eot st ends m running sending sent at is = faulted-answers confirm frames st AckStart m running (λ _. (sent, at))
@@ -176,7 +176,7 @@ again-quiet Eot st = tt
 again-quiet EndBlock st = tt
 
 -- whatever a machine's receiver hears from its sender
-pub hears-answers : {H : Type 0} (frames : List (Frame H)) (confirm : Confirm) (failed : Bool) (sound : Sound) (st : State) → EndsOnce frames → IsMachine confirm frames st → Fits st sound → (receiver : ReceiverEnd) → st.receiver ≡ receiver → Answers confirm frames st (hears frames confirm failed sound receiver st)
+pub hears-answers : {H : Type 0} (frames : List (Frame H)) (confirm : Confirm) (failed : Bool) (sound : Sound) (st : State) → EndsOnce frames → CountersAgree confirm frames st → Fits st sound → (receiver : ReceiverEnd) → st.receiver ≡ receiver → Answers confirm frames st (hears frames confirm failed sound receiver st)
 hears-answers frames confirm failed (At i) st ends m fits ReceiverEnd.Running e = on_cond (λ a. Answers confirm frames st a) (i == st.taken) _ _
     (λ t. let at : st.taken ≡ st.acknowledged = sym (is-same i st.taken t) ∙ fits.0 in next-answers frames confirm failed (frame_at frames i) st ends m e fits.1 fits.2 at (ap (frame_at frames) (sym fits.0)))
     (λ t. let no : i ≢ st.taken = differs i st.taken t in let at : st.taken ≡ st.acknowledged + 1 = omega arith in last-answers confirm frames (frame_at frames i) st ends m e fits.1 fits.2 at (ap (frame_at frames) (sym fits.0)))
@@ -208,7 +208,7 @@ hears-answers frames confirm failed Can st ends m fits ReceiverEnd.SinkFailed e 
 hears-answers frames confirm failed Bad st ends m fits ReceiverEnd.SinkFailed e = record { machine = m; honest = tt }
 
 -- the half there
-pub there-answers : {H : Type 0} (frames : List (Frame H)) (confirm : Confirm) (failed whole : Bool) (st : State) → EndsOnce frames → IsMachine confirm frames st → Answers confirm frames st (there frames confirm failed whole st)
+pub there-answers : {H : Type 0} (frames : List (Frame H)) (confirm : Confirm) (failed whole : Bool) (st : State) → EndsOnce frames → CountersAgree confirm frames st → Answers confirm frames st (there frames confirm failed whole st)
 there-answers frames confirm failed true st ends m = hears-answers frames confirm failed (heard true (said st)) st ends m (spoken-fits st) st.receiver refl
 there-answers frames confirm failed false st ends m = hears-answers frames confirm failed Bad st ends m tt st.receiver refl
 
@@ -221,16 +221,16 @@ acks-honest cs AckStart st within honest sending = honest sending
 acks-honest cs Nak st within honest sending = cc
 acks-honest cs Cancel st within honest sending = cc
 
-pub missed-machine : {H : Type 0} (confirm : Confirm) (frames : List (Frame H)) (st : State) → IsMachine confirm frames st → st.sender ≡ SenderEnd.Running → IsMachine confirm frames (nothing_gained st)
-missed-machine confirm frames st m sending = on_cond (λ a. IsMachine confirm frames a) (nat_lt (st.sender_count + 1) 10) _ _
+pub missed-machine : {H : Type 0} (confirm : Confirm) (frames : List (Frame H)) (st : State) → CountersAgree confirm frames st → st.sender ≡ SenderEnd.Running → CountersAgree confirm frames (nothing_gained st)
+missed-machine confirm frames st m sending = on_cond (λ a. CountersAgree confirm frames a) (nat_lt (st.sender_count + 1) 10) _ _
     (λ e. record { ahead = m.ahead; within = m.within; waiting = m.waiting; first_eot = m.first_eot; sender_done = m.sender_done; receiver_done = m.receiver_done; sender_count = λ _. grind (arith, nat_tests); receiver_count = m.receiver_count })
     (λ e. record { ahead = m.ahead; within = m.within; waiting = m.waiting; first_eot = m.first_eot; sender_done = (λ w. let x = m.sender_done.0 w in cc, λ w. cc); receiver_done = m.receiver_done; sender_count = λ w. cc; receiver_count = m.receiver_count })
 
 -- the sender goes on to the frame behind those that the receiver has taken
-pub sends-machine : {H : Type 0} (confirm : Confirm) (frames : List (Frame H)) (failed : Bool) (frame : Frame H) (place : ℕ) (st : State) → IsMachine confirm frames st → st.sender ≡ SenderEnd.Running → st.taken ≡ place → place < length frames → (st.first_eot ≡ true → ⊥) → IsMachine confirm frames (sends failed frame place st)
+pub sends-machine : {H : Type 0} (confirm : Confirm) (frames : List (Frame H)) (failed : Bool) (frame : Frame H) (place : ℕ) (st : State) → CountersAgree confirm frames st → st.sender ≡ SenderEnd.Running → st.taken ≡ place → place < length frames → (st.first_eot ≡ true → ⊥) → CountersAgree confirm frames (sends failed frame place st)
 sends-machine {H} confirm frames failed frame place st m sending at below no_eot = go failed frame
   where
-    fine : IsMachine confirm frames (record st { acknowledged = place; sent = true; sender_count = 0 })
+    fine : CountersAgree confirm frames (record st { acknowledged = place; sent = true; sender_count = 0 })
     fine = record {
       ahead = inl at;
       within = m.within;
@@ -242,7 +242,7 @@ sends-machine {H} confirm frames failed frame place st m sending at below no_eot
       receiver_count = m.receiver_count;
     }
 
-    stopped : IsMachine confirm frames (record st { acknowledged = place; sent = true; sender_count = 0; sender = SenderEnd.SourceFailed; farewell = true })
+    stopped : CountersAgree confirm frames (record st { acknowledged = place; sent = true; sender_count = 0; sender = SenderEnd.SourceFailed; farewell = true })
     stopped = record {
       ahead = inl at;
       within = m.within;
@@ -254,13 +254,13 @@ sends-machine {H} confirm frames failed frame place st m sending at below no_eot
       receiver_count = m.receiver_count;
     }
 
-    go : (failed : Bool) (frame : Frame H) → IsMachine confirm frames (sends failed frame place st)
+    go : (failed : Bool) (frame : Frame H) → CountersAgree confirm frames (sends failed frame place st)
     go true (Piece number body) = stopped
     go true _ = fine
     go false _ = fine
 
 -- the frame is acknowledged
-pub acked-machine : {H : Type 0} (confirm : Confirm) (frames : List (Frame H)) (failed c : Bool) (frame : Frame H) (st : State) → EndsOnce frames → IsMachine confirm frames st → st.sender ≡ SenderEnd.Running → st.sent ≡ true → st.taken ≡ st.acknowledged + 1 → frame_at frames st.acknowledged ≡ frame → IsMachine confirm frames (acknowledged_at frames failed c frame st)
+pub acked-machine : {H : Type 0} (confirm : Confirm) (frames : List (Frame H)) (failed c : Bool) (frame : Frame H) (st : State) → EndsOnce frames → CountersAgree confirm frames st → st.sender ≡ SenderEnd.Running → st.sent ≡ true → st.taken ≡ st.acknowledged + 1 → frame_at frames st.acknowledged ≡ frame → CountersAgree confirm frames (acknowledged_at frames failed c frame st)
 acked-machine {H} confirm frames failed c frame st ends m sending sent at is = go frame is
   where
     below : st.acknowledged < length frames
@@ -269,10 +269,10 @@ acked-machine {H} confirm frames failed c frame st ends m sending sent at is = g
     no_eot : st.first_eot ≡ true → ⊥
     no_eot w = let x : st.taken ≡ st.acknowledged = (m.first_eot w).2 in omega (arith, x, at)
 
-    next : (g : Frame H) → frame_at frames st.acknowledged ≡ g → g ≢ EndBlock → IsMachine confirm frames (sends failed (frame_at frames (st.acknowledged + 1)) (st.acknowledged + 1) st)
+    next : (g : Frame H) → frame_at frames st.acknowledged ≡ g → g ≢ EndBlock → CountersAgree confirm frames (sends failed (frame_at frames (st.acknowledged + 1)) (st.acknowledged + 1) st)
     next g e other = sends-machine confirm frames failed (frame_at frames (st.acknowledged + 1)) (st.acknowledged + 1) st m sending at (more_behind frames st.acknowledged ends below (λ w. other (sym e ∙ w))) no_eot
 
-    waits : (g : Frame H) → frame_at frames st.acknowledged ≡ g → g ≢ EndBlock → CallsForStart g → IsMachine confirm frames (record st { acknowledged = st.acknowledged + 1; sent = false; sender_count = 0 })
+    waits : (g : Frame H) → frame_at frames st.acknowledged ≡ g → g ≢ EndBlock → CallsForStart g → CountersAgree confirm frames (record st { acknowledged = st.acknowledged + 1; sent = false; sender_count = 0 })
     waits g e other calls = record {
       ahead = inl at;
       within = m.within;
@@ -284,7 +284,7 @@ acked-machine {H} confirm frames failed c frame st ends m sending sent at is = g
       receiver_count = m.receiver_count;
     }
 
-    go : (frame : Frame H) → frame_at frames st.acknowledged ≡ frame → IsMachine confirm frames (acknowledged_at frames failed c frame st)
+    go : (frame : Frame H) → frame_at frames st.acknowledged ≡ frame → CountersAgree confirm frames (acknowledged_at frames failed c frame st)
     go (Piece number body) e = next _ e (λ w. cc)
     go EndBlock e = record {
       ahead = inl at;
@@ -296,14 +296,14 @@ acked-machine {H} confirm frames failed c frame st ends m sending sent at is = g
       sender_count = λ w. cc;
       receiver_count = m.receiver_count;
     }
-    go (BlockZero header) e = on_cond (λ a. IsMachine confirm frames a) c _ _ (λ _. next _ e (λ w. cc)) (λ _. waits _ e (λ w. cc) tt)
-    go Eot e = on_cond (λ a. IsMachine confirm frames a) c _ _ (λ _. next _ e (λ w. cc)) (λ _. waits _ e (λ w. cc) tt)
+    go (BlockZero header) e = on_cond (λ a. CountersAgree confirm frames a) c _ _ (λ _. next _ e (λ w. cc)) (λ _. waits _ e (λ w. cc) tt)
+    go Eot e = on_cond (λ a. CountersAgree confirm frames a) c _ _ (λ _. next _ e (λ w. cc)) (λ _. waits _ e (λ w. cc) tt)
 
 -- whatever comes back to a running sender
-pub running-machine : {H : Type 0} (confirm : Confirm) (frames : List (Frame H)) (failed : Bool) (cs : List Control) (reply : Reply) (st : State) → EndsOnce frames → IsMachine confirm frames st → st.sender ≡ SenderEnd.Running → Acknowledges reply st → is_within cs (controls reply) ≡ true → (sent : Bool) → st.sent ≡ sent → IsMachine confirm frames (running_gets frames failed sent cs st)
+pub running-machine : {H : Type 0} (confirm : Confirm) (frames : List (Frame H)) (failed : Bool) (cs : List Control) (reply : Reply) (st : State) → EndsOnce frames → CountersAgree confirm frames st → st.sender ≡ SenderEnd.Running → Acknowledges reply st → is_within cs (controls reply) ≡ true → (sent : Bool) → st.sent ≡ sent → CountersAgree confirm frames (running_gets frames failed sent cs st)
 running-machine confirm frames failed cs reply st ends m sending honest within sent is = go sent cs is within
   where
-    stopped : IsMachine confirm frames (record st { sender = SenderEnd.Cancelled })
+    stopped : CountersAgree confirm frames (record st { sender = SenderEnd.Cancelled })
     stopped = record {
       ahead = m.ahead;
       within = m.within;
@@ -315,21 +315,21 @@ running-machine confirm frames failed cs reply st ends m sending honest within s
       receiver_count = m.receiver_count;
     }
 
-    starts : st.sent ≡ false → (c : Bool) → IsMachine confirm frames (cond c (sends failed (frame_at frames st.acknowledged) st.acknowledged st) (nothing_gained st))
-    starts e c = on_cond (λ a. IsMachine confirm frames a) c _ _
+    starts : st.sent ≡ false → (c : Bool) → CountersAgree confirm frames (cond c (sends failed (frame_at frames st.acknowledged) st.acknowledged st) (nothing_gained st))
+    starts e c = on_cond (λ a. CountersAgree confirm frames a) c _ _
         (λ _. sends-machine confirm frames failed (frame_at frames st.acknowledged) st.acknowledged st m sending (m.waiting e).0
         (let no : st.acknowledged ≢ length frames = λ w. let x = m.sender_done.0 w in cc in let x : st.taken ≡ st.acknowledged = (m.waiting e).0 in let w = m.within in omega arith)
         (λ w. let x : st.sent ≡ true = (m.first_eot w).1 in cc))
         (λ _. missed-machine confirm frames st m sending)
 
-    go : (sent : Bool) (cs : List Control) → st.sent ≡ sent → is_within cs (controls reply) ≡ true → IsMachine confirm frames (running_gets frames failed sent cs st)
+    go : (sent : Bool) (cs : List Control) → st.sent ≡ sent → is_within cs (controls reply) ≡ true → CountersAgree confirm frames (running_gets frames failed sent cs st)
     go true (control.Can ∷ control.Can ∷ []) e w = stopped
     go false (control.Can ∷ control.Can ∷ []) e w = stopped
     go true (control.Ack ∷ cs) e w = let a = acks-honest cs reply st w honest sending in acked-machine confirm frames failed (holds_start cs) (frame_at frames st.acknowledged) st ends m sending e a.1 refl
     go true _ e w = missed-machine confirm frames st m sending
     go false cs e w = starts e (holds_start cs)
 
-pub gets-machine : {H : Type 0} (confirm : Confirm) (frames : List (Frame H)) (failed : Bool) (cs : List Control) (reply : Reply) (st : State) → EndsOnce frames → IsMachine confirm frames st → Acknowledges reply st → is_within cs (controls reply) ≡ true → (sender : SenderEnd) → st.sender ≡ sender → IsMachine confirm frames (gets frames failed cs sender st)
+pub gets-machine : {H : Type 0} (confirm : Confirm) (frames : List (Frame H)) (failed : Bool) (cs : List Control) (reply : Reply) (st : State) → EndsOnce frames → CountersAgree confirm frames st → Acknowledges reply st → is_within cs (controls reply) ≡ true → (sender : SenderEnd) → st.sender ≡ sender → CountersAgree confirm frames (gets frames failed cs sender st)
 gets-machine confirm frames failed cs reply st ends m honest within SenderEnd.Running e = running-machine confirm frames failed cs reply st ends m e honest within st.sent refl
 gets-machine confirm frames failed cs reply st ends m honest within SenderEnd.Finished e = m
 gets-machine confirm frames failed cs reply st ends m honest within SenderEnd.Cancelled e = m
@@ -337,24 +337,24 @@ gets-machine confirm frames failed cs reply st ends m honest within SenderEnd.No
 gets-machine confirm frames failed cs reply st ends m honest within SenderEnd.SourceFailed e = record { ahead = m.ahead; within = m.within; waiting = m.waiting; first_eot = m.first_eot; sender_done = m.sender_done; receiver_done = m.receiver_done; sender_count = m.sender_count; receiver_count = m.receiver_count }
 
 -- the half back, behind a half there
-pub back-machine : {H : Type 0} (confirm : Confirm) (frames : List (Frame H)) (failed : Bool) (cs : List Control) (reply : Reply) (st : State) → EndsOnce frames → IsMachine confirm frames st → Acknowledges reply st → is_within cs (controls reply) ≡ true → IsMachine confirm frames (back frames failed cs st)
+pub back-machine : {H : Type 0} (confirm : Confirm) (frames : List (Frame H)) (failed : Bool) (cs : List Control) (reply : Reply) (st : State) → EndsOnce frames → CountersAgree confirm frames st → Acknowledges reply st → is_within cs (controls reply) ≡ true → CountersAgree confirm frames (back frames failed cs st)
 back-machine confirm frames failed cs reply st ends m honest within = gets-machine confirm frames failed cs reply st ends m honest within st.sender refl
 
 -- a turn, and turns
-pub turn-machine : {H : Type 0} (frames : List (Frame H)) (confirm : Confirm) (turn : Turn) (st : State) → EndsOnce frames → IsMachine confirm frames st
+pub turn-machine : {H : Type 0} (frames : List (Frame H)) (confirm : Confirm) (turn : Turn) (st : State) → EndsOnce frames → CountersAgree confirm frames st
     → is_within (came_back turn.back (there frames confirm turn.sink_failed turn.whole_there st).1) (controls (there frames confirm turn.sink_failed turn.whole_there st).1) ≡ true
-    → IsMachine confirm frames (after_turn frames confirm turn st)
+    → CountersAgree confirm frames (after_turn frames confirm turn st)
 turn-machine frames confirm turn st ends m within =
     let answers = there-answers frames confirm turn.sink_failed turn.whole_there st ends m in
     let answer = there frames confirm turn.sink_failed turn.whole_there st in
     back-machine confirm frames turn.source_failed (came_back turn.back answer.1) answer.1 answer.0 ends answers.machine answers.honest within
 
-pub turns-machine : {H : Type 0} (frames : List (Frame H)) (confirm : Confirm) (turns : List Turn) (st : State) → EndsOnce frames → IsMachine confirm frames st → IsDamage frames confirm turns st → IsMachine confirm frames (after_turns frames confirm turns st)
+pub turns-machine : {H : Type 0} (frames : List (Frame H)) (confirm : Confirm) (turns : List Turn) (st : State) → EndsOnce frames → CountersAgree confirm frames st → IsDamage frames confirm turns st → CountersAgree confirm frames (after_turns frames confirm turns st)
 turns-machine frames confirm [] st ends m damage = m
 turns-machine frames confirm (turn ∷ turns) st ends m damage =
     turns-machine frames confirm turns (after_turn frames confirm turn st) ends (turn-machine frames confirm turn st ends m damage.0) damage.1
 
-pub start-machine : {H : Type 0} (confirm : Confirm) (frames : List (Frame H)) → EndsOnce frames → IsMachine confirm frames start
+pub start-machine : {H : Type 0} (confirm : Confirm) (frames : List (Frame H)) → EndsOnce frames → CountersAgree confirm frames start
 start-machine confirm frames ends = record {
   ahead = inl refl;
   within = omega arith;

@@ -9,7 +9,7 @@ use Rattle.ym_machine.specs.Frames.{BlockZero, EndBlock, Eot, Frame, Piece, fram
 use Rattle.ym_machine.specs.State.{ReceiverEnd, SenderEnd, State, said, said_by, start}
 use Rattle.ym_machine.specs.Halves.{At, Bad, acknowledged_at, asks_again, back, gets, heard, hears, hears_last, hears_next, holds_start, nothing_gained, nothing_taken, running_gets, sends, there}
 use Rattle.ym_machine.specs.Left.{left, left_at, weight, weights_from}
-use Rattle.ym_machine.specs.Machine.{CallsForStart, IsMachine}
+use Rattle.ym_machine.specs.Machine.{CallsForStart, CountersAgree}
 
 -- the weights from a frame on
 weights-suc : {H : Type 0} (confirm : Confirm) (frames : List (Frame H)) (i : ℕ) → i < length frames → weights_from confirm frames i ≡ weight confirm (frame_at frames i) + weights_from confirm frames (suc i)
@@ -35,7 +35,7 @@ left-again confirm frames st sending sent at =
     ap (λ x. left_at confirm frames x st) sending ∙ rw (sent, other) refl
 
 -- the half there, whole, where the sender waits: it brings nothing
-pub there-waiting : {H : Type 0} (frames : List (Frame H)) (confirm : Confirm) (failed : Bool) (st : State) → IsMachine confirm frames st → st.sender ≡ SenderEnd.Running → st.receiver ≡ ReceiverEnd.Running → st.sent ≡ false → there frames confirm failed true st ≡ nothing_taken st Start
+pub there-waiting : {H : Type 0} (frames : List (Frame H)) (confirm : Confirm) (failed : Bool) (st : State) → CountersAgree confirm frames st → st.sender ≡ SenderEnd.Running → st.receiver ≡ ReceiverEnd.Running → st.sent ≡ false → there frames confirm failed true st ≡ nothing_taken st Start
 there-waiting {H} frames confirm failed st m sending receiving sent =
     ap (λ x. hears frames confirm failed x st.receiver st) says ∙ ap (λ x. hears frames confirm failed Bad x st) receiving ∙ ap (nothing_taken st) (start (frame_before frames st.taken) calls)
   where

@@ -14,7 +14,7 @@ use Rattle.ym_machine.specs.State.{ReceiverEnd, SenderEnd, State}
 use Rattle.ym_machine.specs.Halves.{Answer, acknowledged_at, back, controls, gets, hears_last, hears_next, holds_start, nothing_gained, nothing_taken, running_gets, sends, takes}
 use Rattle.ym_machine.specs.Run.{Turn, after_turn}
 use Rattle.ym_machine.specs.Left.{IsGoing, ReceiverGoes, SenderGoes, left, weight, weights_from}
-use Rattle.ym_machine.specs.Machine.{IsMachine}
+use Rattle.ym_machine.specs.Machine.{CountersAgree}
 
 -- the next whole turn brings the receiver nothing
 abbrev pub ReceiverIdle : State → Type 0
@@ -173,7 +173,7 @@ ends-one {H} confirm frame e = ap (weight confirm) e ∙ one confirm
 pub not-below : (n : ℕ) → nat_lt n 10 ≡ false → 10 ≤ n
 not-below n e = grind (arith, nat_tests)
 
-module _ {H : Type 0} (frames : List (Frame H)) (confirm : Confirm) (sink source : Bool) (st : State) (ends_once : EndsOnce frames) (m : IsMachine confirm frames st) (going : IsGoing st) (sending : st.sender ≡ SenderEnd.Running) where
+module _ {H : Type 0} (frames : List (Frame H)) (confirm : Confirm) (sink source : Bool) (st : State) (ends_once : EndsOnce frames) (m : CountersAgree confirm frames st) (going : IsGoing st) (sending : st.sender ≡ SenderEnd.Running) where
   -- what comes of an answer
   abbrev pub then_back : Answer → State
   then_back answer = back frames source (controls answer.1) answer.0

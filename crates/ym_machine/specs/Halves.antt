@@ -1,7 +1,7 @@
 -- A round, in its two halves: the receiver hears and replies, and the sender hears what comes back.
 --
 -- The tables are this profile's, for what the reference leaves open between two ends; what it fixes is said beside the line.
-use Rattle.std.specs.Prelude.{ℕ, ◌+◌, ◌≡◌, ◌==◌, nat_lt, List, [], ◌∷◌, Bool, true, false, if◌then◌else◌}
+use Rattle.std.specs.Prelude.{ℕ, ◌+◌, ◌≡◌, ◌==◌, ◌⊎◌, nat_lt, List, [], ◌∷◌, Bool, true, false, if◌then◌else◌}
 use Rattle.ym_frame.specs.declared.control.Control.{Control}
 use Rattle.ym_frame.specs.declared.control.Control.TheVariants as control
 use Rattle.ym_frame.specs.declared.control.Reply.{Reply}
@@ -164,6 +164,19 @@ is_within [] reply = true
 is_within (c ∷ came) [] = false
 is_within (c ∷ came) (r ∷ reply) = if same_control c r then is_within came reply else is_within (c ∷ came) reply
 
+-- all that can come back of a reply: nothing, C, ACK, ACK C, NAK, CAN or CAN CAN
+abbrev pub IsRemnant : List Control → Type 0
+IsRemnant came =
+    (came ≡ []) ⊎ (came ≡ control.Start ∷ []) ⊎ (came ≡ control.Ack ∷ []) ⊎ (came ≡ control.Ack ∷ control.Start ∷ []) ⊎
+    (came ≡ control.Nak ∷ []) ⊎ (came ≡ control.Can ∷ []) ⊎ (came ≡ control.Can ∷ control.Can ∷ [])
+
+-- the byte of a control
+abbrev pub control_byte : Control → ℕ
+control_byte control.Ack = 0x06
+control_byte control.Nak = 0x15
+control_byte control.Start = 0x43
+control_byte control.Can = 0x18
+
 -- the half there keeps what is the sender's
 pub record KeepsSender (old new : State) : Type 0 where
   pub sender : new.sender ≡ old.sender
@@ -171,6 +184,13 @@ pub record KeepsSender (old new : State) : Type 0 where
   pub sent : new.sent ≡ old.sent
   pub sender_count : new.sender_count ≡ old.sender_count
   pub farewell : new.farewell ≡ old.farewell
+
+-- a sender that has ended stays; what it still has to say is all that changes
+pub record SenderStays (old new : State) : Type 0 where
+  pub sender : new.sender ≡ old.sender
+  pub acknowledged : new.acknowledged ≡ old.acknowledged
+  pub sent : new.sent ≡ old.sent
+  pub sender_count : new.sender_count ≡ old.sender_count
 
 -- the half back keeps what is the receiver's
 pub record KeepsReceiver (old new : State) : Type 0 where

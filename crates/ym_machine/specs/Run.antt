@@ -81,3 +81,15 @@ abbrev pub longest_bad_run : ℕ → List Turn → ℕ
 longest_bad_run before [] = before
 longest_bad_run before (turn ∷ turns) =
     if is_whole turn then max before (longest_bad_run 0 turns) else longest_bad_run (before + 1) turns
+
+-- a turn whose two deliveries are whole
+abbrev pub whole : Turn
+whole = record { whole_there = true; back = None; sink_failed = false; source_failed = false }
+
+-- a turn whose two deliveries are lost
+abbrev pub lost : Turn
+lost = record { whole_there = false; back = Some []; sink_failed = false; source_failed = false }
+
+-- two bad runs of five, each with a whole turn behind it
+abbrev pub five_and_five : List Turn
+five_and_five = lost ∷ lost ∷ lost ∷ lost ∷ lost ∷ whole ∷ lost ∷ lost ∷ lost ∷ lost ∷ lost ∷ whole ∷ []
