@@ -2,14 +2,14 @@
 --
 -- A header is here the bytes of a name. In the trace FrameAt i is F[i]: of a file of one piece F[0] is its block 0, F[1] its
 -- data block, F[2] its EOT, and F[3] the end block.
-use Rattle.std.specs.Prelude.{ℕ, ◌≡◌, List, [], ◌∷◌, ◌++◌, replicate, length, true, false, None, Some, refl}
+use Rattle.std.specs.Prelude.{ℕ, ◌≡◌, List, [], ◌∷◌, ◌++◌, replicate, length, true, false, Some, refl}
 use Rattle.ym_frame.specs.declared.control.Control.{Control}
 use Rattle.ym_frame.specs.declared.control.Control.TheVariants as control
 use Rattle.ym_frame.specs.declared.control.Reply.{Reply}
 use Rattle.ym_frame.specs.declared.control.Reply.TheVariants.{Silence, Start, Ack, AckStart, Nak, Cancel}
 use Rattle.ym_machine.specs.declared.confirm.Confirm.{Confirm}
 use Rattle.ym_machine.specs.declared.confirm.Confirm.TheVariants.{Twice, Once}
-use Rattle.ym_machine.specs.Frames.{File, Frame, BlockZero, Piece, Eot, EndBlock, frames_of, numbered_from}
+use Rattle.ym_machine.specs.Frames.{File, BlockZero, Piece, Eot, EndBlock, frames_of, numbered_from}
 use Rattle.ym_machine.specs.State.{SenderEnd, ReceiverEnd, State, start, Speech, Nothing, FrameAt, CanCan, committed, reported}
 use Rattle.ym_machine.specs.Run.{Turn, after_turns, Entry, entries_of, whole, lost, longest_bad_run}
 use Rattle.ym_machine.specs.Left.{left, rounds_needed}

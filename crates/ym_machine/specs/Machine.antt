@@ -1,8 +1,8 @@
 -- The machine of two counters: what holds of the two ends, whatever was lost or damaged.
-use Rattle.std.specs.Prelude.{ℕ, ◌+◌, ◌<◌, ◌≤◌, ◌≡◌, ◌↔◌, ◌⊎◌, List, length, true, false}
+use Rattle.std.specs.Prelude.{◌+◌, ◌<◌, ◌≤◌, ◌≡◌, ◌↔◌, ◌⊎◌, List, length, true, false}
 use Rattle.ym_machine.specs.declared.confirm.Confirm.{Confirm}
 use Rattle.ym_machine.specs.declared.confirm.Confirm.TheVariants.{Twice}
-use Rattle.ym_machine.specs.Frames.{Frame, BlockZero, Piece, Eot, EndBlock, frame_at, frame_before}
+use Rattle.ym_machine.specs.Frames.{Frame, Piece, Eot, frame_at, frame_before}
 pub use Rattle.ym_machine.specs.State.{SenderEnd, ReceiverEnd, State, start, Speech, Nothing, FrameAt, CanCan, said, committed, reported}
 pub use Rattle.ym_machine.specs.Halves.{Sound, At, Can, Bad, heard, Answer, there, back, controls, is_within, KeepsSender, KeepsReceiver, SenderStays}
 pub use Rattle.ym_machine.specs.Run.{Turn, after_turn, after_turns, Entry, entry_of, entries_of, IsTurnDamage, IsDamage, NoFailure}

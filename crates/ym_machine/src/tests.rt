@@ -1,7 +1,5 @@
 //! Each law at a kind of batch.
 
-ghost use Rattle.std.specs.Prelude.{List, ℕ};
-
 use crate::{Batch, Confirm, laws};
 
 /// Batches whose headers are names.
@@ -30,7 +28,7 @@ fn laws_hold_of_names() {
 }
 
 #[test]
-fn confirm_is_one_of_two() {
-    assert!(Confirm::Twice == Confirm::Twice);
-    assert!(Confirm::Twice != Confirm::Once);
+fn confirm_is_one_of_two(rt: HostRuntime) {
+    assert_eq!(rt; Confirm::Twice, Confirm::Twice);
+    assert!(rt; Confirm::Twice != Confirm::Once);
 }
