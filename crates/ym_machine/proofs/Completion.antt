@@ -10,8 +10,8 @@ use Rattle.std.proofs.lemmas.List.Sums.{sum_by-cons}
 use Rattle.std.proofs.Math.Seq.{take-length}
 use Rattle.ym_machine.proofs.Halves.{start-machine, frames-end}
 use Rattle.ym_machine.proofs.Phases.{weights-step, left-waiting, left-fresh, left-again}
-use Rattle.ym_machine.proofs.Whole.{ReceiverIdle, SenderIdle, WholeTurn, moves, confirms, ends, gives_up, sink_broke, source_broke, faulty, silent, whole_turn, whole-turn, back-receiver, gone, no-sink}
-use Rattle.ym_machine.proofs.Any.{Took, TookEot, ThereFacts, quiet, took, took_eot, tenth, broke, there-facts, WentOn, BackFacts, missed_it, went_on, all_sent, cancelled, tenth_miss, back-facts}
+use Rattle.ym_machine.proofs.WholeTurns.{ReceiverIdle, SenderIdle, WholeTurn, moves, confirms, ends, gives_up, sink_broke, source_broke, faulty, silent, whole_turn, whole-turn, back-receiver, gone, no-sink}
+use Rattle.ym_machine.proofs.AnyTurns.{Took, TookEot, ThereFacts, quiet, took, took_eot, tenth, broke, there-facts, WentOn, BackFacts, missed_it, went_on, all_sent, cancelled, tenth_miss, back-facts}
 use Rattle.ym_machine.specs.Frames.{BlockZero, EndBlock, EndsOnce, Eot, File, Frame, Piece, eots, files_within, frame_at, frames_of, numbered_from}
 use Rattle.ym_machine.specs.State.{ReceiverEnd, SenderEnd, State, said, said_by, start}
 use Rattle.ym_machine.specs.Halves.{Answer, Bad, back, controls, gets, heard, hears, is_within, there}

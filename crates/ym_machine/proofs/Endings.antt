@@ -7,8 +7,8 @@ use Rattle.ym_frame.specs.declared.control.Reply.TheVariants.{Silence, Start, Ac
 use Rattle.ym_machine.specs.declared.confirm.Confirm.{Confirm}
 use Rattle.ym_machine.specs.declared.confirm.Confirm.TheVariants.{Twice, Once}
 use Rattle.ym_machine.proofs.Halves.{on_cond, there-answers, turn-machine}
-use Rattle.ym_machine.proofs.Whole.{not-below}
-use Rattle.ym_machine.proofs.Any.{cans-honest}
+use Rattle.ym_machine.proofs.WholeTurns.{not-below}
+use Rattle.ym_machine.proofs.AnyTurns.{cancel-honest}
 use Rattle.ym_machine.proofs.Keeps.{there-keeps, back-keeps}
 use Rattle.ym_machine.specs.Frames.{BlockZero, EndBlock, EndsOnce, Eot, Frame, Piece, frame_at, frame_before}
 use Rattle.ym_machine.specs.State.{ReceiverEnd, SenderEnd, State, said, said_by, start}
@@ -186,8 +186,8 @@ module _ {H : Type 0} (frames : List (Frame H)) (failed : Bool) (reply : Reply) 
   acknowledged-moves false _ = SenderMoves.goes running refl
 
   running_gets-moves : (came : List Control) → is_within came (controls reply) ≡ true → (sent : Bool) → Moves (running_gets frames failed sent came st)
-  running_gets-moves (control.Can ∷ control.Can ∷ []) w true = SenderMoves.is_cancelled refl refl (cans-honest reply w)
-  running_gets-moves (control.Can ∷ control.Can ∷ []) w false = SenderMoves.is_cancelled refl refl (cans-honest reply w)
+  running_gets-moves (control.Can ∷ control.Can ∷ []) w true = SenderMoves.is_cancelled refl refl (cancel-honest reply w)
+  running_gets-moves (control.Can ∷ control.Can ∷ []) w false = SenderMoves.is_cancelled refl refl (cancel-honest reply w)
   running_gets-moves (control.Ack ∷ came) w true = acknowledged-moves (holds_start came) (frame_at frames st.acknowledged)
   running_gets-moves _ w true = nothing_gained-moves
   running_gets-moves came w false = on_cond Moves (holds_start came) (sends failed (frame_at frames st.acknowledged) st.acknowledged st) (nothing_gained st)

@@ -19,8 +19,8 @@ Fits st (At i) = (i ≡ st.acknowledged) × (st.sender ≡ SenderEnd.Running) ×
 Fits st Can = Unit {0}
 Fits st Bad = Unit {0}
 
-pub spoken-fits : (st : State) → Fits st (heard true (said st))
-spoken-fits st = go st.sender st.sent st.farewell refl refl
+pub said-fits : (st : State) → Fits st (heard true (said st))
+said-fits st = go st.sender st.sent st.farewell refl refl
   where
     go : (sender : SenderEnd) (sent farewell : Bool) → st.sender ≡ sender → st.sent ≡ sent → Fits st (heard true (said_by sender sent farewell st.acknowledged))
     go SenderEnd.Running true _ e f = (refl, e, f)
@@ -55,8 +55,8 @@ pub differs : (i j : ℕ) → (i == j) ≡ false → i ≢ j
 differs i j e = grind (arith, nat_tests)
 
 -- a delivery that brought nothing
-pub faulted-answers : {H : Type 0} (confirm : Confirm) (frames : List (Frame H)) (st : State) (reply : Reply) → CountersAgree confirm frames st → st.receiver ≡ ReceiverEnd.Running → Acknowledges reply st → Answers confirm frames st (nothing_taken st reply)
-faulted-answers confirm frames st reply m running honest = on_cond (λ a. Answers confirm frames st a) (nat_lt (st.receiver_count + 1) 10) _ _
+pub nothing_taken-answers : {H : Type 0} (confirm : Confirm) (frames : List (Frame H)) (st : State) (reply : Reply) → CountersAgree confirm frames st → st.receiver ≡ ReceiverEnd.Running → Acknowledges reply st → Answers confirm frames st (nothing_taken st reply)
+nothing_taken-answers confirm frames st reply m running honest = on_cond (λ a. Answers confirm frames st a) (nat_lt (st.receiver_count + 1) 10) _ _
     (λ e. record {
       machine = record { ahead = m.ahead; within = m.within; waiting = m.waiting; first_eot = m.first_eot; sender_done = m.sender_done; receiver_done = m.receiver_done; sender_count = m.sender_count; receiver_count = λ _. grind (arith, nat_tests) };
       honest = h reply honest;
@@ -164,10 +164,10 @@ next-answers {H} frames confirm failed frame st ends m running sending sent at i
 
 -- the last frame once more
 pub last-answers : {H : Type 0} (confirm : Confirm) (frames : List (Frame H)) (frame : Frame H) (st : State) → EndsOnce frames → CountersAgree confirm frames st → st.receiver ≡ ReceiverEnd.Running → st.sender ≡ SenderEnd.Running → st.sent ≡ true → st.taken ≡ st.acknowledged + 1 → frame_at frames st.acknowledged ≡ frame → Answers confirm frames st (hears_last frame st)
-last-answers confirm frames (BlockZero header) st ends m running sending sent at is = faulted-answers confirm frames st AckStart m running (λ _. (sent, at))
-last-answers confirm frames (Piece number body) st ends m running sending sent at is = faulted-answers confirm frames st Ack m running (λ _. (sent, at))
-last-answers confirm frames Eot st ends m running sending sent at is = faulted-answers confirm frames st AckStart m running (λ _. (sent, at))
-last-answers confirm frames EndBlock st ends m running sending sent at is = faulted-answers confirm frames st Start m running tt
+last-answers confirm frames (BlockZero header) st ends m running sending sent at is = nothing_taken-answers confirm frames st AckStart m running (λ _. (sent, at))
+last-answers confirm frames (Piece number body) st ends m running sending sent at is = nothing_taken-answers confirm frames st Ack m running (λ _. (sent, at))
+last-answers confirm frames Eot st ends m running sending sent at is = nothing_taken-answers confirm frames st AckStart m running (λ _. (sent, at))
+last-answers confirm frames EndBlock st ends m running sending sent at is = nothing_taken-answers confirm frames st Start m running tt
 
 again-quiet : {H : Type 0} (frame : Frame H) (st : State) → Acknowledges (asks_again frame) st
 again-quiet (BlockZero header) st = tt
@@ -193,7 +193,7 @@ hears-answers frames confirm failed Can st ends m fits ReceiverEnd.Running e = r
   };
   honest = tt;
 }
-hears-answers frames confirm failed Bad st ends m fits ReceiverEnd.Running e = faulted-answers confirm frames st (asks_again (frame_before frames st.taken)) m e (again-quiet (frame_before frames st.taken) st)
+hears-answers frames confirm failed Bad st ends m fits ReceiverEnd.Running e = nothing_taken-answers confirm frames st (asks_again (frame_before frames st.taken)) m e (again-quiet (frame_before frames st.taken) st)
 hears-answers frames confirm failed (At i) st ends m fits ReceiverEnd.Finished e = record { machine = m; honest = on_cond (λ r. Acknowledges r st) (i + 1 == st.taken) Ack Silence (λ t _. (fits.2, sym (is-same (i + 1) st.taken t) ∙ ap (λ n. n + 1) fits.0)) (λ _. tt) }
 hears-answers frames confirm failed Can st ends m fits ReceiverEnd.Finished e = record { machine = m; honest = tt }
 hears-answers frames confirm failed Bad st ends m fits ReceiverEnd.Finished e = record { machine = m; honest = tt }
@@ -209,20 +209,20 @@ hears-answers frames confirm failed Bad st ends m fits ReceiverEnd.SinkFailed e 
 
 -- the half there
 pub there-answers : {H : Type 0} (frames : List (Frame H)) (confirm : Confirm) (failed whole : Bool) (st : State) → EndsOnce frames → CountersAgree confirm frames st → Answers confirm frames st (there frames confirm failed whole st)
-there-answers frames confirm failed true st ends m = hears-answers frames confirm failed (heard true (said st)) st ends m (spoken-fits st) st.receiver refl
+there-answers frames confirm failed true st ends m = hears-answers frames confirm failed (heard true (said st)) st ends m (said-fits st) st.receiver refl
 there-answers frames confirm failed false st ends m = hears-answers frames confirm failed Bad st ends m tt st.receiver refl
 
 -- an ACK that comes back was in the reply
-pub acks-honest : (cs : List Control) (reply : Reply) (st : State) → is_within (control.Ack ∷ cs) (controls reply) ≡ true → Acknowledges reply st → st.sender ≡ SenderEnd.Running → (st.sent ≡ true) × (st.taken ≡ st.acknowledged + 1)
-acks-honest cs Silence st within honest sending = cc
-acks-honest cs Start st within honest sending = cc
-acks-honest cs Ack st within honest sending = honest sending
-acks-honest cs AckStart st within honest sending = honest sending
-acks-honest cs Nak st within honest sending = cc
-acks-honest cs Cancel st within honest sending = cc
+pub acknowledged-honest : (cs : List Control) (reply : Reply) (st : State) → is_within (control.Ack ∷ cs) (controls reply) ≡ true → Acknowledges reply st → st.sender ≡ SenderEnd.Running → (st.sent ≡ true) × (st.taken ≡ st.acknowledged + 1)
+acknowledged-honest cs Silence st within honest sending = cc
+acknowledged-honest cs Start st within honest sending = cc
+acknowledged-honest cs Ack st within honest sending = honest sending
+acknowledged-honest cs AckStart st within honest sending = honest sending
+acknowledged-honest cs Nak st within honest sending = cc
+acknowledged-honest cs Cancel st within honest sending = cc
 
-pub missed-machine : {H : Type 0} (confirm : Confirm) (frames : List (Frame H)) (st : State) → CountersAgree confirm frames st → st.sender ≡ SenderEnd.Running → CountersAgree confirm frames (nothing_gained st)
-missed-machine confirm frames st m sending = on_cond (λ a. CountersAgree confirm frames a) (nat_lt (st.sender_count + 1) 10) _ _
+pub nothing_gained-machine : {H : Type 0} (confirm : Confirm) (frames : List (Frame H)) (st : State) → CountersAgree confirm frames st → st.sender ≡ SenderEnd.Running → CountersAgree confirm frames (nothing_gained st)
+nothing_gained-machine confirm frames st m sending = on_cond (λ a. CountersAgree confirm frames a) (nat_lt (st.sender_count + 1) 10) _ _
     (λ e. record { ahead = m.ahead; within = m.within; waiting = m.waiting; first_eot = m.first_eot; sender_done = m.sender_done; receiver_done = m.receiver_done; sender_count = λ _. grind (arith, nat_tests); receiver_count = m.receiver_count })
     (λ e. record { ahead = m.ahead; within = m.within; waiting = m.waiting; first_eot = m.first_eot; sender_done = (λ w. let x = m.sender_done.0 w in cc, λ w. cc); receiver_done = m.receiver_done; sender_count = λ w. cc; receiver_count = m.receiver_count })
 
@@ -260,8 +260,8 @@ sends-machine {H} confirm frames failed frame place st m sending at below no_eot
     go false _ = fine
 
 -- the frame is acknowledged
-pub acked-machine : {H : Type 0} (confirm : Confirm) (frames : List (Frame H)) (failed c : Bool) (frame : Frame H) (st : State) → EndsOnce frames → CountersAgree confirm frames st → st.sender ≡ SenderEnd.Running → st.sent ≡ true → st.taken ≡ st.acknowledged + 1 → frame_at frames st.acknowledged ≡ frame → CountersAgree confirm frames (acknowledged_at frames failed c frame st)
-acked-machine {H} confirm frames failed c frame st ends m sending sent at is = go frame is
+pub acknowledged-machine : {H : Type 0} (confirm : Confirm) (frames : List (Frame H)) (failed c : Bool) (frame : Frame H) (st : State) → EndsOnce frames → CountersAgree confirm frames st → st.sender ≡ SenderEnd.Running → st.sent ≡ true → st.taken ≡ st.acknowledged + 1 → frame_at frames st.acknowledged ≡ frame → CountersAgree confirm frames (acknowledged_at frames failed c frame st)
+acknowledged-machine {H} confirm frames failed c frame st ends m sending sent at is = go frame is
   where
     below : st.acknowledged < length frames
     below = let no : st.acknowledged ≢ length frames = λ w. let x = m.sender_done.0 w in cc in let w = m.within in omega arith
@@ -320,13 +320,13 @@ running-machine confirm frames failed cs reply st ends m sending honest within s
         (λ _. sends-machine confirm frames failed (frame_at frames st.acknowledged) st.acknowledged st m sending (m.waiting e).0
         (let no : st.acknowledged ≢ length frames = λ w. let x = m.sender_done.0 w in cc in let x : st.taken ≡ st.acknowledged = (m.waiting e).0 in let w = m.within in omega arith)
         (λ w. let x : st.sent ≡ true = (m.first_eot w).1 in cc))
-        (λ _. missed-machine confirm frames st m sending)
+        (λ _. nothing_gained-machine confirm frames st m sending)
 
     go : (sent : Bool) (cs : List Control) → st.sent ≡ sent → is_within cs (controls reply) ≡ true → CountersAgree confirm frames (running_gets frames failed sent cs st)
     go true (control.Can ∷ control.Can ∷ []) e w = stopped
     go false (control.Can ∷ control.Can ∷ []) e w = stopped
-    go true (control.Ack ∷ cs) e w = let a = acks-honest cs reply st w honest sending in acked-machine confirm frames failed (holds_start cs) (frame_at frames st.acknowledged) st ends m sending e a.1 refl
-    go true _ e w = missed-machine confirm frames st m sending
+    go true (control.Ack ∷ cs) e w = let a = acknowledged-honest cs reply st w honest sending in acknowledged-machine confirm frames failed (holds_start cs) (frame_at frames st.acknowledged) st ends m sending e a.1 refl
+    go true _ e w = nothing_gained-machine confirm frames st m sending
     go false cs e w = starts e (holds_start cs)
 
 pub gets-machine : {H : Type 0} (confirm : Confirm) (frames : List (Frame H)) (failed : Bool) (cs : List Control) (reply : Reply) (st : State) → EndsOnce frames → CountersAgree confirm frames st → Acknowledges reply st → is_within cs (controls reply) ≡ true → (sender : SenderEnd) → st.sender ≡ sender → CountersAgree confirm frames (gets frames failed cs sender st)
@@ -374,9 +374,9 @@ cons-ends frame frames other ends = record {
   some = omega arith;
 }
 
-blocks-end : {H : Type 0} (k : ℕ) (pieces : List (List ℕ)) (frames : List (Frame H)) → EndsOnce frames → EndsOnce (numbered_from k pieces ++ frames)
-blocks-end k [] frames ends = ends
-blocks-end k (piece ∷ pieces) frames ends = cons-ends (Piece (k % 256) piece) (numbered_from (k + 1) pieces ++ frames) (λ w. cc) (blocks-end (k + 1) pieces frames ends)
+pieces-end : {H : Type 0} (k : ℕ) (pieces : List (List ℕ)) (frames : List (Frame H)) → EndsOnce frames → EndsOnce (numbered_from k pieces ++ frames)
+pieces-end k [] frames ends = ends
+pieces-end k (piece ∷ pieces) frames ends = cons-ends (Piece (k % 256) piece) (numbered_from (k + 1) pieces ++ frames) (λ w. cc) (pieces-end (k + 1) pieces frames ends)
 
 pub frames-end : {H : Type 0} (files : List (File H)) → EndsOnce (frames_of files)
 frames-end [] = record {
@@ -386,4 +386,4 @@ frames-end [] = record {
 }
 frames-end (file ∷ files) =
     cons-ends (BlockZero file.header) (numbered_from 1 file.pieces ++ Eot ∷ frames_of files) (λ w. cc)
-    (blocks-end 1 file.pieces (Eot ∷ frames_of files) (cons-ends Eot (frames_of files) (λ w. cc) (frames-end files)))
+    (pieces-end 1 file.pieces (Eot ∷ frames_of files) (cons-ends Eot (frames_of files) (λ w. cc) (frames-end files)))

@@ -21,7 +21,7 @@ use crate::Batch;
 /// state: the half back from the state behind the half there of the same round, with control bytes
 /// that are those of its reply with some left out.
 pub fn halves_keep_machine_states<B: Batch>()
-    ensures at_start { (confirm : Confirm) (files : List (File B.Header)) → IsMachine confirm (frames_of files) start }
+    ensures at_start { (files : List (File B.Header)) (confirm : Confirm) → IsMachine confirm (frames_of files) start }
     ensures half_there { (files : List (File B.Header)) (confirm : Confirm) (sink_failed whole : Bool) (old : State) →
         IsMachine confirm (frames_of files) old → IsMachine confirm (frames_of files) (there (frames_of files) confirm sink_failed whole old).0 }
     ensures half_back { (files : List (File B.Header)) (confirm : Confirm) (sink_failed whole source_failed : Bool) (came : List Control) (old : State) →

@@ -6,7 +6,7 @@ use Rattle.ym_machine.specs.Frames.{frames_of}
 use Rattle.ym_machine.specs.Run.{whole}
 
 pub returns-clause-at_start : goal.returns-clause-at_start
-returns-clause-at_start g c confirm files = record { counters = start-machine confirm (frames_of files) (frames-end files); endings = start-endings (frames_of files) }
+returns-clause-at_start g c files confirm = record { counters = start-machine confirm (frames_of files) (frames-end files); endings = start-endings (frames_of files) }
 
 pub returns-clause-half_there : goal.returns-clause-half_there
 returns-clause-half_there g c files confirm sink whole st m = there-state (frames_of files) confirm sink whole st (frames-end files) m

@@ -6,9 +6,9 @@ use Rattle.ym_frame.specs.declared.control.Reply.{Reply}
 use Rattle.ym_frame.specs.declared.control.Reply.TheVariants.{Silence, Start, Ack, AckStart, Nak, Cancel}
 use Rattle.ym_frame.specs.declared.control.Control.{Control}
 use Rattle.ym_frame.specs.declared.control.Control.TheVariants as control
-use Rattle.ym_machine.proofs.Halves.{on_cond, Acknowledges, acks-honest}
+use Rattle.ym_machine.proofs.Halves.{on_cond, Acknowledges, acknowledged-honest}
 use Rattle.ym_machine.proofs.Phases.{there-waiting, there-fresh, there-again, there-done}
-use Rattle.ym_machine.proofs.Whole.{ReceiverIdle, SenderIdle, not-below, sends-on, SentOn}
+use Rattle.ym_machine.proofs.WholeTurns.{ReceiverIdle, SenderIdle, not-below, sends-on, SentOn}
 use Rattle.ym_machine.specs.Frames.{BlockZero, EndBlock, EndsOnce, Eot, Frame, Piece, frame_at, frame_before}
 use Rattle.ym_machine.specs.State.{ReceiverEnd, SenderEnd, State}
 use Rattle.ym_machine.specs.Halves.{Answer, Bad, acknowledged_at, asks_again, back, controls, gets, hears, hears_last, hears_next, holds_start, is_within, nothing_gained, nothing_taken, running_gets, sends, takes, there}
@@ -62,8 +62,8 @@ module _ {H : Type 0} (confirm : Confirm) (frames : List (Frame H)) (sink : Bool
   abbrev pub Facts : Answer → Type 0
   Facts answer = ThereFacts confirm frames sink st answer
 
-  faulted-facts : (reply : Reply) → reply ≢ Cancel → st.receiver ≡ ReceiverEnd.Running → Facts (nothing_taken st reply)
-  faulted-facts reply other receiving = on_cond Facts (nat_lt (st.receiver_count + 1) 10) _ _
+  nothing_taken-facts : (reply : Reply) → reply ≢ Cancel → st.receiver ≡ ReceiverEnd.Running → Facts (nothing_taken st reply)
+  nothing_taken-facts reply other receiving = on_cond Facts (nat_lt (st.receiver_count + 1) 10) _ _
       (λ _. quiet (record { same = record { sender = refl; sent = refl; acknowledged = refl; sender_count = refl }; taken = refl; first = refl; receiver = refl; receiver_count = omega arith; reply = other }))
       (λ t. tenth (not-below (st.receiver_count + 1) t) receiving refl)
 
@@ -93,7 +93,7 @@ module _ {H : Type 0} (confirm : Confirm) (frames : List (Frame H)) (sink : Bool
   bad-facts = go st.receiver refl going.1
     where
       go : (r : ReceiverEnd) → st.receiver ≡ r → ReceiverGoes r → Facts (hears frames confirm sink Bad r st)
-      go ReceiverEnd.Running e g = faulted-facts (asks_again (frame_before frames st.taken)) (again-no (frame_before frames st.taken)) e
+      go ReceiverEnd.Running e g = nothing_taken-facts (asks_again (frame_before frames st.taken)) (again-no (frame_before frames st.taken)) e
       go ReceiverEnd.Finished e g = same-quiet
       go ReceiverEnd.Cancelled e g = absurd g
       go ReceiverEnd.TooManyErrors e g = absurd g
@@ -127,10 +127,10 @@ module _ {H : Type 0} (confirm : Confirm) (frames : List (Frame H)) (sink : Bool
     next-facts Once EndBlock e f = end-facts f
 
   last-facts : (frame : Frame H) → st.receiver ≡ ReceiverEnd.Running → Facts (hears_last frame st)
-  last-facts (BlockZero header) r = faulted-facts AckStart (λ w. cc) r
-  last-facts (Piece number body) r = faulted-facts Ack (λ w. cc) r
-  last-facts Eot r = faulted-facts AckStart (λ w. cc) r
-  last-facts EndBlock r = faulted-facts Start (λ w. cc) r
+  last-facts (BlockZero header) r = nothing_taken-facts AckStart (λ w. cc) r
+  last-facts (Piece number body) r = nothing_taken-facts Ack (λ w. cc) r
+  last-facts Eot r = nothing_taken-facts AckStart (λ w. cc) r
+  last-facts EndBlock r = nothing_taken-facts Start (λ w. cc) r
 
   -- the half there
   pub there-facts : (whole : Bool) → Facts (there frames confirm sink whole st)
@@ -146,7 +146,7 @@ module _ {H : Type 0} (confirm : Confirm) (frames : List (Frame H)) (sink : Bool
 
       go : (b : Bool) → st.sent ≡ b → Facts (there frames confirm sink true st)
       go false e = let r : st.receiver ≡ ReceiverEnd.Running = runs (let x = (m.waiting e).0 in let y = below in omega arith) in
-          subst Facts (sym (there-waiting frames confirm sink st m sending r e)) (faulted-facts Start (λ w. cc) r)
+          subst Facts (sym (there-waiting frames confirm sink st m sending r e)) (nothing_taken-facts Start (λ w. cc) r)
       go true e = split m.ahead
         where
           split : (st.taken ≡ st.acknowledged) ⊎ (st.taken ≡ st.acknowledged + 1) → Facts (there frames confirm sink true st)
@@ -182,20 +182,20 @@ pub data BackFacts (source : Bool) (reply : Reply) (old new : State) : Type 0 wh
   source_broke : source ≡ true → new.sender ≡ SenderEnd.SourceFailed → BackFacts source reply old new
 
 -- two CAN come only from Cancel
-pub cans-honest : (reply : Reply) → is_within (control.Can ∷ control.Can ∷ []) (controls reply) ≡ true → reply ≡ Cancel
-cans-honest Silence w = cc
-cans-honest Start w = cc
-cans-honest Ack w = cc
-cans-honest AckStart w = cc
-cans-honest Nak w = cc
-cans-honest Cancel w = refl
+pub cancel-honest : (reply : Reply) → is_within (control.Can ∷ control.Can ∷ []) (controls reply) ≡ true → reply ≡ Cancel
+cancel-honest Silence w = cc
+cancel-honest Start w = cc
+cancel-honest Ack w = cc
+cancel-honest AckStart w = cc
+cancel-honest Nak w = cc
+cancel-honest Cancel w = refl
 
 module _ {H : Type 0} (confirm : Confirm) (frames : List (Frame H)) (source : Bool) (reply : Reply) (st : State) (ends_once : EndsOnce frames) (m : CountersAgree confirm frames st) (honest : Acknowledges reply st) (sending : st.sender ≡ SenderEnd.Running) where
   abbrev pub BackTo : State → Type 0
   BackTo new = BackFacts source reply st new
 
-  missed-facts : BackTo (nothing_gained st)
-  missed-facts = on_cond BackTo (nat_lt (st.sender_count + 1) 10) _ _
+  nothing_gained-facts : BackTo (nothing_gained st)
+  nothing_gained-facts = on_cond BackTo (nat_lt (st.sender_count + 1) 10) _ _
       (λ _. missed_it (record { sender = refl; sent = refl; acknowledged = refl; taken = refl; first = refl; receiver_count = refl; sender_count = refl }))
       (λ t. tenth_miss (not-below (st.sender_count + 1) t) refl)
 
@@ -212,13 +212,13 @@ module _ {H : Type 0} (confirm : Confirm) (frames : List (Frame H)) (source : Bo
       go (inl e) = went_on (record { sender = e ∙ sending; was = idle; acknowledged = on.acknowledged ∙ sym at; taken = on.taken; first = on.first ∙ first; receiver_count = on.receiver_count; sender_count = on.sender_count })
       go (inr e) = source_broke e.0 e.1
 
-  acked-facts : (c : Bool) (frame : Frame H) → st.taken ≡ st.acknowledged + 1 → st.first_eot ≡ false → BackTo (acknowledged_at frames source c frame st)
-  acked-facts c (Piece number body) at first = sends-facts (st.acknowledged + 1) at (inr at) first
-  acked-facts c EndBlock at first = all_sent refl
-  acked-facts true (BlockZero header) at first = sends-facts (st.acknowledged + 1) at (inr at) first
-  acked-facts true Eot at first = sends-facts (st.acknowledged + 1) at (inr at) first
-  acked-facts false (BlockZero header) at first = went_on (record { sender = sending; was = inr at; acknowledged = sym at; taken = refl; first = first; receiver_count = refl; sender_count = refl })
-  acked-facts false Eot at first = went_on (record { sender = sending; was = inr at; acknowledged = sym at; taken = refl; first = first; receiver_count = refl; sender_count = refl })
+  acknowledged-facts : (c : Bool) (frame : Frame H) → st.taken ≡ st.acknowledged + 1 → st.first_eot ≡ false → BackTo (acknowledged_at frames source c frame st)
+  acknowledged-facts c (Piece number body) at first = sends-facts (st.acknowledged + 1) at (inr at) first
+  acknowledged-facts c EndBlock at first = all_sent refl
+  acknowledged-facts true (BlockZero header) at first = sends-facts (st.acknowledged + 1) at (inr at) first
+  acknowledged-facts true Eot at first = sends-facts (st.acknowledged + 1) at (inr at) first
+  acknowledged-facts false (BlockZero header) at first = went_on (record { sender = sending; was = inr at; acknowledged = sym at; taken = refl; first = first; receiver_count = refl; sender_count = refl })
+  acknowledged-facts false Eot at first = went_on (record { sender = sending; was = inr at; acknowledged = sym at; taken = refl; first = first; receiver_count = refl; sender_count = refl })
 
   no-first-eot : ReceiverIdle st → st.first_eot ≡ false
   no-first-eot idle = go st.first_eot refl idle
@@ -229,13 +229,13 @@ module _ {H : Type 0} (confirm : Confirm) (frames : List (Frame H)) (source : Bo
       go false f w = refl
 
   running-facts : (cs : List Control) → is_within cs (controls reply) ≡ true → (sent : Bool) → st.sent ≡ sent → BackTo (running_gets frames source sent cs st)
-  running-facts (control.Can ∷ control.Can ∷ []) w true e = cancelled (cans-honest reply w) refl
-  running-facts (control.Can ∷ control.Can ∷ []) w false e = cancelled (cans-honest reply w) refl
+  running-facts (control.Can ∷ control.Can ∷ []) w true e = cancelled (cancel-honest reply w) refl
+  running-facts (control.Can ∷ control.Can ∷ []) w false e = cancelled (cancel-honest reply w) refl
   running-facts (control.Ack ∷ cs) w true e =
-      let a = acks-honest cs reply st w honest sending in acked-facts (holds_start cs) (frame_at frames st.acknowledged) a.1 (no-first-eot (inr a.1))
-  running-facts _ w true e = missed-facts
+      let a = acknowledged-honest cs reply st w honest sending in acknowledged-facts (holds_start cs) (frame_at frames st.acknowledged) a.1 (no-first-eot (inr a.1))
+  running-facts _ w true e = nothing_gained-facts
   running-facts cs w false e = on_cond BackTo (holds_start cs) (sends source (frame_at frames st.acknowledged) st.acknowledged st) (nothing_gained st)
-      (λ _. sends-facts st.acknowledged (m.waiting e).0 (inl e) (no-first-eot (inl e))) (λ _. missed-facts)
+      (λ _. sends-facts st.acknowledged (m.waiting e).0 (inl e) (no-first-eot (inl e))) (λ _. nothing_gained-facts)
 
   -- the half back
   pub back-facts : (cs : List Control) → is_within cs (controls reply) ≡ true → BackTo (back frames source cs st)

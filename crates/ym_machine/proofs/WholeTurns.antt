@@ -130,21 +130,21 @@ arrives confirm frames turn frame place old mid sending receiving at first recei
 pub sends-receiver : {H : Type 0} (failed : Bool) (frame : Frame H) (place : ℕ) (st : State) → (sends failed frame place st).receiver ≡ st.receiver
 sends-receiver failed frame place st = (sends-on failed frame place st).receiving
 
-pub missed-receiver : (st : State) → (nothing_gained st).receiver ≡ st.receiver
-missed-receiver st = on_cond (λ (a : State). a.receiver ≡ st.receiver) (nat_lt (st.sender_count + 1) 10) _ _ (λ _. refl) (λ _. refl)
+pub nothing_gained-receiver : (st : State) → (nothing_gained st).receiver ≡ st.receiver
+nothing_gained-receiver st = on_cond (λ (a : State). a.receiver ≡ st.receiver) (nat_lt (st.sender_count + 1) 10) _ _ (λ _. refl) (λ _. refl)
 
-pub acked-receiver : {H : Type 0} (frames : List (Frame H)) (failed c : Bool) (frame : Frame H) (st : State) → (acknowledged_at frames failed c frame st).receiver ≡ st.receiver
-acked-receiver frames failed c (Piece number body) st = sends-receiver failed (frame_at frames (st.acknowledged + 1)) (st.acknowledged + 1) st
-acked-receiver frames failed c EndBlock st = refl
-acked-receiver frames failed true _ st = sends-receiver failed (frame_at frames (st.acknowledged + 1)) (st.acknowledged + 1) st
-acked-receiver frames failed false _ st = refl
+pub acknowledged-receiver : {H : Type 0} (frames : List (Frame H)) (failed c : Bool) (frame : Frame H) (st : State) → (acknowledged_at frames failed c frame st).receiver ≡ st.receiver
+acknowledged-receiver frames failed c (Piece number body) st = sends-receiver failed (frame_at frames (st.acknowledged + 1)) (st.acknowledged + 1) st
+acknowledged-receiver frames failed c EndBlock st = refl
+acknowledged-receiver frames failed true _ st = sends-receiver failed (frame_at frames (st.acknowledged + 1)) (st.acknowledged + 1) st
+acknowledged-receiver frames failed false _ st = refl
 
 pub running-receiver : {H : Type 0} (frames : List (Frame H)) (failed sent : Bool) (cs : List Control) (st : State) → (running_gets frames failed sent cs st).receiver ≡ st.receiver
 running-receiver frames failed true (control.Can ∷ control.Can ∷ []) st = refl
 running-receiver frames failed false (control.Can ∷ control.Can ∷ []) st = refl
-running-receiver frames failed true (control.Ack ∷ cs) st = acked-receiver frames failed (holds_start cs) (frame_at frames st.acknowledged) st
-running-receiver frames failed true _ st = missed-receiver st
-running-receiver frames failed false cs st = on_cond (λ (a : State). a.receiver ≡ st.receiver) (holds_start cs) (sends failed (frame_at frames st.acknowledged) st.acknowledged st) (nothing_gained st) (λ _. sends-receiver failed (frame_at frames st.acknowledged) st.acknowledged st) (λ _. missed-receiver st)
+running-receiver frames failed true (control.Ack ∷ cs) st = acknowledged-receiver frames failed (holds_start cs) (frame_at frames st.acknowledged) st
+running-receiver frames failed true _ st = nothing_gained-receiver st
+running-receiver frames failed false cs st = on_cond (λ (a : State). a.receiver ≡ st.receiver) (holds_start cs) (sends failed (frame_at frames st.acknowledged) st.acknowledged st) (nothing_gained st) (λ _. sends-receiver failed (frame_at frames st.acknowledged) st.acknowledged st) (λ _. nothing_gained-receiver st)
 
 pub gets-receiver : {H : Type 0} (frames : List (Frame H)) (failed : Bool) (cs : List Control) (sender : SenderEnd) (st : State) → (gets frames failed cs sender st).receiver ≡ st.receiver
 gets-receiver frames failed cs SenderEnd.Running st = running-receiver frames failed st.sent cs st
