@@ -1,6 +1,6 @@
 -- A round, in its two halves: the receiver hears and replies, and the sender hears what comes back.
 --
--- The tables are this profile's, for what the reference leaves open between two ends; what it fixes is said beside the line.
+-- Of the tables the lines that have a section of the reference beside them come from there, and this profile chose the others.
 use Rattle.std.specs.Prelude.{ℕ, ◌+◌, ◌≡◌, ◌==◌, ◌⊎◌, nat_lt, List, [], ◌∷◌, Bool, true, false, if◌then◌else◌}
 use Rattle.ym_frame.specs.declared.control.Control.{Control}
 use Rattle.ym_frame.specs.declared.control.Control.TheVariants as control
@@ -29,6 +29,7 @@ abbrev pub Answer : Type 0
 Answer = State × Reply
 
 -- a delivery that brings the receiver no progress: at the tenth in a row it gives up
+-- (reference, "XMODEM Protocol Overview": errors are retried 10 times)
 abbrev pub nothing_taken : State → Reply → Answer
 nothing_taken st reply =
     if nat_lt (st.receiver_count + 1) 10
@@ -41,7 +42,8 @@ takes st reply false = (record st { taken = st.taken + 1; first_eot = false; rec
 takes st reply true = (record st { receiver = ReceiverEnd.SinkFailed }, Cancel)
 
 -- a Running receiver hears F[r]
--- (reference: block 0 is answered with ACK and then C, a data block with ACK, and EOT is repeated until it is acknowledged)
+-- (reference: a data block is answered with ACK, "XMODEM Protocol Overview"; a block 0 with ACK and then C, and the end block
+-- with ACK, "YMODEM Batch File Transmission"; that Twice wants an EOT two times, and a C behind its ACK, is this profile's)
 abbrev pub hears_next : {H : Type 0} → Confirm → Bool → Frame H → State → Answer
 hears_next confirm sink_failed (BlockZero header) st = takes st AckStart sink_failed
 hears_next confirm sink_failed (Piece number body) st = takes st Ack sink_failed
@@ -51,20 +53,22 @@ hears_next Twice sink_failed Eot st =
 hears_next Once sink_failed Eot st = takes st AckStart sink_failed
 hears_next confirm sink_failed EndBlock st = (record st { taken = st.taken + 1; receiver = ReceiverEnd.Finished }, Ack)
 
--- a Running receiver hears F[r-1] once more (never the end block, at which it finished)
+-- a Running receiver hears F[r-1] once more, never the end block, at which it finished
+-- (reference, "XMODEM Protocol Overview": a repeated block is acknowledged and dropped)
 abbrev pub hears_last : {H : Type 0} → Frame H → State → Answer
 hears_last (BlockZero header) st = nothing_taken st AckStart
 hears_last (Piece number body) st = nothing_taken st Ack
 hears_last Eot st = nothing_taken st AckStart
 hears_last EndBlock st = nothing_taken st Start
 
--- what a Running receiver answers to no frame, by F[r-1]: NAK behind a data block, else C
+-- what a Running receiver answers to no frame, by F[r-1]: NAK behind a data block, else C; before F[0] stands the end block
 abbrev pub asks_again : {H : Type 0} → Frame H → Reply
 asks_again (BlockZero header) = Start
 asks_again (Piece number body) = Nak
 asks_again Eot = Start
 asks_again EndBlock = Start
 
+-- a Running receiver: in a machine state a frame that is not F[r] is F[r-1]
 abbrev pub running_hears : {H : Type 0} → List (Frame H) → Confirm → Bool → Sound → State → Answer
 running_hears frames confirm sink_failed (At i) st =
     if i == st.taken then hears_next confirm sink_failed (frame_at frames i) st
@@ -129,7 +133,8 @@ holds_start [] = false
 holds_start (control.Start ∷ came) = true
 holds_start (_ ∷ came) = holds_start came
 
--- a Running sender, which has sent or waits, gets these control bytes (reference: two CAN in a row cancel, one does not)
+-- a Running sender, which has sent or waits, gets these control bytes
+-- (reference, "Graceful Abort": two CAN in a row cancel, one does not; this profile: C never acknowledges)
 abbrev pub running_gets : {H : Type 0} → List (Frame H) → Bool → Bool → List Control → State → State
 running_gets frames source_failed sent (control.Can ∷ control.Can ∷ []) st = record st { sender = SenderEnd.Cancelled }
 running_gets frames source_failed true (control.Ack ∷ came) st =
