@@ -12,7 +12,6 @@ use Rattle.ym_machine.proofs.WholeTurns.{ReceiverIdle, SenderIdle, not-below, se
 use Rattle.ym_machine.specs.Frames.{BlockZero, EndBlock, EndsOnce, Eot, Frame, Piece, frame_at, frame_before}
 use Rattle.ym_machine.specs.State.{ReceiverEnd, SenderEnd, State}
 use Rattle.ym_machine.specs.Halves.{Answer, Bad, acknowledged_at, asks_again, back, controls, gets, hears, hears_last, hears_next, holds_start, is_within, nothing_gained, nothing_taken, running_gets, sends, takes, there}
-use Rattle.ym_machine.specs.Run.{whole}
 use Rattle.ym_machine.specs.Left.{IsGoing, ReceiverGoes}
 use Rattle.ym_machine.specs.Machine.{CountersAgree}
 

@@ -13,7 +13,7 @@ use Rattle.ym_machine.proofs.Phases.{weights-step, left-waiting, left-fresh, lef
 use Rattle.ym_machine.proofs.WholeTurns.{ReceiverIdle, SenderIdle, WholeTurn, moves, confirms, ends, gives_up, sink_broke, source_broke, faulty, silent, whole_turn, whole-turn, back-receiver, gone, no-sink}
 use Rattle.ym_machine.proofs.AnyTurns.{Took, TookEot, ThereFacts, quiet, took, took_eot, tenth, broke, there-facts, WentOn, BackFacts, missed_it, went_on, all_sent, cancelled, tenth_miss, back-facts}
 use Rattle.ym_machine.specs.Frames.{BlockZero, EndBlock, EndsOnce, Eot, File, Frame, Piece, eots, files_within, frame_at, frames_of, numbered_from}
-use Rattle.ym_machine.specs.State.{ReceiverEnd, SenderEnd, State, committed, reported, said, said_by, start}
+use Rattle.ym_machine.specs.State.{ReceiverEnd, SenderEnd, State, said, said_by, start}
 use Rattle.ym_machine.specs.Halves.{Answer, Bad, back, controls, gets, heard, hears, is_within, there}
 use Rattle.ym_machine.specs.Run.{AllWhole, IsDamage, NoFailure, Turn, after_turn, after_turns, came_back, is_whole, longest_bad_run, whole, whole_turns}
 use Rattle.ym_machine.specs.Left.{CountsWithin, IsComplete, IsGoing, ReceiverGoes, SenderGoes, left, left_at, left_unfinished, needed_by, rounds_needed, weight, weights, weights_from}

@@ -10,7 +10,7 @@ use Rattle.ym_frame.specs.declared.control.Control.TheVariants as control
 use Rattle.ym_machine.specs.Frames.{BlockZero, EndBlock, EndsOnce, Eot, File, Frame, Piece, frame_at, frame_before, frames_of, numbered_from}
 use Rattle.ym_machine.specs.State.{ReceiverEnd, SenderEnd, State, said, said_by, start}
 use Rattle.ym_machine.specs.Halves.{Answer, At, Bad, Can, Sound, acknowledged_at, asks_again, back, controls, gets, heard, hears, hears_last, hears_next, holds_start, is_within, nothing_gained, nothing_taken, running_gets, sends, takes, there}
-use Rattle.ym_machine.specs.Run.{IsDamage, Turn, after_turn, after_turns, came_back, whole}
+use Rattle.ym_machine.specs.Run.{IsDamage, Turn, after_turn, after_turns, came_back}
 use Rattle.ym_machine.specs.Machine.{CallsForStart, CountersAgree}
 
 -- a sound that comes from the sender

@@ -6,7 +6,7 @@ use Rattle.ym_frame.specs.declared.control.Reply.TheVariants.{Start, Ack}
 use Rattle.ym_frame.specs.declared.control.Control.{Control}
 use Rattle.ym_frame.specs.declared.control.Control.TheVariants as control
 use Rattle.ym_machine.specs.Frames.{BlockZero, EndBlock, Eot, Frame, Piece, frame_at, frame_before}
-use Rattle.ym_machine.specs.State.{ReceiverEnd, SenderEnd, State, said, said_by, start}
+use Rattle.ym_machine.specs.State.{ReceiverEnd, SenderEnd, State, said, said_by}
 use Rattle.ym_machine.specs.Halves.{At, Bad, acknowledged_at, asks_again, back, gets, heard, hears, hears_last, hears_next, holds_start, nothing_gained, nothing_taken, running_gets, sends, there}
 use Rattle.ym_machine.specs.Left.{left, left_at, weight, weights_from}
 use Rattle.ym_machine.specs.Machine.{CallsForStart, CountersAgree}

@@ -2,7 +2,6 @@ use Rattle.ym_machine.proofs.Halves.{frames-end, there-answers, acknowledged-hon
 use Rattle.ym_machine.proofs.laws.acknowledged_is_taken.Goals as goal
 use Rattle.ym_machine.specs.Frames.{frames_of}
 use Rattle.ym_machine.specs.Halves.{there}
-use Rattle.ym_machine.specs.Run.{whole}
 
 pub returns : goal.returns
 returns g c = record {

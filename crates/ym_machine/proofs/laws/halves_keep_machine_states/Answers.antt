@@ -3,7 +3,6 @@ use Rattle.ym_machine.proofs.Halves.{start-machine, frames-end}
 use Rattle.ym_machine.proofs.Endings.{start-endings, there-state, turn-state, turns-state}
 use Rattle.ym_machine.proofs.laws.halves_keep_machine_states.Goals as goal
 use Rattle.ym_machine.specs.Frames.{frames_of}
-use Rattle.ym_machine.specs.Halves.{back}
 use Rattle.ym_machine.specs.Run.{whole}
 
 pub returns-clause-at_start : goal.returns-clause-at_start
