@@ -1,7 +1,7 @@
 -- any turn: what the halves may do while the sender runs
 use Rattle.std.proofs.Common.{ℕ, ◌+◌, ◌<◌, ◌≤◌, ◌≡◌, ◌≢◌, ◌⊎◌, List, [], ◌∷◌, length, Bool, true, false, refl, sym, ap, ◌∙◌, subst, inl, inr, arith, nat_lt}
-use Rattle.ym_machine.specs.declared.words.Confirm.{Confirm}
-use Rattle.ym_machine.specs.declared.words.Confirm.TheVariants.{Twice, Once}
+use Rattle.ym_machine.specs.declared.confirm.Confirm.{Confirm}
+use Rattle.ym_machine.specs.declared.confirm.Confirm.TheVariants.{Twice, Once}
 use Rattle.ym_machine.specs.declared.words.Reply.{Reply}
 use Rattle.ym_machine.specs.declared.words.Reply.TheVariants.{Silence, Start, Ack, AckStart, Nak, Cancel}
 use Rattle.ym_machine.specs.declared.words.Control.{Control}

@@ -1,7 +1,7 @@
 -- bounded completion
 use Rattle.std.proofs.Common.{ℕ, ◌+◌, ◌-◌, ◌<◌, ◌≤◌, ◌≡◌, ◌≢◌, ◌⊎◌, ◌&&◌, suc, zero, List, [], ◌∷◌, ◌++◌, length, Bool, true, false, refl, sym, ap, ◌∙◌, subst, inl, inr, arith, cond, Option, None, Some, is_none, max, sum_by, take}
-use Rattle.ym_machine.specs.declared.words.Confirm.{Confirm}
-use Rattle.ym_machine.specs.declared.words.Confirm.TheVariants.{Twice, Once}
+use Rattle.ym_machine.specs.declared.confirm.Confirm.{Confirm}
+use Rattle.ym_machine.specs.declared.confirm.Confirm.TheVariants.{Twice, Once}
 use Rattle.ym_machine.specs.declared.words.Reply.{Reply}
 use Rattle.ym_machine.specs.declared.words.Reply.TheVariants.{Silence, Start, Ack, AckStart, Nak, Cancel}
 use Rattle.ym_machine.specs.declared.words.Control.{Control}

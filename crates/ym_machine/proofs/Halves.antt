@@ -1,8 +1,8 @@
 -- each half of a turn leads from a machine state to a machine state
 use Rattle.std.proofs.Common.{ℕ, ◌+◌, ◌<◌, ◌≡◌, ◌≢◌, ◌==◌, suc, zero, List, [], ◌∷◌, ◌++◌, ◌%◌, length, Bool, true, false, refl, sym, ap, ◌∙◌, subst, inl, inr, arith, cond, nat_lt, add-one}
 use Rattle.std.proofs.lemmas.Bool.Decides.{nat_tests}
-use Rattle.ym_machine.specs.declared.words.Confirm.{Confirm}
-use Rattle.ym_machine.specs.declared.words.Confirm.TheVariants.{Twice, Once}
+use Rattle.ym_machine.specs.declared.confirm.Confirm.{Confirm}
+use Rattle.ym_machine.specs.declared.confirm.Confirm.TheVariants.{Twice, Once}
 use Rattle.ym_machine.specs.declared.words.Reply.{Reply}
 use Rattle.ym_machine.specs.declared.words.Reply.TheVariants.{Silence, Start, Ack, AckStart, Nak, Cancel}
 use Rattle.ym_machine.specs.declared.words.Control.{Control}

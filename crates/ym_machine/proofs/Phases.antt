@@ -1,7 +1,7 @@
 -- what a turn does, phase by phase
 use Rattle.std.proofs.Common.{ℕ, ◌+◌, ◌-◌, ◌<◌, ◌≡◌, ◌==◌, suc, zero, List, [], ◌∷◌, length, Bool, true, false, refl, sym, ap, ◌∙◌, subst, arith, cond, add-one}
 use Rattle.std.proofs.lemmas.Bool.Decides.{nat_tests}
-use Rattle.ym_machine.specs.declared.words.Confirm.{Confirm}
+use Rattle.ym_machine.specs.declared.confirm.Confirm.{Confirm}
 use Rattle.ym_machine.specs.declared.words.Reply.TheVariants.{Start, Ack}
 use Rattle.ym_machine.specs.declared.words.Control.{Control}
 use Rattle.ym_machine.specs.declared.words.Control.TheVariants as control

@@ -1,7 +1,7 @@
 -- The machine of two counters: what the two ends are to each other, round by round.
 use Rattle.std.specs.Prelude.{ℕ, ◌+◌, ◌-◌, ◌<◌, ◌≤◌, ◌≡◌, ◌↔◌, ◌⊎◌, ◌==◌, ◌&&◌, nat_lt, suc, zero, List, [], ◌∷◌, length, Bool, true, false, if◌then◌else◌, max, drop, Option, None, Some, is_none, sum_by, take}
-use Rattle.ym_machine.specs.declared.words.Confirm.{Confirm}
-use Rattle.ym_machine.specs.declared.words.Confirm.TheVariants.{Twice, Once}
+use Rattle.ym_machine.specs.declared.confirm.Confirm.{Confirm}
+use Rattle.ym_machine.specs.declared.confirm.Confirm.TheVariants.{Twice, Once}
 use Rattle.ym_machine.specs.declared.words.Reply.{Reply}
 use Rattle.ym_machine.specs.declared.words.Reply.TheVariants.{Silence, Start, Ack, AckStart, Nak, Cancel}
 use Rattle.ym_machine.specs.declared.words.Control.{Control}

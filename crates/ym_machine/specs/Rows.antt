@@ -1,6 +1,6 @@
 -- tiny batches, computed
 use Rattle.std.specs.Prelude.{◌≡◌, List, [], ◌∷◌, true, false, None, Some, refl}
-use Rattle.ym_machine.specs.declared.words.Confirm.TheVariants.{Twice, Once}
+use Rattle.ym_machine.specs.declared.confirm.Confirm.TheVariants.{Twice, Once}
 use Rattle.ym_machine.specs.declared.words.Control.TheVariants as control
 use Rattle.ym_machine.specs.Frames.{Frame, frames_of}
 use Rattle.ym_machine.specs.Machine.{Sent_all, Got_all, Turn, start, after_turns, left}

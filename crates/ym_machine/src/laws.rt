@@ -1,7 +1,7 @@
 //! Laws over the definitions alone.
 
 ghost use Rattle.std.specs.Prelude.{◌≡◌, ◌≢◌, ◌+◌, ◌<◌, ◌≤◌, ◌∷◌, [], Bool, List, true, length};
-ghost use Rattle.ym_machine.specs.declared.words.Confirm.{Confirm};
+ghost use Rattle.ym_machine.specs.declared.confirm.Confirm.{Confirm};
 ghost use Rattle.ym_machine.specs.declared.words.Control.{Control};
 ghost use Rattle.ym_machine.specs.Frames.{File, Frame, frames_of};
 ghost use Rattle.ym_machine.specs.Machine.{State, Sent_all, IsMachine, start, there, back, is_within, controls, Turn, IsGoing, IsDamage, NoFailure, AllWhole, CountsWithin, IsComplete, after_turn, after_turns, is_whole, whole_turns, longest_bad_run, left, rounds_needed};

@@ -1,5 +1,5 @@
 use Rattle.std.proofs.Common.{ℕ, ◌≤◌, arith, ap, ◌∙◌, List}
-use Rattle.ym_machine.specs.declared.words.Confirm.{Confirm}
+use Rattle.ym_machine.specs.declared.confirm.Confirm.{Confirm}
 use Rattle.ym_machine.specs.Frames.{File, frames_of}
 use Rattle.ym_machine.specs.Machine.{Turn, start, after_turns, rounds_needed, whole_turns, longest_bad_run, IsDamage, NoFailure, files_within, IsComplete}
 use Rattle.ym_machine.proofs.Halves.{frames-end}

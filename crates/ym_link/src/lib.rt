@@ -1,0 +1,13 @@
+//! The two ends of a transfer: a sender over any source of files, and a receiver into any sink.
+#![tactic(auto)]
+
+mod delivery;
+mod hearing;
+mod source_file;
+mod state;
+
+pub use delivery::Heard;
+pub use hearing::heard;
+pub use source_file::{SendFile, SourceFile};
+pub use state::{RecvState, SendState};
+pub use ym_machine::Confirm;
