@@ -3,6 +3,7 @@
 
 mod delivery;
 mod hearing;
+pub mod laws;
 mod receiver;
 mod source_file;
 mod stage;
