@@ -1,0 +1,3 @@
+pub mod OneStep
+pub mod Positions
+pub mod ReceiverLemmas

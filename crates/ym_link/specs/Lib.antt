@@ -1,0 +1,5 @@
+pub mod Hearing
+pub mod Receiver
+pub mod ReceiverInto
+pub mod ReceiverStands
+pub mod SourceFile

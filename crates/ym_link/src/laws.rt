@@ -1,0 +1,5 @@
+//! Laws of the definitions: each is the promise of a function that does nothing.
+
+mod receiver;
+
+pub use receiver::{a_block_zero_means_one_thing, a_delivery_has_one_step};

@@ -1,0 +1,20 @@
+//! The two ends of a transfer: a sender over any source of files, and a receiver into any sink.
+#![tactic(auto)]
+
+mod delivery;
+mod hearing;
+pub mod laws;
+mod receiver;
+mod source_file;
+mod stage;
+mod state;
+
+pub use delivery::Heard;
+pub use hearing::heard;
+pub use receiver::{Receiver, ReceiverInto};
+pub use source_file::{SendFile, SourceFile};
+pub use state::{RecvState, SendState};
+pub use ym_machine::Confirm;
+
+#[cfg(test)]
+mod tests;

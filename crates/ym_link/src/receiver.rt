@@ -1,0 +1,134 @@
+//! The receiver, into any sink.
+
+ghost use Rattle.std.specs.Prelude.{◌≡◌, Some, length, map, option_map};
+ghost use Rattle.ym_file.specs.Kept.{Told, IsNew};
+ghost use Rattle.ym_file.specs.Parts.{FileParts};
+
+mod steps;
+
+use crate::delivery::Heard;
+use crate::stage::Stage;
+use crate::state::RecvState;
+use std::alloc::{AllocError, Global};
+use std::marker::Model;
+use ym_file::{MemSink, Received, Sink};
+use ym_frame::Reply;
+use ym_machine::Confirm;
+
+/// A receiver that hands the files of a batch to a sink.
+#[derive(Drop)]
+pub struct ReceiverInto<K: Sink> {
+    sink: K,
+    alloc: Global,
+    confirm: Confirm,
+    stage: Stage,
+    files: usize,
+    count: u8,
+    state: RecvState,
+}
+
+/// A receiver that keeps the files in memory.
+pub type Receiver = ReceiverInto<MemSink>;
+
+impl<K: Sink> Model for ReceiverInto<K> {
+    ghost use Rattle.ym_link.specs.ReceiverInto.{ReceiverParts, IsReceiver};
+
+    ghost Value = { ReceiverParts };
+
+    ghost view = { λ r. record { receiver = record { confirm = r.confirm; stage = r.stage; files = r.files; count = r.count; state = r.state }; kept = K.kept r.sink; failures = K.failures r.sink } };
+
+    ghost invariant = { λ r. IsReceiver (record { receiver = record { confirm = r.confirm; stage = r.stage; files = r.files; count = r.count; state = r.state }; kept = K.kept r.sink; failures = K.failures r.sink }) };
+}
+
+impl<K: Sink + Drop> ReceiverInto<K> {
+    /// The sink, with the files that were committed and, where one was open, the open one.
+    pub fn into_sink(self) -> K
+        ensures kept { K.kept result ≡ self.kept }
+        ensures failures { K.failures result ≡ self.failures }
+    {
+        let ReceiverInto { sink, .. } = self;
+        sink
+    }
+}
+
+impl<K: Sink> ReceiverInto<K> {
+    ghost use Rattle.ym_link.specs.Receiver.{new_receiver};
+    ghost use Rattle.ym_link.specs.ReceiverInto.{HearsGives, IsWithin};
+
+    /// A receiver into a sink that has no file.
+    pub fn with_sink(alloc: Global, sink: K, confirm: Confirm) -> ReceiverInto<K>
+        requires { IsNew (K.kept sink) }
+        ensures { result ≡ record { receiver = new_receiver confirm; kept = K.kept sink; failures = K.failures sink } }
+    {
+        ReceiverInto {
+            sink,
+            alloc,
+            confirm,
+            stage: Stage::AwaitHeader,
+            files: 0,
+            count: 0,
+            state: RecvState::Running,
+        }
+    }
+
+    /// How many files were committed.
+    pub fn committed(&self) -> usize
+        ensures value { result ≡ self.now.receiver.files }
+        ensures headers { result ≡ length self.now.kept.headers }
+    {
+        self.files
+    }
+
+    /// How it has ended, or that it still runs.
+    pub fn state(&self) -> RecvState
+        ensures { result ≡ self.now.receiver.state }
+    {
+        self.state
+    }
+
+    /// The sink.
+    pub fn sink(&self) -> &K
+        ensures kept { K.kept result.now ≡ self.now.kept }
+        ensures failures { K.failures result.now ≡ self.now.failures }
+    {
+        &self.sink
+    }
+
+    /// Hears one delivery and gives the reply to it. After want of memory nothing has changed, and the same delivery
+    /// may be heard again.
+    pub fn hear(&mut self, heard: &Heard) -> Result<Reply, AllocError>
+        ensures table { HearsGives self.old heard.now result self.new }
+        ensures bounded { IsWithin self.new.receiver.stage self.new.kept }
+    {
+        let answer = self.answer(heard);
+        // what always holds of a receiver is known once a field was read
+        let _ = &self.stage;
+        answer
+    }
+}
+
+impl ReceiverInto<MemSink> {
+    ghost use Rattle.ym_link.specs.ReceiverInto.{new_in_memory};
+
+    /// A receiver that commits a file at its second EOT.
+    pub fn new(alloc: Global) -> Receiver
+        ensures { result ≡ new_in_memory Confirm.Twice }
+    {
+        ReceiverInto::with_sink(alloc, MemSink::new(alloc, None), Confirm::Twice)
+    }
+
+    /// A receiver that commits a file at its first EOT.
+    pub fn single(alloc: Global) -> Receiver
+        ensures { result ≡ new_in_memory Confirm.Once }
+    {
+        ReceiverInto::with_sink(alloc, MemSink::new(alloc, None), Confirm::Once)
+    }
+
+    /// The committed files, in order.
+    pub fn files(&self) -> &[Received]
+        ensures headers { map (λ (f : FileParts). f.header) result.now ≡ self.now.kept.headers }
+        ensures bytes { Some (map (λ (f : FileParts). f.bytes) result.now) ≡ option_map (λ (told : Told). told.files) self.now.kept.told }
+    {
+        self.sink.files()
+    }
+}
