@@ -1,0 +1,4 @@
+pub mod Files
+pub mod Kept
+pub mod Readings
+pub mod Steps

@@ -3,11 +3,19 @@
 
 mod delivery;
 mod hearing;
+mod place;
+mod reading;
+mod sender;
 mod source_file;
+mod standing;
 mod state;
 
 pub use delivery::Heard;
 pub use hearing::heard;
+pub use sender::{BatchFault, Sender, SenderFrom};
 pub use source_file::{SendFile, SourceFile};
 pub use state::{RecvState, SendState};
 pub use ym_machine::Confirm;
+
+#[cfg(test)]
+mod tests;
