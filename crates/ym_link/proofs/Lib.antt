@@ -1,4 +1,5 @@
 pub mod Files
 pub mod Kept
 pub mod Readings
+pub mod Settled
 pub mod Steps

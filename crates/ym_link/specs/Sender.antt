@@ -1,11 +1,11 @@
 -- What a sender does with a delivery.
-use Rattle.std.specs.Prelude.{◌≡◌, ℕ, ◌+◌, ◌<◌, nat_lt, if◌then◌else◌, Bool, true, false, is_some, List, [], ◌∷◌, filter_map, slice_set, Option, None, Some}
+use Rattle.std.specs.Prelude.{◌≡◌, ℕ, ◌+◌, ◌<◌, length, nat_lt, if◌then◌else◌, Bool, true, false, is_some, List, [], ◌∷◌, filter_map, slice_set, All, Option, None, Some}
 use Rattle.ym_frame.specs.Control.{control_at}
 use Rattle.ym_frame.specs.declared.control.Control.{Control}
 use Rattle.ym_frame.specs.declared.control.Control.TheVariants.{Ack, Nak, Start, Can}
 use Rattle.ym_file.specs.Counts.{Rose}
 use Rattle.ym_file.specs.declared.plan.Shape.{Shape}
-use Rattle.ym_link.specs.SourceFile.{FileParts, file_at, counts_of}
+use Rattle.ym_link.specs.SourceFile.{FileParts, IsFile, file_at, counts_of}
 use Rattle.ym_link.specs.Place.{IsPlace, first_of, next_of, IsFrameAt}
 use Rattle.ym_link.specs.declared.place.Place.{Place}
 use Rattle.ym_link.specs.declared.place.Place.TheVariants.{Header, Block, Eot, End}
@@ -67,6 +67,11 @@ missed s =
 abbrev pub moved : Standing → Place → Mode → Standing
 moved s place mode = record s { place = place; mode = mode; misses = 0 }
 
+-- at the same place, in the same mode
+pub record IsSame (old new : Standing) : Type 0 where
+  pub place : new.place ≡ old.place
+  pub mode : new.mode ≡ old.mode
+
 -- The controls came to their end: the sender has moved where its mode changed.
 abbrev pub read_through : Standing → Place → Mode → Mode → Step
 read_through s place Sent Sent = missed s
@@ -110,6 +115,7 @@ after_fill failed fills s = s
 
 -- the source of a data block's file failed: its failure count rose, and nothing else of the batch changed
 pub record FailedAt (file : ℕ) (old new : List FileParts) : Type 0 where
+  pub within : file < length old
   pub failures : ℕ
   pub rose : Rose (file_at old file).failures failures
   pub after : new ≡ slice_set old file (record (file_at old file) { failures = failures })
@@ -163,6 +169,7 @@ spoken s = spoken_in s.standing.state s.standing.mode s.standing.farewell s.fram
 
 -- What each sender keeps to: while it runs and has sent, it holds the frame of its place.
 pub record IsSender (s : SenderParts) : Type 0 where
+  pub files : All IsFile s.files
   pub place : IsPlace (counts s) s.standing.place
   pub misses : s.standing.state ≡ Running → s.standing.misses < 10
   pub frame : s.standing.state ≡ Running → s.standing.mode ≡ Sent → IsFrameAt s.shape s.files s.standing.place s.frame

@@ -1,7 +1,7 @@
 //! The sender of a batch, over any source.
 
-ghost use Rattle.std.specs.Prelude.{◌≡◌, ◌↔◌, ◌≤◌, length, MatchOption, Some, None, IfOk, IfErr, IsOk, OnOk, OnErr, true};
-ghost use Rattle.ym_link.specs.SourceFile.{counts_of};
+ghost use Rattle.std.specs.Prelude.{◌≡◌, ◌↔◌, ◌≤◌, length, MatchOption, Some, None, IfOk, IfErr, IfSome, IsOk, OnOk, OnErr, All, true};
+ghost use Rattle.ym_link.specs.SourceFile.{IsFile, counts_of};
 ghost use Rattle.ym_link.specs.Place.{IsPlace, IsItemAt, IsFrameAt, done_at};
 ghost use Rattle.ym_link.specs.Sender.{IsFilled};
 
@@ -46,6 +46,15 @@ impl<S: Source> Model for SenderFrom<S> {
     ghost view = { λ s. record { standing = s.standing; shape = s.shape; files = s.batch.items; frame = s.frame } };
 
     ghost invariant = { λ s. IsSender (record { standing = s.standing; shape = s.shape; files = s.batch.items; frame = s.frame }) };
+}
+
+/// Looks at each file, so that what a file keeps is known of all of them.
+fn look_at<S: Source>(files: &[SourceFile<S>])
+    ensures { All IsFile files.now }
+{
+    for file in files {
+        let _ = file.header();
+    }
 }
 
 /// The item of a place. The body of a data block is read from its source.
@@ -99,6 +108,7 @@ impl<S: Source> SenderFrom<S> {
         if batch.len() > MOST_FILES {
             return Err(BatchFault::TooMany(batch));
         }
+        look_at(&batch);
         let standing = Standing::new(first_place(&batch, shape));
         Ok(SenderFrom {
             batch,
@@ -108,9 +118,11 @@ impl<S: Source> SenderFrom<S> {
         })
     }
 
-    /// What is to be sent now.
+    /// What is to be sent now: while it runs, the frame of its place or nothing, and after it gave
+    /// up or its source failed, CAN CAN until it hears a delivery.
     pub fn frame(&self) -> Option<&[u8]>
         ensures spoken { MatchOption result (spoken self.now ≡ None) (λ bytes. spoken self.now ≡ Some bytes.now) }
+        ensures place { IfSome result (λ bytes. self.now.standing.state ≡ SendState.Running → IsFrameAt self.now.shape self.now.files self.now.standing.place bytes.now) }
         ensures sender { IsSender self.now }
     {
         let standing = self.standing;
