@@ -12,7 +12,8 @@ use Rattle.ym_link.specs.declared.standing.Standing.{Standing}
 use Rattle.ym_link.specs.declared.standing.Step.{Step}
 use Rattle.ym_link.specs.declared.state.SendState.{SendState}
 use Rattle.ym_link.specs.declared.state.SendState.TheVariants.{Running, Finished, NoReply, Cancelled, SourceFailed}
-use Rattle.ym_link.specs.Sender.{SenderParts, IsSender, IsFilled, hears}
+use Rattle.ym_link.specs.Sender.{SenderParts, IsSender, IsFilled}
+use Rattle.ym_link.specs.Standing.{hears}
 use Rattle.ym_link.proofs.Files.{filled_counts, filled_files}
 use Rattle.ym_link.proofs.Steps.{Keeps, step_keeps}
 

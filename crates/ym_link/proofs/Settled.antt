@@ -15,7 +15,8 @@ use Rattle.ym_link.specs.declared.standing.Standing.{Standing}
 use Rattle.ym_link.specs.declared.standing.Step.{Step}
 use Rattle.ym_link.specs.declared.state.SendState.{SendState}
 use Rattle.ym_link.specs.declared.state.SendState.TheVariants.{Running, Finished, NoReply, Cancelled, SourceFailed}
-use Rattle.ym_link.specs.Sender.{controls_in, turn, reads, missed, read_through, after_reading, runs, hears, hears_in, is_settled, is_settled_in}
+use Rattle.ym_link.specs.Reading.{controls_in, turn, reads}
+use Rattle.ym_link.specs.Standing.{missed, read_through, after_reading, runs, hears, hears_in, is_settled, is_settled_in}
 
 -- a reading that goes on, or stops
 on_stop : (b : Bool) (r x y : Reading) → (is_some x.stop ≡ true → y ≡ x) → is_some (cond b r x).stop ≡ true → cond b r y ≡ cond b r x

@@ -15,7 +15,8 @@ use Rattle.ym_link.specs.declared.standing.Standing.{Standing}
 use Rattle.ym_link.specs.declared.standing.Step.{Step}
 use Rattle.ym_link.specs.declared.state.SendState.{SendState}
 use Rattle.ym_link.specs.declared.state.SendState.TheVariants.{Running, Finished, NoReply, Cancelled, SourceFailed}
-use Rattle.ym_link.specs.Sender.{goes_on, stops, turn, reads, missed, moved, read_through, after_reading, runs, hears, hears_in, IsSame}
+use Rattle.ym_link.specs.Reading.{goes_on, stops, turn, reads}
+use Rattle.ym_link.specs.Standing.{missed, moved, read_through, after_reading, runs, hears, hears_in, IsSame}
 
 -- another frame stands behind it
 abbrev pub IsBefore : Place → Type 0

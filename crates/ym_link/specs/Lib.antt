@@ -1,4 +1,7 @@
 pub mod Hearing
 pub mod SourceFile
 pub mod Place
+pub mod Reading
+pub mod Standing
 pub mod Sender
+pub mod SenderExamples

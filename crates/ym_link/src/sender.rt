@@ -95,7 +95,9 @@ fn frame_at<S: Source>(
 }
 
 impl<S: Source> SenderFrom<S> {
-    ghost use Rattle.ym_link.specs.Sender.{Hears, IsSender, spoken, counts, controls_in, is_settled, new_standing};
+    ghost use Rattle.ym_link.specs.Sender.{Hears, IsSender, spoken, counts};
+    ghost use Rattle.ym_link.specs.Reading.{controls_in};
+    ghost use Rattle.ym_link.specs.Standing.{is_settled, new_standing};
 
     /// A sender of a batch of at most 65,535 files, waiting at its first frame.
     pub fn new(batch: Vec<SourceFile<S>>, shape: Shape) -> Result<SenderFrom<S>, BatchFault<S>>

@@ -3,7 +3,8 @@
 ghost use Rattle.std.specs.Prelude.{◌≡◌, ◌↔◌, ◌⊎◌, ◌+◌, ◌++◌, ℕ, List, true};
 ghost use Rattle.ym_link.specs.declared.standing.Standing.{Standing};
 ghost use Rattle.ym_link.specs.declared.state.SendState.TheVariants.{Running};
-ghost use Rattle.ym_link.specs.Sender.{controls_in, hears, is_settled, IsSame};
+ghost use Rattle.ym_link.specs.Reading.{controls_in};
+ghost use Rattle.ym_link.specs.Standing.{hears, is_settled, IsSame};
 
 /// A delivery is settled exactly where no further bytes can change what a sender does with it.
 pub fn a_settled_delivery_stays()

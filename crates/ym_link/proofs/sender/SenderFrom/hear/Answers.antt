@@ -1,5 +1,5 @@
 use Rattle.std.proofs.Common.{Some}
-use Rattle.ym_link.specs.Sender.{controls_in}
+use Rattle.ym_link.specs.Reading.{controls_in}
 use Rattle.ym_link.proofs.Kept.{failed_sender, unfilled_sender}
 use Rattle.ym_link.proofs.sender.SenderFrom.hear.Goals as goal
 
