@@ -5,3 +5,4 @@ pub mod Reading
 pub mod Standing
 pub mod Sender
 pub mod SenderExamples
+pub mod SenderStands

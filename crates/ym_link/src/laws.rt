@@ -2,4 +2,4 @@
 
 mod sender;
 
-pub use sender::{a_settled_delivery_stays, progress_is_a_change};
+pub use sender::{a_sender_follows_the_machine, a_settled_delivery_stays, progress_is_a_change};
