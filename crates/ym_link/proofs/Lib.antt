@@ -1,3 +1,11 @@
 pub mod OneStep
 pub mod Positions
 pub mod ReceiverLemmas
+pub mod Files
+pub mod Kept
+pub mod Readings
+pub mod SenderHalf
+pub mod SenderPlaces
+pub mod SenderStanding
+pub mod Settled
+pub mod Steps

@@ -3,3 +3,9 @@ pub mod Receiver
 pub mod ReceiverInto
 pub mod ReceiverStands
 pub mod SourceFile
+pub mod Place
+pub mod Reading
+pub mod Standing
+pub mod Sender
+pub mod SenderExamples
+pub mod SenderStands

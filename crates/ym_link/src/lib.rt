@@ -7,11 +7,16 @@ pub mod laws;
 mod receiver;
 mod source_file;
 mod stage;
+mod place;
+mod reading;
+mod sender;
+mod standing;
 mod state;
 
 pub use delivery::Heard;
 pub use hearing::heard;
 pub use receiver::{Receiver, ReceiverInto};
+pub use sender::{BatchFault, Sender, SenderFrom};
 pub use source_file::{SendFile, SourceFile};
 pub use state::{RecvState, SendState};
 pub use ym_machine::Confirm;

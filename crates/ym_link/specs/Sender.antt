@@ -1,0 +1,71 @@
+-- A sender as contracts see it: where it stands, its files and its frame.
+use Rattle.std.specs.Prelude.{◌≡◌, ℕ, ◌<◌, length, Bool, true, false, List, [], ◌∷◌, slice_set, All, Option, None, Some}
+use Rattle.ym_file.specs.Counts.{Rose}
+use Rattle.ym_file.specs.declared.plan.Shape.{Shape}
+use Rattle.ym_link.specs.SourceFile.{FileParts, IsFile, file_at, counts_of}
+use Rattle.ym_link.specs.Place.{IsPlace, IsFrameAt}
+use Rattle.ym_link.specs.Reading.{controls_in}
+use Rattle.ym_link.specs.Standing.{hears, after_fill}
+use Rattle.ym_link.specs.declared.place.Place.{Place}
+use Rattle.ym_link.specs.declared.place.Place.TheVariants.{Header, Block, Eot, End}
+use Rattle.ym_link.specs.declared.place.Mode.{Mode}
+use Rattle.ym_link.specs.declared.place.Mode.TheVariants.{Waiting, Sent}
+use Rattle.ym_link.specs.declared.standing.Standing.{Standing}
+use Rattle.ym_link.specs.declared.standing.Step.{Step}
+use Rattle.ym_link.specs.declared.state.SendState.{SendState}
+use Rattle.ym_link.specs.declared.state.SendState.TheVariants.{Running, Finished, NoReply, Cancelled, SourceFailed}
+
+-- the source of a data block's file failed: its failure count rose, and nothing else of the batch changed
+pub record FailedAt (file : ℕ) (old new : List FileParts) : Type 0 where
+  pub within : file < length old
+  pub failures : ℕ
+  pub rose : Rose (file_at old file).failures failures
+  pub after : new ≡ slice_set old file (record (file_at old file) { failures = failures })
+
+-- what filling a place's frame, which failed or not, does to the files
+abbrev pub IsFilled : Bool → Option Place → List FileParts → List FileParts → Type 0
+IsFilled false fills old new = new ≡ old
+IsFilled true (Some (Block file k)) old new = FailedAt file old new
+IsFilled true fills old new = ⊥
+
+pub record SenderParts : Type 0 where
+  pub standing : Standing
+  pub shape : Shape
+  pub files : List FileParts
+  pub frame : List ℕ  -- the frame that was filled last
+
+abbrev pub counts : SenderParts → List ℕ
+counts s = counts_of s.shape s.files
+
+-- the frame held is that of the place filled, else it is still the same
+abbrev pub IsHeld : Option Place → SenderParts → List ℕ → Type 0
+IsHeld None new old = new.frame ≡ old
+IsHeld (Some place) new old = IsFrameAt new.shape new.files place new.frame
+
+-- what a delivery does to a sender, where its source failed at it or not
+pub record IsStep (old : SenderParts) (taken : Step) (failed : Bool) (new : SenderParts) : Type 0 where
+  pub files : IsFilled failed taken.fills old.files new.files
+  pub standing : new.standing ≡ after_fill failed taken.fills taken.standing
+  pub frame : failed ≡ false → IsHeld taken.fills new old.frame
+  pub shape : new.shape ≡ old.shape
+
+-- a sender hears a delivery: its own source tells whether it failed
+abbrev pub Hears : SenderParts → List ℕ → SenderParts → Type 0
+Hears old bytes new = (failed : Bool) × IsStep old (hears (counts old) old.standing (controls_in bytes)) failed new
+
+-- what is to be sent: the frame held, CAN CAN, or nothing
+abbrev pub spoken_in : SendState → Mode → Bool → List ℕ → Option (List ℕ)
+spoken_in Running Sent farewell frame = Some frame
+spoken_in NoReply mode true frame = Some (0x18 ∷ 0x18 ∷ [])
+spoken_in SourceFailed mode true frame = Some (0x18 ∷ 0x18 ∷ [])
+spoken_in _ mode farewell frame = None
+
+abbrev pub spoken : SenderParts → Option (List ℕ)
+spoken s = spoken_in s.standing.state s.standing.mode s.standing.farewell s.frame
+
+-- What each sender keeps to: while it runs and has sent, it holds the frame of its place.
+pub record IsSender (s : SenderParts) : Type 0 where
+  pub files : All IsFile s.files
+  pub place : IsPlace (counts s) s.standing.place
+  pub misses : s.standing.state ≡ Running → s.standing.misses < 10
+  pub frame : s.standing.state ≡ Running → s.standing.mode ≡ Sent → IsFrameAt s.shape s.files s.standing.place s.frame
