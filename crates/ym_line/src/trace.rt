@@ -1,5 +1,9 @@
 //! What was seen of a run.
 
+ghost use Rattle.std.specs.Prelude.{Some};
+ghost use Rattle.ym_line.specs.Text.{what_text, how_text};
+
+use std::fmt;
 use ym_frame::Reply;
 use ym_link::{RecvState, SendState};
 
@@ -16,12 +20,37 @@ pub enum What {
     Can,
 }
 
+impl fmt::Display for What {
+    ghost output = { λ what. Some (what_text what) };
+
+    fn fmt<W: fmt::Write>(&self, f: &mut fmt::Formatter<W>) -> fmt::Result {
+        match self {
+            What::Nothing => write!(f, "-"),
+            What::Block { number, length } => write!(f, "block {number} {length}"),
+            What::Eot => write!(f, "eot"),
+            What::Can => write!(f, "can"),
+        }
+    }
+}
+
 /// How a delivery was given.
 #[derive(Clone, Copy, Debug, PartialEq, Eq)]
 pub enum How {
     Whole,
     Lost,
     Damaged,
+}
+
+impl fmt::Display for How {
+    ghost output = { λ how. Some (how_text how) };
+
+    fn fmt<W: fmt::Write>(&self, f: &mut fmt::Formatter<W>) -> fmt::Result {
+        match self {
+            How::Whole => write!(f, "whole"),
+            How::Lost => write!(f, "lost"),
+            How::Damaged => write!(f, "damaged"),
+        }
+    }
 }
 
 /// What was seen of one round: what the sender had to send and what the receiver replied, as they were before loss and damage, and how both
