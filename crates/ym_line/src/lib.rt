@@ -14,3 +14,6 @@ pub use direct::Direct;
 pub use fault::LineFault;
 pub use text::trace_text;
 pub use trace::{How, Seen, Trace, What};
+
+#[cfg(test)]
+mod tests;

@@ -1,0 +1,2 @@
+mod direct;
+mod text;
