@@ -14,7 +14,7 @@ use ym_frame::Bytes;
 #[derive(Drop)]
 pub struct Direct {
     alloc: Global,
-    record: Vec<Handed>,
+    deliveries: Vec<Handed>,
     failing: u64,
     failures: u64,
 }
@@ -24,7 +24,7 @@ impl Model for Direct {
 
     ghost Value = { DirectParts };
 
-    ghost view = { λ d. record { handed = d.record.items; tally = record { failing = d.failing; failures = d.failures } } };
+    ghost view = { λ d. record { handed = d.deliveries.items; tally = record { failing = d.failing; failures = d.failures } } };
 }
 
 impl Direct {
@@ -41,7 +41,7 @@ impl Direct {
     {
         Direct {
             alloc,
-            record: Vec::new(alloc),
+            deliveries: Vec::new(alloc),
             failing: at,
             failures: 0,
         }
@@ -51,7 +51,7 @@ impl Direct {
     pub fn handed(&self) -> &[Handed]
         ensures { result.now ≡ self.now.handed }
     {
-        self.record.as_slice()
+        self.deliveries.as_slice()
     }
 
     /// Counts a carry. Whether it fails.
@@ -87,7 +87,7 @@ impl Carrier for Direct {
         into.clear();
         into.extend_from_slice(bytes)?;
         let copy = Vec::from_slice(self.alloc, bytes)?;
-        self.record.push(Handed {
+        self.deliveries.push(Handed {
             way,
             bytes: Bytes::new(copy),
         })?;
