@@ -1,3 +1,5 @@
 pub mod Carried
+pub mod Damage
 pub mod Direct
 pub mod Text
+pub mod What

@@ -2,6 +2,7 @@
 #![tactic(auto)]
 
 mod carrier;
+mod check;
 mod delivery;
 mod direct;
 mod fault;

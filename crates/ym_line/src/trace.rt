@@ -1,8 +1,13 @@
 //! What was seen of a run.
 
-ghost use Rattle.std.specs.Prelude.{Some};
+ghost use Rattle.std.specs.Prelude.{◌≡◌, Some};
+ghost use Rattle.ym_frame.specs.Frame.{IsFrame};
+ghost use Rattle.ym_frame.specs.declared.frame.Item.{Item};
+ghost use Rattle.ym_line.specs.Damage.{how_of};
 ghost use Rattle.ym_line.specs.Text.{what_text, how_text};
+ghost use Rattle.ym_line.specs.What.{what_is, what_of};
 
+use crate::delivery::Delivery;
 use std::fmt;
 use ym_frame::Reply;
 use ym_link::{RecvState, SendState};
@@ -18,6 +23,28 @@ pub enum What {
     Eot,
     /// CAN CAN.
     Can,
+}
+
+impl What {
+    /// What a frame is, by its first bytes. No bytes are nothing.
+    pub(crate) fn of_frame(frame: &[u8]) -> Self
+        ensures bytes { result ≡ what_of frame.now }
+        ensures item { (item : Item) → IsFrame item frame.now → result ≡ what_is item }
+    {
+        match frame {
+            [0x04, ..] => What::Eot,
+            [0x18, ..] => What::Can,
+            [0x01, number, ..] => What::Block {
+                number: *number,
+                length: 128,
+            },
+            [0x02, number, ..] => What::Block {
+                number: *number,
+                length: 1024,
+            },
+            _ => What::Nothing,
+        }
+    }
 }
 
 impl fmt::Display for What {
@@ -39,6 +66,19 @@ pub enum How {
     Whole,
     Lost,
     Damaged,
+}
+
+impl How {
+    /// How a delivery is given.
+    pub(crate) fn of_delivery(delivery: &Delivery) -> Self
+        ensures { result ≡ how_of delivery.now }
+    {
+        match delivery {
+            Delivery::Whole => How::Whole,
+            Delivery::Lost => How::Lost,
+            Delivery::Damaged(_) => How::Damaged,
+        }
+    }
 }
 
 impl fmt::Display for How {
