@@ -1,2 +1,4 @@
 pub mod Hearing
+pub mod Receiver
+pub mod ReceiverInto
 pub mod SourceFile

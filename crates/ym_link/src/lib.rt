@@ -3,11 +3,17 @@
 
 mod delivery;
 mod hearing;
+mod receiver;
 mod source_file;
+mod stage;
 mod state;
 
 pub use delivery::Heard;
 pub use hearing::heard;
+pub use receiver::{Receiver, ReceiverInto};
 pub use source_file::{SendFile, SourceFile};
 pub use state::{RecvState, SendState};
 pub use ym_machine::Confirm;
+
+#[cfg(test)]
+mod tests;
