@@ -6,6 +6,8 @@ mod check;
 mod delivery;
 mod direct;
 mod fault;
+mod needed;
+mod rounds;
 mod text;
 mod trace;
 
@@ -13,6 +15,8 @@ pub use carrier::{Carrier, CarryFault};
 pub use delivery::{Delivery, Handed, Round, Way};
 pub use direct::Direct;
 pub use fault::LineFault;
+pub use needed::whole_rounds_needed;
+pub use rounds::{round, run};
 pub use text::trace_text;
 pub use trace::{How, Seen, Trace, What};
 
