@@ -2,3 +2,5 @@ pub mod Hearing
 pub mod Receiver
 pub mod ReceiverInto
 pub mod SourceFile
+pub mod Place
+pub mod Sender
