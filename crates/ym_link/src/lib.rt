@@ -9,7 +9,10 @@ mod source_file;
 mod stage;
 mod place;
 mod reading;
+mod receiver;
 mod sender;
+mod source_file;
+mod stage;
 mod standing;
 mod state;
 

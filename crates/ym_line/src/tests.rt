@@ -1,0 +1,6 @@
+mod direct;
+mod fixtures;
+mod refused;
+mod runs;
+mod text;
+mod texts;
