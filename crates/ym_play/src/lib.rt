@@ -1,0 +1,4 @@
+#![tactic(auto)]
+mod fault;
+mod words;
+pub use fault::{PlayFault, ScriptWhy};
