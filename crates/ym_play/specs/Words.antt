@@ -29,3 +29,16 @@ HasOneWord text = words_of text ≡ text ∷ []
 
 abbrev pub HasMoreWords : List ℕ → Type 0
 HasMoreWords text = (first : List ℕ) × (second : List ℕ) × (others : List (List ℕ)) × (words_of text ≡ first ∷ second ∷ others)
+
+-- a word with a colon is cut at its first one
+abbrev pub is_colon : ℕ → Bool
+is_colon c = c == 0x3a
+
+abbrev pub has_colon : List ℕ → Bool
+has_colon word = nat_lt (position_or_len is_colon word) (length word)
+
+abbrev pub before_colon : List ℕ → List ℕ
+before_colon word = before_first is_colon word
+
+abbrev pub behind_colon : List ℕ → List ℕ
+behind_colon word = after_first is_colon word

@@ -1,4 +1,8 @@
+//! Scripts: a batch of files and the rounds that carry it, read from text and played on a line in memory.
 #![tactic(auto)]
+
+mod command;
 mod fault;
 mod words;
+
 pub use fault::{PlayFault, ScriptWhy};
