@@ -1,2 +1,4 @@
 pub mod CommandLemmas
+pub mod NameLemmas
+pub mod NumberLemmas
 pub mod WordsLemmas

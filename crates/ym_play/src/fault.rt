@@ -1,9 +1,13 @@
 //! Why a script is not played to its end.
 
-use std::alloc::AllocError;
+ghost use Rattle.std.specs.Prelude.{◌≡◌};
+ghost use Rattle.ym_play.specs.Fault.{fault_at};
+
+use std::alloc::{AllocError, AllocFailed};
 use std::error::Error;
 use std::fmt;
 use thiserror::Error;
+use ym_header::HeaderFault;
 use ym_line::LineFault;
 
 /// Why a script is refused. Of one line's faults the first in this order is told.
@@ -67,6 +71,77 @@ impl fmt::Display for PlayFault {
 }
 
 impl Error for PlayFault {}
+
+/// Why a line is not followed.
+#[derive(Clone, Copy, Debug, PartialEq, Eq)]
+pub(crate) enum Refusal {
+    Why(ScriptWhy),
+    Memory,
+}
+
+impl Refusal {
+    /// The fault of the line with this number.
+    pub(crate) fn at(self, line: u32) -> PlayFault
+        ensures { result ≡ fault_at line self }
+    {
+        match self {
+            Refusal::Why(why) => PlayFault::Script { line, why },
+            Refusal::Memory => PlayFault::Memory,
+        }
+    }
+}
+
+impl From<ScriptWhy> for Refusal {
+    ghost use Rattle.ym_play.specs.declared.fault.Refusal.TheVariants.{Why};
+    ghost use Rattle.std.specs.Prelude.{◌≡◌};
+
+    ghost from_gives = { λ why refusal. refusal ≡ Why why };
+
+    fn from(why: ScriptWhy) -> Refusal {
+        Refusal::Why(why)
+    }
+}
+
+impl From<HeaderFault> for Refusal {
+    ghost use Rattle.ym_play.specs.Fault.{refusal_of};
+    ghost use Rattle.std.specs.Prelude.{◌≡◌};
+
+    ghost from_gives = { λ fault refusal. refusal ≡ refusal_of fault };
+
+    /// Want of memory, or a bad name: no script writes a file that is too large for a header.
+    fn from(fault: HeaderFault) -> Refusal {
+        match fault {
+            HeaderFault::NameEmpty
+            | HeaderFault::NameLong
+            | HeaderFault::NameUnsafe
+            | HeaderFault::NoLength
+            | HeaderFault::LengthLarge => Refusal::Why(ScriptWhy::Name),
+            HeaderFault::Memory => Refusal::Memory,
+        }
+    }
+}
+
+impl From<AllocError> for Refusal {
+    ghost use Rattle.ym_play.specs.declared.fault.Refusal.TheVariants.{Memory};
+    ghost use Rattle.std.specs.Prelude.{◌≡◌};
+
+    ghost from_gives = { λ _ refusal. refusal ≡ Memory };
+
+    fn from(_error: AllocError) -> Refusal {
+        Refusal::Memory
+    }
+}
+
+impl<T: Drop> From<AllocFailed<T>> for Refusal {
+    ghost use Rattle.ym_play.specs.declared.fault.Refusal.TheVariants.{Memory};
+    ghost use Rattle.std.specs.Prelude.{◌≡◌};
+
+    ghost from_gives = { λ _ refusal. refusal ≡ Memory };
+
+    fn from(_error: AllocFailed<T>) -> Refusal {
+        Refusal::Memory
+    }
+}
 
 impl From<AllocError> for PlayFault {
     ghost use Rattle.ym_play.specs.declared.fault.PlayFault.TheVariants.{Memory};

@@ -3,6 +3,9 @@
 
 mod command;
 mod fault;
+mod script;
+mod value;
 mod words;
 
 pub use fault::{PlayFault, ScriptWhy};
+pub use script::{Script, read_script};

@@ -1,0 +1,32 @@
+-- What a step may answer beside what the script's text says: want of memory.
+use Rattle.std.specs.Prelude.{◌≡◌, ℕ, Result, Ok, Err}
+use Rattle.ym_header.specs.declared.fault.HeaderFault.{HeaderFault}
+use Rattle.ym_header.specs.declared.fault.HeaderFault.TheVariants as header
+use Rattle.ym_play.specs.declared.fault.ScriptWhy.{ScriptWhy}
+use Rattle.ym_play.specs.declared.fault.ScriptWhy.TheVariants as why
+use Rattle.ym_play.specs.declared.fault.PlayFault.{PlayFault}
+use Rattle.ym_play.specs.declared.fault.PlayFault.TheVariants as play
+use Rattle.ym_play.specs.declared.fault.Refusal.{Refusal}
+use Rattle.ym_play.specs.declared.fault.Refusal.TheVariants as refusal
+
+abbrev pub fault_at : ℕ → Refusal → PlayFault
+fault_at line (refusal.Why why) = play.Script line why
+fault_at line refusal.Memory = play.Memory
+
+-- the header of a script's file is refused for its name, or for want of memory
+abbrev pub refusal_of : HeaderFault → Refusal
+refusal_of header.NameEmpty = refusal.Why why.Name
+refusal_of header.NameLong = refusal.Why why.Name
+refusal_of header.NameUnsafe = refusal.Why why.Name
+refusal_of header.NoLength = refusal.Why why.Name
+refusal_of header.LengthLarge = refusal.Why why.Name
+refusal_of header.Memory = refusal.Memory
+
+abbrev pub IsRefusal : {Y : Type 0} → Refusal → Result Y ScriptWhy → Type 0
+IsRefusal (refusal.Why why) said = said ≡ Err why
+IsRefusal refusal.Memory said = Unit {0}
+
+-- an answer, seen by view, is what the text says, unless memory ran out
+abbrev pub Gives : {X Y : Type 0} → (X → Y) → Result X Refusal → Result Y ScriptWhy → Type 0
+Gives view (Ok x) said = said ≡ Ok (view x)
+Gives view (Err refusal) said = IsRefusal refusal said
