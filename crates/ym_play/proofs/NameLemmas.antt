@@ -43,8 +43,14 @@ test_differs : (a b : List ℕ) → a ≢ b → not (bytes_eq a b) ≡ true
 test_differs a b h = grind (arith, common_steps, bytes_eq-Decides a b)
 
 pub name_passes : (name : List ℕ) → IsName name → is_name name ≡ true
-name_passes name h = rw (lt-ltb 0 (length name) h.some, le-leb (length name) 255 h.short, h.safe.utf8, bytes_pass name h.safe.bytes,
-    test_differs name (codes ".") h.safe.not_here, test_differs name (codes "..") h.safe.not_above) refl
+name_passes name h = rw (
+  lt-ltb 0 (length name) h.some,
+  le-leb (length name) 255 h.short,
+  h.safe.utf8,
+  bytes_pass name h.safe.bytes,
+  test_differs name (codes ".") h.safe.not_here,
+  test_differs name (codes "..") h.safe.not_above,
+) refl
 
 pub name_is : (name : List ℕ) → is_name name ≡ true → IsName name
 name_is name h =

@@ -30,3 +30,13 @@ IsRefusal refusal.Memory said = Unit {0}
 abbrev pub Gives : {X Y : Type 0} → (X → Y) → Result X Refusal → Result Y ScriptWhy → Type 0
 Gives view (Ok x) said = said ≡ Ok (view x)
 Gives view (Err refusal) said = IsRefusal refusal said
+
+abbrev pub IsFault : {Y : Type 0} → PlayFault → Result Y (ℕ × ScriptWhy) → Type 0
+IsFault (play.Script line why) said = said ≡ Err (line, why)
+IsFault (play.Line fault) said = ⊥
+IsFault play.Memory said = Unit {0}
+
+-- an answer is what the script says, its fault with the line, unless memory ran out
+abbrev pub Reads : {Y : Type 0} → Result Y PlayFault → Result Y (ℕ × ScriptWhy) → Type 0
+Reads (Ok x) said = said ≡ Ok x
+Reads (Err fault) said = IsFault fault said

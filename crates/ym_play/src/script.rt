@@ -1,9 +1,9 @@
 //! A script, and how it is read from its bytes.
 
-ghost use Rattle.std.specs.Prelude.{◌≡◌, ◌≤◌, ◌+◌, ◌++◌, replicate, vec_len, OnOk, Ok};
+ghost use Rattle.std.specs.Prelude.{◌≡◌, ◌≤◌, ◌+◌, ◌++◌, length, replicate, vec_len, OnOk, Ok};
 ghost use Rattle.ym_play.specs.Command.{command_in, delivery_in, stamp_in};
-ghost use Rattle.ym_play.specs.Fault.{Gives};
-ghost use Rattle.ym_play.specs.Script.{empty, early, file_at, followed, line_read, whole_round, with_round, with_whole, with_written_file};
+ghost use Rattle.ym_play.specs.Fault.{Gives, Reads};
+ghost use Rattle.ym_play.specs.Script.{empty, early, file_at, followed, line_read, lines_of, lines_read, script_of, whole_round, with_round, with_whole, with_written_file};
 
 use crate::command::{Command, DeliveryText, StampText, command_of};
 use crate::fault::{PlayFault, Refusal, ScriptWhy};
@@ -174,11 +174,14 @@ impl Script {
 }
 
 /// The script of some lines.
-fn read_lines(alloc: Global, text: &str) -> Result<Script, PlayFault> {
+fn read_lines(alloc: Global, text: &str) -> Result<Script, PlayFault>
+    requires { length text.now ≤ 1048576 }
+    ensures { Reads result (lines_read 1 empty (lines_of text.now)) }
+{
     let mut script = Script::new(alloc);
     let mut number = 0u32;
     for line in text.split('\n') {
-        number = number.saturating_add(1);
+        number += 1;
         if let Err(refusal) = script.read_line(alloc, line) {
             return Err(refusal.at(number));
         }
@@ -187,7 +190,9 @@ fn read_lines(alloc: Global, text: &str) -> Result<Script, PlayFault> {
 }
 
 /// The script that some bytes stand for, or its first fault: by line, and on one line in the order of `ScriptWhy`.
-pub fn read_script(alloc: Global, bytes: &[u8]) -> Result<Script, PlayFault> {
+pub fn read_script(alloc: Global, bytes: &[u8]) -> Result<Script, PlayFault>
+    ensures { Reads result (script_of bytes.now) }
+{
     if bytes.len() > SCRIPT_LIMIT {
         return Err(Refusal::Why(ScriptWhy::Large).at(0));
     }
