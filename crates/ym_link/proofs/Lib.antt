@@ -1,0 +1,5 @@
+pub mod Files
+pub mod Kept
+pub mod Readings
+pub mod ReceiverLemmas
+pub mod Steps
