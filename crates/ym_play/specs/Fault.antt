@@ -2,6 +2,8 @@
 use Rattle.std.specs.Prelude.{◌≡◌, ℕ, Result, Ok, Err}
 use Rattle.ym_header.specs.declared.fault.HeaderFault.{HeaderFault}
 use Rattle.ym_header.specs.declared.fault.HeaderFault.TheVariants as header
+use Rattle.ym_line.specs.declared.fault.LineFault.{LineFault}
+use Rattle.ym_line.specs.declared.fault.LineFault.TheVariants as round
 use Rattle.ym_play.specs.declared.fault.ScriptWhy.{ScriptWhy}
 use Rattle.ym_play.specs.declared.fault.ScriptWhy.TheVariants as why
 use Rattle.ym_play.specs.declared.fault.PlayFault.{PlayFault}
@@ -25,6 +27,13 @@ refusal_of header.Memory = refusal.Memory
 abbrev pub IsRefusal : {Y : Type 0} → Refusal → Result Y ScriptWhy → Type 0
 IsRefusal (refusal.Why why) said = said ≡ Err why
 IsRefusal refusal.Memory said = Unit {0}
+
+-- want of memory is told as such, wherever it was met
+abbrev pub line_fault : LineFault → PlayFault
+line_fault (round.NotDamage n) = play.Line (round.NotDamage n)
+line_fault (round.TooLong n) = play.Line (round.TooLong n)
+line_fault round.Carrier = play.Line round.Carrier
+line_fault round.Memory = play.Memory
 
 -- an answer, seen by view, is what the text says, unless memory ran out
 abbrev pub Gives : {X Y : Type 0} → (X → Y) → Result X Refusal → Result Y ScriptWhy → Type 0

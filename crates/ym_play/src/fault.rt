@@ -72,6 +72,22 @@ impl fmt::Display for PlayFault {
 
 impl Error for PlayFault {}
 
+impl From<LineFault> for PlayFault {
+    ghost use Rattle.ym_play.specs.Fault.{line_fault};
+    ghost use Rattle.std.specs.Prelude.{◌≡◌};
+
+    ghost from_gives = { λ fault e. e ≡ line_fault fault };
+
+    fn from(fault: LineFault) -> PlayFault {
+        match fault {
+            LineFault::NotDamage(_) | LineFault::TooLong(_) | LineFault::Carrier => PlayFault::Line(
+                fault,
+            ),
+            LineFault::Memory => PlayFault::Memory,
+        }
+    }
+}
+
 /// Why a line is not followed.
 #[derive(Clone, Copy, Debug, PartialEq, Eq)]
 pub(crate) enum Refusal {

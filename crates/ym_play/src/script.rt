@@ -24,10 +24,10 @@ const LIMIT: usize = 65_535;
 /// A batch of files, how it is sent and received, and the rounds of the line.
 #[derive(Drop)]
 pub struct Script {
-    batch: Vec<SendFile>,
-    shape: Shape,
-    confirm: Confirm,
-    rounds: Vec<Round>,
+    pub(crate) batch: Vec<SendFile>,
+    pub(crate) shape: Shape,
+    pub(crate) confirm: Confirm,
+    pub(crate) rounds: Vec<Round>,
 }
 
 impl Model for Script {
