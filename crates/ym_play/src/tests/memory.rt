@@ -1,39 +1,81 @@
-use super::fixtures::with_file;
 use crate::{Passing, PlayFault, play_script, read_script, session};
+use std::io;
+use std::io::{ErrorKind, Write};
 use std::test::Fail;
 use ym_line::{Carrier, CarryFault, Direct, Way};
 
-/// Holds whichever one growth of the first play is refused: the fault is want of memory and no other.
+/// One file of `A`, 128 times, and the six rounds that it needs.
+const ONE_FILE: &[u8] = b"file a.txt \
+    4141414141414141414141414141414141414141414141414141414141414141\
+    4141414141414141414141414141414141414141414141414141414141414141\
+    4141414141414141414141414141414141414141414141414141414141414141\
+    4141414141414141414141414141414141414141414141414141414141414141\
+    \nok 6\n";
+
+/// A writer that takes no memory.
+#[derive(Drop)]
+struct Page {
+    bytes: [u8; 512],
+    length: usize,
+}
+
+impl Page {
+    fn new() -> Self {
+        Page {
+            bytes: [0; 512],
+            length: 0,
+        }
+    }
+
+    fn text(&self) -> &[u8] {
+        self.bytes.get(..self.length).unwrap_or(&[])
+    }
+}
+
+impl Write for Page {
+    fn write(&mut self, buf: &[u8]) -> io::Result<usize> {
+        let Some(room) = self.bytes.get_mut(self.length..) else {
+            return Err(io::Error::from(ErrorKind::WriteZero));
+        };
+        let count = buf.len().min(room.len());
+        room[..count].copy_from_slice(&buf[..count]);
+        self.length = self.length.saturating_add(count);
+        Ok(count)
+    }
+
+    fn flush(&mut self) -> io::Result<()> {
+        Ok(())
+    }
+}
+
+/// Holds whichever one growth is refused: the fault is want of memory and no other.
 #[test]
 fn a_growth_is_refused(rt: HostRuntime) -> Result<(), Fail> {
     let alloc = rt.alloc();
-    let script = with_file(alloc, "a.txt", "ok 6\n")?;
     let mut line = Direct::new(alloc);
-    match play_script(alloc, script.as_bytes(), &mut line) {
+    match play_script(alloc, ONE_FILE, &mut line) {
         Ok(played) => assert_eq!(rt; played.status, 0),
         Err(fault) => assert_eq!(rt; fault, PlayFault::Memory),
     }
     Ok(())
 }
 
-/// Holds whichever one growth of the session is refused: the fault line tells want of memory, and nothing is printed.
+/// Holds whichever one growth is refused: the fault line tells want of memory, and nothing is printed.
 #[test]
 fn a_growth_of_a_session_is_refused(rt: HostRuntime) -> Result<(), Fail> {
-    let alloc = rt.alloc();
-    let script = with_file(alloc, "a.txt", "ok 6\n")?;
-    let mut out = Vec::with_capacity(alloc, 1000)?;
-    let mut err = Vec::with_capacity(alloc, 1000)?;
-    let mut input = script.as_bytes();
-    let status = session(alloc, &mut input, &mut out, &mut err, &mut Passing);
+    let mut out = Page::new();
+    let mut err = Page::new();
+    let mut input = ONE_FILE;
+    let status = session(rt.alloc(), &mut input, &mut out, &mut err, &mut Passing);
     if status != 0 {
         assert_eq!(rt; status, 3);
-        assert_eq!(rt; out.len(), 0);
-        assert_eq!(rt; err.as_slice(), b"fault: memory\n".as_slice());
+        assert_eq!(rt; out.text().len(), 0);
+        assert_eq!(rt; err.text(), b"fault: memory\n".as_slice());
     }
     Ok(())
 }
 
-/// Holds whichever one growth of the reading is refused.
+/// Holds whichever one growth is refused.
 #[test]
 fn a_growth_of_a_script_is_refused(rt: HostRuntime) -> Result<(), Fail> {
     let alloc = rt.alloc();
