@@ -1,6 +1,6 @@
 -- The rounds of the files so far, each of which needs less than 2 ^ 64 + 3.
 use Rattle.std.proofs.Common.{◌≡◌, ◌≤◌, ℕ, ◌+◌, ◌*◌, ◌^◌, take}
-use Rattle.ym_line.specs.Needed.{others_of, rounds_of}
+use Rattle.ym_line.specs.Needed.{rounds_of}
 use Rattle.ym_line.proofs.needed.whole_rounds_needed.Given as goal
 
 pub record Counted (rounds sum others most index : ℕ) : Type 0 where
