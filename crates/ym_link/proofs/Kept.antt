@@ -48,3 +48,18 @@ module _ (shape : Shape) (frame : List ℕ) (seen old : List FileParts) (same : 
     where
       keeps : step.standing.state ≡ Running → Keeps s step
       keeps h = subst (λ (x : Step). x.standing.state ≡ Running → Keeps s x) (sym is) (step_keeps (counts_of shape seen) s cs) h
+
+  -- a frame was filled
+  pub filled_sender : (out : List ℕ) (new : List FileParts) (s : Standing) (step : Step) (cs : List Control) (place : Place) → step ≡ hears (counts_of shape seen) s cs
+      → step.fills ≡ Some place → new ≡ old → IsPlace (counts_of shape seen) step.standing.place → IsFrameAt shape old place out → All IsFile old
+      → IsSender (record { standing = step.standing; shape = shape; files = new; frame = out })
+  filled_sender out new s step cs place is fills unchanged within held files =
+      subst (λ (x : List FileParts). IsSender (record { standing = step.standing; shape = shape; files = x; frame = out })) (sym unchanged) (record {
+        files = files;
+        place = within_old step.standing.place within;
+        misses = λ h. (keeps h).misses;
+        frame = λ h sent. subst (λ p. IsFrameAt shape old p out) (sym ((keeps h).filled place fills)) held;
+      })
+    where
+      keeps : step.standing.state ≡ Running → Keeps s step
+      keeps h = subst (λ (x : Step). x.standing.state ≡ Running → Keeps s x) (sym is) (step_keeps (counts_of shape seen) s cs) h

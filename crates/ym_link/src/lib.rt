@@ -4,9 +4,6 @@
 mod delivery;
 mod hearing;
 pub mod laws;
-mod receiver;
-mod source_file;
-mod stage;
 mod place;
 mod reading;
 mod receiver;
