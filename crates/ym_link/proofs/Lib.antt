@@ -1,3 +1,4 @@
+pub mod Controls
 pub mod Files
 pub mod Kept
 pub mod Readings
