@@ -205,10 +205,8 @@ fn a_file_in_memory(rt: HostRuntime) -> Result<(), Fail> {
     sender.hear(&[C]);
     sender.hear(&[ACK, C]);
     assert_eq!(rt; sender.state(), SendState::Running);
-    assert_eq!(rt;
-        sender.frame().ok_or("block 1")?[3..7],
-        b"one\x1a".as_slice()
-    );
+    let block = sender.frame().ok_or("block 1")?;
+    assert_eq!(rt; &block[3..7], b"one\x1a".as_slice());
     let nameless = SendFile::new(alloc, "", Vec::new(alloc), Stamp::Nothing);
     assert!(rt; matches!(nameless, Err(HeaderFault::NameEmpty)));
     Ok(())
