@@ -111,7 +111,7 @@ impl<S: Source> SenderFrom<S> {
             return Err(BatchFault::TooMany(batch));
         }
         look_at(&batch);
-        let standing = Standing::new(first_place(&batch, shape));
+        let standing = Standing::new(first_place(&batch));
         Ok(SenderFrom {
             batch,
             shape,
