@@ -1,6 +1,7 @@
 pub mod OneStep
 pub mod Positions
 pub mod ReceiverLemmas
+pub mod Controls
 pub mod Files
 pub mod Kept
 pub mod Readings
