@@ -1,3 +1,6 @@
+pub mod Follows
+pub mod Keeping
 pub mod OneStep
 pub mod Positions
 pub mod ReceiverLemmas
+pub mod TableRows

@@ -18,7 +18,7 @@ use Rattle.ym_link.specs.declared.stage.Stage.TheVariants.{AwaitHeader, InFile}
 use Rattle.ym_link.specs.declared.state.RecvState.{RecvState}
 use Rattle.ym_link.specs.declared.state.RecvState.TheVariants as state
 use Rattle.ym_link.specs.Receiver.{Receiver}
-use Rattle.ym_link.specs.ReceiverInto.{ReceiverParts, Tells}
+use Rattle.ym_link.specs.ReceiverInto.{ReceiverParts}
 
 -- ---- A batch
 
@@ -115,17 +115,16 @@ receiver_at confirm files st = record {
   state = state.Running;
 }
 
--- a receiver stands at a state of the machine
-pub record ReceiverStands (confirm : Confirm) (files : List (File HeaderParts)) (st : State) (parts : ReceiverParts) : Type 0 where
-  pub confirm_is : parts.receiver.confirm ≡ confirm
-  pub state_is : parts.receiver.state ≡ state_of st.receiver
-  pub files_is : parts.receiver.files ≡ count_within files st.taken
-  pub keeps : KeepsFirst files st.taken parts.kept
-  pub running : st.receiver ≡ ReceiverEnd.Running → parts.receiver ≡ receiver_at confirm files st
-  pub keeps_open : st.receiver ≡ ReceiverEnd.Running → KeepsOpen (open_at files st.taken) parts.kept
+-- a receiver, with what its sink tells, stands at a state of the machine
+pub record ReceiverStands (confirm : Confirm) (files : List (File HeaderParts)) (st : State) (r : Receiver) (kept : Kept) : Type 0 where
+  pub confirm_is : r.confirm ≡ confirm
+  pub state_is : r.state ≡ state_of st.receiver
+  pub files_is : r.files ≡ count_within files st.taken
+  pub keeps : KeepsFirst files st.taken kept
+  pub running : st.receiver ≡ ReceiverEnd.Running → r ≡ receiver_at confirm files st
+  pub keeps_open : st.receiver ≡ ReceiverEnd.Running → KeepsOpen (open_at files st.taken) kept
 
--- it has gone where the machine goes, with its reply and its truth whether the sink failed
-pub record ReceiverFollows (confirm : Confirm) (files : List (File HeaderParts)) (answer : State × Reply) (failed : Bool) (old : ReceiverParts) (reply : Reply) (new : ReceiverParts) : Type 0 where
-  pub truth : Tells failed old.failures new.failures
+-- it has gone where the machine goes, with its reply
+pub record Goes (confirm : Confirm) (files : List (File HeaderParts)) (answer : State × Reply) (reply : Reply) (new : ReceiverParts) : Type 0 where
   pub reply_is : reply ≡ answer.1
-  pub stands : ReceiverStands confirm files answer.0 new
+  pub stands : ReceiverStands confirm files answer.0 new.receiver new.kept
