@@ -246,7 +246,7 @@ module _ (confirm : Confirm) (files : List (File HeaderParts)) (st : State) (kep
   abbrev hearing : Option (File HeaderParts × ℕ) → Bool → Result Zero HeaderFault → Heard → Type 0
   hearing place e zero h = Took (on (stage_of place e)) kept (hears (on (stage_of place e)) zero h) failed reply new
 
-  next-goes : (laws : ZeroLaws) (zero : Result Zero HeaderFault) → length files ≤ 65535 → Position IsSent files st.taken → KeepsOpen (open_at files st.taken) kept
+  pub next-goes : (laws : ZeroLaws) (zero : Result Zero HeaderFault) → length files ≤ 65535 → Position IsSent files st.taken → KeepsOpen (open_at files st.taken) kept
       → (st.first_eot ≡ true → frame_at (frames_of files) st.taken ≡ Eot)
       → Means (receiver_at confirm files st) (heard.Item (item_of (frame_at (frames_of files) st.taken))) zero
       → hearing (open_at files st.taken) st.first_eot zero (heard.Item (item_of (frame_at (frames_of files) st.taken)))
@@ -298,7 +298,7 @@ module _ (confirm : Confirm) (files : List (File HeaderParts)) (st : State) (kep
 
   -- ---- F[r-1], and no frame
 
-  last-goes : (zero : Result Zero HeaderFault) (i : ℕ) → i + 1 ≡ st.taken → st.taken ≢ length (frames_of files) → Position IsSent files i → KeepsOpen (open_at files st.taken) kept
+  pub last-goes : (zero : Result Zero HeaderFault) (i : ℕ) → i + 1 ≡ st.taken → st.taken ≢ length (frames_of files) → Position IsSent files i → KeepsOpen (open_at files st.taken) kept
       → hearing (open_at files st.taken) st.first_eot zero (heard.Item (item_of (frame_at (frames_of files) i)))
       → GoesTo (hears_last (frame_at (frames_of files) i) st)
   last-goes zero i last inner (opening file sent a b c d less) o t =
@@ -329,14 +329,14 @@ module _ (confirm : Confirm) (files : List (File HeaderParts)) (st : State) (kep
       some = let x : count_within files st.taken ≡ count_within files i + 1 = ap (count_within files) (sym last) ∙ d in omega (arith, x)
   last-goes zero i last inner (ending a b c d l) o t = absurd (inner (sym last ∙ l))
 
-  cancelled-goes : (zero : Result Zero HeaderFault) → hearing (open_at files st.taken) st.first_eot zero (heard.Item item.Cancel) → GoesTo (record st { receiver = ReceiverEnd.Cancelled }, Silence)
+  pub cancelled-goes : (zero : Result Zero HeaderFault) → hearing (open_at files st.taken) st.first_eot zero (heard.Item item.Cancel) → GoesTo (record st { receiver = ReceiverEnd.Cancelled }, Silence)
   cancelled-goes zero t = cancel-goes (stage_of (open_at files st.taken) st.first_eot) (subst (λ s. Took (on (stage_of (open_at files st.taken) st.first_eot)) kept s failed reply new) (row.row-cancel confirm n st.receiver_count zero (stage_of (open_at files st.taken) st.first_eot)) t)
 
   -- nothing that is a frame, before F[0] and behind a frame
-  first-bad-goes : (zero : Result Zero HeaderFault) → open_at files st.taken ≡ None → KeepsOpen (open_at files st.taken) kept → hearing (open_at files st.taken) st.first_eot zero heard.Bad → GoesTo (nothing_taken st Start)
+  pub first-bad-goes : (zero : Result Zero HeaderFault) → open_at files st.taken ≡ None → KeepsOpen (open_at files st.taken) kept → hearing (open_at files st.taken) st.first_eot zero heard.Bad → GoesTo (nothing_taken st Start)
   first-bad-goes zero here o t = stays-goes (on AwaitHeader) AwaitHeader Start o (sym (ap (λ p. stage_of p st.first_eot) here)) (subst (λ p. hearing p st.first_eot zero heard.Bad) here t)
 
-  bad-goes : (zero : Result Zero HeaderFault) (i : ℕ) → i + 1 ≡ st.taken → Position IsSent files i → KeepsOpen (open_at files st.taken) kept
+  pub bad-goes : (zero : Result Zero HeaderFault) (i : ℕ) → i + 1 ≡ st.taken → Position IsSent files i → KeepsOpen (open_at files st.taken) kept
       → hearing (open_at files st.taken) st.first_eot zero heard.Bad → GoesTo (nothing_taken st (asks_again (frame_at (frames_of files) i)))
   bad-goes zero i last (opening file sent a b c d less) o t =
       subst (λ fr. GoesTo (nothing_taken st (asks_again fr))) (sym a) (stays-goes (on (stage_of (Some (file, 0)) st.first_eot)) (stage_of (Some (file, 0)) st.first_eot) Start o (sym (ap (λ p. stage_of p st.first_eot) here))

@@ -3,4 +3,5 @@ pub mod Keeping
 pub mod OneStep
 pub mod Positions
 pub mod ReceiverLemmas
+pub mod Standing
 pub mod TableRows

@@ -13,6 +13,7 @@ pub record PlaceLaws : Type 0 where
   pub eot : (file : File HeaderParts) (files : List (File HeaderParts)) → frame_at (frames_of (file ∷ files)) (length file.pieces + 1) ≡ Eot
   pub behind : (file : File HeaderParts) (files : List (File HeaderParts)) (n : ℕ) → frame_at (frames_of (file ∷ files)) (length file.pieces + 2 + n) ≡ frame_at (frames_of files) n
   pub size : (file : File HeaderParts) (files : List (File HeaderParts)) → length (frames_of (file ∷ files)) ≡ length file.pieces + 2 + length (frames_of files)
+  pub last : (files : List (File HeaderParts)) (i : ℕ) → i + 1 ≡ length (frames_of files) → frame_at (frames_of files) i ≡ EndBlock
   pub inside : (file : File HeaderParts) (files : List (File HeaderParts)) (n : ℕ) → n ≤ length file.pieces + 1 → count_within (file ∷ files) n ≡ 0
   pub counted : (file : File HeaderParts) (files : List (File HeaderParts)) (n : ℕ) → count_within (file ∷ files) (length file.pieces + 2 + n) ≡ count_within files n + 1
 

@@ -9,8 +9,9 @@ use Rattle.ym_file.specs.Kept.{Kept, Told}
 use Rattle.ym_file.specs.Collecting.{keep_all}
 use Rattle.ym_machine.specs.declared.confirm.Confirm.{Confirm}
 use Rattle.ym_machine.specs.Frames.{File, Frame, BlockZero, Piece, Eot, EndBlock, frames_of, frame_at, count_within, files_within}
-use Rattle.ym_machine.specs.State.{ReceiverEnd, State}
-use Rattle.ym_machine.specs.Halves.{Sound, At, Can, Bad}
+use Rattle.ym_machine.specs.Halves.{Sound, At, Can, Bad, there}
+use Rattle.ym_machine.specs.Halves as machine
+use Rattle.ym_machine.specs.State.{ReceiverEnd, State, said}
 use Rattle.ym_link.specs.declared.delivery.Heard.{Heard}
 use Rattle.ym_link.specs.declared.delivery.Heard.TheVariants as heard
 use Rattle.ym_link.specs.declared.stage.Stage.{Stage}
@@ -18,7 +19,7 @@ use Rattle.ym_link.specs.declared.stage.Stage.TheVariants.{AwaitHeader, InFile}
 use Rattle.ym_link.specs.declared.state.RecvState.{RecvState}
 use Rattle.ym_link.specs.declared.state.RecvState.TheVariants as state
 use Rattle.ym_link.specs.Receiver.{Receiver}
-use Rattle.ym_link.specs.ReceiverInto.{ReceiverParts}
+use Rattle.ym_link.specs.ReceiverInto.{ReceiverParts, Tells}
 
 -- ---- A batch
 
@@ -128,3 +129,12 @@ pub record ReceiverStands (confirm : Confirm) (files : List (File HeaderParts)) 
 pub record Goes (confirm : Confirm) (files : List (File HeaderParts)) (answer : State × Reply) (reply : Reply) (new : ReceiverParts) : Type 0 where
   pub reply_is : reply ≡ answer.1
   pub stands : ReceiverStands confirm files answer.0 new.receiver new.kept
+
+-- what it hears of the half there, where the delivery is whole or not
+abbrev pub heard_there : List (File HeaderParts) → Bool → State → Heard
+heard_there files whole st = heard_as (frames_of files) (machine.heard whole (said st))
+
+-- a delivery takes it where the half there takes the machine, with the truth whether its sink failed
+abbrev pub Follows : Confirm → List (File HeaderParts) → Bool → State → ReceiverParts → Reply → ReceiverParts → Type 0
+Follows confirm files whole st old reply new =
+    (failed : Bool) × Tells failed old.failures new.failures × Goes confirm files (there (frames_of files) confirm failed whole st) reply new

@@ -2,4 +2,7 @@
 
 mod receiver;
 
-pub use receiver::{a_block_zero_means_one_thing, a_delivery_has_one_step};
+pub use receiver::{
+    Headers, a_block_zero_means_one_thing, a_delivery_has_one_step,
+    a_standing_receiver_follows_the_machine,
+};
