@@ -3,6 +3,6 @@
 mod receiver;
 
 pub use receiver::{
-    Headers, a_block_zero_means_one_thing, a_delivery_has_one_step,
+    Headers, a_block_zero_means_one_thing, a_delivery_has_one_step, a_planned_file_is_sent,
     a_standing_receiver_follows_the_machine,
 };

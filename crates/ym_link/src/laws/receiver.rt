@@ -1,6 +1,6 @@
 //! Laws of what a receiver does with a delivery.
 
-ghost use Rattle.std.specs.Prelude.{◌≡◌, Bool, List, ℕ, Result, Ok};
+ghost use Rattle.std.specs.Prelude.{◌≡◌, Bool, List, ℕ, Result, Ok, length};
 ghost use Rattle.ym_header.specs.Header.{HeaderParts, IsHeader, length_limit};
 ghost use Rattle.ym_header.specs.Text.{text, end_text};
 ghost use Rattle.ym_header.specs.declared.fault.HeaderFault.{HeaderFault};
@@ -9,14 +9,17 @@ ghost use Rattle.ym_header.specs.declared.reading.Zero.TheVariants as zero_is;
 ghost use Rattle.ym_link.specs.declared.delivery.Heard.{Heard};
 ghost use Rattle.ym_frame.specs.declared.control.Reply.{Reply};
 ghost use Rattle.ym_file.specs.Kept.{Kept, IsNew};
+ghost use Rattle.ym_file.specs.Plan.{IsPieces};
+ghost use Rattle.ym_file.specs.declared.plan.Shape.{Shape};
 ghost use Rattle.ym_machine.specs.declared.confirm.Confirm.{Confirm};
 ghost use Rattle.ym_machine.specs.Frames.{File, frames_of};
 ghost use Rattle.ym_machine.specs.State.{State, start};
 ghost use Rattle.ym_machine.specs.Machine.{IsMachine};
 ghost use Rattle.ym_link.specs.Receiver.{Receiver, hears, new_receiver};
 ghost use Rattle.ym_link.specs.ReceiverInto.{ReceiverParts, StandsFor, Means, HearsGives};
-ghost use Rattle.ym_link.specs.ReceiverStands.{IsBatch, ReceiverStands, heard_there, Follows};
+ghost use Rattle.ym_link.specs.ReceiverStands.{IsSent, IsBatch, bytes_of, ReceiverStands, heard_there, Follows};
 
+use ym_file::laws::{covered_by_the_last_piece, pieces_give_the_file};
 use ym_header::laws::{one_meaning, written_is_read};
 use ym_machine::Batch;
 use ym_machine::laws::{files_within_a_batch, places_of_a_batch};
@@ -61,4 +64,16 @@ pub fn a_standing_receiver_follows_the_machine()
     a_block_zero_means_one_thing();
     places_of_a_batch::<Headers>();
     files_within_a_batch::<Headers>();
+}
+
+/// A file that is cut by a plan is covered by its last piece, and by none before it; and what is kept of its pieces is
+/// its bytes.
+pub fn a_planned_file_is_sent()
+    ensures sent { (shape : Shape) (header : HeaderParts) (bytes : List ℕ) (pieces : List (List ℕ)) →
+        IsHeader length_limit header → header.length ≡ length bytes → IsPieces shape bytes pieces → IsSent (record { header = header; pieces = pieces }) }
+    ensures bytes { (shape : Shape) (header : HeaderParts) (bytes : List ℕ) (pieces : List (List ℕ)) →
+        IsHeader length_limit header → header.length ≡ length bytes → IsPieces shape bytes pieces → bytes_of (record { header = header; pieces = pieces }) ≡ bytes }
+{
+    covered_by_the_last_piece();
+    pieces_give_the_file();
 }
