@@ -1,6 +1,5 @@
 -- a receiver that stands at a state of the machine goes where the machine's half there goes
-use Rattle.std.proofs.Common.{ℕ, ◌+◌, ◌-◌, ◌%◌, ◌<◌, ◌≤◌, ◌≡◌, ◌≢◌, ◌⊎◌, ◌==◌, inl, inr, List, [], ◌∷◌, ◌++◌, length, Bool, true, false, refl, sym, ap, ◌∙◌, subst, arith, cond, nat_lt, min, take, Option, Some, None, Ok, Err, Result}
-use Rattle.ym_frame.specs.Block.{BlockParts}
+use Rattle.std.proofs.Common.{ℕ, ◌+◌, ◌-◌, ◌%◌, ◌<◌, ◌≤◌, ◌≡◌, ◌≢◌, List, [], ◌∷◌, ◌++◌, length, Bool, true, false, refl, sym, ap, ◌∙◌, subst, arith, cond, nat_lt, min, Option, Some, None, Ok, Result}
 use Rattle.ym_frame.specs.declared.control.Reply.{Reply}
 use Rattle.ym_frame.specs.declared.control.Reply.TheVariants.{Silence, Start, Ack, AckStart, Nak, Cancel}
 use Rattle.ym_frame.specs.declared.frame.Item.TheVariants as item
@@ -12,10 +11,9 @@ use Rattle.ym_header.specs.declared.reading.Zero.TheVariants as zero_is
 use Rattle.ym_file.specs.Kept.{Kept}
 use Rattle.ym_machine.specs.declared.confirm.Confirm.{Confirm}
 use Rattle.ym_machine.specs.declared.confirm.Confirm.TheVariants.{Twice, Once}
-use Rattle.ym_machine.specs.Frames.{File, Frame, BlockZero, Piece, Eot, EndBlock, frames_of, frame_at, frame_before, body_at, count_within, files_within}
+use Rattle.ym_machine.specs.Frames.{File, Frame, BlockZero, Piece, Eot, EndBlock, frames_of, frame_at, body_at, count_within, files_within}
 use Rattle.ym_machine.specs.State.{ReceiverEnd, State}
-use Rattle.ym_machine.specs.Halves.{Sound, At, Can, Bad, Answer, nothing_taken, takes, hears_next, hears_last, asks_again}
-use Rattle.ym_machine.specs.Halves as machine
+use Rattle.ym_machine.specs.Halves.{Answer, nothing_taken, takes, hears_next, hears_last, asks_again}
 use Rattle.ym_link.specs.declared.delivery.Heard.{Heard}
 use Rattle.ym_link.specs.declared.delivery.Heard.TheVariants as heard
 use Rattle.ym_link.specs.declared.stage.Stage.{Stage}
@@ -23,7 +21,7 @@ use Rattle.ym_link.specs.declared.stage.Stage.TheVariants.{AwaitHeader, InFile}
 use Rattle.ym_link.specs.declared.state.RecvState.TheVariants as state
 use Rattle.ym_link.specs.Receiver.{Receiver, Step, No_call, Begins, Adds, Commits, goes_on, stays, ends, opened, hears, covered_eot, commits}
 use Rattle.ym_link.specs.ReceiverInto.{ReceiverParts, StandsFor, Means, outcome, called, Takes}
-use Rattle.ym_link.specs.ReceiverStands.{kept_after, bytes_of, IsSent, item_of, heard_as, open_at, stage_of, state_of, receiver_at, KeepsFirst, KeepsOpen, ReceiverStands, Goes}
+use Rattle.ym_link.specs.ReceiverStands.{kept_after, bytes_of, IsSent, item_of, open_at, stage_of, state_of, receiver_at, KeepsFirst, KeepsOpen, ReceiverStands, Goes}
 use Rattle.ym_link.proofs.Positions.{Position, opening, piece, closing, ending}
 use Rattle.ym_link.proofs.TableRows as row
 use Rattle.ym_link.proofs.TableRows.{running_at, file_of, yes, differ}

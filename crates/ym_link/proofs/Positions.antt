@@ -4,7 +4,7 @@ use Rattle.std.specs.Prelude.{nat_le, true, false, All}
 use Rattle.std.proofs.lemmas.Bool.Decides.{nat_tests}
 use Rattle.std.proofs.lemmas.List.Elements.{All-head, All-tail}
 use Rattle.ym_header.specs.Header.{HeaderParts}
-use Rattle.ym_machine.specs.Frames.{File, Frame, BlockZero, Piece, Eot, EndBlock, frames_of, frame_at, body_at, count_within, files_within}
+use Rattle.ym_machine.specs.Frames.{File, BlockZero, Piece, Eot, EndBlock, frames_of, frame_at, body_at, count_within, files_within}
 use Rattle.ym_link.specs.ReceiverStands.{open_at}
 
 -- what the machine's laws say of the places of a batch

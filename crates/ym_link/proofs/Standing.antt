@@ -1,23 +1,23 @@
 -- a receiver that stands at a state of the machine follows the half there, however it has ended
-use Rattle.std.proofs.Common.{ℕ, ◌+◌, ◌<◌, ◌≤◌, ◌≡◌, ◌≢◌, ◌⊎◌, ◌==◌, inl, inr, suc, zero, List, [], ◌∷◌, length, map, Bool, true, false, refl, sym, ap, ◌∙◌, subst, arith, cond, Option, Some, None, Ok, Result}
+use Rattle.std.proofs.Common.{ℕ, ◌+◌, ◌<◌, ◌≡◌, ◌≢◌, ◌⊎◌, ◌==◌, inl, inr, suc, zero, List, [], ◌∷◌, length, Bool, true, false, refl, sym, ap, ◌∙◌, subst, arith, cond, Option, Some, None, Ok, Result}
 use Rattle.ym_frame.specs.declared.control.Reply.{Reply}
-use Rattle.ym_frame.specs.declared.control.Reply.TheVariants.{Silence, Start, Ack}
+use Rattle.ym_frame.specs.declared.control.Reply.TheVariants.{Silence, Ack}
 use Rattle.ym_header.specs.Header.{HeaderParts}
 use Rattle.ym_header.specs.declared.fault.HeaderFault.{HeaderFault}
 use Rattle.ym_header.specs.declared.reading.Zero.{Zero}
 use Rattle.ym_file.specs.Kept.{Kept, Told, TellsNone, IsNew}
 use Rattle.ym_machine.specs.declared.confirm.Confirm.{Confirm}
-use Rattle.ym_machine.specs.Frames.{File, Frame, Eot, EndBlock, frames_of, frame_at, frame_before}
-use Rattle.ym_machine.specs.State.{SenderEnd, ReceiverEnd, State, start, Speech, said, said_by}
+use Rattle.ym_machine.specs.Frames.{File, Frame, Eot, frames_of, frame_at, frame_before}
+use Rattle.ym_machine.specs.State.{SenderEnd, ReceiverEnd, State, start, said, said_by}
 use Rattle.ym_machine.specs.Halves.{Sound, At, Can, Bad, nothing_taken, hears_next, hears_last, asks_again}
 use Rattle.ym_machine.specs.Halves as machine
 use Rattle.ym_machine.specs.Machine.{IsMachine}
 use Rattle.ym_link.specs.declared.delivery.Heard.TheVariants as heard
 use Rattle.ym_link.specs.declared.state.RecvState.{RecvState}
 use Rattle.ym_link.specs.declared.state.RecvState.TheVariants as state
-use Rattle.ym_link.specs.Receiver.{Receiver, No_call, hears, hears_at, new_receiver, finished_reply}
-use Rattle.ym_link.specs.ReceiverInto.{ReceiverParts, Means, Takes, HearsGives}
-use Rattle.ym_link.specs.ReceiverStands.{IsSent, IsBatch, item_of, heard_as, IsNextOrLast, open_at, stage_of, state_of, receiver_at, KeepsFirst, KeepsOpen, ReceiverStands, Goes, heard_there, Follows}
+use Rattle.ym_link.specs.Receiver.{No_call, hears, hears_at, new_receiver, finished_reply}
+use Rattle.ym_link.specs.ReceiverInto.{ReceiverParts, Means, HearsGives}
+use Rattle.ym_link.specs.ReceiverStands.{IsSent, IsBatch, item_of, heard_as, IsNextOrLast, open_at, stage_of, state_of, receiver_at, KeepsOpen, ReceiverStands, Goes, heard_there, Follows}
 use Rattle.ym_link.proofs.Positions.{PlaceLaws, position}
 use Rattle.ym_link.proofs.TableRows.{yes, differ}
 use Rattle.ym_link.proofs.Follows.{ZeroLaws, Took, took, quiet, next-goes, last-goes, cancelled-goes, first-bad-goes, bad-goes}

@@ -1,5 +1,5 @@
 -- the table's lines, of a receiver behind the first so many frames of a batch
-use Rattle.std.proofs.Common.{ℕ, ◌+◌, ◌-◌, ◌%◌, ◌<◌, ◌≤◌, ◌≡◌, ◌≢◌, ◌==◌, List, length, Bool, true, false, refl, ap, ◌∙◌, arith, cond, nat_lt, min, take, Option, Some, None, Ok, Result}
+use Rattle.std.proofs.Common.{ℕ, ◌+◌, ◌-◌, ◌%◌, ◌<◌, ◌≤◌, ◌≡◌, ◌≢◌, ◌==◌, List, length, Bool, true, false, refl, ap, ◌∙◌, arith, cond, nat_lt, min, take, Ok, Result}
 use Rattle.std.proofs.lemmas.Bool.Decides.{nat_tests}
 use Rattle.ym_frame.specs.declared.control.Reply.TheVariants.{Silence, Start, Ack, AckStart, Nak, Cancel}
 use Rattle.ym_frame.specs.declared.frame.Item.TheVariants as item
@@ -13,7 +13,7 @@ use Rattle.ym_link.specs.declared.stage.OpenFile.{OpenFile}
 use Rattle.ym_link.specs.declared.stage.Stage.{Stage}
 use Rattle.ym_link.specs.declared.stage.Stage.TheVariants.{AwaitHeader, InFile}
 use Rattle.ym_link.specs.declared.state.RecvState.TheVariants as state
-use Rattle.ym_link.specs.Receiver.{Receiver, Begins, Adds, goes_on, stays, ends, opened, zero_heard, hears, next_block, covered_eot}
+use Rattle.ym_link.specs.Receiver.{Receiver, Begins, Adds, goes_on, stays, ends, opened, hears, next_block, covered_eot}
 
 pub yes : (a : ℕ) → (a == a) ≡ true
 yes a = grind (arith, nat_tests)

@@ -12,9 +12,9 @@ use Rattle.ym_machine.specs.declared.confirm.Confirm.{Confirm}
 use Rattle.ym_machine.specs.declared.confirm.Confirm.TheVariants.{Twice, Once}
 use Rattle.ym_link.specs.declared.delivery.Heard.{Heard}
 use Rattle.ym_link.specs.declared.delivery.Heard.TheVariants as heard
-use Rattle.ym_link.specs.declared.stage.Stage.TheVariants.{AwaitHeader, InFile}
+use Rattle.ym_link.specs.declared.stage.Stage.TheVariants.{InFile}
 use Rattle.ym_link.specs.declared.state.RecvState.TheVariants as state
-use Rattle.ym_link.specs.Receiver.{Receiver, Step, No_call, Begins, Adds, Commits, hears, new_receiver}
+use Rattle.ym_link.specs.Receiver.{Receiver, No_call, Begins, Adds, Commits, hears, new_receiver}
 
 abbrev a_header : HeaderParts
 a_header = record { name = 0x61 ∷ []; length = 3; stamp = Nothing }
