@@ -1,4 +1,7 @@
+pub mod Follows
+pub mod Keeping
 pub mod OneStep
+pub mod Planned
 pub mod Positions
 pub mod ReceiverLemmas
 pub mod Controls
@@ -10,3 +13,5 @@ pub mod SenderPlaces
 pub mod SenderStanding
 pub mod Settled
 pub mod Steps
+pub mod Standing
+pub mod TableRows
