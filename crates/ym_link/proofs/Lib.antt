@@ -1,5 +1,12 @@
 pub mod Files
+pub mod Follows
+pub mod Keeping
 pub mod Kept
+pub mod OneStep
+pub mod Planned
+pub mod Positions
 pub mod Readings
 pub mod ReceiverLemmas
+pub mod Standing
 pub mod Steps
+pub mod TableRows

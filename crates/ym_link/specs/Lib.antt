@@ -1,6 +1,8 @@
 pub mod Hearing
-pub mod Receiver
-pub mod ReceiverInto
-pub mod SourceFile
 pub mod Place
+pub mod Receiver
+pub mod ReceiverExamples
+pub mod ReceiverInto
+pub mod ReceiverStands
 pub mod Sender
+pub mod SourceFile

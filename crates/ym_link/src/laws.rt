@@ -1,0 +1,8 @@
+//! Laws of the definitions: each is the promise of a function that does nothing.
+
+mod receiver;
+
+pub use receiver::{
+    Headers, a_block_zero_means_one_thing, a_delivery_has_one_step, a_planned_file_is_sent,
+    a_standing_receiver_follows_the_machine,
+};
