@@ -1,3 +1,4 @@
+pub mod Controls
 pub mod Files
 pub mod Follows
 pub mod Keeping
@@ -7,6 +8,10 @@ pub mod Planned
 pub mod Positions
 pub mod Readings
 pub mod ReceiverLemmas
+pub mod SenderHalf
+pub mod SenderPlaces
+pub mod SenderStanding
+pub mod Settled
 pub mod Standing
 pub mod Steps
 pub mod TableRows

@@ -248,3 +248,10 @@ sink_fails-committed = refl
 
 sink_fails-sender : (state_after Twice one_file (replicate 4 whole ++ record whole { sink_failed = true } ∷ whole ∷ [])).sender ≡ SenderEnd.Cancelled
 sink_fails-sender = refl
+
+-- one CAN of the CAN CAN comes back: it cancels nothing
+one_can-sender : (state_after Twice one_file (whole ∷ record (back_comes (control.Can ∷ [])) { sink_failed = true } ∷ [])).sender ≡ SenderEnd.Running
+one_can-sender = refl
+
+two_cans-sender : (state_after Twice one_file (whole ∷ record whole { sink_failed = true } ∷ [])).sender ≡ SenderEnd.Cancelled
+two_cans-sender = refl

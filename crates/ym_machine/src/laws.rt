@@ -3,15 +3,16 @@
 //! Each is a function with an empty body, whose contract is the law: call it where the law is
 //! needed, at a type that names the kind of batch.
 
-ghost use Rattle.std.specs.Prelude.{◌≡◌, ◌≢◌, ◌⊎◌, ◌+◌, ◌%◌, ◌<◌, ◌≤◌, ◌∷◌, [], ℕ, Bool, List, true, length, map};
+ghost use Rattle.std.specs.Prelude.{◌≡◌, ◌≢◌, ◌⊎◌, ◌+◌, ◌%◌, ◌<◌, ◌≤◌, ◌∷◌, ◌++◌, [], ℕ, Bool, List, true, length, map};
 ghost use Rattle.ym_frame.specs.declared.control.Control.{Control};
+ghost use Rattle.ym_frame.specs.declared.control.Control.TheVariants as control;
 ghost use Rattle.ym_frame.specs.declared.control.Reply.{Reply};
 ghost use Rattle.ym_frame.specs.Control.{reply_bytes, IsSubsequence};
 ghost use Rattle.ym_machine.specs.declared.confirm.Confirm.{Confirm};
-ghost use Rattle.ym_machine.specs.Frames.{File, Frame, BlockZero, Piece, Eot, EndBlock, frames_of, frame_at, body_at, count_within, files_within, IsPrefix, EndsOnce};
-ghost use Rattle.ym_machine.specs.State.{SenderEnd, ReceiverEnd, State, start, committed, reported};
+ghost use Rattle.ym_machine.specs.Frames.{File, Frame, BlockZero, Piece, Eot, EndBlock, frames_of, frame_at, frame_before, body_at, count_within, files_within, IsPrefix, EndsOnce};
+ghost use Rattle.ym_machine.specs.State.{SenderEnd, ReceiverEnd, State, start, FrameAt, said, committed, reported};
 ghost use Rattle.ym_machine.specs.Halves.{there, back, controls, is_within, IsRemnant, control_byte, KeepsSender, KeepsReceiver, SenderStays};
-ghost use Rattle.ym_machine.specs.Run.{Turn, after_turn, after_turns, IsTurnDamage, IsDamage, NoFailure, AllWhole, is_whole, whole_turns, longest_bad_run, five_and_five};
+ghost use Rattle.ym_machine.specs.Run.{Turn, after_turn, after_turns, entries_of, IsTurnDamage, IsDamage, NoFailure, AllWhole, is_whole, whole_turns, longest_bad_run, five_and_five};
 ghost use Rattle.ym_machine.specs.Left.{left, rounds_needed, IsGoing, CountsWithin, IsComplete};
 ghost use Rattle.ym_machine.specs.Machine.{IsMachine};
 
@@ -61,6 +62,37 @@ pub fn committed_is_reported_or_one_more<B: Batch>()
     ensures reported_within { (files : List (File B.Header)) (confirm : Confirm) (st : State) → IsMachine confirm (frames_of files) st →
         IsPrefix (reported files st) (committed files st) }
     ensures counted { (files : List (File B.Header)) (n : ℕ) → length (files_within files n) ≡ count_within files n }
+{}
+
+/// What the receiver of a machine state hears is the frame that it takes next, or the one that it
+/// took last, which is then not the end block while it runs.
+pub fn heard_is_next_or_last<B: Batch>()
+    ensures place { (files : List (File B.Header)) (confirm : Confirm) (st : State) (i : ℕ) → IsMachine confirm (frames_of files) st → said st ≡ FrameAt i →
+        (i ≡ st.acknowledged) × (i < length (frames_of files)) }
+    ensures next_or_last { (files : List (File B.Header)) (confirm : Confirm) (st : State) (i : ℕ) → IsMachine confirm (frames_of files) st → said st ≡ FrameAt i →
+        (st.taken ≡ i) ⊎ (st.taken ≡ i + 1) }
+    ensures last { (files : List (File B.Header)) (confirm : Confirm) (st : State) → IsMachine confirm (frames_of files) st → st.receiver ≡ ReceiverEnd.Running → 0 < st.taken →
+        frame_before (frames_of files) st.taken ≢ EndBlock }
+{}
+
+/// An ACK that comes back to a sender that runs means that it has sent, and that the receiver has
+/// taken what it sent.
+pub fn acknowledged_is_taken<B: Batch>()
+    ensures taken { (files : List (File B.Header)) (confirm : Confirm) (sink_failed whole : Bool) (came : List Control) (old : State) → IsMachine confirm (frames_of files) old →
+        is_within (control.Ack ∷ came) (controls (there (frames_of files) confirm sink_failed whole old).1) ≡ true →
+        (there (frames_of files) confirm sink_failed whole old).0.sender ≡ SenderEnd.Running →
+        ((there (frames_of files) confirm sink_failed whole old).0.sent ≡ true) ×
+        ((there (frames_of files) confirm sink_failed whole old).0.taken ≡ (there (frames_of files) confirm sink_failed whole old).0.acknowledged + 1) }
+{}
+
+/// A run of some turns and then of others is one run.
+pub fn a_run_goes_on<B: Batch>()
+    ensures states { (frames : List (Frame B.Header)) (confirm : Confirm) (front rest : List Turn) (st : State) →
+        after_turns frames confirm (front ++ rest) st ≡ after_turns frames confirm rest (after_turns frames confirm front st) }
+    ensures trace { (frames : List (Frame B.Header)) (confirm : Confirm) (front rest : List Turn) (st : State) →
+        entries_of frames confirm (front ++ rest) st ≡ entries_of frames confirm front st ++ entries_of frames confirm rest (after_turns frames confirm front st) }
+    ensures damage { (frames : List (Frame B.Header)) (confirm : Confirm) (front rest : List Turn) (st : State) →
+        IsDamage frames confirm front st → IsDamage frames confirm rest (after_turns frames confirm front st) → IsDamage frames confirm (front ++ rest) st }
 {}
 
 /// What stands at each place of the list of frames, file by file.
