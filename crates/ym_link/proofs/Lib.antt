@@ -8,10 +8,10 @@ pub mod Planned
 pub mod Positions
 pub mod Readings
 pub mod ReceiverLemmas
+pub mod ReceiverStanding
 pub mod SenderHalf
 pub mod SenderPlaces
 pub mod SenderStanding
 pub mod Settled
-pub mod Standing
 pub mod Steps
 pub mod TableRows
