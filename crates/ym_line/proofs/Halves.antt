@@ -25,10 +25,12 @@ use Rattle.ym_link.specs.declared.place.Place.{Place}
 use Rattle.ym_link.specs.declared.place.Place.TheVariants.{Header, Block, Eot, End}
 use Rattle.ym_line.specs.declared.delivery.Round.{Round}
 use Rattle.ym_line.specs.declared.trace.Seen.{Seen}
+use Rattle.ym_line.specs.Carried.{told_more}
+use Rattle.ym_line.specs.declared.delivery.Way.TheVariants.{There, Back}
 use Rattle.ym_line.specs.Damage.{arrives}
 use Rattle.ym_line.specs.Rounds.{Pair, sent_by, Goes, GoOn}
 use Rattle.ym_line.specs.Turns.{PairStands, IsTurn, RunsAsMachine, IsSourceTruth, is_whole, came_of, turn_of}
-use Rattle.ym_line.proofs.Turns.{FrameFound, WithinReply, said-heard, said-shown, came-within, controls-arrive}
+use Rattle.ym_line.proofs.Turns.{FrameFound, WithinReply, said-heard, said-shown, said-bytes, came-within, controls-arrive}
 
 -- ---- What the laws below say
 
@@ -138,6 +140,8 @@ goes-turn laws confirm files st round old new seen stands goes =
         damage = within;
         what_is = ap (λ (s : Seen). s.what) goes.seen_is ∙ said-shown files (said st) old.sender says;
         reply_is = reply_is;
+      handed_on = ap (λ (p : Pair). p.told) goes.back.others ∙ ap (told_more Back bytes) (ap (λ (p : Pair). p.told) goes.there.others
+          ∙ ap (λ b. told_more There (arrives round.there b) old.told) (said-bytes files (said st) old.sender says));
         stands = record {
           machine = laws.machine_back files confirm sink_failed whole source_failed came st stands.machine within;
           batch = stands.batch;

@@ -25,7 +25,7 @@ use Rattle.ym_line.specs.declared.delivery.Delivery.{Delivery}
 use Rattle.ym_line.specs.declared.delivery.Delivery.TheVariants.{Whole, Lost, Damaged}
 use Rattle.ym_line.specs.Damage.{arrives, ShowsBack, IsHeardBad}
 use Rattle.ym_line.specs.Rounds.{sent_by}
-use Rattle.ym_line.specs.Turns.{is_whole, came_of, what_said}
+use Rattle.ym_line.specs.Turns.{is_whole, came_of, what_said, frame_of, bytes_said}
 use Rattle.ym_line.specs.What.{what_is, what_of}
 
 -- ---- What comes back
@@ -102,6 +102,14 @@ what-frame (item.Block block) frame is = elim is [ inl short ↦ rw (short.1, sh
 what-frame item.Eot frame is = rw is refl
 what-frame item.Cancel frame is = rw is refl
 
+frame-bytes : (i : Item) (frame : List ℕ) → IsFrame i frame → frame ≡ frame_of i
+frame-bytes (item.Block block) frame is = elim is [
+  | inl short ↦ rw (short.1, short.0) refl
+  | inr long ↦ rw (long.1, long.0) refl
+  ]
+frame-bytes item.Eot frame is = is
+frame-bytes item.Cancel frame is = is
+
 -- both ends have one item of a frame
 same-item : (frame : Frame HeaderParts) → receiver.item_of frame ≡ item_of frame
 same-item (BlockZero header) = refl
@@ -123,6 +131,12 @@ pub said-shown : (files : Batch) (speech : Speech) (sender : SenderParts) → Is
 said-shown files Nothing sender says = rw says refl
 said-shown files (FrameAt i) sender says = rw says.1 (what-frame (item_of (frame_at (frames_of files) i)) says.0 says.2)
 said-shown files CanCan sender says = rw says refl
+
+-- the bytes that the sender has to send
+pub said-bytes : (files : Batch) (speech : Speech) (sender : SenderParts) → IsSaid files speech (spoken sender) → sent_by sender ≡ bytes_said (frames_of files) speech
+said-bytes files Nothing sender says = rw says refl
+said-bytes files (FrameAt i) sender says = rw says.1 (frame-bytes (item_of (frame_at (frames_of files) i)) says.0 says.2)
+said-bytes files CanCan sender says = rw says refl
 
 -- ---- What comes back, within the reply
 

@@ -1,5 +1,5 @@
 -- Two ends that stand at a state of the machine of two counters, and rounds as turns of that machine.
-use Rattle.std.specs.Prelude.{◌≡◌, ℕ, Bool, true, false, List, [], ◌∷◌, Option, None, Some}
+use Rattle.std.specs.Prelude.{◌≡◌, ◌==◌, length, if◌then◌else◌, ℕ, Bool, true, false, List, [], ◌∷◌, Option, None, Some}
 use Rattle.ym_frame.specs.declared.control.Control.{Control}
 use Rattle.ym_machine.specs.declared.confirm.Confirm.{Confirm}
 use Rattle.ym_machine.specs.Frames.{Frame, frames_of, frame_at}
@@ -18,6 +18,13 @@ use Rattle.ym_line.specs.declared.delivery.Round.{Round}
 use Rattle.ym_line.specs.declared.trace.Seen.{Seen}
 use Rattle.ym_line.specs.declared.trace.What.{What}
 use Rattle.ym_line.specs.declared.trace.What.TheVariants as what
+use Rattle.ym_frame.specs.Control.{reply_bytes}
+use Rattle.ym_frame.specs.Frame.{block_frame}
+use Rattle.ym_frame.specs.declared.frame.Item.{Item}
+use Rattle.ym_frame.specs.declared.frame.Item.TheVariants as item
+use Rattle.ym_line.specs.Carried.{told_more}
+use Rattle.ym_line.specs.Damage.{arrives}
+use Rattle.ym_line.specs.declared.delivery.Way.TheVariants.{There, Back}
 use Rattle.ym_line.specs.Rounds.{Pair}
 use Rattle.ym_line.specs.What.{what_is}
 
@@ -54,13 +61,25 @@ what_said frames Nothing = what.Nothing
 what_said frames (FrameAt i) = what_is (item_of (frame_at frames i))
 what_said frames CanCan = what.Can
 
+-- the frame of an item, by the size of its body
+abbrev pub frame_of : Item → List ℕ
+frame_of (item.Block block) = if length block.body == 128 then block_frame 0x01 block else block_frame 0x02 block
+frame_of item.Eot = 0x04 ∷ []
+frame_of item.Cancel = 0x18 ∷ 0x18 ∷ []
+
+-- the bytes that the machine's sender has to send
+abbrev pub bytes_said : List (Frame HeaderParts) → Speech → List ℕ
+bytes_said frames Nothing = []
+bytes_said frames (FrameAt i) = frame_of (item_of (frame_at frames i))
+bytes_said frames CanCan = 0x18 ∷ 0x18 ∷ []
+
 -- whether a source failed, by the failure counts of the files
 abbrev pub IsSourceTruth : Bool → List FileParts → List FileParts → Type 0
 IsSourceTruth false old new = new ≡ old
 IsSourceTruth true old new = (file : ℕ) × FailedAt file old new
 
--- What a round leaves, of a pair that stood at a state: it stands where the machine's turn leads, the reply is the machine's and the trace
--- shows what the machine's sender had to say; the two truths are those of the failure counts.
+-- What a round leaves, of a pair that stood at a state: it stands where the machine's turn leads, the reply is the machine's, the trace
+-- shows what the machine's sender had to say, and the line has handed on what became of both. The two truths are those of the failure counts.
 pub record IsTurn (confirm : Confirm) (files : Batch) (st : State) (round : Round) (turn : Turn) (old : Pair) (seen : Seen) (new : Pair) : Type 0 where
   pub turn_is : turn ≡ turn_of round turn.sink_failed turn.source_failed
   pub sink : Tells turn.sink_failed old.receiver.failures new.receiver.failures
@@ -68,6 +87,7 @@ pub record IsTurn (confirm : Confirm) (files : Batch) (st : State) (round : Roun
   pub damage : IsTurnDamage (frames_of files) confirm turn st
   pub what_is : seen.what ≡ what_said (frames_of files) (said st)
   pub reply_is : seen.reply ≡ (answer_of (frames_of files) confirm turn st).1
+  pub handed_on : new.told ≡ told_more Back (arrives round.back (reply_bytes seen.reply)) (told_more There (arrives round.there (bytes_said (frames_of files) (said st))) old.told)
   pub stands : PairStands confirm files (after_turn (frames_of files) confirm turn st) new
 
 -- a run as turns of the machine, one for each round
