@@ -8,6 +8,7 @@ pub mod Controls
 pub mod Files
 pub mod Kept
 pub mod Readings
+pub mod ReceiverStanding
 pub mod SenderHalf
 pub mod SenderPlaces
 pub mod SenderStanding

@@ -11,3 +11,4 @@ pub use receiver::{
     Headers, a_block_zero_means_one_thing, a_delivery_has_one_step, a_planned_file_is_sent,
     a_standing_receiver_follows_the_machine,
 };
+pub use sender::{a_sender_follows_the_machine, a_settled_delivery_stays, progress_is_a_change};

@@ -1,6 +1,6 @@
 use Rattle.ym_link.proofs.Follows.{ZeroLaws}
 use Rattle.ym_link.proofs.Positions.{PlaceLaws}
-use Rattle.ym_link.proofs.Standing.{follows, starts}
+use Rattle.ym_link.proofs.ReceiverStanding.{follows, starts}
 use Rattle.ym_link.proofs.laws.receiver.a_standing_receiver_follows_the_machine.Goals as goal
 
 pub returns-clause-start : goal.returns-clause-start
