@@ -1,2 +1,4 @@
 pub mod Hearing
 pub mod SourceFile
+pub mod Port
+pub mod ScriptPort

@@ -2,12 +2,18 @@
 #![tactic(auto)]
 
 mod delivery;
+mod event;
 mod hearing;
+mod port;
+mod script_port;
 mod source_file;
 mod state;
 
 pub use delivery::Heard;
+pub use event::Event;
 pub use hearing::heard;
+pub use port::{Got, Port, PortFault, Wait};
+pub use script_port::ScriptPort;
 pub use source_file::{SendFile, SourceFile};
 pub use state::{RecvState, SendState};
 pub use ym_machine::Confirm;
