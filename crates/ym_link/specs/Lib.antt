@@ -1,4 +1,6 @@
 pub mod Hearing
+pub mod Receiver
+pub mod ReceiverInto
 pub mod SourceFile
 pub mod Port
 pub mod ScriptPort

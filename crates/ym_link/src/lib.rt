@@ -5,15 +5,21 @@ mod delivery;
 mod event;
 mod hearing;
 mod port;
+mod receiver;
 mod script_port;
 mod source_file;
+mod stage;
 mod state;
 
 pub use delivery::Heard;
 pub use event::Event;
 pub use hearing::heard;
 pub use port::{Got, Port, PortFault, Wait};
+pub use receiver::{Receiver, ReceiverInto};
 pub use script_port::ScriptPort;
 pub use source_file::{SendFile, SourceFile};
 pub use state::{RecvState, SendState};
 pub use ym_machine::Confirm;
+
+#[cfg(test)]
+mod tests;

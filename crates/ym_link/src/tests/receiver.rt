@@ -1,0 +1,178 @@
+//! The receiver, delivery by delivery.
+
+use crate::{Confirm, Heard, Receiver, ReceiverInto, RecvState};
+use std::alloc::{AllocError, Global};
+use std::test::Fail;
+use ym_file::{MemSink, Sink};
+use ym_frame::{Block, Item, Reply};
+use ym_header::{Header, HeaderFault, Stamp, write, write_end};
+
+/// A delivery of a short block whose bytes are all the same.
+fn filled(number: u8, byte: u8) -> Heard {
+    match Block::new(number, &[byte; 128]) {
+        Ok(block) => Heard::Item(Item::Block(block)),
+        Err(_) => Heard::Bad,
+    }
+}
+
+/// A delivery of the block 0 of a file.
+fn header(alloc: Global, name: &str, length: u64) -> Result<Heard, HeaderFault> {
+    let header = Header::new(alloc, name, length, Stamp::Nothing)?;
+    Ok(Heard::Item(Item::Block(write(&header))))
+}
+
+fn end() -> Heard {
+    Heard::Item(Item::Block(write_end()))
+}
+
+fn eot() -> Heard {
+    Heard::Item(Item::Eot)
+}
+
+#[test]
+fn steps_and_repeats(rt: HostRuntime) -> Result<(), Fail> {
+    let alloc = rt.alloc();
+    let mut receiver = Receiver::new(alloc);
+    assert_eq!(rt; receiver.hear(&eot())?, Reply::Start);
+    let opening = header(alloc, "a", 200)?;
+    assert_eq!(rt; receiver.hear(&opening)?, Reply::AckStart);
+    assert_eq!(rt; receiver.hear(&opening)?, Reply::AckStart);
+    assert_eq!(rt; receiver.hear(&filled(1, b'A'))?, Reply::Ack);
+    assert_eq!(rt; receiver.hear(&filled(1, b'A'))?, Reply::Ack);
+    assert_eq!(rt; receiver.hear(&eot())?, Reply::Nak);
+    assert_eq!(rt; receiver.state(), RecvState::Running);
+    assert!(rt; receiver.files().is_empty());
+    assert_eq!(rt; receiver.hear(&filled(5, b'A'))?, Reply::Cancel);
+    assert_eq!(rt; receiver.state(), RecvState::OutOfStep);
+    assert_eq!(rt; receiver.hear(&opening)?, Reply::Silence);
+    assert_eq!(rt; receiver.hear(&Heard::Bad)?, Reply::Silence);
+    assert_eq!(rt; receiver.hear(&end())?, Reply::Silence);
+    Ok(())
+}
+
+#[test]
+fn refused_header(rt: HostRuntime) -> Result<(), Fail> {
+    let mut body = [0; 128];
+    body[0] = b'a';
+    let block = Block::new(0, &body).ok().ok_or("no block")?;
+    let mut receiver = Receiver::new(rt.alloc());
+    let reply = receiver.hear(&Heard::Item(Item::Block(block)))?;
+    assert_eq!(rt; reply, Reply::Cancel);
+    assert_eq!(rt;
+        receiver.state(),
+        RecvState::BadHeader(HeaderFault::NoLength)
+    );
+    Ok(())
+}
+
+#[test]
+fn bytes_past_the_length(rt: HostRuntime) -> Result<(), Fail> {
+    let alloc = rt.alloc();
+    let mut receiver = Receiver::new(alloc);
+    assert_eq!(rt; receiver.hear(&header(alloc, "a", 100)?)?, Reply::AckStart);
+    assert_eq!(rt; receiver.hear(&filled(1, b'A'))?, Reply::Ack);
+    assert_eq!(rt; receiver.hear(&filled(2, b'B'))?, Reply::Ack);
+    assert_eq!(rt; receiver.hear(&eot())?, Reply::Nak);
+    assert_eq!(rt; receiver.committed(), 0);
+    assert_eq!(rt; receiver.hear(&eot())?, Reply::AckStart);
+    assert_eq!(rt; receiver.committed(), 1);
+    let file = receiver.files().first().ok_or("no file")?;
+    assert_eq!(rt; file.name(), "a");
+    assert_eq!(rt; file.length(), 100);
+    assert_eq!(rt; file.stamp(), Stamp::Nothing);
+    assert_eq!(rt; file.bytes(), [b'A'; 100].as_slice());
+    assert_eq!(rt; receiver.hear(&end())?, Reply::Ack);
+    assert_eq!(rt; receiver.state(), RecvState::Finished);
+    assert_eq!(rt; receiver.hear(&end())?, Reply::Ack);
+    assert_eq!(rt; receiver.hear(&header(alloc, "b", 100)?)?, Reply::Silence);
+    assert_eq!(rt; receiver.hear(&Heard::Item(Item::Cancel))?, Reply::Silence);
+    assert_eq!(rt; receiver.state(), RecvState::Finished);
+    Ok(())
+}
+
+#[test]
+fn tenth_without_progress(rt: HostRuntime) -> Result<(), Fail> {
+    let mut receiver = Receiver::new(rt.alloc());
+    for _ in 0..9 {
+        assert_eq!(rt; receiver.hear(&Heard::Bad)?, Reply::Start);
+    }
+    assert_eq!(rt; receiver.hear(&Heard::Bad)?, Reply::Cancel);
+    assert_eq!(rt; receiver.state(), RecvState::TooManyErrors);
+    Ok(())
+}
+
+#[test]
+fn progress_sets_the_count_back(rt: HostRuntime) -> Result<(), Fail> {
+    let alloc = rt.alloc();
+    let mut receiver = Receiver::new(alloc);
+    for _ in 0..9 {
+        assert_eq!(rt; receiver.hear(&Heard::Bad)?, Reply::Start);
+    }
+    assert_eq!(rt; receiver.hear(&header(alloc, "a", 100)?)?, Reply::AckStart);
+    for _ in 0..9 {
+        assert_eq!(rt; receiver.hear(&Heard::Bad)?, Reply::Start);
+    }
+    assert_eq!(rt; receiver.state(), RecvState::Running);
+    assert_eq!(rt; receiver.hear(&Heard::Bad)?, Reply::Cancel);
+    Ok(())
+}
+
+#[test]
+fn single_receiver(rt: HostRuntime) -> Result<(), Fail> {
+    let alloc = rt.alloc();
+    let mut receiver = Receiver::single(alloc);
+    assert_eq!(rt; receiver.hear(&header(alloc, "a", 0)?)?, Reply::AckStart);
+    assert_eq!(rt; receiver.hear(&eot())?, Reply::AckStart);
+    assert_eq!(rt; receiver.hear(&eot())?, Reply::AckStart);
+    assert_eq!(rt; receiver.committed(), 1);
+    Ok(())
+}
+
+/// A receiver that has taken so many empty files, and that heard one more header.
+fn after_empty_files(alloc: Global, count: usize) -> Result<(Receiver, Reply), Fail> {
+    let opening = header(alloc, "a", 0)?;
+    let mut receiver = Receiver::new(alloc);
+    for _ in 0..count {
+        let _ = receiver.hear(&opening)?;
+        let _ = receiver.hear(&eot())?;
+        let _ = receiver.hear(&eot())?;
+    }
+    let reply = receiver.hear(&opening)?;
+    Ok((receiver, reply))
+}
+
+#[test]
+fn too_many_files(rt: HostRuntime) -> Result<(), Fail> {
+    let (receiver, reply) = after_empty_files(rt.alloc(), 65_534)?;
+    assert_eq!(rt; reply, Reply::AckStart);
+    assert_eq!(rt; receiver.state(), RecvState::Running);
+    let (receiver, reply) = after_empty_files(rt.alloc(), 65_535)?;
+    assert_eq!(rt; reply, Reply::Cancel);
+    assert_eq!(rt; receiver.state(), RecvState::TooManyFiles);
+    assert_eq!(rt; receiver.files().len(), 65_535);
+    Ok(())
+}
+
+/// The reply and the state at each sink call that fails in turn.
+#[test]
+fn failing_sink(rt: HostRuntime) -> Result<(), Fail> {
+    let alloc = rt.alloc();
+    for failing in 1..4 {
+        let sink = MemSink::new(alloc, Some(failing));
+        let mut receiver = ReceiverInto::with_sink(alloc, sink, Confirm::Once);
+        let mut heard = 0;
+        for delivery in [header(alloc, "a", 1)?, filled(1, b'A'), eot()] {
+            heard += 1;
+            let reply = receiver.hear(&delivery)?;
+            if heard == failing {
+                assert_eq!(rt; reply, Reply::Cancel);
+                break;
+            }
+        }
+        assert_eq!(rt; receiver.state(), RecvState::SinkFailed);
+        assert_eq!(rt; receiver.committed(), 0);
+        assert!(rt; receiver.sink().files().is_empty());
+        assert!(rt; receiver.into_sink().files().is_empty());
+    }
+    Ok(())
+}
