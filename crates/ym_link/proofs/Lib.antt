@@ -1,1 +1,2 @@
 pub mod ReceiverLemmas
+pub mod ReceiverDeliveries

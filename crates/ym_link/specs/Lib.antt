@@ -4,3 +4,4 @@ pub mod ReceiverInto
 pub mod SourceFile
 pub mod Port
 pub mod ScriptPort
+pub mod Deliveries

@@ -1,6 +1,5 @@
 -- What is still to come to a port, and what one read takes of it (this profile).
 use Rattle.std.specs.Prelude.{◌≡◌, ◌<◌, ◌≤◌, ◌+◌, ℕ, Bool, nat_lt, List, [], ◌∷◌, ◌++◌, length, take, drop, Option, Result, Ok, Err, if◌then◌else◌}
-use Rattle.ym_file.specs.Counts.{raised}
 use Rattle.ym_link.specs.declared.event.Event.{Event}
 use Rattle.ym_link.specs.declared.event.Event.TheVariants as event
 use Rattle.ym_link.specs.declared.port.Got.{Got}
@@ -48,7 +47,3 @@ read_leaves room (event.Fault ∷ rest) = rest
 -- a write adds its bytes, or, where it fails, nothing
 abbrev pub after_write : Bool → Tape → List ℕ → Tape
 after_write ok t bytes = if ok then record t { written = t.written ++ bytes } else t
-
--- the count of failures after a call, which stays at its greatest value
-abbrev pub failures_after : Bool → ℕ → ℕ
-failures_after ok failures = if ok then failures else raised failures

@@ -2,9 +2,11 @@
 #![tactic(auto)]
 
 mod delivery;
+mod end_fault;
 mod event;
 mod hearing;
 mod port;
+mod receive_engine;
 mod receiver;
 mod script_port;
 mod source_file;
@@ -12,9 +14,11 @@ mod stage;
 mod state;
 
 pub use delivery::Heard;
+pub use end_fault::EndFault;
 pub use event::Event;
 pub use hearing::heard;
 pub use port::{Got, Port, PortFault, Wait};
+pub use receive_engine::receive_over;
 pub use receiver::{Receiver, ReceiverInto};
 pub use script_port::ScriptPort;
 pub use source_file::{SendFile, SourceFile};

@@ -1,7 +1,8 @@
 //! What an engine asks of a port, and what a port answers.
 
-ghost use Rattle.std.specs.Prelude.{◌≡◌, ◌<◌, ◌≤◌, ℕ, Option, Some, Ok, length, is_ok};
-ghost use Rattle.ym_link.specs.Port.{Tape, seen_of, read_gives, read_leaves, after_write, failures_after};
+ghost use Rattle.std.specs.Prelude.{◌≡◌, ◌<◌, ◌≤◌, ℕ, Option, Some, Ok, OnOk, OnErr, length, is_ok};
+ghost use Rattle.ym_link.specs.Port.{Tape, seen_of, read_gives, read_leaves, after_write};
+ghost use Rattle.ym_file.specs.Counts.{Rose};
 
 /// How long a read waits.
 #[derive(Clone, Copy, Debug, PartialEq, Eq)]
@@ -42,11 +43,13 @@ pub trait Port {
         ensures told { (t : Tape) → tape self.old ≡ Some t →
             (seen_of result buf.new ≡ read_gives (length buf.old) t.coming)
             × (tape self.new ≡ Some (record t { coming = read_leaves (length buf.old) t.coming })) }
-        ensures failures { failures self.new ≡ failures_after (is_ok result) (failures self.old) };
+        ensures ok { OnOk result (failures self.new ≡ failures self.old) }
+        ensures failed { OnErr result (Rose (failures self.old) (failures self.new)) };
 
     /// Writes all the bytes, or fails, and then none of them counts as written.
     fn write(&mut self, bytes: &[u8]) -> Result<(), PortFault>
         ensures told { (t : Tape) → tape self.old ≡ Some t →
             tape self.new ≡ Some (after_write (is_ok result) t bytes.now) }
-        ensures failures { failures self.new ≡ failures_after (is_ok result) (failures self.old) };
+        ensures ok { OnOk result (failures self.new ≡ failures self.old) }
+        ensures failed { OnErr result (Rose (failures self.old) (failures self.new)) };
 }
