@@ -5,3 +5,5 @@ pub mod SourceFile
 pub mod Port
 pub mod ScriptPort
 pub mod Deliveries
+pub mod Place
+pub mod Sender

@@ -11,6 +11,10 @@ mod receiver;
 mod script_port;
 mod source_file;
 mod stage;
+mod place;
+mod reading;
+mod sender;
+mod standing;
 mod state;
 
 pub use delivery::Heard;
@@ -21,6 +25,7 @@ pub use port::{Got, Port, PortFault, Wait};
 pub use receive_engine::receive_over;
 pub use receiver::{Receiver, ReceiverInto};
 pub use script_port::ScriptPort;
+pub use sender::{BatchFault, Sender, SenderFrom};
 pub use source_file::{SendFile, SourceFile};
 pub use state::{RecvState, SendState};
 pub use ym_machine::Confirm;

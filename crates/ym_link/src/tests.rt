@@ -1,3 +1,4 @@
 //! Tests of the two ends.
 
 mod receiver;
+mod sender;

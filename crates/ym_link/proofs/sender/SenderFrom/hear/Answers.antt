@@ -1,0 +1,16 @@
+use Rattle.std.proofs.Common.{Some}
+use Rattle.ym_link.specs.Sender.{controls_in}
+use Rattle.ym_link.proofs.Kept.{failed_sender, unfilled_sender}
+use Rattle.ym_link.proofs.sender.SenderFrom.hear.Goals as goal
+
+pub invariant_of-self-in-Err : goal.invariant_of-self-in-Err
+invariant_of-self-in-Err g c =
+    let s = c.self.inside in
+    failed_sender s.shape s.frame c.deref.result.now s.batch.items c.deref.ensures.value c.frame_at.new.files.items (Some c.in-Some.place)
+    c.after-step.result.standing c.source_failed-self-inside.result c.source_failed-self-inside.ensures c.in-Err.ensures.failed c.after-step.ensures.within
+
+pub invariant_of-self-in_default : goal.invariant_of-self-in_default
+invariant_of-self-in_default g c =
+    let s = c.self.inside in
+    unfilled_sender s.shape s.frame c.deref.result.now s.batch.items c.deref.ensures.value s.standing c.after-step.result (controls_in c.args.bytes.now)
+    c.after-step.ensures.step c.in_default.is c.after-step.ensures.within c.self.invariant

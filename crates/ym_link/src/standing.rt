@@ -1,0 +1,148 @@
+//! What a sender keeps beside its files and its frame, and what a delivery makes of it.
+
+ghost use Rattle.std.specs.Prelude.{◌≡◌, ◌<◌, true, false};
+ghost use Rattle.ym_link.specs.SourceFile.{counts_of};
+ghost use Rattle.ym_link.specs.Place.{IsPlace};
+ghost use Rattle.ym_link.specs.Sender as sender;
+
+use crate::place::{Mode, Place};
+use crate::reading::{Reading, Stop, read_delivery};
+use crate::source_file::SourceFile;
+use crate::state::SendState;
+use ym_file::{Shape, Source};
+
+/// Deliveries in a row without progress after which a sender gives up.
+const MOST_MISSES: u8 = 10;
+
+/// Where a sender stands.
+#[derive(Clone, Copy, Debug, PartialEq, Eq)]
+pub struct Standing {
+    pub place: Place,
+    pub mode: Mode,
+    /// Deliveries in a row without progress.
+    pub misses: u8,
+    pub state: SendState,
+    /// CAN CAN is still to go.
+    pub farewell: bool,
+}
+
+/// What a delivery leads to.
+#[derive(Clone, Copy, Debug, PartialEq, Eq)]
+pub struct Step {
+    pub standing: Standing,
+    /// The place whose frame becomes the sent one.
+    pub fills: Option<Place>,
+}
+
+impl Standing {
+    /// Waiting at the first frame of a batch.
+    pub fn new(first: Place) -> Standing
+        ensures { result ≡ record { place = first; mode = Mode.Waiting; misses = 0; state = SendState.Running; farewell = false } }
+    {
+        Standing {
+            place: first,
+            mode: Mode::Waiting,
+            misses: 0,
+            state: SendState::Running,
+            farewell: false,
+        }
+    }
+
+    /// After a delivery without progress.
+    fn missed(self) -> Standing
+        requires { self.misses < 10 }
+        ensures { result ≡ (sender.missed self).standing }
+    {
+        let misses = self.misses + 1;
+        if misses < MOST_MISSES {
+            Standing { misses, ..self }
+        } else {
+            Standing {
+                misses,
+                state: SendState::NoReply,
+                farewell: true,
+                ..self
+            }
+        }
+    }
+
+    /// After progress to a place and a mode.
+    fn moved(self, place: Place, mode: Mode) -> Standing
+        ensures { result ≡ sender.moved self place mode }
+    {
+        Standing {
+            place,
+            mode,
+            misses: 0,
+            ..self
+        }
+    }
+
+    /// After the source of the frame to be sent has failed.
+    pub fn source_failed(self) -> Standing
+        ensures { result ≡ record self { state = SendState.SourceFailed; farewell = true } }
+    {
+        Standing {
+            state: SendState::SourceFailed,
+            farewell: true,
+            ..self
+        }
+    }
+
+    /// After a delivery has been read.
+    fn after_reading(self, read: Reading) -> Step
+        requires { self.misses < 10 }
+        ensures { result ≡ sender.after_reading self read.place read.mode read.stop }
+    {
+        let standing = match read.stop {
+            Some(Stop::Sends) => {
+                return Step {
+                    standing: self.moved(read.place, read.mode),
+                    fills: Some(read.place),
+                };
+            }
+            Some(Stop::Again) => self.missed(),
+            Some(Stop::Finishes) => Standing {
+                state: SendState::Finished,
+                ..self
+            },
+            Some(Stop::Cancels) => Standing {
+                place: read.place,
+                mode: read.mode,
+                state: SendState::Cancelled,
+                ..self
+            },
+            None => {
+                if self.mode == read.mode {
+                    self.missed()
+                } else {
+                    self.moved(read.place, read.mode)
+                }
+            }
+        };
+        Step {
+            standing,
+            fills: None,
+        }
+    }
+
+    /// After a delivery of these bytes.
+    pub fn after<S: Source>(self, files: &[SourceFile<S>], shape: Shape, bytes: &[u8]) -> Step
+        requires place { IsPlace (counts_of shape files.now) self.place }
+        requires misses { self.state ≡ SendState.Running → self.misses < 10 }
+        ensures step { result ≡ sender.hears (counts_of shape files.now) self (sender.controls_in bytes.now) }
+        ensures within { IsPlace (counts_of shape files.now) result.standing.place }
+    {
+        if self.state == SendState::Running {
+            self.after_reading(read_delivery(files, shape, self.place, self.mode, bytes))
+        } else {
+            Step {
+                standing: Standing {
+                    farewell: false,
+                    ..self
+                },
+                fills: None,
+            }
+        }
+    }
+}

@@ -1,0 +1,136 @@
+//! The sender's frames over a small batch, failing sources, and a batch that is too large.
+
+use crate::{BatchFault, SendFile, SendState, Sender, SenderFrom, SourceFile};
+use std::alloc::Global;
+use std::test::Fail;
+use ym_file::{MemSource, Shape};
+use ym_header::Stamp;
+
+const C: u8 = 0x43;
+
+const ACK: u8 = 0x06;
+
+const NAK: u8 = 0x15;
+
+const CAN: u8 = 0x18;
+
+/// A sender of one file `a` of so many bytes 41, of which fill number `failing` fails.
+fn one_file(alloc: Global, length: usize, failing: Option<u64>) -> Result<Sender, Fail> {
+    let mut bytes = Vec::new(alloc);
+    for _ in 0..length {
+        bytes.push(0x41)?;
+    }
+    let source = MemSource::new(bytes, failing);
+    let file = SourceFile::from_source(alloc, "a", source, Stamp::Nothing).map_err(|_| "file")?;
+    let mut batch = Vec::new(alloc);
+    batch.push(file)?;
+    Ok(SenderFrom::new(batch, Shape::Short).map_err(|_| "batch")?)
+}
+
+#[test]
+fn all_frames_of_a_batch(rt: HostRuntime) -> Result<(), Fail> {
+    let alloc = rt.alloc();
+    let mut sender = one_file(alloc, 130, None)?;
+    assert!(rt; sender.frame().is_none());
+    sender.hear(&[C]);
+    let header = sender.frame().ok_or("block 0")?;
+    assert_eq!(rt; header.len(), 133);
+    assert_eq!(rt; &header[..8], b"\x01\x00\xffa\x00130".as_slice());
+    assert!(rt; !sender.settled(&[ACK]));
+    assert!(rt; sender.settled(&[ACK, C]));
+    sender.hear(&[ACK, C]);
+    let first = sender.frame().ok_or("block 1")?;
+    assert_eq!(rt; &first[..4], [0x01, 0x01, 0xfe, 0x41].as_slice());
+    assert_eq!(rt; first[130], 0x41);
+    sender.hear(&[NAK]);
+    assert_eq!(rt; sender.frame().ok_or("block 1 again")?[1], 1);
+    sender.hear(&[ACK]);
+    let second = sender.frame().ok_or("block 2")?;
+    assert_eq!(rt;
+        &second[..6],
+        [0x01, 0x02, 0xfd, 0x41, 0x41, 0x1a].as_slice()
+    );
+    assert_eq!(rt; second[130], 0x1a);
+    sender.hear(&[ACK]);
+    assert_eq!(rt; sender.frame().ok_or("EOT")?, [0x04].as_slice());
+    sender.hear(&[NAK]);
+    assert_eq!(rt; sender.done(), 0);
+    sender.hear(&[ACK]);
+    assert_eq!(rt; sender.done(), 1);
+    assert!(rt; sender.frame().is_none());
+    sender.hear(&[C]);
+    let end = sender.frame().ok_or("the end block")?;
+    assert_eq!(rt; end.len(), 133);
+    assert_eq!(rt; &end[..4], [0x01, 0x00, 0xff, 0x00].as_slice());
+    sender.hear(&[ACK]);
+    assert_eq!(rt; sender.state(), SendState::Finished);
+    assert!(rt; sender.frame().is_none());
+    assert!(rt; sender.settled(&[]));
+    Ok(())
+}
+
+#[test]
+fn a_source_that_fails(rt: HostRuntime) -> Result<(), Fail> {
+    let mut sender = one_file(rt.alloc(), 300, Some(2))?;
+    sender.hear(&[C]);
+    sender.hear(&[ACK, C]);
+    sender.hear(&[NAK]);
+    assert_eq!(rt; sender.state(), SendState::Running);
+    assert_eq!(rt; sender.frame().ok_or("block 1")?[1], 1);
+    sender.hear(&[ACK]);
+    assert_eq!(rt; sender.state(), SendState::SourceFailed);
+    assert_eq!(rt; sender.frame().ok_or("CAN CAN")?, [CAN, CAN].as_slice());
+    sender.hear(&[]);
+    assert!(rt; sender.frame().is_none());
+    assert_eq!(rt; sender.done(), 0);
+    Ok(())
+}
+
+#[test]
+fn ten_deliveries_without_progress(rt: HostRuntime) -> Result<(), Fail> {
+    let mut sender = one_file(rt.alloc(), 0, None)?;
+    for _ in 0..9 {
+        sender.hear(&[NAK]);
+    }
+    assert_eq!(rt; sender.state(), SendState::Running);
+    sender.hear(&[]);
+    assert_eq!(rt; sender.state(), SendState::NoReply);
+    assert_eq!(rt; sender.frame().ok_or("CAN CAN")?, [CAN, CAN].as_slice());
+    sender.hear(&[C]);
+    assert!(rt; sender.frame().is_none());
+    assert_eq!(rt; sender.state(), SendState::NoReply);
+    Ok(())
+}
+
+#[test]
+fn two_can_in_a_row_cancel(rt: HostRuntime) -> Result<(), Fail> {
+    let mut sender = one_file(rt.alloc(), 0, None)?;
+    sender.hear(&[CAN, 0x00]);
+    sender.hear(&[CAN, C]);
+    assert_eq!(rt; sender.state(), SendState::Running);
+    sender.hear(&[ACK]);
+    sender.hear(&[C]);
+    assert_eq!(rt; sender.frame().ok_or("EOT")?, [0x04].as_slice());
+    sender.hear(&[ACK, CAN, 0x00, CAN]);
+    assert_eq!(rt; sender.state(), SendState::Cancelled);
+    assert_eq!(rt; sender.done(), 1);
+    assert!(rt; sender.frame().is_none());
+    Ok(())
+}
+
+#[test]
+fn too_many_files_are_handed_back(rt: HostRuntime) -> Result<(), Fail> {
+    let alloc = rt.alloc();
+    let mut batch = Vec::new(alloc);
+    for _ in 0..65_536 {
+        let file = SendFile::new(alloc, "a", Vec::new(alloc), Stamp::Nothing).map_err(|_| "file")?;
+        batch.push(file)?;
+    }
+    match Sender::new(batch, Shape::Mixed) {
+        Ok(_) => Err("a sender of 65,536 files".into()),
+        Err(BatchFault::TooMany(back)) => {
+            assert_eq!(rt; back.len(), 65_536);
+            Ok(())
+        }
+    }
+}
