@@ -5,15 +5,15 @@ mod delivery;
 mod end_fault;
 mod event;
 mod hearing;
+mod place;
 mod port;
+mod reading;
 mod receive_engine;
 mod receiver;
 mod script_port;
+mod sender;
 mod source_file;
 mod stage;
-mod place;
-mod reading;
-mod sender;
 mod standing;
 mod state;
 

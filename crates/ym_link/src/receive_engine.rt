@@ -3,12 +3,12 @@
 ghost use Rattle.std.specs.Prelude.{◌≡◌, ◌≢◌, ◌≤◌, ◌<◌, Ok, Err, is_ok, true, length};
 ghost use Rattle.ym_frame.specs.Block.{BlockParts};
 ghost use Rattle.ym_file.specs.Counts.{Rose};
+ghost use Rattle.ym_link.specs.declared.state.RecvState.TheVariants as state;
 
 use crate::delivery::Heard;
 use crate::end_fault::EndFault;
 use crate::port::{Got, Port, PortFault, Wait};
 use crate::receiver::ReceiverInto;
-use crate::state::RecvState;
 use ym_file::Sink;
 use ym_frame::{FrameReader, Item, Reply};
 
@@ -78,11 +78,11 @@ pub fn receive_over<P: Port, K: Sink>(
     receiver: &mut ReceiverInto<K>,
 ) -> Result<(), EndFault>
     ensures device { result ≡ Err EndFault.Device → Rose (P.failures port.old) (P.failures port.new) }
-    ensures ended { is_ok result ≡ true → receiver.new.receiver.state ≢ RecvState.Running }
-    ensures left { receiver.old.receiver.state ≢ RecvState.Running → (result ≡ Ok tt) × (receiver.new ≡ receiver.old) × (port.new ≡ port.old) }
+    ensures ended { is_ok result ≡ true → receiver.new.receiver.state ≢ state.Running }
+    ensures left { receiver.old.receiver.state ≢ state.Running → (result ≡ Ok tt) × (receiver.new ≡ receiver.old) × (port.new ≡ port.old) }
 {
     let mut buf = [0; DELIVERY_LIMIT];
-    while receiver.state() == RecvState::Running {
+    while receiver.is_running() {
         let heard = hear_delivery(port, &mut buf)?;
         match receiver.hear(&heard) {
             Ok(reply) => write_reply(port, reply)?,
