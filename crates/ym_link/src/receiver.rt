@@ -93,7 +93,8 @@ impl<K: Sink> ReceiverInto<K> {
     {
         // what always holds of a receiver is known once a field was read
         let _ = &self.stage;
-        self.state() == RecvState::Running
+        let ReceiverInto { state, .. } = self;
+        *state == RecvState::Running
     }
 
     /// The sink.
