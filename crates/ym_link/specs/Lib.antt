@@ -6,4 +6,7 @@ pub mod Port
 pub mod ScriptPort
 pub mod Deliveries
 pub mod Place
+pub mod Reading
+pub mod Standing
 pub mod Sender
+pub mod SenderExamples
