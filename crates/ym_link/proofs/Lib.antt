@@ -1,3 +1,4 @@
+pub mod OneStep
 pub mod ReceiverLemmas
 pub mod ReceiverDeliveries
 pub mod Files
