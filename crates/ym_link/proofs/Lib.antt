@@ -4,5 +4,8 @@ pub mod ReceiverDeliveries
 pub mod Files
 pub mod Kept
 pub mod Readings
+pub mod DeliveryHeard
+pub mod SenderDeliveries
 pub mod Settled
 pub mod Steps
+pub mod Taking
