@@ -16,3 +16,7 @@ pub mod Settled
 pub mod Steps
 pub mod Standing
 pub mod TableRows
+pub mod ReceiverDeliveries
+pub mod DeliveryHeard
+pub mod SenderDeliveries
+pub mod Taking

@@ -12,3 +12,4 @@ pub use receiver::{
     a_standing_receiver_follows_the_machine,
 };
 pub use sender::{a_sender_follows_the_machine, a_settled_delivery_stays, progress_is_a_change};
+pub use sender::{a_settled_delivery_stays, progress_is_a_change};

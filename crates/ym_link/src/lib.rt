@@ -2,11 +2,17 @@
 #![tactic(auto)]
 
 mod delivery;
+mod end_fault;
+mod event;
 mod hearing;
 pub mod laws;
 mod place;
+mod port;
 mod reading;
 mod receiver;
+mod receive_engine;
+mod script_port;
+mod send_engine;
 mod sender;
 mod source_file;
 mod stage;
@@ -14,8 +20,14 @@ mod standing;
 mod state;
 
 pub use delivery::Heard;
+pub use end_fault::EndFault;
+pub use event::Event;
 pub use hearing::heard;
 pub use receiver::{Receiver, ReceiverInto};
+pub use port::{Got, Port, PortFault, Wait};
+pub use receive_engine::receive_over;
+pub use script_port::ScriptPort;
+pub use send_engine::send_over;
 pub use sender::{BatchFault, Sender, SenderFrom};
 pub use source_file::{SendFile, SourceFile};
 pub use state::{RecvState, SendState};

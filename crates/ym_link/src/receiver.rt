@@ -1,6 +1,6 @@
 //! The receiver, into any sink.
 
-ghost use Rattle.std.specs.Prelude.{◌≡◌, Some, length, map, option_map};
+ghost use Rattle.std.specs.Prelude.{◌≡◌, ◌↔◌, IsTrue, Some, length, map, option_map};
 ghost use Rattle.ym_file.specs.Kept.{Told, IsNew};
 ghost use Rattle.ym_file.specs.Received.{ReceivedParts};
 
@@ -53,7 +53,7 @@ impl<K: Sink + Drop> ReceiverInto<K> {
 
 impl<K: Sink> ReceiverInto<K> {
     ghost use Rattle.ym_link.specs.Receiver.{new_receiver};
-    ghost use Rattle.ym_link.specs.ReceiverInto.{HearsGives, IsWithin};
+    ghost use Rattle.ym_link.specs.ReceiverInto.{IsReceiver, HearsGives, IsWithin};
 
     /// A receiver into a sink that has no file.
     pub fn with_sink(alloc: Global, sink: K, confirm: Confirm) -> ReceiverInto<K>
@@ -84,6 +84,17 @@ impl<K: Sink> ReceiverInto<K> {
         ensures { result ≡ self.now.receiver.state }
     {
         self.state
+    }
+
+    /// Whether it still runs.
+    pub(crate) fn is_running(&self) -> bool
+        ensures running { IsTrue result ↔ (self.now.receiver.state ≡ RecvState.Running) }
+        ensures receiver { IsReceiver self.now }
+    {
+        // what always holds of a receiver is known once a field was read
+        let _ = &self.stage;
+        let ReceiverInto { state, .. } = self;
+        *state == RecvState::Running
     }
 
     /// The sink.

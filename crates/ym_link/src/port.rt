@@ -1,0 +1,58 @@
+//! What an engine asks of a port, and what a port answers.
+
+ghost use Rattle.std.specs.Prelude.{◌≡◌, ◌<◌, ◌≤◌, ℕ, Option, Some, Ok, OnOk, OnErr, length, is_ok};
+ghost use Rattle.ym_link.specs.Port.{Tape, seen_of, read_gives, read_leaves, after_write};
+ghost use Rattle.ym_file.specs.Counts.{Rose};
+
+/// How many bytes a delivery has at most.
+pub(crate) const DELIVERY_LIMIT: usize = 2048;
+
+/// How long a read waits.
+#[derive(Clone, Copy, Debug, PartialEq, Eq)]
+pub enum Wait {
+    /// For more of a delivery that has begun: a short time.
+    Within,
+    /// For the first bytes of a delivery: a longer time.
+    Reply,
+}
+
+/// What a read got.
+#[derive(Clone, Copy, Debug, PartialEq, Eq)]
+pub enum Got {
+    /// So many bytes, at least one, at the front of the buffer.
+    Bytes(usize),
+    /// Nothing, within the time that it waited.
+    Quiet,
+    /// Nothing, and nothing will come any more.
+    Closed,
+}
+
+/// A call of a port failed.
+#[derive(Clone, Copy, Debug, PartialEq, Eq)]
+pub struct PortFault;
+
+/// A line as one end has it: bytes are read from it and written to it.
+pub trait Port {
+    /// What is still to come and what was written so far, where they are known.
+    ghost tape: { Self → Option Tape };
+
+    /// How often a call failed. At its greatest value the count stays.
+    ghost failures: { Self → ℕ };
+
+    /// Reads what is there into the front of `buf`, or waits.
+    fn read(&mut self, wait: Wait, buf: &mut [u8]) -> Result<Got, PortFault>
+        requires { 0 < length buf.old }
+        ensures count { (n : ℕ) → result ≡ Ok (Got.Bytes n) → (0 < n) × (n ≤ length buf.old) }
+        ensures told { (t : Tape) → tape self.old ≡ Some t →
+            (seen_of result buf.new ≡ read_gives (length buf.old) t.coming)
+            × (tape self.new ≡ Some (record t { coming = read_leaves (length buf.old) t.coming })) }
+        ensures ok { OnOk result (failures self.new ≡ failures self.old) }
+        ensures failed { OnErr result (Rose (failures self.old) (failures self.new)) };
+
+    /// Writes all the bytes, or fails, and then none of them counts as written.
+    fn write(&mut self, bytes: &[u8]) -> Result<(), PortFault>
+        ensures told { (t : Tape) → tape self.old ≡ Some t →
+            tape self.new ≡ Some (after_write (is_ok result) t bytes.now) }
+        ensures ok { OnOk result (failures self.new ≡ failures self.old) }
+        ensures failed { OnErr result (Rose (failures self.old) (failures self.new)) };
+}
