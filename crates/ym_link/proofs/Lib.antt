@@ -14,7 +14,6 @@ pub mod SenderPlaces
 pub mod SenderStanding
 pub mod Settled
 pub mod Steps
-pub mod Standing
 pub mod TableRows
 pub mod ReceiverDeliveries
 pub mod DeliveryHeard
