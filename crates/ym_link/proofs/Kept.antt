@@ -1,5 +1,5 @@
 -- What a sender keeps to, after a step.
-use Rattle.std.proofs.Common.{ℕ, ◌≡◌, List, true, sym, subst, Option, None}
+use Rattle.std.proofs.Common.{ℕ, ◌≡◌, List, true, sym, subst, Option, None, Some}
 use Rattle.std.specs.Prelude.{All}
 use Rattle.ym_file.specs.declared.plan.Shape.{Shape}
 use Rattle.ym_frame.specs.declared.control.Control.{Control}
