@@ -6,6 +6,7 @@ pub mod Kept
 pub mod Readings
 pub mod DeliveryHeard
 pub mod SenderDeliveries
+pub mod SenderBound
 pub mod Settled
 pub mod Steps
 pub mod Taking

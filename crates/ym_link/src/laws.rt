@@ -1,7 +1,9 @@
 //! Laws of the definitions: each is the promise of a function that does nothing.
 
+mod deliveries;
 mod receiver;
 mod sender;
 
+pub use deliveries::a_sender_hears_few_deliveries;
 pub use receiver::{a_block_zero_means_one_thing, a_delivery_has_one_step};
 pub use sender::{a_settled_delivery_stays, progress_is_a_change};
