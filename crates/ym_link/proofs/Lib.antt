@@ -12,10 +12,11 @@ pub mod ReceiverStanding
 pub mod SenderHalf
 pub mod SenderPlaces
 pub mod SenderStanding
+pub mod DeliveryHeard
+pub mod SenderDeliveries
+pub mod SenderBound
 pub mod Settled
 pub mod Steps
 pub mod TableRows
 pub mod ReceiverDeliveries
-pub mod DeliveryHeard
-pub mod SenderDeliveries
 pub mod Taking

@@ -1,5 +1,6 @@
 //! Laws of the definitions: each is the promise of a function that does nothing.
 
+mod deliveries;
 mod receiver;
 mod sender;
 
@@ -11,3 +12,6 @@ pub use sender::{
     a_sender_follows_the_machine, a_settled_delivery_stays, progress_is_a_change,
     what_came_back_is_of_the_reply,
 };
+pub use deliveries::a_sender_hears_few_deliveries;
+pub use receiver::{a_block_zero_means_one_thing, a_delivery_has_one_step};
+pub use sender::{a_settled_delivery_stays, progress_is_a_change};

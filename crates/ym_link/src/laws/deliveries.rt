@@ -1,0 +1,19 @@
+//! Laws of how many deliveries an end hears over a port.
+
+ghost use Rattle.std.specs.Prelude.{◌≡◌, ◌≤◌, ◌+◌, ◌*◌, List, ℕ};
+ghost use Rattle.ym_link.specs.Port.{Tape};
+ghost use Rattle.ym_link.specs.Place.{first_of};
+ghost use Rattle.ym_link.specs.Sender.{SenderParts, counts};
+ghost use Rattle.ym_link.specs.SendOver as sending;
+ghost use Rattle.ym_link.specs.Deliveries.{frames_in, frames_from};
+ghost use Rattle.ym_link.specs.Bound.{sender_hears, sender_progress};
+
+/// A sender over a port hears at most ten deliveries for each step of progress, and ten more; and there are at most
+/// two such steps for each frame from its place on, of which a new sender has the whole batch's.
+pub fn a_sender_hears_few_deliveries()
+    ensures deliveries { (s : SenderParts) (t : Tape) (out : sending.Outcome) (run : sending.Sends s t out) →
+        sender_hears s t out run ≤ 10 * (sender_progress s t out run + 1) }
+    ensures progress { (s : SenderParts) (t : Tape) (out : sending.Outcome) (run : sending.Sends s t out) →
+        sender_progress s t out run ≤ 2 * frames_from (counts s) s.standing.place }
+    ensures batch { (blocks : List ℕ) → frames_from blocks (first_of blocks) ≡ frames_in blocks }
+{}
