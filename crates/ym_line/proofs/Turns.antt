@@ -120,6 +120,7 @@ same-item EndBlock = refl
 -- what is heard of what the sender said
 pub said-heard : FrameFound → (files : Batch) (speech : Speech) (sender : SenderParts) (delivery : Delivery) → IsSaid files speech (spoken sender) → IsHeardBad delivery →
     heard_of (arrives delivery (sent_by sender)) ≡ receiver.heard_as (frames_of files) (machine.heard (is_whole delivery) speech)
+unfolding verdict_of
 said-heard found files speech sender Lost says bad = refl
 said-heard found files speech sender (Damaged bytes) says bad = bad
 said-heard found files Nothing sender Whole says bad = rw says refl
