@@ -29,8 +29,8 @@ pub record IsNewPair (script : ScriptParts) (told : Option (List Handed)) (failu
   pub receiver : pair.receiver.receiver ≡ new_receiver script.confirm
   pub kept : pair.receiver.kept ≡ kept_of (record { opened = None; files = []; tally = new_tally None })
   pub no_failures : pair.receiver.failures ≡ 0
-  pub told : pair.told ≡ told
-  pub failures : pair.failures ≡ failures
+  pub line_told : pair.told ≡ told
+  pub line_failures : pair.failures ≡ failures
 
 abbrev pub status_with : SendState → RecvState → ℕ
 status_with send.Finished recv.Finished = 0
