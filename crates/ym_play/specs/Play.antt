@@ -58,6 +58,10 @@ pub record IsStopped (script : ScriptParts) (told : Option (List Handed)) (failu
   pub told_after : new.told ≡ new_told
   pub failures_after : new.failures ≡ new_failures
 
+abbrev pub RunsAs : ScriptParts → Option (List Handed) → ℕ → Result Trace LineFault → Option (List Handed) → ℕ → Type 0
+RunsAs script told failures (Ok trace) new_told new_failures = IsRun script told failures trace new_told new_failures
+RunsAs script told failures (Err fault) new_told new_failures = IsStopped script told failures fault new_told new_failures
+
 -- the text of that run
 pub record IsPlayed (bytes : List ℕ) (told : Option (List Handed)) (failures : ℕ) (played : Played) (new_told : Option (List Handed)) (new_failures : ℕ) : Type 0 where
   pub script : ScriptParts
