@@ -58,7 +58,7 @@ pub record Laws : Type 0 where
 
 -- ---- An end that the half leaves alone
 
-sender-still : (files : Batch) (old new : State) (sender : SenderParts) → KeepsSender old new → SenderStands files old sender → SenderStands files new sender
+pub sender-still : (files : Batch) (old new : State) (sender : SenderParts) → KeepsSender old new → SenderStands files old sender → SenderStands files new sender
 sender-still files old new sender same stands = record {
   standing = record {
     state = rw same.sender stands.standing.state;
@@ -140,8 +140,8 @@ goes-turn laws confirm files st round old new seen stands goes =
         damage = within;
         what_is = ap (λ (s : Seen). s.what) goes.seen_is ∙ said-shown files (said st) old.sender says;
         reply_is = reply_is;
-      handed_on = ap (λ (p : Pair). p.told) goes.back.others ∙ ap (told_more Back bytes) (ap (λ (p : Pair). p.told) goes.there.others
-          ∙ ap (λ b. told_more There (arrives round.there b) old.told) (said-bytes files (said st) old.sender says));
+        handed_on = ap (λ (p : Pair). p.told) goes.back.others ∙ ap (told_more Back bytes) (ap (λ (p : Pair). p.told) goes.there.others
+            ∙ ap (λ b. told_more There (arrives round.there b) old.told) (said-bytes files (said st) old.sender says));
         stands = record {
           machine = laws.machine_back files confirm sink_failed whole source_failed came st stands.machine within;
           batch = stands.batch;

@@ -106,7 +106,7 @@ frame-bytes : (i : Item) (frame : List ℕ) → IsFrame i frame → frame ≡ fr
 frame-bytes (item.Block block) frame is = elim is [
   | inl short ↦ rw (short.1, short.0) refl
   | inr long ↦ rw (long.1, long.0) refl
-  ]
+]
 frame-bytes item.Eot frame is = is
 frame-bytes item.Cancel frame is = is
 
