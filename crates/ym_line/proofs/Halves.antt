@@ -58,7 +58,7 @@ pub record Laws : Type 0 where
 
 -- ---- An end that the half leaves alone
 
-sender-still : (files : Batch) (old new : State) (sender : SenderParts) → KeepsSender old new → SenderStands files old sender → SenderStands files new sender
+pub sender-still : (files : Batch) (old new : State) (sender : SenderParts) → KeepsSender old new → SenderStands files old sender → SenderStands files new sender
 sender-still files old new sender same stands = record {
   standing = record {
     state = rw same.sender stands.standing.state;

@@ -1,6 +1,7 @@
 pub mod Carried
 pub mod Damage
 pub mod Direct
+pub mod Examples
 pub mod Fault
 pub mod Needed
 pub mod Rounds

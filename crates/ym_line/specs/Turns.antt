@@ -1,14 +1,18 @@
 -- Two ends that stand at a state of the machine of two counters, and rounds as turns of that machine.
-use Rattle.std.specs.Prelude.{◌≡◌, ◌==◌, length, if◌then◌else◌, ℕ, Bool, true, false, List, [], ◌∷◌, Option, None, Some}
+use Rattle.std.specs.Prelude.{◌≡◌, ◌<◌, ◌⊎◌, map, ◌==◌, length, if◌then◌else◌, ℕ, Bool, true, false, List, [], ◌∷◌, Option, None, Some}
 use Rattle.ym_frame.specs.declared.control.Control.{Control}
 use Rattle.ym_machine.specs.declared.confirm.Confirm.{Confirm}
-use Rattle.ym_machine.specs.Frames.{Frame, frames_of, frame_at}
-use Rattle.ym_machine.specs.Machine.{State, IsMachine, Speech, Nothing, FrameAt, CanCan, said}
+use Rattle.ym_machine.specs.Frames.{File, Frame, frames_of, frame_at, IsPrefix}
+use Rattle.ym_machine.specs.Machine.{State, IsMachine, Speech, Nothing, FrameAt, CanCan, said, there, committed, reported}
 use Rattle.ym_machine.specs.Run.{Turn, answer_of, after_turn, after_turns, IsTurnDamage, IsDamage}
 use Rattle.ym_header.specs.Header.{HeaderParts}
 use Rattle.ym_link.specs.Reading.{controls_in}
 use Rattle.ym_link.specs.ReceiverInto.{Tells}
-use Rattle.ym_link.specs.ReceiverStands.{IsBatch, ReceiverStands}
+use Rattle.ym_link.specs.ReceiverStands.{IsBatch, ReceiverStands, bytes_of}
+use Rattle.ym_link.specs.ReceiverStands as receiver
+use Rattle.ym_link.specs.SenderStands as sender
+use Rattle.ym_link.specs.Place.{done_at}
+use Rattle.ym_file.specs.Kept.{Told}
 use Rattle.ym_link.specs.Sender.{FailedAt}
 use Rattle.ym_link.specs.SourceFile.{FileParts}
 use Rattle.ym_link.specs.SenderStands.{Batch, SenderStands, AllTold, item_of}
@@ -107,3 +111,29 @@ pub record RunsAsMachine (confirm : Confirm) (files : Batch) (st : State) (round
 -- it does so wherever it stood
 abbrev pub FollowsMachine : List Round → Pair → List Seen → Pair → Type 0
 FollowsMachine rounds old all new = (confirm : Confirm) (files : Batch) (st : State) → PairStands confirm files st old → RunsAsMachine confirm files st rounds old all new
+
+-- A run that met a fault, of a pair that stood at a state: it stands behind the turns of the rounds before, or, where the receiver has heard in
+-- the round with the fault, behind the half there of that round too.
+pub record StopsAsMachine (confirm : Confirm) (files : Batch) (st : State) (rounds : List Round) (new : Pair) : Type 0 where
+  pub turns : List Turn
+  pub fewer : length turns < length rounds
+  pub damage : IsDamage (frames_of files) confirm turns st
+  pub stands : PairStands confirm files (after_turns (frames_of files) confirm turns st) new
+      ⊎ ((sink_failed : Bool) × (whole : Bool) × PairStands confirm files (there (frames_of files) confirm sink_failed whole (after_turns (frames_of files) confirm turns st)).0 new)
+
+abbrev pub StopsWithMachine : List Round → Pair → Pair → Type 0
+StopsWithMachine rounds old new = (confirm : Confirm) (files : Batch) (st : State) → PairStands confirm files st old → StopsAsMachine confirm files st rounds new
+
+-- ---- What a pair that stands has committed and reports
+
+-- The files that the receiver has committed are the first ones of the batch, with their headers and, where the sink tells them, their bytes.
+-- The files that the sender reports are among them, and both ends have ended as the machine's have.
+pub record CommitsFirst (files : Batch) (st : State) (pair : Pair) : Type 0 where
+  pub headers : pair.receiver.kept.headers ≡ map (λ (f : File HeaderParts). f.header) (committed files st)
+  pub bytes : (told : Told) → pair.receiver.kept.told ≡ Some told → told.files ≡ map bytes_of (committed files st)
+  pub first : IsPrefix (committed files st) files
+  pub files_is : pair.receiver.receiver.files ≡ length (committed files st)
+  pub done_is : done_at (length pair.sender.files) pair.sender.standing.place ≡ length (reported files st)
+  pub among : IsPrefix (reported files st) (committed files st)
+  pub send_is : pair.sender.standing.state ≡ sender.state_of st.sender
+  pub recv_is : pair.receiver.receiver.state ≡ receiver.state_of st.receiver

@@ -6,7 +6,7 @@ ghost use Rattle.ym_link.specs.ReceiverInto.{ReceiverParts};
 ghost use Rattle.ym_link.specs.Sender.{IsSender, spoken};
 ghost use Rattle.ym_line.specs.Carried.{told_more};
 ghost use Rattle.ym_line.specs.Damage.{arrives};
-ghost use Rattle.ym_line.specs.Turns.{FollowsMachine};
+ghost use Rattle.ym_line.specs.Turns.{FollowsMachine, StopsWithMachine};
 ghost use Rattle.ym_line.specs.Rounds.{Pair, sent_by, GoesThere, StopsThere, ThereGives, BackGives, RoundGives, RunGives};
 
 use crate::carrier::{Carrier, CarryFault};
@@ -179,6 +179,9 @@ pub fn run<S: Source, K: Sink, C: Carrier>(
     ensures machine { IfOk result (λ trace. FollowsMachine rounds.now
         (record { sender = sender.old; receiver = receiver.old; told = C.told carrier.old; failures = C.failures carrier.old })
         trace.rounds.items
+        (record { sender = sender.new; receiver = receiver.new; told = C.told carrier.new; failures = C.failures carrier.new })) }
+    ensures stopped { OnErr result (StopsWithMachine rounds.now
+        (record { sender = sender.old; receiver = receiver.old; told = C.told carrier.old; failures = C.failures carrier.old })
         (record { sender = sender.new; receiver = receiver.new; told = C.told carrier.new; failures = C.failures carrier.new })) }
 {
     rounds_are_turns();

@@ -1,5 +1,6 @@
 use Rattle.ym_machine.specs.Frames.{frames_of}
 use Rattle.ym_line.proofs.Halves.{Laws, run-turns}
+use Rattle.ym_line.proofs.Stops.{run-stops}
 use Rattle.ym_line.proofs.laws.rounds_are_turns.Goals as goal
 
 pub returns : goal.returns
@@ -17,4 +18,7 @@ returns c =
       keeps_sender = λ files confirm sink_failed whole old. c.halves_keep_the_other_end.ensures.there_keeps (frames_of files) confirm sink_failed whole old;
       keeps_receiver = λ files source_failed came old. c.halves_keep_the_other_end.ensures.back_keeps (frames_of files) source_failed came old;
     } in
-    λ rounds old new all went confirm files st stands. run-turns laws confirm files rounds st old new all stands went
+    record {
+      go_on = λ rounds old new all went confirm files st stands. run-turns laws confirm files rounds st old new all stands went;
+      stop = λ n rounds old new fault stops confirm files st stands. run-stops laws confirm files rounds n st old new fault stands stops;
+    }
