@@ -1,6 +1,8 @@
 pub mod OneStep
 pub mod ReceiverLemmas
 pub mod ReceiverDeliveries
+pub mod ReceiverBound
+pub mod ReceiverProgress
 pub mod Files
 pub mod Kept
 pub mod Readings
