@@ -5,6 +5,9 @@ pub mod Planned
 pub mod Positions
 pub mod ReceiverLemmas
 pub mod Controls
+pub mod ReceiverDeliveries
+pub mod ReceiverBound
+pub mod ReceiverProgress
 pub mod Files
 pub mod Kept
 pub mod Readings
@@ -18,5 +21,4 @@ pub mod SenderBound
 pub mod Settled
 pub mod Steps
 pub mod TableRows
-pub mod ReceiverDeliveries
 pub mod Taking
