@@ -1,4 +1,4 @@
-use Rattle.std.proofs.Common.{rules, ◌≡◌}
+use Rattle.std.proofs.Common.{rules}
 use Rattle.ym_play.proofs.PlayLemmas.{ran}
 use Rattle.ym_play.proofs.play.run_script.Goals as goal
 
