@@ -5,4 +5,5 @@ pub mod Fault
 pub mod Needed
 pub mod Rounds
 pub mod Text
+pub mod Turns
 pub mod What

@@ -1,5 +1,17 @@
+pub mod Controls
 pub mod Files
+pub mod Follows
+pub mod Keeping
 pub mod Kept
+pub mod OneStep
+pub mod Planned
+pub mod Positions
 pub mod Readings
 pub mod ReceiverLemmas
+pub mod ReceiverStanding
+pub mod SenderHalf
+pub mod SenderPlaces
+pub mod SenderStanding
+pub mod Settled
 pub mod Steps
+pub mod TableRows

@@ -1,6 +1,12 @@
 pub mod Hearing
-pub mod Receiver
-pub mod ReceiverInto
-pub mod SourceFile
 pub mod Place
+pub mod Reading
+pub mod Receiver
+pub mod ReceiverExamples
+pub mod ReceiverInto
+pub mod ReceiverStands
 pub mod Sender
+pub mod SenderExamples
+pub mod SenderStands
+pub mod SourceFile
+pub mod Standing

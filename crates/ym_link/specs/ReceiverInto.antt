@@ -1,5 +1,5 @@
 -- A receiver with its sink: what hearing one delivery answers and leaves.
-use Rattle.std.specs.Prelude.{ℕ, ◌+◌, ◌*◌, ◌≡◌, ◌≢◌, ◌≤◌, ◌<◌, ◌^◌, ◌⊎◌, List, length, Option, None, Some, Bool, true, false, if◌then◌else◌, Result, Ok, Err, min}
+use Rattle.std.specs.Prelude.{ℕ, ◌+◌, ◌*◌, ◌≡◌, ◌≢◌, ◌≤◌, ◌<◌, ◌^◌, ◌⊎◌, List, [], length, Option, None, Some, Bool, true, false, if◌then◌else◌, Result, Ok, Err, min}
 use Rattle.std.specs.declared.alloc.AllocError.{AllocError}
 use Rattle.ym_frame.specs.Block.{BlockParts}
 use Rattle.ym_frame.specs.declared.control.Reply.{Reply}
@@ -11,18 +11,27 @@ use Rattle.ym_header.specs.declared.fault.HeaderFault.{HeaderFault}
 use Rattle.ym_header.specs.declared.reading.Zero.{Zero}
 use Rattle.ym_file.specs.Counts.{Rose}
 use Rattle.ym_file.specs.Kept.{Kept, begun, added, committed}
+use Rattle.ym_machine.specs.declared.confirm.Confirm.{Confirm}
 use Rattle.ym_link.specs.declared.delivery.Heard.{Heard}
 use Rattle.ym_link.specs.declared.delivery.Heard.TheVariants as heard
 use Rattle.ym_link.specs.declared.stage.Stage.{Stage}
 use Rattle.ym_link.specs.declared.stage.Stage.TheVariants.{AwaitHeader, InFile}
 use Rattle.ym_link.specs.declared.state.RecvState.TheVariants as state
-use Rattle.ym_link.specs.Receiver.{Receiver, Call, No_call, Begins, Adds, Commits, Step, ends, hears}
+use Rattle.ym_link.specs.Receiver.{Receiver, Call, No_call, Begins, Adds, Commits, Step, ends, hears, new_receiver}
 
 -- a receiver as contracts see it, with what its sink tells and how often that failed
 pub record ReceiverParts : Type 0 where
   pub receiver : Receiver
   pub kept : Kept
   pub failures : ℕ
+
+-- a new receiver whose sink is in memory
+abbrev pub new_in_memory : Confirm → ReceiverParts
+new_in_memory confirm = record {
+  receiver = new_receiver confirm;
+  kept = record { opened = None; taken = 0; headers = []; told = Some (record { open_bytes = []; files = [] }) };
+  failures = 0;
+}
 
 -- ---- What a step answers, and what it leaves
 

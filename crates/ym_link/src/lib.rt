@@ -3,6 +3,7 @@
 
 mod delivery;
 mod hearing;
+pub mod laws;
 mod place;
 mod reading;
 mod receiver;

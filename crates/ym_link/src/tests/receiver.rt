@@ -1,6 +1,6 @@
 //! The receiver, delivery by delivery.
 
-use crate::{Confirm, Heard, Receiver, ReceiverInto, RecvState};
+use crate::{Confirm, Heard, Receiver, ReceiverInto, RecvState, laws};
 use std::alloc::{AllocError, Global};
 use std::test::Fail;
 use ym_file::{MemSink, Sink};
@@ -153,26 +153,44 @@ fn too_many_files(rt: HostRuntime) -> Result<(), Fail> {
     Ok(())
 }
 
-/// The reply and the state at each sink call that fails in turn.
+/// The replies to a header, a block and an EOT, where a call of the sink fails.
+fn replies_of_failing(alloc: Global, failing: u64) -> Result<[Reply; 3], Fail> {
+    let sink = MemSink::new(alloc, Some(failing));
+    let mut receiver = ReceiverInto::with_sink(alloc, sink, Confirm::Once);
+    let replies = [
+        receiver.hear(&header(alloc, "a", 1)?)?,
+        receiver.hear(&filled(1, b'A'))?,
+        receiver.hear(&eot())?,
+    ];
+    let ended = receiver.state() == RecvState::SinkFailed && receiver.committed() == 0;
+    if ended && receiver.sink().files().is_empty() && receiver.into_sink().files().is_empty() {
+        return Ok(replies);
+    }
+    Err("no sink failed".into())
+}
+
 #[test]
 fn failing_sink(rt: HostRuntime) -> Result<(), Fail> {
     let alloc = rt.alloc();
-    for failing in 1..4 {
-        let sink = MemSink::new(alloc, Some(failing));
-        let mut receiver = ReceiverInto::with_sink(alloc, sink, Confirm::Once);
-        let mut heard = 0;
-        for delivery in [header(alloc, "a", 1)?, filled(1, b'A'), eot()] {
-            heard += 1;
-            let reply = receiver.hear(&delivery)?;
-            if heard == failing {
-                assert_eq!(rt; reply, Reply::Cancel);
-                break;
-            }
-        }
-        assert_eq!(rt; receiver.state(), RecvState::SinkFailed);
-        assert_eq!(rt; receiver.committed(), 0);
-        assert!(rt; receiver.sink().files().is_empty());
-        assert!(rt; receiver.into_sink().files().is_empty());
-    }
+    assert_eq!(rt;
+        replies_of_failing(alloc, 1)?,
+        [Reply::Cancel, Reply::Silence, Reply::Silence]
+    );
+    assert_eq!(rt;
+        replies_of_failing(alloc, 2)?,
+        [Reply::AckStart, Reply::Cancel, Reply::Silence]
+    );
+    assert_eq!(rt;
+        replies_of_failing(alloc, 3)?,
+        [Reply::AckStart, Reply::Ack, Reply::Cancel]
+    );
     Ok(())
+}
+
+#[test]
+fn laws_hold() {
+    laws::a_block_zero_means_one_thing();
+    laws::a_delivery_has_one_step();
+    laws::a_planned_file_is_sent();
+    laws::a_standing_receiver_follows_the_machine();
 }

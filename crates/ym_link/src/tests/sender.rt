@@ -3,8 +3,8 @@
 use crate::{BatchFault, SendFile, SendState, Sender, SenderFrom, SourceFile};
 use std::alloc::Global;
 use std::test::Fail;
-use ym_file::{MemSource, Shape};
-use ym_header::Stamp;
+use ym_file::{MemSource, Shape, Source, SourceFault};
+use ym_header::{HeaderFault, Stamp};
 
 const C: u8 = 0x43;
 
@@ -25,6 +25,31 @@ fn one_file(alloc: Global, length: usize, failing: Option<u64>) -> Result<Sender
     let mut batch = Vec::new(alloc);
     batch.push(file)?;
     Ok(SenderFrom::new(batch, Shape::Short).map_err(|_| "batch")?)
+}
+
+/// So many bytes 00, of which contracts are told nothing.
+#[derive(Drop)]
+struct Zeros {
+    length: u64,
+}
+
+impl Source for Zeros {
+    ghost use Rattle.std.specs.Prelude.{None};
+
+    ghost size = { λ s. s.length };
+
+    ghost bytes = { λ s. None };
+
+    ghost failures = { λ s. 0 };
+
+    fn length(&self) -> u64 {
+        self.length
+    }
+
+    fn fill(&mut self, _at: u64, into: &mut [u8]) -> Result<(), SourceFault> {
+        into.fill(0);
+        Ok(())
+    }
 }
 
 #[test]
@@ -133,4 +158,56 @@ fn too_many_files_are_handed_back(rt: HostRuntime) -> Result<(), Fail> {
             Ok(())
         }
     }
+}
+
+#[test]
+fn a_source_of_any_kind(rt: HostRuntime) -> Result<(), Fail> {
+    let alloc = rt.alloc();
+    let stamp = Stamp::TimeMode(12, 0o644);
+    let file = SourceFile::from_source(alloc, "zeros", Zeros { length: 1025 }, stamp).map_err(
+        |_| "file",
+    )?;
+    assert_eq!(rt; file.header().name(), "zeros");
+    assert_eq!(rt; file.header().length(), 1025);
+    assert_eq!(rt; file.header().stamp(), stamp);
+    assert_eq!(rt; file.blocks(Shape::Mixed), 2);
+    assert_eq!(rt; file.blocks(Shape::Short), 9);
+    let mut batch = Vec::new(alloc);
+    batch.push(file)?;
+    let mut sender = SenderFrom::new(batch, Shape::Mixed).map_err(|_| "batch")?;
+    sender.hear(&[C]);
+    sender.hear(&[ACK, C]);
+    assert_eq!(rt; sender.frame().ok_or("block 1")?.len(), 1029);
+    sender.hear(&[ACK]);
+    let last = sender.frame().ok_or("block 2")?;
+    assert_eq!(rt; &last[..5], [0x01, 0x02, 0xfd, 0x00, 0x1a].as_slice());
+    Ok(())
+}
+
+#[test]
+fn a_source_that_is_too_long(rt: HostRuntime) -> Result<(), Fail> {
+    let source = Zeros { length: 1 << 63 };
+    let refused = SourceFile::from_source(rt.alloc(), "zeros", source, Stamp::Nothing);
+    assert!(rt; matches!(refused, Err(HeaderFault::LengthLarge)));
+    Ok(())
+}
+
+#[test]
+fn a_file_in_memory(rt: HostRuntime) -> Result<(), Fail> {
+    let alloc = rt.alloc();
+    let bytes = b"one".as_slice().to_vec(alloc)?;
+    let file = SendFile::new(alloc, "a.txt", bytes, Stamp::Time(0)).map_err(|_| "file")?;
+    assert_eq!(rt; file.bytes(), b"one".as_slice());
+    assert_eq!(rt; file.header().length(), 3);
+    let mut batch = Vec::new(alloc);
+    batch.push(file)?;
+    let mut sender = Sender::new(batch, Shape::Mixed).map_err(|_| "batch")?;
+    sender.hear(&[C]);
+    sender.hear(&[ACK, C]);
+    assert_eq!(rt; sender.state(), SendState::Running);
+    let block = sender.frame().ok_or("block 1")?;
+    assert_eq!(rt; &block[3..7], b"one\x1a".as_slice());
+    let nameless = SendFile::new(alloc, "", Vec::new(alloc), Stamp::Nothing);
+    assert!(rt; matches!(nameless, Err(HeaderFault::NameEmpty)));
+    Ok(())
 }

@@ -1,5 +1,5 @@
 use Rattle.std.proofs.Common.{Some}
-use Rattle.ym_link.specs.Sender.{controls_in}
+use Rattle.ym_link.specs.Reading.{controls_in}
 use Rattle.ym_link.proofs.Kept.{failed_sender, unfilled_sender}
 use Rattle.ym_link.proofs.sender.SenderFrom.hear.Goals as goal
 
@@ -7,7 +7,7 @@ pub invariant_of-self-in-Err : goal.invariant_of-self-in-Err
 invariant_of-self-in-Err g c =
     let s = c.self.inside in
     failed_sender s.shape s.frame c.deref.result.now s.batch.items c.deref.ensures.value c.frame_at.new.files.items (Some c.in-Some.place)
-    c.after-step.result.standing c.source_failed-self-inside.result c.source_failed-self-inside.ensures c.in-Err.ensures.failed c.after-step.ensures.within
+    c.after-step.result.standing c.source_failed-self-inside.result c.source_failed-self-inside.ensures c.in-Err.ensures.failed c.self.invariant.files c.after-step.ensures.within
 
 pub invariant_of-self-in_default : goal.invariant_of-self-in_default
 invariant_of-self-in_default g c =
