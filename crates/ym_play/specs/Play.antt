@@ -3,7 +3,7 @@ use Rattle.std.specs.Prelude.{◌≡◌, ◌≢◌, ℕ, List, [], Option, None,
 use Rattle.ym_file.specs.Counts.{new_tally}
 use Rattle.ym_file.specs.Parts.{kept_of}
 use Rattle.ym_link.specs.Receiver.{new_receiver}
-use Rattle.ym_link.specs.Sender.{new_standing}
+use Rattle.ym_link.specs.Standing.{new_standing}
 use Rattle.ym_link.specs.SourceFile.{counts_of}
 use Rattle.ym_link.specs.declared.state.RecvState.{RecvState}
 use Rattle.ym_link.specs.declared.state.RecvState.TheVariants as recv
