@@ -16,7 +16,6 @@ use Rattle.ym_line.specs.declared.fault.LineFault.{LineFault}
 use Rattle.ym_line.specs.declared.fault.LineFault.TheVariants as round
 use Rattle.ym_line.specs.declared.trace.Trace.{Trace}
 use Rattle.ym_play.specs.Script.{ScriptParts, script_of}
-use Rattle.ym_play.specs.declared.fault.ScriptWhy.{ScriptWhy}
 use Rattle.ym_play.specs.declared.fault.PlayFault.{PlayFault}
 use Rattle.ym_play.specs.declared.fault.PlayFault.TheVariants as play
 use Rattle.ym_play.specs.declared.play.Played.{Played}
