@@ -4,7 +4,7 @@ mod deliveries;
 mod receiver;
 mod sender;
 
-pub use deliveries::a_sender_hears_few_deliveries;
+pub use deliveries::{a_receiver_hears_few_deliveries, a_sender_hears_few_deliveries};
 pub use receiver::{
     Headers, a_block_zero_means_one_thing, a_delivery_has_one_step, a_planned_file_is_sent,
     a_standing_receiver_follows_the_machine,
@@ -13,6 +13,3 @@ pub use sender::{
     a_sender_follows_the_machine, a_settled_delivery_stays, progress_is_a_change,
     what_came_back_is_of_the_reply,
 };
-pub use deliveries::{a_receiver_hears_few_deliveries, a_sender_hears_few_deliveries};
-pub use receiver::{a_block_zero_means_one_thing, a_delivery_has_one_step};
-pub use sender::{a_settled_delivery_stays, progress_is_a_change};
