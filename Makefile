@@ -9,12 +9,13 @@ PROGRAM = crates/ymodem/out/ymodem
 
 .PHONY: build play test install bench clean
 
-# `rt run` proves what changed, builds the program, and runs it on the stored session.
+# `rt run` proves what changed, builds the program, and runs it on the stored session. What it says is shown where it fails.
 build:
-	cd crates/ymodem && rt run > /dev/null
+	@echo "proving and building (minutes the first time)"
+	@cd crates/ymodem && { said=$$(rt run < stdin 2>&1) || { printf '%s\n' "$$said"; exit 1; }; }
 
-play:
-	cd crates/ymodem && rt run
+play: build
+	@$(PROGRAM) play < crates/ymodem/stdin
 
 test:
 	rt ci

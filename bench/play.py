@@ -9,10 +9,11 @@ usage: bench/play.py [PROGRAM]     (default: crates/ymodem/out/ymodem)
 
 import os
 import re
-import resource
+import select
 import shutil
 import subprocess
 import sys
+import tempfile
 import time
 
 HERE = os.path.dirname(os.path.abspath(__file__))
@@ -68,19 +69,20 @@ def run(script):
 
 
 def peak(script):
-    """The largest resident set of a run, in KiB."""
-    reader, writer = os.pipe()
-    pid = os.fork()
-    if pid == 0:
-        subprocess.run([PROGRAM, "play"], input=script, stdout=subprocess.DEVNULL, check=False)
-        usage = resource.getrusage(resource.RUSAGE_CHILDREN)
-        os.write(writer, b"%d" % usage.ru_maxrss)
-        os._exit(0)
-    os.waitpid(pid, 0)
-    answer = int(os.read(reader, 64))
-    os.close(reader)
-    os.close(writer)
-    return answer
+    """The largest resident set of a run, in KiB.
+
+    The program writes its text at the very end and in one go. So once the first byte can be read, all work is done, and
+    the program is still there, for the text is larger than a pipe holds.
+    """
+    with tempfile.TemporaryFile() as given:
+        given.write(script)
+        given.seek(0)
+        child = subprocess.Popen([PROGRAM, "play"], stdin=given, stdout=subprocess.PIPE)
+        select.select([child.stdout], [], [])
+        with open("/proc/%d/status" % child.pid) as status:
+            found = re.search(r"VmHWM:\s+(\d+) kB", status.read())
+        child.communicate()
+    return int(found.group(1))
 
 
 def instructions(script):
