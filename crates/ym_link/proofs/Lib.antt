@@ -1,4 +1,5 @@
 pub mod Follows
+pub mod Framed
 pub mod Keeping
 pub mod OneStep
 pub mod Planned

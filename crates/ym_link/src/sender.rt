@@ -1,8 +1,9 @@
 //! The sender of a batch, over any source.
 
-ghost use Rattle.std.specs.Prelude.{◌≡◌, ◌↔◌, ◌≤◌, length, MatchOption, Some, None, IfOk, IfErr, IfSome, IsOk, OnOk, OnErr, All, true};
+ghost use Rattle.std.specs.Prelude.{◌≡◌, ◌↔◌, ◌≤◌, length, MatchOption, Some, None, IfOk, IfErr, IfSome, IsOk, OnOk, OnErr, All, take, true};
+ghost use Rattle.ym_frame.specs.Frame.{IsFrame};
 ghost use Rattle.ym_link.specs.SourceFile.{IsFile, counts_of};
-ghost use Rattle.ym_link.specs.Place.{IsPlace, IsItemAt, IsFrameAt, done_at};
+ghost use Rattle.ym_link.specs.Place.{IsPlace, IsFrameAt, done_at};
 ghost use Rattle.ym_link.specs.Sender.{IsFilled};
 
 use crate::place::{Mode, Place, first_place};
@@ -12,7 +13,7 @@ use crate::standing::Standing;
 use crate::state::SendState;
 use std::marker::Model;
 use ym_file::{MemSource, Shape, Source, SourceFault};
-use ym_frame::{FrameBuf, Item, Reply, encode};
+use ym_frame::{Item, Reply, encode};
 use ym_header::{write, write_end};
 
 /// How many files a batch may have.
@@ -24,8 +25,10 @@ pub struct SenderFrom<S: Source> {
     batch: Vec<SourceFile<S>>,
     shape: Shape,
     standing: Standing,
-    /// The frame that was filled last.
-    frame: FrameBuf,
+    /// The frame that was filled last stands at its front.
+    buffer: [u8; 1029],
+    /// How many bytes that frame has.
+    len: usize,
 }
 
 /// Sends a batch of files that are in memory.
@@ -39,13 +42,14 @@ pub enum BatchFault<S: Source> {
 }
 
 impl<S: Source> Model for SenderFrom<S> {
+    ghost use Rattle.std.specs.Prelude.{take, ◌≤◌};
     ghost use Rattle.ym_link.specs.Sender.{SenderParts, IsSender};
 
     ghost Value = { SenderParts };
 
-    ghost view = { λ s. record { standing = s.standing; shape = s.shape; files = s.batch.items; frame = s.frame } };
+    ghost view = { λ s. record { standing = s.standing; shape = s.shape; files = s.batch.items; frame = take s.len s.buffer } };
 
-    ghost invariant = { λ s. IsSender (record { standing = s.standing; shape = s.shape; files = s.batch.items; frame = s.frame }) };
+    ghost invariant = { λ s. (s.len ≤ 1029) × IsSender (record { standing = s.standing; shape = s.shape; files = s.batch.items; frame = take s.len s.buffer }) };
 }
 
 /// Looks at each file, so that what a file keeps is known of all of them.
@@ -57,41 +61,46 @@ fn look_at<S: Source>(files: &[SourceFile<S>])
     }
 }
 
-/// The item of a place. The body of a data block is read from its source.
-fn item_at<S: Source>(
-    files: &mut Vec<SourceFile<S>>,
-    shape: Shape,
-    place: Place,
-) -> Result<Item, SourceFault>
-    requires { IsPlace (counts_of shape files.old.items) place }
-    ensures item { IfOk result (IsItemAt shape files.old.items place) }
-    ensures ok { OnOk result (files.new.items ≡ files.old.items) }
-    ensures failed { OnErr result (IsFilled true (Some place) files.old.items files.new.items) }
+/// Copies the frame of an item to the front of a buffer, and answers the frame's length.
+fn copy_frame(item: &Item, buffer: &mut [u8; 1029]) -> usize
+    ensures frame { IsFrame item.now (take result buffer.new) }
+    ensures length { result ≤ 1029 }
+    ensures buffer { length buffer.new ≡ 1029 }
 {
-    Ok(match place {
-        Place::Header { file } => Item::Block(write(files[file].header())),
-        Place::Block { file, number } => {
-            let one = &mut files[file];
-            Item::Block(one.block(shape, number)?)
-        }
-        Place::Eot { .. } => Item::Eot,
-        Place::End => Item::Block(write_end()),
-    })
+    let frame = encode(item);
+    let bytes = frame.as_bytes();
+    buffer[..bytes.len()].copy_from_slice(bytes);
+    bytes.len()
 }
 
-/// The frame of a place.
+/// Writes the frame of a place to the front of a buffer, and answers the frame's length: at most 1029 bytes. The body of a
+/// data block goes from its source right to its place in the frame. After a failure of the source nothing is said of the
+/// buffer's bytes.
 fn frame_at<S: Source>(
     files: &mut Vec<SourceFile<S>>,
     shape: Shape,
     place: Place,
-) -> Result<FrameBuf, SourceFault>
+    buffer: &mut [u8; 1029],
+) -> Result<usize, SourceFault>
     requires { IsPlace (counts_of shape files.old.items) place }
-    ensures frame { IfOk result (IsFrameAt shape files.old.items place) }
+    ensures frame { IfOk result (λ len. IsFrameAt shape files.old.items place (take len buffer.new)) }
+    ensures length { IfOk result (λ len. len ≤ 1029) }
+    ensures buffer { length buffer.new ≡ 1029 }
     ensures ok { OnOk result (files.new.items ≡ files.old.items) }
     ensures failed { OnErr result (IsFilled true (Some place) files.old.items files.new.items) }
 {
-    let item = item_at(files, shape, place)?;
-    Ok(encode(&item))
+    match place {
+        Place::Header { file } => {
+            let block = write(files[file].header());
+            Ok(copy_frame(&Item::Block(block), buffer))
+        }
+        Place::Block { file, number } => {
+            let one = &mut files[file];
+            one.frame(shape, number, buffer)
+        }
+        Place::Eot { .. } => Ok(copy_frame(&Item::Eot, buffer)),
+        Place::End => Ok(copy_frame(&Item::Block(write_end()), buffer)),
+    }
 }
 
 impl<S: Source> SenderFrom<S> {
@@ -116,7 +125,8 @@ impl<S: Source> SenderFrom<S> {
             batch,
             shape,
             standing,
-            frame: encode(&Item::Eot),
+            buffer: [0; 1029],
+            len: 0,
         })
     }
 
@@ -129,7 +139,7 @@ impl<S: Source> SenderFrom<S> {
     {
         let standing = self.standing;
         match standing.state {
-            SendState::Running if standing.mode == Mode::Sent => Some(self.frame.as_bytes()),
+            SendState::Running if standing.mode == Mode::Sent => Some(&self.buffer[..self.len]),
             SendState::NoReply | SendState::SourceFailed if standing.farewell => {
                 Some(Reply::Cancel.as_bytes())
             }
@@ -164,8 +174,8 @@ impl<S: Source> SenderFrom<S> {
         let step = self.standing.after(&self.batch, self.shape, bytes);
         self.standing = step.standing;
         if let Some(place) = step.fills {
-            match frame_at(&mut self.batch, self.shape, place) {
-                Ok(frame) => self.frame = frame,
+            match frame_at(&mut self.batch, self.shape, place, &mut self.buffer) {
+                Ok(len) => self.len = len,
                 Err(SourceFault) => self.standing = step.standing.source_failed(),
             }
         }

@@ -1,14 +1,17 @@
 //! A file of a batch: its header, and the source of its bytes.
 
-ghost use Rattle.std.specs.Prelude.{◌≡◌, ◌≤◌, IfOk, IfErr, IfSome, OnOk, OnErr, Some, None, length as list_length};
+ghost use Rattle.std.specs.Prelude.{◌≡◌, ◌≤◌, IfOk, IfErr, IfSome, OnOk, OnErr, Some, None, take, length as list_length};
+ghost use Rattle.ym_frame.specs.Block.{BlockParts};
+ghost use Rattle.ym_frame.specs.Frame.{IsFrame};
+ghost use Rattle.ym_frame.specs.declared.frame.Item.{Item};
+ghost use Rattle.ym_frame.specs.declared.frame.Item.TheVariants as Item;
 ghost use Rattle.ym_header.specs.Header.{IsHeader, IsRefused, length_limit};
 ghost use Rattle.ym_file.specs.Counts.{new_tally, Rose};
 ghost use Rattle.ym_link.specs.SourceFile.{IsFile, IsBlockOf, blocks_of};
 
 use std::alloc::Global;
 use std::marker::Model;
-use ym_file::{MemSource, Shape, Source, SourceFault, block_count, block_from};
-use ym_frame::Block;
+use ym_file::{MemSource, Shape, Source, SourceFault, block_count, frame_from};
 use ym_header::{Header, HeaderFault, Stamp};
 
 /// A file with the source that its bytes come from.
@@ -66,18 +69,27 @@ impl<S: Source> SourceFile<S> {
         block_count(self.header.length(), shape)
     }
 
-    /// Data block `k` of it, counted from 1, with the bytes read from its source.
-    pub(crate) fn block(&mut self, shape: Shape, k: u64) -> Result<Block, SourceFault>
+    /// Writes the frame of data block `k`, counted from 1, to the front of a buffer, and answers the frame's length: at most
+    /// 1029 bytes. The source fills the body right where it stands in the frame. After a failure of the source nothing is
+    /// said of the buffer's bytes.
+    pub(crate) fn frame(
+        &mut self,
+        shape: Shape,
+        k: u64,
+        buffer: &mut [u8; 1029],
+    ) -> Result<usize, SourceFault>
         requires from_one { 1 ≤ k }
         requires within { k ≤ blocks_of shape self.old }
-        ensures block { IfOk result (λ block. IsBlockOf shape self.old k block) }
+        ensures frame { IfOk result (λ len. (block : BlockParts) × IsBlockOf shape self.old k block × IsFrame (Item.Block block) (take len buffer.new)) }
+        ensures length { IfOk result (λ len. len ≤ 1029) }
+        ensures buffer { list_length buffer.new ≡ 1029 }
         ensures ok { OnOk result (self.new ≡ self.old) }
         ensures header { self.new.header ≡ self.old.header }
         ensures bytes { self.new.bytes ≡ self.old.bytes }
         ensures failed { OnErr result (Rose self.old.failures self.new.failures) }
     {
         let _length = self.header.length();
-        block_from(&mut self.source, shape, k)
+        frame_from(&mut self.source, shape, k, buffer)
     }
 }
 

@@ -1,0 +1,59 @@
+use Rattle.std.proofs.Common.{◌<◌, length, subst, sym, ap, ◌∙◌, arith, rules, Some, true, Result, Ok, Err}
+use Rattle.std.specs.Prelude.{slice_set, OnErr}
+use Rattle.std.proofs.lemmas.List.{length-map, get_or_default}
+use Rattle.ym_file.specs.Counts.{Rose}
+use Rattle.ym_frame.specs.declared.frame.Item.TheVariants as item
+use Rattle.ym_header.specs.Header.{HeaderParts}
+use Rattle.ym_header.specs.Text.{text}
+use Rattle.ym_link.specs.SourceFile.{FileParts, no_file, counts_of, blocks_of}
+use Rattle.ym_link.specs.Place.{IsPlace}
+use Rattle.ym_link.specs.Sender.{IsFilled}
+use Rattle.ym_link.specs.declared.place.Place.{Place}
+use Rattle.ym_link.proofs.Files.{failed_at}
+use Rattle.ym_link.proofs.Framed.{block_frame_at, header_item_at}
+use Rattle.ym_link.proofs.sender.frame_at.Goals as goal
+
+pub returns-in-Header-clause-frame : goal.returns-in-Header-clause-frame
+returns-in-Header-clause-frame g c =
+    let files = c.args.files.now.items in
+    let file = c.in-Header.file in
+    let one = c.index.result.now in
+    let fits = subst (IsPlace (counts_of c.args.shape files)) c.in-Header.is c.requires in
+    let all = length-map files (blocks_of c.args.shape) in
+    let within : file < length files = (let x = fits in omega (arith, all, x)) in
+    let same = c.index.ensures ∙ sym (get_or_default files file no_file one within) in
+    record {
+      item = item.Block c.write-block.result;
+      there = header_item_at c.args.shape files file c.args.place c.in-Header.is c.write-block.result
+          (c.write-block.ensures.written ∙ ap (λ (h : HeaderParts). record { number = 0; body = text h }) (c.header.ensures.value ∙ ap (λ (f : FileParts). f.header) same));
+      frame = c.copy_frame.ensures.frame;
+    }
+
+pub returns-in-End-clause-frame : goal.returns-in-End-clause-frame
+returns-in-End-clause-frame g c = record { item = item.Block c.write_end.result; there = search rules; frame = c.copy_frame-in-End.ensures.frame }
+
+pub returns-in-Block-clause-frame : goal.returns-in-Block-clause-frame
+returns-in-Block-clause-frame g c =
+    let files = c.args.files.now.items in
+    let one = c.index_mut-one.result.now in
+    let fits = subst (IsPlace (counts_of c.args.shape files)) c.in-Block.is c.requires in
+    let all = length-map files (blocks_of c.args.shape) in
+    let within : c.in-Block.file < length files = (let x = fits.0 in omega (arith, all, x)) in
+    block_frame_at c.args.shape files c.in-Block.file c.in-Block.number c.args.place c.in-Block.is one (c.index_mut-one.ensures.value ∙ sym (get_or_default files c.in-Block.file no_file one within))
+    c.frame.result c.frame.new.buffer c.frame.ensures.frame
+
+on_err : {A E P Q : Type 0} (r : Result A E) → (P → Q) → OnErr r P → OnErr r Q
+on_err (Ok x) f p = tt
+on_err (Err e) f p = f p
+
+pub returns-in-Block-clause-failed : goal.returns-in-Block-clause-failed
+returns-in-Block-clause-failed g c =
+    let files = c.args.files.now.items in
+    let fits = subst (IsPlace (counts_of c.args.shape files)) c.in-Block.is c.requires in
+    let all = length-map files (blocks_of c.args.shape) in
+    let within : c.in-Block.file < length files = (let x = fits.0 in omega (arith, all, x)) in
+    let v = c.index_mut-one.ensures.value in
+    on_err c.frame.result (λ rose. subst (λ (p : Place). IsFilled true (Some p) files (slice_set files c.in-Block.file c.frame.new.self)) (sym c.in-Block.is)
+    (failed_at files c.in-Block.file c.index_mut-one.result.now c.frame.new.self within
+    (c.frame.ensures.header ∙ ap (λ (f : FileParts). f.header) v) (c.frame.ensures.bytes ∙ ap (λ (f : FileParts). f.bytes) v)
+    (subst (λ (f : FileParts). Rose f.failures c.frame.new.self.failures) v rose))) c.frame.ensures.failed
