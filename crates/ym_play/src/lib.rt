@@ -4,7 +4,6 @@
 mod command;
 mod fault;
 mod input;
-mod passing;
 mod play;
 mod script;
 mod sessions;
@@ -12,7 +11,6 @@ mod value;
 mod words;
 
 pub use fault::{PlayFault, ScriptWhy};
-pub use passing::Passing;
 pub use play::{Played, play_script};
 pub use script::{Script, read_script};
 pub use sessions::session;

@@ -3,7 +3,8 @@
 
 use std::process::ExitCode;
 use std::{env, io};
-use ym_play::{Passing, session};
+use ym_line::Direct;
+use ym_play::session;
 
 /// The status where the words are refused.
 const REFUSED: u8 = 2;
@@ -27,7 +28,7 @@ fn play(rt: &HostRuntime) -> u8 {
         &mut rt.stdin(),
         &mut rt.stdout(),
         &mut rt.stderr(),
-        &mut Passing,
+        &mut Direct::new(rt.alloc()),
     )
 }
 

@@ -1,8 +1,9 @@
-use crate::{Passing, play_script, session};
+use crate::{play_script, session};
 use std::alloc::Global;
 use std::fmt::Write;
 use std::process::Abort;
 use std::test::Fail;
+use ym_line::Direct;
 
 /// The hexadecimal digits of `A`, 128 times.
 pub(super) fn a128(alloc: Global) -> Result<String, Fail> {
@@ -35,7 +36,7 @@ pub(super) fn assert_plays(
     text: &str,
 ) -> Result<(), Fail> {
     let alloc = rt.alloc();
-    let played = play_script(alloc, script.as_bytes(), &mut Passing)?;
+    let played = play_script(alloc, script.as_bytes(), &mut Direct::new(alloc))?;
     assert_eq!(rt; played.text.as_str(), text);
     assert_eq!(rt; played.status, status);
     assert_session(rt, script.as_bytes(), status, text, "")
@@ -53,7 +54,13 @@ pub(super) fn assert_session(
     let mut input = script;
     let mut printed = Vec::new(alloc);
     let mut told = Vec::new(alloc);
-    let ended = session(alloc, &mut input, &mut printed, &mut told, &mut Passing);
+    let ended = session(
+        alloc,
+        &mut input,
+        &mut printed,
+        &mut told,
+        &mut Direct::new(alloc),
+    );
     assert_eq!(rt; told.as_slice(), err.as_bytes());
     assert_eq!(rt; printed.as_slice(), out.as_bytes());
     assert_eq!(rt; ended, status);

@@ -1,6 +1,6 @@
 ghost use Rattle.std.specs.Prelude.{None};
 
-use crate::{Passing, PlayFault, play_script, read_script, session};
+use crate::{PlayFault, play_script, read_script, session};
 use std::io;
 use std::io::{ErrorKind, Write};
 use std::test::Fail;
@@ -68,7 +68,13 @@ fn a_growth_of_a_session_is_refused(rt: HostRuntime) -> Result<(), Fail> {
     let mut out = Page::new();
     let mut err = Page::new();
     let mut input = ONE_FILE;
-    let status = session(rt.alloc(), &mut input, &mut out, &mut err, &mut Passing);
+    let status = session(
+        rt.alloc(),
+        &mut input,
+        &mut out,
+        &mut err,
+        &mut Direct::new(rt.alloc()),
+    );
     if status != 0 {
         assert_eq!(rt; status, 3);
         assert_eq!(rt; out.text().len(), 0);

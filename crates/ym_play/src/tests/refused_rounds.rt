@@ -1,12 +1,12 @@
 use super::fixtures::{assert_session, with_file};
-use crate::{Passing, PlayFault, play_script, session};
+use crate::{PlayFault, play_script, session};
 use std::test::Fail;
 use ym_line::{Direct, LineFault};
 
 #[test]
 fn damage_that_does_not_show(rt: HostRuntime) -> Result<(), Fail> {
     let script = "ok 1\nround hex:04 whole\n";
-    let refused = play_script(rt.alloc(), script.as_bytes(), &mut Passing);
+    let refused = play_script(rt.alloc(), script.as_bytes(), &mut Direct::new(rt.alloc()));
     assert_eq!(rt;
         refused.err(),
         Some(PlayFault::Line(LineFault::NotDamage(2)))
@@ -60,7 +60,7 @@ fn a_record_changes_nothing(rt: HostRuntime) -> Result<(), Fail> {
     let script = with_file(alloc, "a.txt", "ok 6\n")?;
     let mut line = Direct::new(alloc);
     let kept = play_script(alloc, script.as_bytes(), &mut line)?;
-    let passed = play_script(alloc, script.as_bytes(), &mut Passing)?;
+    let passed = play_script(alloc, script.as_bytes(), &mut Direct::new(alloc))?;
     assert_eq!(rt; kept.text.as_str(), passed.text.as_str());
     assert_eq!(rt; kept.status, passed.status);
     assert_eq!(rt; line.handed().len(), 12);

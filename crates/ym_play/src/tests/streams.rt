@@ -1,8 +1,9 @@
 use super::fixtures::with_file;
-use crate::{Passing, session};
+use crate::session;
 use std::io;
 use std::io::{ErrorKind, Read, Write};
 use std::test::Fail;
+use ym_line::Direct;
 
 const ONE_FILE: &str = "1 > - whole < C whole\n\
     2 > block 0 128 whole < ACK C whole\n\
@@ -92,7 +93,13 @@ fn one_byte_at_a_time(rt: HostRuntime) -> Result<(), Fail> {
         writes: 1000,
     };
     let mut err = Vec::new(alloc);
-    let status = session(alloc, &mut input, &mut out, &mut err, &mut Passing);
+    let status = session(
+        alloc,
+        &mut input,
+        &mut out,
+        &mut err,
+        &mut Direct::new(alloc),
+    );
     assert_eq!(rt; status, 0);
     assert_eq!(rt; out.kept.as_slice(), ONE_FILE.as_bytes());
     assert_eq!(rt; err.len(), 0);
@@ -114,7 +121,13 @@ fn a_read_fails(rt: HostRuntime) -> Result<(), Fail> {
             };
             let mut out = Vec::new(alloc);
             let mut err = Vec::new(alloc);
-            let status = session(alloc, &mut input, &mut out, &mut err, &mut Passing);
+            let status = session(
+                alloc,
+                &mut input,
+                &mut out,
+                &mut err,
+                &mut Direct::new(alloc),
+            );
             assert_eq!(rt; status, 3);
             assert_eq!(rt; out.len(), 0);
             assert_eq!(rt; err.as_slice(), b"fault: device\n".as_slice());
@@ -129,7 +142,13 @@ fn a_reader_never_ends(rt: HostRuntime) -> Result<(), Fail> {
     let mut input = Endless { bytes: 0 };
     let mut out = Vec::new(alloc);
     let mut err = Vec::new(alloc);
-    let status = session(alloc, &mut input, &mut out, &mut err, &mut Passing);
+    let status = session(
+        alloc,
+        &mut input,
+        &mut out,
+        &mut err,
+        &mut Direct::new(alloc),
+    );
     assert_eq!(rt; status, 2);
     assert_eq!(rt; input.bytes, 1_048_577);
     assert_eq!(rt; out.len(), 0);
@@ -150,7 +169,13 @@ fn a_write_fails(rt: HostRuntime) -> Result<(), Fail> {
             writes,
         };
         let mut err = Vec::new(alloc);
-        let status = session(alloc, &mut input, &mut out, &mut err, &mut Passing);
+        let status = session(
+            alloc,
+            &mut input,
+            &mut out,
+            &mut err,
+            &mut Direct::new(alloc),
+        );
         assert_eq!(rt; status, 3);
         assert_eq!(rt; err.as_slice(), b"fault: device\n".as_slice());
     }
@@ -168,7 +193,13 @@ fn the_fault_line_fails(rt: HostRuntime) -> Result<(), Fail> {
         most: 100,
         writes: 0,
     };
-    let status = session(alloc, &mut input, &mut out, &mut err, &mut Passing);
+    let status = session(
+        alloc,
+        &mut input,
+        &mut out,
+        &mut err,
+        &mut Direct::new(alloc),
+    );
     assert_eq!(rt; status, 3);
     assert_eq!(rt; out.len(), 0);
     Ok(())
