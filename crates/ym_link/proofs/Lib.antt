@@ -7,6 +7,7 @@ pub mod Files
 pub mod Kept
 pub mod Readings
 pub mod DeliveryHeard
+pub mod DeliverySize
 pub mod SenderDeliveries
 pub mod SenderBound
 pub mod Settled

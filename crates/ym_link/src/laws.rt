@@ -4,6 +4,8 @@ mod deliveries;
 mod receiver;
 mod sender;
 
-pub use deliveries::{a_receiver_hears_few_deliveries, a_sender_hears_few_deliveries};
+pub use deliveries::{
+    a_delivery_is_short, a_receiver_hears_few_deliveries, a_sender_hears_few_deliveries,
+};
 pub use receiver::{a_block_zero_means_one_thing, a_delivery_has_one_step};
 pub use sender::{a_settled_delivery_stays, progress_is_a_change};
