@@ -1,5 +1,5 @@
 -- Deliveries to a receiver, computed.
-use Rattle.std.specs.Prelude.{◌≡◌, ℕ, List, [], ◌∷◌, Ok, Err, refl}
+use Rattle.std.specs.Prelude.{◌≡◌, List, [], ◌∷◌, Ok, Err, refl}
 use Rattle.ym_frame.specs.declared.frame.Item.TheVariants as item
 use Rattle.ym_link.specs.Delivery.{Taken, taken, reads_in}
 use Rattle.ym_link.specs.ReceiveOver.{has_item, heard_in}
