@@ -1,19 +1,15 @@
 -- What a receiver hears of a delivery that comes in pieces.
-use Rattle.std.proofs.Common.{◌≡◌, ◌+◌, ◌-◌, ◌<◌, ◌≤◌, ℕ, Bool, true, false, List, [], ◌++◌, length, Option, None, Some, Result, Ok, Err, is_ok, refl, sym, ◌∙◌, ap, subst, arith}
-use Rattle.std.proofs.lemmas.List.{length-append}
-use Rattle.ym_frame.specs.Frame.{verdict_of}
-use Rattle.ym_frame.specs.Reading.{Reading, partial, reading_after, item_of, item_found}
+use Rattle.std.proofs.Common.{◌≡◌, ℕ, true, false, List, Option, None, Some, Result, Ok, Err, is_ok, refl}
+use Rattle.ym_frame.specs.Reading.{item_found}
 use Rattle.ym_frame.specs.declared.frame.Item.{Item}
 use Rattle.ym_frame.specs.declared.frame.Broken.{Broken}
 use Rattle.ym_link.specs.declared.event.Event.{Event}
 use Rattle.ym_link.specs.declared.delivery.Heard.{Heard}
 use Rattle.ym_link.specs.declared.delivery.Heard.TheVariants as heard
 use Rattle.ym_link.specs.declared.end_fault.EndFault.{EndFault}
-use Rattle.ym_link.specs.Hearing.{heard_at, heard_of}
-use Rattle.ym_link.specs.Port.{Tape, Data}
-use Rattle.ym_link.specs.Delivery.{Taken}
+use Rattle.ym_link.specs.Hearing.{heard_at}
+use Rattle.ym_link.specs.Port.{Tape}
 use Rattle.ym_link.specs.ReceiveOver.{delivery_at, heard_in, behind}
-use Rattle.ym_link.proofs.Taking.{done}
 
 pub verdict-item : (v : Result (Item × ℕ) Broken) (i : Item) → item_found v ≡ Some i → (heard_at v ≡ heard.Item i) × (is_ok v ≡ true)
 verdict-item (Ok found) i h = (by h, refl)

@@ -17,6 +17,7 @@ pub mod SenderHalf
 pub mod SenderPlaces
 pub mod SenderStanding
 pub mod DeliveryHeard
+pub mod DeliverySize
 pub mod SenderDeliveries
 pub mod SenderBound
 pub mod Settled

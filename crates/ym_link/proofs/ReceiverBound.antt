@@ -3,7 +3,7 @@ use Rattle.std.proofs.Common.{ℕ, ◌+◌, ◌-◌, ◌*◌, ◌%◌, ◌<◌, 
 use Rattle.std.specs.Prelude.{◌==◌}
 use Rattle.std.proofs.lemmas.Bool.{cond_both}
 use Rattle.ym_frame.specs.declared.control.Reply.{Reply}
-use Rattle.ym_frame.specs.declared.control.Reply.TheVariants.{AckStart, Ack, Nak, Cancel, Start}
+use Rattle.ym_frame.specs.declared.control.Reply.TheVariants.{AckStart, Ack, Nak, Start}
 use Rattle.ym_frame.specs.declared.frame.Item.TheVariants as item
 use Rattle.ym_header.specs.declared.fault.HeaderFault.{HeaderFault}
 use Rattle.ym_header.specs.declared.reading.Zero.{Zero}
@@ -18,7 +18,7 @@ use Rattle.ym_link.specs.declared.stage.Stage.TheVariants.{AwaitHeader, InFile}
 use Rattle.ym_link.specs.declared.state.RecvState.{RecvState}
 use Rattle.ym_link.specs.declared.state.RecvState.TheVariants as state
 use Rattle.ym_link.specs.Port.{Tape}
-use Rattle.ym_link.specs.Receiver.{Receiver, Step, Call, Begins, Adds, Commits, No_call, goes_on, stays, ends, opened, zero_heard, awaiting_hears, next_block, block_heard, commits, covered_eot, eot_heard, in_file_hears, running_hears, hears}
+use Rattle.ym_link.specs.Receiver.{Receiver, Step, Call, Begins, Adds, Commits, No_call, goes_on, stays, opened, zero_heard, awaiting_hears, next_block, block_heard, covered_eot, in_file_hears, running_hears, hears}
 use Rattle.ym_link.specs.ReceiverInto.{ReceiverParts, IsReceiver, HearsGives, outcome}
 use Rattle.ym_link.specs.ReceiveOver.{Outcome, Receives, ended, unread, unheard, unwritten}
 use Rattle.ym_link.specs.ReceiveOver as receiving

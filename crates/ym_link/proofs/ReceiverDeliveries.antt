@@ -4,7 +4,7 @@ use Rattle.std.specs.Prelude.{◌==◌}
 use Rattle.std.proofs.lemmas.Bool.{cond_both, ltb-true, eqb-true}
 use Rattle.ym_frame.specs.Block.{BlockParts}
 use Rattle.ym_frame.specs.declared.control.Reply.{Reply}
-use Rattle.ym_frame.specs.declared.control.Reply.TheVariants.{AckStart, Ack, Nak, Cancel, Start}
+use Rattle.ym_frame.specs.declared.control.Reply.TheVariants.{AckStart, Ack, Nak, Start}
 use Rattle.ym_frame.specs.declared.frame.Item.TheVariants as item
 use Rattle.ym_header.specs.Header.{HeaderParts}
 use Rattle.ym_file.specs.Kept.{Kept}
@@ -20,9 +20,9 @@ use Rattle.ym_link.specs.declared.stage.Stage.{Stage}
 use Rattle.ym_link.specs.declared.stage.Stage.TheVariants.{AwaitHeader, InFile}
 use Rattle.ym_link.specs.declared.state.RecvState.{RecvState}
 use Rattle.ym_link.specs.declared.state.RecvState.TheVariants as state
-use Rattle.ym_link.specs.Deliveries.{receiver_steps, receiver_deliveries, deliveries_at}
-use Rattle.ym_link.specs.Receiver.{Receiver, Step, Call, No_call, Begins, Adds, Commits, goes_on, stays, ends, opened, zero_heard, awaiting_hears, next_block, block_heard, commits, covered_eot, eot_heard, in_file_hears, running_hears, hears}
-use Rattle.ym_link.specs.ReceiverInto.{ReceiverParts, IsReceiver, IsOpenFile, FilesFit, StandsFor, Means, StepGives, HearsGives, outcome}
+use Rattle.ym_link.specs.Deliveries.{receiver_steps, receiver_deliveries}
+use Rattle.ym_link.specs.Receiver.{Receiver, Step, Call, No_call, Begins, Adds, Commits, goes_on, stays, opened, zero_heard, awaiting_hears, next_block, block_heard, commits, covered_eot, in_file_hears, running_hears, hears}
+use Rattle.ym_link.specs.ReceiverInto.{ReceiverParts, IsReceiver, IsOpenFile, FilesFit, StandsFor, Means, HearsGives, outcome}
 
 -- a running receiver
 abbrev pub runs : Confirm → Stage → ℕ → ℕ → Receiver

@@ -1,6 +1,6 @@
 -- A receiver's steps of progress are at most those of the files whose headers it accepted.
-use Rattle.std.proofs.Common.{ℕ, ◌+◌, ◌-◌, ◌*◌, ◌/◌, ◌%◌, ◌<◌, ◌≤◌, ◌≡◌, ◌≢◌, Bool, true, false, nat_lt, if◌then◌else◌, refl, sym, ap, subst, ◌∙◌, arith, length, min, take, drop, Option, None, Some, Result, Ok, Err, List, [], ◌∷◌, ◌++◌}
-use Rattle.std.specs.Prelude.{◌==◌, not, slice_index, sum_by, option_to_list}
+use Rattle.std.proofs.Common.{ℕ, ◌+◌, ◌-◌, ◌%◌, ◌<◌, ◌≤◌, ◌≡◌, Bool, true, false, nat_lt, if◌then◌else◌, refl, sym, ap, subst, ◌∙◌, arith, length, min, take, drop, Option, Some, Result, Ok, Err, List, [], ◌∷◌, ◌++◌}
+use Rattle.std.specs.Prelude.{◌==◌, not, slice_index, option_to_list}
 use Rattle.std.proofs.lemmas.Bool.{cond_both, ltb-true, ltb-false}
 use Rattle.std.proofs.lemmas.Bool.Decides.{nat_tests}
 use Rattle.std.proofs.lemmas.List.{length-take-le, length-drop}
@@ -10,7 +10,7 @@ use Rattle.ym_frame.specs.Check.{check_of}
 use Rattle.ym_frame.specs.Frame.{verdict_of, block_verdict, cancel_verdict, fault_at, has_byte_where, body_of, check_field}
 use Rattle.ym_frame.specs.declared.frame.Why.TheVariants.{FirstByte, Complement, Check, Cut}
 use Rattle.ym_frame.specs.declared.control.Reply.{Reply}
-use Rattle.ym_frame.specs.declared.control.Reply.TheVariants.{AckStart, Ack, Nak, Cancel, Start}
+use Rattle.ym_frame.specs.declared.control.Reply.TheVariants.{AckStart, Ack, Nak, Start}
 use Rattle.ym_frame.specs.declared.frame.Broken.{Broken}
 use Rattle.ym_frame.specs.declared.frame.Item.{Item}
 use Rattle.ym_frame.specs.declared.frame.Item.TheVariants as item
@@ -31,7 +31,7 @@ use Rattle.ym_link.specs.declared.stage.Stage.TheVariants.{AwaitHeader, InFile}
 use Rattle.ym_link.specs.declared.state.RecvState.{RecvState}
 use Rattle.ym_link.specs.declared.state.RecvState.TheVariants as state
 use Rattle.ym_link.specs.Port.{Tape}
-use Rattle.ym_link.specs.Receiver.{Receiver, Step, Call, Begins, Adds, Commits, No_call, goes_on, stays, ends, opened, zero_heard, awaiting_hears, next_block, block_heard, commits, covered_eot, eot_heard, in_file_hears, running_hears, hears}
+use Rattle.ym_link.specs.Receiver.{Receiver, Step, Call, Begins, Adds, Commits, No_call, goes_on, stays, opened, zero_heard, awaiting_hears, next_block, block_heard, commits, covered_eot, in_file_hears, running_hears, hears}
 use Rattle.ym_link.specs.ReceiverInto.{ReceiverParts, IsReceiver, IsOpenFile, HearsGives, called, outcome}
 use Rattle.ym_link.specs.ReceiveOver.{Outcome, Receives, ended, unread, unheard, unwritten, heard_in}
 use Rattle.ym_link.specs.ReceiveOver as receiving

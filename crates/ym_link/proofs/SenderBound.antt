@@ -1,5 +1,5 @@
 -- At most ten deliveries for each step of progress of a sender, and ten more; and at most two steps for each frame.
-use Rattle.std.proofs.Common.{ℕ, ◌+◌, ◌-◌, ◌*◌, ◌<◌, ◌≤◌, ◌≡◌, ◌≢◌, ◌⊎◌, inl, inr, Bool, true, false, nat_lt, cond, if◌then◌else◌, refl, sym, ap, subst, ◌∙◌, arith, List, [], ◌∷◌, Option, None, Some}
+use Rattle.std.proofs.Common.{ℕ, ◌+◌, ◌*◌, ◌<◌, ◌≤◌, ◌≡◌, ◌≢◌, ◌⊎◌, inl, inr, Bool, true, false, nat_lt, cond, if◌then◌else◌, refl, sym, ap, subst, ◌∙◌, arith, List, [], ◌∷◌, Option, None, Some}
 use Rattle.std.proofs.lemmas.Bool.Decides.{nat_tests}
 use Rattle.std.specs.Prelude.{◌==◌}
 use Rattle.ym_frame.specs.declared.control.Control.{Control}
@@ -17,7 +17,7 @@ use Rattle.ym_link.specs.declared.state.SendState.{SendState}
 use Rattle.ym_link.specs.declared.state.SendState.TheVariants.{Running, Finished, NoReply, Cancelled, SourceFailed}
 use Rattle.ym_link.specs.Reading.{controls_in}
 use Rattle.ym_link.specs.Standing.{missed, moved, read_through, after_reading, after_fill, hears}
-use Rattle.ym_link.specs.Sender.{SenderParts, IsSender, IsStep, Hears, counts}
+use Rattle.ym_link.specs.Sender.{SenderParts, IsSender, Hears, counts}
 use Rattle.ym_link.specs.SendOver.{Outcome, Sends, ended, unwritten, unread, heard}
 use Rattle.ym_link.specs.Deliveries.{frames_in, frames_from, sender_steps}
 use Rattle.ym_link.specs.Bound.{sender_progress_in, sender_progress_at, sender_hears, sender_progress}

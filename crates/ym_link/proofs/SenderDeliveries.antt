@@ -1,5 +1,5 @@
 -- Each delivery that a running sender hears leaves it fewer to hear.
-use Rattle.std.proofs.Common.{ℕ, ◌+◌, ◌-◌, ◌*◌, ◌<◌, ◌≤◌, ◌≡◌, Bool, true, false, nat_lt, cond, refl, sym, ap, subst, ◌∙◌, arith, length, List, [], ◌∷◌, drop, get_or, Option, None, Some}
+use Rattle.std.proofs.Common.{ℕ, ◌+◌, ◌<◌, ◌≤◌, ◌≡◌, Bool, true, false, nat_lt, cond, refl, sym, ap, subst, ◌∙◌, arith, length, List, drop, Option, None, Some}
 use Rattle.std.proofs.lemmas.Bool.{cond_both, ltb-true, ltb-false}
 use Rattle.std.proofs.lemmas.List.{drop_all, drop_more}
 use Rattle.ym_frame.specs.declared.control.Control.{Control}
@@ -9,15 +9,14 @@ use Rattle.ym_link.specs.declared.place.Place.{Place}
 use Rattle.ym_link.specs.declared.place.Place.TheVariants.{Header, Block, Eot, End}
 use Rattle.ym_link.specs.declared.place.Mode.{Mode}
 use Rattle.ym_link.specs.declared.place.Mode.TheVariants.{Waiting, Sent}
-use Rattle.ym_link.specs.declared.reading.Stop.TheVariants.{Sends, Again, Finishes, Cancels}
 use Rattle.ym_link.specs.declared.reading.Reading.{Reading}
 use Rattle.ym_link.specs.declared.standing.Standing.{Standing}
 use Rattle.ym_link.specs.declared.standing.Step.{Step}
 use Rattle.ym_link.specs.declared.state.SendState.{SendState}
-use Rattle.ym_link.specs.declared.state.SendState.TheVariants.{Running, Finished, NoReply, Cancelled, SourceFailed}
-use Rattle.ym_link.specs.Reading.{reads, controls_in}
-use Rattle.ym_link.specs.Standing.{missed, moved, read_through, after_reading, after_fill, runs, hears, hears_in}
-use Rattle.ym_link.specs.Sender.{SenderParts, IsSender, IsStep, Hears, counts}
+use Rattle.ym_link.specs.declared.state.SendState.TheVariants.{Running, NoReply}
+use Rattle.ym_link.specs.Reading.{controls_in}
+use Rattle.ym_link.specs.Standing.{missed, moved, read_through, after_reading, after_fill, hears}
+use Rattle.ym_link.specs.Sender.{SenderParts, IsSender, Hears, counts}
 use Rattle.ym_link.specs.Deliveries.{frames_in, frames_from, sender_steps, deliveries_in, sender_deliveries}
 use Rattle.ym_link.proofs.Files.{filled_counts}
 use Rattle.ym_link.proofs.Steps.{Reaches, stays, cancels, again, finishes, sends, waits_next, sends_next, cancels_next, IsBefore, reaches}

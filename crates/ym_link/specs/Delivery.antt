@@ -2,7 +2,7 @@
 --
 -- Each read's buffer has 2048 bytes less those that the delivery already has. The delivery ends by the test of the end that reads it,
 -- when the line is quiet, or at 2048 bytes. Where the port is closed or fails, the unfinished delivery is dropped.
-use Rattle.std.specs.Prelude.{ℕ, ◌-◌, Bool, nat_lt, nat_le, List, [], ◌∷◌, ◌++◌, length, take, drop, Result, Ok, Err, if◌then◌else◌}
+use Rattle.std.specs.Prelude.{ℕ, ◌+◌, ◌-◌, Bool, nat_lt, nat_le, List, [], ◌∷◌, ◌++◌, length, take, drop, Result, Ok, Err, if◌then◌else◌}
 use Rattle.ym_link.specs.declared.event.Event.{Event}
 use Rattle.ym_link.specs.declared.event.Event.TheVariants as event
 use Rattle.ym_link.specs.declared.end_fault.EndFault.{EndFault}
@@ -30,3 +30,16 @@ taken ends had (event.Piece (b ∷ bs) ∷ rest) =
     else (if ends (had ++ b ∷ bs) then record { delivery = Ok (had ++ b ∷ bs); rest = rest }
     else (if nat_le delivery_limit (length (had ++ b ∷ bs)) then record { delivery = Ok (had ++ b ∷ bs); rest = rest }
     else taken ends (had ++ b ∷ bs) rest))
+
+-- how many reads it takes, by the same cases
+unfoldable pub reads_in : (List ℕ → Bool) → List ℕ → List Event → ℕ
+reads_in ends had [] = 1
+reads_in ends had (event.Closed ∷ rest) = 1
+reads_in ends had (event.Fault ∷ rest) = 1
+reads_in ends had (event.Quiet ∷ rest) = 1
+reads_in ends had (event.Piece [] ∷ rest) = 1
+reads_in ends had (event.Piece (b ∷ bs) ∷ rest) =
+    if nat_lt (delivery_limit - length had) (length (b ∷ bs)) then 1
+    else (if ends (had ++ b ∷ bs) then 1
+    else (if nat_le delivery_limit (length (had ++ b ∷ bs)) then 1
+    else reads_in ends (had ++ b ∷ bs) rest + 1))

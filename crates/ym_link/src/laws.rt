@@ -4,7 +4,9 @@ mod deliveries;
 mod receiver;
 mod sender;
 
-pub use deliveries::{a_receiver_hears_few_deliveries, a_sender_hears_few_deliveries};
+pub use deliveries::{
+    a_delivery_is_short, a_receiver_hears_few_deliveries, a_sender_hears_few_deliveries,
+};
 pub use receiver::{
     Headers, a_block_zero_means_one_thing, a_delivery_has_one_step, a_planned_file_is_sent,
     a_standing_receiver_follows_the_machine,

@@ -15,7 +15,7 @@ pub struct ScriptPort {
     events: Vec<Event>,
     next: usize,
     used: usize,
-    record: Vec<u8>,
+    log: Vec<u8>,
     failing: u64,
     failed: u64,
     refused: u64,
@@ -26,7 +26,7 @@ impl Model for ScriptPort {
 
     ghost Value = { PortParts };
 
-    ghost view = { λ p. record { coming = coming_of p.used p.next p.events.items; written = p.record.items; tally = record { failing = p.failing; failures = p.failed }; refused = p.refused } };
+    ghost view = { λ p. record { coming = coming_of p.used p.next p.events.items; written = p.log.items; tally = record { failing = p.failing; failures = p.failed }; refused = p.refused } };
 }
 
 impl ScriptPort {
@@ -40,7 +40,7 @@ impl ScriptPort {
             events,
             next: 0,
             used: 0,
-            record: Vec::new(alloc),
+            log: Vec::new(alloc),
             failing: failing_write.unwrap_or(0),
             failed: 0,
             refused: 0,
@@ -51,7 +51,7 @@ impl ScriptPort {
     pub fn written(&self) -> &[u8]
         ensures { result.now ≡ self.now.written }
     {
-        self.record.as_slice()
+        self.log.as_slice()
     }
 
     /// How many calls failed.
@@ -125,7 +125,7 @@ impl Port for ScriptPort {
             self.failed = self.failed.saturating_add(1);
             return Err(PortFault);
         }
-        if self.record.extend_from_slice(bytes).is_err() {
+        if self.log.extend_from_slice(bytes).is_err() {
             self.failed = self.failed.saturating_add(1);
             self.refused = self.refused.saturating_add(1);
             return Err(PortFault);

@@ -1,6 +1,8 @@
 //! Laws of how many deliveries an end hears over a port.
 
-ghost use Rattle.std.specs.Prelude.{◌≡◌, ◌≤◌, ◌+◌, ◌*◌, List, ℕ};
+ghost use Rattle.std.specs.Prelude.{◌≡◌, ◌≤◌, ◌+◌, ◌*◌, Bool, List, [], Ok, length, ℕ};
+ghost use Rattle.ym_link.specs.declared.event.Event.{Event};
+ghost use Rattle.ym_link.specs.Delivery.{taken, reads_in};
 ghost use Rattle.ym_link.specs.Port.{Tape};
 ghost use Rattle.ym_link.specs.Place.{first_of};
 ghost use Rattle.ym_link.specs.Sender.{SenderParts, counts};
@@ -9,6 +11,12 @@ ghost use Rattle.ym_link.specs.Deliveries.{frames_in, frames_from};
 ghost use Rattle.ym_link.specs.Bound.{accepted, steps_of, steps_at, receiver_hears, receiver_progress, sender_hears, sender_progress};
 ghost use Rattle.ym_link.specs.ReceiverInto.{ReceiverParts, IsReceiver};
 ghost use Rattle.ym_link.specs.ReceiveOver as receiving;
+
+/// A delivery has at most 2048 bytes and takes at most 2048 reads, whatever comes and whatever test it ends by.
+pub fn a_delivery_is_short()
+    ensures bytes { (ends : List ℕ → Bool) (events : List Event) (bytes : List ℕ) → (taken ends [] events).delivery ≡ Ok bytes → length bytes ≤ 2048 }
+    ensures reads { (ends : List ℕ → Bool) (events : List Event) → reads_in ends [] events ≤ 2048 }
+{}
 
 /// A sender over a port hears at most ten deliveries for each step of progress, and ten more; and there are at most
 /// two such steps for each frame from its place on, of which a new sender has the whole batch's.

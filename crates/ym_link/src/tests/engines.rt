@@ -379,8 +379,9 @@ fn refused_growths(rt: HostRuntime) -> Result<(), Fail> {
         Err(_) => receive(alloc, &coming, Failing::Never)?,
     };
     assert_eq!(rt; received.state, RecvState::Running);
+    let answer = received.answer;
     let written = received.port.written();
-    match received.answer {
+    match answer {
         Err(EndFault::Closed) => {
             assert_eq!(rt; written, ACK_START);
             assert_eq!(rt; received.port.failures(), 0);

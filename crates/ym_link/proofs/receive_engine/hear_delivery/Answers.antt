@@ -1,11 +1,11 @@
 -- Each way out of a read is what the definition says there.
-use Rattle.std.proofs.Common.{◌≡◌, ◌<◌, ◌≤◌, ◌++◌, ◌+◌, ◌-◌, true, false, is_ok, List, [], length, take, arith, rules, refl, sym, ◌∙◌, ap, None, Some, Ok, Err}
+use Rattle.std.proofs.Common.{◌≡◌, ◌<◌, ◌≤◌, ◌++◌, ◌-◌, [], length, take, rules, refl, sym, ◌∙◌, ap, None, Some, Ok, Err}
 use Rattle.std.proofs.lemmas.List.{length-append, length-take-le}
-use borrow.Rule.Slice.PartMut.{mid_of, put_mid}
+use borrow.Rule.Slice.PartMut.{mid_of}
 use Rattle.ym_frame.specs.Frame.{verdict_of}
-use Rattle.ym_frame.specs.Reading.{partial, reading_after, item_of}
+use Rattle.ym_frame.specs.Reading.{partial, item_of}
 use Rattle.ym_link.specs.Port.{Data, End, Failed, Silence, seen_of}
-use Rattle.ym_link.specs.Delivery.{taken, delivery_limit}
+use Rattle.ym_link.specs.Delivery.{delivery_limit}
 use Rattle.ym_link.specs.ReceiveOver.{has_item, delivery_at}
 use Rattle.ym_link.specs.declared.delivery.Heard.TheVariants as heard
 use Rattle.ym_link.specs.declared.end_fault.EndFault.TheVariants as fault

@@ -1,9 +1,9 @@
 -- Each way out is a rule of `Receives`, behind the rules of the deliveries before.
-use Rattle.std.proofs.Common.{◌≡◌, ◌≢◌, rules, refl, sym, ◌∙◌, ap, true, false, is_ok, Ok, Err}
+use Rattle.std.proofs.Common.{◌≡◌, ◌≢◌, rules, refl, sym, ◌∙◌, true, false, is_ok, Ok, Err}
 use Rattle.std.specs.declared.alloc.AllocError.{AllocError}
 use Rattle.ym_frame.specs.Control.{reply_bytes}
 use Rattle.ym_link.specs.Port.{after_write}
-use Rattle.ym_link.specs.ReceiveOver.{Receives, ended, unread, unheard, unwritten, heard, heard_at, behind}
+use Rattle.ym_link.specs.ReceiveOver.{ended, unread, unheard, unwritten, heard, heard_at, behind}
 use Rattle.ym_link.specs.ReceiverInto.{ReceiverParts, HearsGives}
 use Rattle.ym_link.specs.declared.delivery.Heard.{Heard}
 use Rattle.ym_link.specs.declared.end_fault.EndFault.TheVariants as fault

@@ -1,5 +1,5 @@
 -- Each way out of a read is what the definition says there.
-use Rattle.std.proofs.Common.{◌≡◌, ◌<◌, ◌≤◌, ◌++◌, true, false, ◌+◌, ◌-◌, List, [], length, take, arith, rules, refl, sym, ◌∙◌, ap, Some, Ok, Err}
+use Rattle.std.proofs.Common.{◌≡◌, ◌<◌, ◌≤◌, ◌++◌, true, false, ◌+◌, ◌-◌, [], length, take, arith, rules, refl, sym, ◌∙◌, Ok, Err}
 use Rattle.std.proofs.lemmas.List.{length-take-le}
 use Rattle.std.proofs.lemmas.Slice.{overwrites}
 use borrow.Rule.Slice.PartMut.{mid_of, put_mid}

@@ -1,5 +1,5 @@
 -- What was taken so far is what the delivery begins with.
-use Rattle.std.proofs.Common.{◌-◌, ◌≡◌, ◌≤◌, List, [], take, Some, length}
+use Rattle.std.proofs.Common.{◌-◌, ◌≡◌, ◌≤◌, [], take, Some, length}
 use Rattle.ym_link.specs.Port.{Tape}
 use Rattle.ym_link.specs.Delivery.{taken}
 use Rattle.ym_link.specs.SendOver.{settles}

@@ -1,5 +1,5 @@
 -- Each way out is a rule of `Sends`, behind the rules of the deliveries before.
-use Rattle.std.proofs.Common.{◌≡◌, ◌≢◌, ◌-◌, Option, Some, None, Result, Ok, Err, take, true, false, is_ok, rules, refl, sym, ◌∙◌}
+use Rattle.std.proofs.Common.{◌≡◌, ◌≢◌, Option, Some, None, Result, Ok, Err, take, true, false, is_ok, rules, refl, sym, ◌∙◌}
 use Rattle.ym_link.specs.Port.{Tape, after_write}
 use Rattle.ym_link.specs.Sender.{SenderParts, IsSender, spoken}
 use Rattle.ym_link.specs.SendOver.{Sends, ended, unwritten, unread, heard, written_for, said, behind, delivery_to}
