@@ -21,3 +21,4 @@ pub mod Steps
 pub mod TableRows
 pub mod ReceiverDeliveries
 pub mod Taking
+pub mod TwoControls
