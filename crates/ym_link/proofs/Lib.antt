@@ -24,3 +24,4 @@ pub mod Settled
 pub mod Steps
 pub mod TableRows
 pub mod Taking
+pub mod TwoControls

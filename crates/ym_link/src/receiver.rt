@@ -4,11 +4,15 @@ ghost use Rattle.std.specs.Prelude.{◌≡◌, ◌↔◌, IsTrue, Some, length, 
 ghost use Rattle.ym_file.specs.Kept.{Told, IsNew};
 ghost use Rattle.ym_file.specs.Received.{ReceivedParts};
 
+#[cfg(test)]
+mod stand;
 mod steps;
 
 use crate::delivery::Heard;
 use crate::stage::Stage;
 use crate::state::RecvState;
+#[cfg(test)]
+pub(crate) use stand::Stand;
 use std::alloc::{AllocError, Global};
 use std::marker::Model;
 use ym_file::{MemSink, Received, Sink};

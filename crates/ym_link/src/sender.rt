@@ -6,6 +6,9 @@ ghost use Rattle.ym_link.specs.SourceFile.{IsFile, counts_of};
 ghost use Rattle.ym_link.specs.Place.{IsPlace, IsFrameAt, done_at};
 ghost use Rattle.ym_link.specs.Sender.{IsFilled};
 
+#[cfg(test)]
+mod stand;
+
 use crate::place::{Mode, Place, first_place};
 use crate::reading::read_delivery;
 use crate::source_file::SourceFile;

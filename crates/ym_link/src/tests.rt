@@ -1,5 +1,8 @@
 //! Tests of the two ends.
 
 mod engines;
+mod every_byte;
 mod receiver;
+mod receiver_table;
 mod sender;
+mod sender_table;

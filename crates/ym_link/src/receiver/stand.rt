@@ -1,0 +1,51 @@
+//! Where a receiver stands, for tests.
+
+ghost use Rattle.std.specs.Prelude.{◌≡◌, ◌<◌, ◌≤◌, ◌^◌, ◌-◌};
+
+use super::ReceiverInto;
+use crate::stage::{OpenFile, Stage};
+use crate::state::RecvState;
+use std::marker::Model;
+use ym_file::Sink;
+use ym_machine::Confirm;
+
+/// A receiver apart from its sink.
+#[derive(Clone, Copy, Debug, PartialEq, Eq)]
+pub(crate) struct Stand {
+    pub confirm: Confirm,
+    pub stage: Stage,
+    pub files: usize,
+    pub count: u8,
+    pub state: RecvState,
+}
+
+impl Model for Stand {
+    ghost use Rattle.ym_link.specs.Receiver.{Receiver};
+
+    ghost Value = { Receiver };
+
+    ghost view = { λ r. record { confirm = r.confirm; stage = r.stage; files = r.files; count = r.count; state = r.state } };
+
+    ghost inverse = { λ r. record { confirm = r.confirm; stage = r.stage; files = r.files; count = r.count; state = r.state } };
+}
+
+impl<K: Sink> ReceiverInto<K> {
+    /// Where it stands.
+    pub(crate) fn stand(&self) -> Stand
+        ensures stand { result ≡ self.now.receiver }
+        ensures files { result.files ≤ 65535 }
+        ensures count { result.count ≤ 10 }
+        ensures runs { result.state ≡ RecvState.Running → result.count < 10 }
+        ensures blocks { (file : OpenFile) → result.stage ≡ Stage.InFile file → file.blocks < 2 ^ 64 - 1 }
+    {
+        // what always holds of a receiver is known once a field was read
+        let _ = &self.stage;
+        Stand {
+            confirm: self.confirm,
+            stage: self.stage,
+            files: self.files,
+            count: self.count,
+            state: self.state,
+        }
+    }
+}
