@@ -30,3 +30,12 @@ pub enum Way {
     /// To the sender.
     Back,
 }
+
+/// A delivery that was handed on.
+#[derive(Drop)]
+pub struct Handed {
+    /// Which way it went.
+    pub way: Way,
+    /// Its bytes, none where the delivery was lost.
+    pub bytes: Bytes,
+}

@@ -1,5 +1,11 @@
 //! Why a round was not finished.
 
+ghost use Rattle.std.specs.Prelude.{◌≡◌};
+ghost use Rattle.ym_line.specs.Fault.{fault_of};
+ghost use Rattle.ym_line.specs.declared.fault.LineFault.TheVariants.{Memory};
+
+use crate::carrier::CarryFault;
+use std::alloc::AllocError;
 use thiserror::Error;
 
 /// Why a round was not finished. Rounds are counted from 1.
@@ -18,4 +24,23 @@ pub enum LineFault {
     /// Out of memory.
     #[error("fault: memory")]
     Memory,
+}
+
+impl From<CarryFault> for LineFault {
+    ghost from_gives = { λ old fault. fault ≡ fault_of old };
+
+    fn from(fault: CarryFault) -> LineFault {
+        match fault {
+            CarryFault::Device => LineFault::Carrier,
+            CarryFault::Memory => LineFault::Memory,
+        }
+    }
+}
+
+impl From<AllocError> for LineFault {
+    ghost from_gives = { λ _ fault. fault ≡ Memory };
+
+    fn from(_: AllocError) -> LineFault {
+        LineFault::Memory
+    }
 }

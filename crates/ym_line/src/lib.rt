@@ -1,10 +1,24 @@
 //! The line between two ends: rounds, what is lost or damaged in them, and runs with their traces.
 #![tactic(auto)]
 
+mod carrier;
+mod check;
 mod delivery;
+mod direct;
 mod fault;
+mod needed;
+mod rounds;
+mod text;
 mod trace;
 
-pub use delivery::{Delivery, Round, Way};
+pub use carrier::{Carrier, CarryFault};
+pub use delivery::{Delivery, Handed, Round, Way};
+pub use direct::Direct;
 pub use fault::LineFault;
+pub use needed::whole_rounds_needed;
+pub use rounds::{round, run};
+pub use text::trace_text;
 pub use trace::{How, Seen, Trace, What};
+
+#[cfg(test)]
+mod tests;

@@ -1,5 +1,14 @@
 //! What was seen of a run.
 
+ghost use Rattle.std.specs.Prelude.{◌≡◌, Some};
+ghost use Rattle.ym_frame.specs.Frame.{IsFrame};
+ghost use Rattle.ym_frame.specs.declared.frame.Item.{Item};
+ghost use Rattle.ym_line.specs.Damage.{how_of};
+ghost use Rattle.ym_line.specs.Text.{what_text, how_text};
+ghost use Rattle.ym_line.specs.What.{what_is, what_of};
+
+use crate::delivery::Delivery;
+use std::fmt;
 use ym_frame::Reply;
 use ym_link::{RecvState, SendState};
 
@@ -16,12 +25,72 @@ pub enum What {
     Can,
 }
 
+impl What {
+    /// What a frame is, by its first bytes. No bytes are nothing.
+    pub(crate) fn of_frame(frame: &[u8]) -> Self
+        ensures bytes { result ≡ what_of frame.now }
+        ensures item { (item : Item) → IsFrame item frame.now → result ≡ what_is item }
+    {
+        match frame {
+            [0x04, ..] => What::Eot,
+            [0x18, ..] => What::Can,
+            [0x01, number, ..] => What::Block {
+                number: *number,
+                length: 128,
+            },
+            [0x02, number, ..] => What::Block {
+                number: *number,
+                length: 1024,
+            },
+            _ => What::Nothing,
+        }
+    }
+}
+
+impl fmt::Display for What {
+    ghost output = { λ what. Some (what_text what) };
+
+    fn fmt<W: fmt::Write>(&self, f: &mut fmt::Formatter<W>) -> fmt::Result {
+        match self {
+            What::Nothing => write!(f, "-"),
+            What::Block { number, length } => write!(f, "block {number} {length}"),
+            What::Eot => write!(f, "eot"),
+            What::Can => write!(f, "can"),
+        }
+    }
+}
+
 /// How a delivery was given.
 #[derive(Clone, Copy, Debug, PartialEq, Eq)]
 pub enum How {
     Whole,
     Lost,
     Damaged,
+}
+
+impl How {
+    /// How a delivery is given.
+    pub(crate) fn of_delivery(delivery: &Delivery) -> Self
+        ensures { result ≡ how_of delivery.now }
+    {
+        match delivery {
+            Delivery::Whole => How::Whole,
+            Delivery::Lost => How::Lost,
+            Delivery::Damaged(_) => How::Damaged,
+        }
+    }
+}
+
+impl fmt::Display for How {
+    ghost output = { λ how. Some (how_text how) };
+
+    fn fmt<W: fmt::Write>(&self, f: &mut fmt::Formatter<W>) -> fmt::Result {
+        match self {
+            How::Whole => write!(f, "whole"),
+            How::Lost => write!(f, "lost"),
+            How::Damaged => write!(f, "damaged"),
+        }
+    }
 }
 
 /// What was seen of one round: what the sender had to send and what the receiver replied, as they were before loss and damage, and how both

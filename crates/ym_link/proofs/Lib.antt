@@ -3,4 +3,5 @@ pub mod ReceiverDeliveries
 pub mod Files
 pub mod Kept
 pub mod Readings
+pub mod ReceiverLemmas
 pub mod Steps

@@ -1,0 +1,48 @@
+-- What is seen of a round, and runs one round more.
+use Rattle.std.proofs.Common.{◌≡◌, ℕ, ◌+◌, ◌<◌, suc, zero, List, [], ◌∷◌, ◌++◌, length, take, get_or, refl, subst, inl, inr, ◌⊎◌, arith}
+use Rattle.ym_frame.specs.declared.control.Reply.{Reply}
+use Rattle.ym_link.specs.Sender.{SenderParts}
+use Rattle.ym_line.specs.declared.delivery.Round.{Round}
+use Rattle.ym_line.specs.declared.fault.LineFault.{LineFault}
+use Rattle.ym_line.specs.declared.fault.LineFault.TheVariants.{Memory}
+use Rattle.ym_line.specs.declared.trace.How.{How}
+use Rattle.ym_line.specs.declared.trace.Seen.{Seen}
+use Rattle.ym_line.specs.declared.trace.What.{What}
+use Rattle.ym_line.specs.Damage.{how_of}
+use Rattle.ym_line.specs.What.{what_of}
+use Rattle.ym_line.specs.Rounds.{Pair, Goes, GoOn, Stops, StopsIn, sent_by, seen_of}
+
+-- what is seen, part by part
+pub seen-parts : (round : Round) (sender : SenderParts) (reply : Reply) (what : What) (there back : How) (sent : List ℕ) →
+    what ≡ what_of sent → sent ≡ sent_by sender → there ≡ how_of round.there → back ≡ how_of round.back →
+    record { what = what; there = there; reply = reply; back = back } ≡ seen_of round sender reply
+seen-parts round sender reply what there back sent what_is sent_is there_is back_is =
+    rw (what_is, sent_is, there_is, back_is) refl
+
+-- a round behind those that went
+pub GoOn-append : (rounds : List Round) (round : Round) (old between new : Pair) (all : List Seen) (seen : Seen) →
+    GoOn rounds old all between → Goes round between seen new → GoOn (rounds ++ round ∷ []) old (all ++ seen ∷ []) new
+GoOn-append [] round old between new [] seen went goes = (new, subst (λ p. Goes round p seen new) went goes, refl)
+GoOn-append [] round old between new (x ∷ all) seen went goes = absurd went
+GoOn-append (first ∷ rounds) round old between new [] seen went goes = absurd went
+GoOn-append (first ∷ rounds) round old between new (x ∷ all) seen went goes =
+    (went.0, went.1, GoOn-append rounds round went.0 between new all seen went.2 goes)
+
+-- a round does not come to its end: it met a fault, or there was no memory for its entry in the trace
+abbrev pub StopsAt : ℕ → Round → Pair → LineFault → Pair → Type 0
+StopsAt n round old fault new = ((fault ≡ Memory) × (new ≡ old)) ⊎ Stops n round old fault new
+
+-- a run stops at a round where those before it went
+pub StopsIn-at : (rounds : List Round) (n i : ℕ) (round : Round) (old between new : Pair) (all : List Seen) (fault : LineFault) →
+    i < length rounds → round ≡ get_or rounds i round → GoOn (take i rounds) old all between →
+    StopsAt (n + i) round between fault new → StopsIn n rounds old fault new
+StopsIn-at [] n i round old between new all fault below at went stops = absurd (omega arith)
+StopsIn-at (first ∷ rounds) n zero round old between new [] fault below at went stops =
+    let number : n + 0 ≡ n = omega arith in
+    let first_stops : StopsAt n first old fault new = subst (λ m. StopsAt m first old fault new) number (subst (λ r. StopsAt (n + 0) r old fault new) at (subst (λ p. StopsAt (n + 0) round p fault new) went stops)) in
+    elim first_stops [ inl no_memory ↦ inl no_memory | inr stopped ↦ inr (inl stopped) ]
+StopsIn-at (first ∷ rounds) n zero round old between new (x ∷ all) fault below at went stops = absurd went
+StopsIn-at (first ∷ rounds) n (suc i) round old between new [] fault below at went stops = absurd went
+StopsIn-at (first ∷ rounds) n (suc i) round old between new (x ∷ all) fault below at went stops =
+    let number : n + suc i ≡ n + 1 + i = omega arith in
+    inr (inr (x, went.0, went.1, StopsIn-at rounds (n + 1) i round went.0 between new all fault (omega arith) at went.2 (subst (λ m. StopsAt m round between fault new) number stops)))

@@ -1,0 +1,137 @@
+-- What a round does, and what many do: both ends take the steps of their tables, by what arrives, and the line tells what was
+-- handed on.
+--
+-- Rounds and their faults are this profile's choice; what an end does with a delivery is in its own table.
+use Rattle.std.specs.Prelude.{◌≡◌, ◌⊎◌, ℕ, ◌+◌, List, [], ◌∷◌, length, Option, unwrap_or, Result, Ok, Err}
+use Rattle.ym_frame.specs.Control.{reply_bytes}
+use Rattle.ym_frame.specs.declared.control.Reply.{Reply}
+use Rattle.ym_file.specs.Counts.{Rose}
+use Rattle.ym_link.specs.Hearing.{heard_of}
+use Rattle.ym_link.specs.ReceiverInto.{ReceiverParts}
+use Rattle.ym_link.specs.ReceiverInto as receiver
+use Rattle.ym_link.specs.Place.{done_at}
+use Rattle.ym_link.specs.Sender.{SenderParts, spoken}
+use Rattle.ym_link.specs.Sender as sender
+use Rattle.ym_line.specs.Carried.{told_more}
+use Rattle.ym_line.specs.Damage.{arrives, how_of, ShowsThere, ShowsBack, IsShort, IsRefusal}
+use Rattle.ym_line.specs.What.{what_of}
+use Rattle.ym_line.specs.declared.delivery.Delivery.{Delivery}
+use Rattle.ym_line.specs.declared.delivery.Handed.{Handed}
+use Rattle.ym_line.specs.declared.delivery.Round.{Round}
+use Rattle.ym_line.specs.declared.delivery.Way.{Way}
+use Rattle.ym_line.specs.declared.delivery.Way.TheVariants.{There, Back}
+use Rattle.ym_line.specs.declared.fault.LineFault.{LineFault}
+use Rattle.ym_line.specs.declared.fault.LineFault.TheVariants.{NotDamage, TooLong, Carrier, Memory}
+use Rattle.ym_line.specs.declared.trace.Seen.{Seen}
+use Rattle.ym_line.specs.declared.trace.Trace.{Trace}
+
+-- two ends, and the line between them: the deliveries that it tells, and how often it failed
+pub record Pair : Type 0 where
+  pub sender : SenderParts
+  pub receiver : ReceiverParts
+  pub told : Option (List Handed)
+  pub failures : ℕ
+
+-- with one delivery more handed on
+abbrev pub handed : Way → List ℕ → Pair → Pair
+handed way bytes pair = record pair { told = told_more way bytes pair.told }
+
+-- with the line's failures counted on
+abbrev pub line_failed : ℕ → Pair → Pair
+line_failed failures pair = record pair { failures = failures }
+
+-- what the sender has to send: its frame, CAN CAN, or nothing
+abbrev pub sent_by : SenderParts → List ℕ
+sent_by parts = unwrap_or (spoken parts) []
+
+-- ---- The half there
+
+-- the receiver has heard what arrived, and gave this reply
+pub record GoesThere (delivery : Delivery) (old : Pair) (reply : Reply) (new : Pair) : Type 0 where
+  pub shows : ShowsThere delivery
+  pub short : IsShort delivery
+  pub hears : receiver.HearsGives old.receiver (heard_of (arrives delivery (sent_by old.sender))) (Ok reply) new.receiver
+  pub others : new ≡ record (handed There (arrives delivery (sent_by old.sender)) old) { receiver = new.receiver }
+
+-- what a fault leaves, by the first step that failed in round n: the check, the carry, or a growth. Where the receiver wanted memory for
+-- what arrived, the delivery was handed on.
+abbrev pub StopsThere : ℕ → Delivery → Pair → LineFault → Pair → Type 0
+StopsThere n delivery old (NotDamage number) new = IsRefusal n (ShowsThere delivery) (IsShort delivery) (NotDamage number) × (new ≡ old)
+StopsThere n delivery old (TooLong number) new = IsRefusal n (ShowsThere delivery) (IsShort delivery) (TooLong number) × (new ≡ old)
+StopsThere n delivery old Carrier new = ShowsThere delivery × IsShort delivery × Rose old.failures new.failures × (new ≡ line_failed new.failures old)
+StopsThere n delivery old Memory new = ShowsThere delivery × IsShort delivery × ((new ≡ old) ⊎ (new ≡ handed There (arrives delivery (sent_by old.sender)) old))
+
+abbrev pub ThereGives : ℕ → Delivery → Pair → Result Reply LineFault → Pair → Type 0
+ThereGives n delivery old (Ok reply) new = GoesThere delivery old reply new
+ThereGives n delivery old (Err fault) new = StopsThere n delivery old fault new
+
+-- ---- The half back
+
+-- the sender has heard what arrived of the reply
+pub record GoesBack (delivery : Delivery) (reply : Reply) (old new : Pair) : Type 0 where
+  pub shows : ShowsBack reply delivery
+  pub short : IsShort delivery
+  pub hears : sender.Hears old.sender (arrives delivery (reply_bytes reply)) new.sender
+  pub others : new ≡ record (handed Back (arrives delivery (reply_bytes reply)) old) { sender = new.sender }
+
+abbrev pub StopsBack : ℕ → Delivery → Reply → Pair → LineFault → Pair → Type 0
+StopsBack n delivery reply old (NotDamage number) new = IsRefusal n (ShowsBack reply delivery) (IsShort delivery) (NotDamage number) × (new ≡ old)
+StopsBack n delivery reply old (TooLong number) new = IsRefusal n (ShowsBack reply delivery) (IsShort delivery) (TooLong number) × (new ≡ old)
+StopsBack n delivery reply old Carrier new = ShowsBack reply delivery × IsShort delivery × Rose old.failures new.failures × (new ≡ line_failed new.failures old)
+StopsBack n delivery reply old Memory new = ShowsBack reply delivery × IsShort delivery × (new ≡ old)
+
+abbrev pub BackGives : ℕ → Delivery → Reply → Pair → Result (Unit {0}) LineFault → Pair → Type 0
+BackGives n delivery reply old (Ok _) new = GoesBack delivery reply old new
+BackGives n delivery reply old (Err fault) new = StopsBack n delivery reply old fault new
+
+-- ---- Rounds
+
+-- what is seen of a round: what the sender had to send, the reply before loss and damage, and both given forms
+abbrev pub seen_of : Round → SenderParts → Reply → Seen
+seen_of round parts reply = record { what = what_of (sent_by parts); there = how_of round.there; reply = reply; back = how_of round.back }
+
+-- the two halves, one after the other
+pub record Goes (round : Round) (old : Pair) (seen : Seen) (new : Pair) : Type 0 where
+  pub between : Pair
+  pub there : GoesThere round.there old seen.reply between
+  pub back : GoesBack round.back seen.reply between new
+  pub seen_is : seen ≡ seen_of round old.sender seen.reply
+
+-- a fault in the first half, or in the second
+abbrev pub Stops : ℕ → Round → Pair → LineFault → Pair → Type 0
+Stops n round old fault new =
+    StopsThere n round.there old fault new
+    ⊎ ((between : Pair) × (reply : Reply) × GoesThere round.there old reply between × StopsBack n round.back reply between fault new)
+
+abbrev pub RoundGives : ℕ → Round → Pair → Result Seen LineFault → Pair → Type 0
+RoundGives n round old (Ok seen) new = Goes round old seen new
+RoundGives n round old (Err fault) new = Stops n round old fault new
+
+-- ---- Runs
+
+-- round after round, with what was seen of each
+abbrev pub GoOn : List Round → Pair → List Seen → Pair → Type 0
+GoOn [] old [] new = new ≡ old
+GoOn [] old (seen ∷ more) new = ⊥
+GoOn (round ∷ rounds) old [] new = ⊥
+GoOn (round ∷ rounds) old (seen ∷ more) new = (between : Pair) × Goes round old seen between × GoOn rounds between more new
+
+-- round after round, of which the first is number n, up to one that met a fault, or for whose entry in the trace there was no memory
+abbrev pub StopsIn : ℕ → List Round → Pair → LineFault → Pair → Type 0
+StopsIn n [] old fault new = ⊥
+StopsIn n (round ∷ rounds) old fault new =
+    ((fault ≡ Memory) × (new ≡ old))
+    ⊎ (Stops n round old fault new
+    ⊎ ((seen : Seen) × (between : Pair) × Goes round old seen between × StopsIn (n + 1) rounds between fault new))
+
+-- the trace of a run: its rounds, and both reports
+pub record IsTrace (rounds : List Round) (old : Pair) (trace : Trace) (new : Pair) : Type 0 where
+  pub goes_on : GoOn rounds old trace.rounds.items new
+  pub done : trace.done ≡ done_at (length new.sender.files) new.sender.standing.place
+  pub send : trace.send ≡ new.sender.standing.state
+  pub files : trace.files ≡ new.receiver.receiver.files
+  pub recv : trace.recv ≡ new.receiver.receiver.state
+
+abbrev pub RunGives : List Round → Pair → Result Trace LineFault → Pair → Type 0
+RunGives rounds old (Ok trace) new = IsTrace rounds old trace new
+RunGives rounds old (Err fault) new = StopsIn 1 rounds old fault new

@@ -1,0 +1,157 @@
+//! Rounds of two deliveries between a sender and a receiver, and runs of them.
+
+ghost use Rattle.std.specs.Prelude.{◌≡◌, ◌≢◌, ◌⊎◌, Ok, Err, OnOk, OnErr, unwrap_or, [], length as list_length};
+ghost use Rattle.ym_file.specs.Counts.{Rose};
+ghost use Rattle.ym_link.specs.ReceiverInto.{ReceiverParts};
+ghost use Rattle.ym_link.specs.Sender.{spoken};
+ghost use Rattle.ym_line.specs.Carried.{told_more};
+ghost use Rattle.ym_line.specs.Damage.{arrives};
+ghost use Rattle.ym_line.specs.Rounds.{Pair, sent_by, GoesThere, StopsThere, ThereGives, BackGives, RoundGives, RunGives};
+
+use crate::carrier::{Carrier, CarryFault};
+use crate::check::{check_back, check_there};
+use crate::delivery::{Delivery, Round, Way};
+use crate::fault::LineFault;
+use crate::trace::{How, Seen, Trace, What};
+use std::alloc::Global;
+use ym_file::{Sink, Source};
+use ym_frame::Reply;
+use ym_link::{ReceiverInto, SenderFrom, heard};
+
+/// What a sender has to send: its frame, CAN CAN, or no bytes.
+fn sent_by<S: Source>(sender: &SenderFrom<S>) -> &[u8]
+    ensures { result.now ≡ sent_by sender.now }
+{
+    sender.frame().unwrap_or(&[])
+}
+
+/// Carries what a delivery makes of the bytes that were sent.
+fn carry<C: Carrier>(
+    carrier: &mut C,
+    way: Way,
+    delivery: &Delivery,
+    sent: &[u8],
+    arrived: &mut Vec<u8>,
+) -> Result<(), CarryFault>
+    ensures arrived { OnOk result (arrived.new.items ≡ arrives delivery.now sent.now) }
+    ensures told { OnOk result (C.told carrier.new ≡ told_more way (arrives delivery.now sent.now) (C.told carrier.old)) }
+    ensures refused { OnErr result (C.told carrier.new ≡ C.told carrier.old) }
+    ensures failed { result ≡ Err CarryFault.Device → Rose (C.failures carrier.old) (C.failures carrier.new) }
+    ensures not_failed { result ≢ Err CarryFault.Device → C.failures carrier.new ≡ C.failures carrier.old }
+{
+    match delivery {
+        Delivery::Whole => carrier.carry(way, sent, arrived),
+        Delivery::Lost => carrier.carry(way, &[], arrived),
+        Delivery::Damaged(bytes) => carrier.carry(way, bytes.as_slice(), arrived),
+    }
+}
+
+/// The half of round `n` to the receiver, which gives its reply to what arrived.
+fn go_there<S: Source, K: Sink, C: Carrier>(
+    n: usize,
+    sender: &SenderFrom<S>,
+    receiver: &mut ReceiverInto<K>,
+    delivery: &Delivery,
+    carrier: &mut C,
+    arrived: &mut Vec<u8>,
+) -> Result<Reply, LineFault>
+    ensures { ThereGives n delivery.now
+        (record { sender = sender.now; receiver = receiver.old; told = C.told carrier.old; failures = C.failures carrier.old })
+        result
+        (record { sender = sender.now; receiver = receiver.new; told = C.told carrier.new; failures = C.failures carrier.new }) }
+{
+    check_there(delivery, n)?;
+    carry(carrier, Way::There, delivery, sent_by(sender), arrived)?;
+    Ok(receiver.hear(&heard(arrived))?)
+}
+
+/// The half of round `n` to the sender, which hears what arrived of the reply.
+fn go_back<S: Source, C: Carrier>(
+    n: usize,
+    sender: &mut SenderFrom<S>,
+    reply: Reply,
+    delivery: &Delivery,
+    carrier: &mut C,
+    arrived: &mut Vec<u8>,
+) -> Result<(), LineFault>
+    ensures { (receiver : ReceiverParts) → BackGives n delivery.now reply
+        (record { sender = sender.old; receiver = receiver; told = C.told carrier.old; failures = C.failures carrier.old })
+        result
+        (record { sender = sender.new; receiver = receiver; told = C.told carrier.new; failures = C.failures carrier.new }) }
+{
+    check_back(delivery, reply, n)?;
+    carry(carrier, Way::Back, delivery, reply.as_bytes(), arrived)?;
+    sender.hear(arrived);
+    Ok(())
+}
+
+/// Round `n`. What arrives is put in `arrived`, in place of what it held.
+fn go_round<S: Source, K: Sink, C: Carrier>(
+    n: usize,
+    sender: &mut SenderFrom<S>,
+    receiver: &mut ReceiverInto<K>,
+    round: &Round,
+    carrier: &mut C,
+    arrived: &mut Vec<u8>,
+) -> Result<Seen, LineFault>
+    ensures { RoundGives n round.now
+        (record { sender = sender.old; receiver = receiver.old; told = C.told carrier.old; failures = C.failures carrier.old })
+        result
+        (record { sender = sender.new; receiver = receiver.new; told = C.told carrier.new; failures = C.failures carrier.new }) }
+{
+    let what = What::of_frame(sent_by(sender));
+    let reply = go_there(n, sender, receiver, &round.there, carrier, arrived)?;
+    go_back(n, sender, reply, &round.back, carrier, arrived)?;
+    Ok(Seen {
+        what,
+        there: How::of_delivery(&round.there),
+        reply,
+        back: How::of_delivery(&round.back),
+    })
+}
+
+/// One round: the receiver hears what arrives of the sender's frame, and the sender what arrives of the reply. A damaged delivery is checked
+/// before it is carried. A fault leaves what the steps before it did, and no later step is taken. The round's number is 1.
+pub fn round<S: Source, K: Sink, C: Carrier>(
+    alloc: Global,
+    sender: &mut SenderFrom<S>,
+    receiver: &mut ReceiverInto<K>,
+    round: &Round,
+    carrier: &mut C,
+) -> Result<Seen, LineFault>
+    ensures { RoundGives 1 round.now
+        (record { sender = sender.old; receiver = receiver.old; told = C.told carrier.old; failures = C.failures carrier.old })
+        result
+        (record { sender = sender.new; receiver = receiver.new; told = C.told carrier.new; failures = C.failures carrier.new }) }
+{
+    go_round(1, sender, receiver, round, carrier, &mut Vec::new(alloc))
+}
+
+/// All rounds of a list, in order, also those after both ends have ended. A fault leaves what the rounds before it did, and what the steps
+/// before it did in its own round; rounds are numbered from 1.
+pub fn run<S: Source, K: Sink, C: Carrier>(
+    alloc: Global,
+    sender: &mut SenderFrom<S>,
+    receiver: &mut ReceiverInto<K>,
+    rounds: &[Round],
+    carrier: &mut C,
+) -> Result<Trace, LineFault>
+    ensures { RunGives rounds.now
+        (record { sender = sender.old; receiver = receiver.old; told = C.told carrier.old; failures = C.failures carrier.old })
+        result
+        (record { sender = sender.new; receiver = receiver.new; told = C.told carrier.new; failures = C.failures carrier.new }) }
+{
+    let mut seen = Vec::new(alloc);
+    let mut arrived = Vec::new(alloc);
+    for (i, round) in rounds.iter().enumerate() {
+        seen.reserve(1)?;
+        seen.push_reserved(go_round(i + 1, sender, receiver, round, carrier, &mut arrived)?);
+    }
+    Ok(Trace {
+        rounds: seen,
+        done: sender.done(),
+        send: sender.state(),
+        files: receiver.committed(),
+        recv: receiver.state(),
+    })
+}

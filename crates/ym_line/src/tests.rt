@@ -1,0 +1,5 @@
+mod direct;
+mod fixtures;
+mod refused;
+mod runs;
+mod text;

@@ -1,0 +1,82 @@
+use super::fixtures::{A128, Rounds, one_file, sender_of, text_of_run, usual_sender};
+use crate::{Delivery, Direct, LineFault, Round, round, run};
+use std::test::Fail;
+use ym_file::{Shape, block_at};
+use ym_frame::{Bytes, Item, encode};
+use ym_link::{Receiver, RecvState, SendState};
+
+#[test]
+fn damage_that_does_not_show(rt: HostRuntime) -> Result<(), Fail> {
+    let alloc = rt.alloc();
+    let mut sender = usual_sender(alloc)?;
+    let mut receiver = Receiver::new(alloc);
+    let mut line = Direct::new(alloc);
+    let rounds = Rounds::new(alloc).whole(1)?.damaged_there(alloc, &[0x04])?;
+    let refused = run(alloc, &mut sender, &mut receiver, &rounds.0, &mut line);
+    assert_eq!(rt; refused.err(), Some(LineFault::NotDamage(2)));
+    assert_eq!(rt; line.handed().len(), 2);
+
+    let mut sender = sender_of(one_file(alloc, "a", &[], None)?, Shape::Mixed)?;
+    let mut receiver = Receiver::new(alloc);
+    let mut line = Direct::new(alloc);
+    let rounds = Rounds::new(alloc).whole(2)?.damaged_back(alloc, &[0x06])?;
+    let refused = run(alloc, &mut sender, &mut receiver, &rounds.0, &mut line);
+    assert_eq!(rt; refused.err(), Some(LineFault::NotDamage(3)));
+    assert_eq!(rt; line.handed().len(), 5);
+
+    let frame = encode(&Item::Block(block_at(&A128, Shape::Mixed, 1)));
+    let mut sender = usual_sender(alloc)?;
+    let mut receiver = Receiver::new(alloc);
+    let rounds = Rounds::new(alloc)
+        .whole(2)?
+        .damaged_there(alloc, frame.as_bytes())?;
+    let mut line = Direct::new(alloc);
+    let refused = run(alloc, &mut sender, &mut receiver, &rounds.0, &mut line);
+    assert_eq!(rt; refused.err(), Some(LineFault::NotDamage(3)));
+    Ok(())
+}
+
+#[test]
+fn a_delivery_is_too_long(rt: HostRuntime) -> Result<(), Fail> {
+    let alloc = rt.alloc();
+    let mut sender = usual_sender(alloc)?;
+    let mut receiver = Receiver::new(alloc);
+    let mut line = Direct::new(alloc);
+    let long = Round {
+        there: Delivery::Damaged(Bytes::new(vec![in alloc; 0; 2049]?)),
+        back: Delivery::Whole,
+    };
+    let refused = round(alloc, &mut sender, &mut receiver, &long, &mut line);
+    assert_eq!(rt; refused, Err(LineFault::TooLong(1)));
+    let just_short = Round {
+        there: Delivery::Damaged(Bytes::new(vec![in alloc; 0; 2048]?)),
+        back: Delivery::Damaged(Bytes::new(vec![in alloc; 0; 2048]?)),
+    };
+    round(alloc, &mut sender, &mut receiver, &just_short, &mut line)?;
+    assert_eq!(rt; line.handed().len(), 2);
+    Ok(())
+}
+
+/// Holds whichever one growth of the first run is refused: the fault is want of memory, the committed files are none or the whole one, and
+/// the ends go on from there.
+#[test]
+fn a_growth_is_refused(rt: HostRuntime) -> Result<(), Fail> {
+    let alloc = rt.alloc();
+    let mut sender = usual_sender(alloc)?;
+    let rounds = Rounds::new(alloc).whole(6)?;
+    let mut receiver = Receiver::new(alloc);
+    let mut line = Direct::new(alloc);
+    if let Err(fault) = run(alloc, &mut sender, &mut receiver, &rounds.0, &mut line) {
+        assert_eq!(rt; fault, LineFault::Memory);
+        assert_eq!(rt; sender.state(), SendState::Running);
+        if let Some(file) = receiver.files().first() {
+            assert_eq!(rt; file.bytes(), A128.as_slice());
+        }
+        text_of_run(alloc, &mut sender, &mut receiver, &rounds)?;
+    }
+    assert_eq!(rt; sender.state(), SendState::Finished);
+    assert_eq!(rt; receiver.state(), RecvState::Finished);
+    let file = receiver.files().first().ok_or("no file")?;
+    assert_eq!(rt; file.bytes(), A128.as_slice());
+    Ok(())
+}
