@@ -3,5 +3,4 @@ pub mod ReceiverDeliveries
 pub mod Files
 pub mod Kept
 pub mod Readings
-pub mod ReceiverLemmas
 pub mod Steps
