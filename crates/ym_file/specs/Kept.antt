@@ -1,4 +1,4 @@
--- What a sink holds.
+-- What a sink holds (this profile's choice).
 use Rattle.std.specs.Prelude.{◌≡◌, ℕ, ◌+◌, ◌-◌, ◌≤◌, List, [], ◌∷◌, ◌++◌, length, Option, None, Some, option_to_list}
 use Rattle.ym_header.specs.Header.{HeaderParts}
 
@@ -7,8 +7,9 @@ pub record Told : Type 0 where
   pub open_bytes : List ℕ
   pub files : List (List ℕ)
 
+-- a sink's open file, if there is one, and its committed files
 pub record Kept : Type 0 where
-  pub opened : Option HeaderParts
+  pub opened : Option HeaderParts  -- the header of the open file
   pub taken : ℕ  -- how many bytes of the open file
   pub headers : List HeaderParts  -- of the committed files, in order
   pub told : Option Told

@@ -4,3 +4,5 @@ pub mod Frame
 pub mod Reading
 pub mod Reader
 pub mod Control
+pub mod Words
+pub mod Seal

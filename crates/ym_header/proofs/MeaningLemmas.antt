@@ -13,7 +13,7 @@ use Rattle.ym_header.specs.declared.fault.HeaderFault.{HeaderFault}
 use Rattle.ym_header.specs.declared.fault.HeaderFault.TheVariants.{NameEmpty, NameLong, NameUnsafe, NoLength, LengthLarge, Memory}
 use Rattle.ym_header.specs.declared.reading.Zero.{Zero}
 use Rattle.ym_header.specs.declared.reading.Zero.TheVariants.{File, End}
-use Rattle.ym_header.specs.Header.{HeaderParts, IsName, IsSafe}
+use Rattle.ym_header.specs.Header.{HeaderParts, IsName, IsSafe, IsStamp, IsHeader}
 use Rattle.ym_header.specs.Split.{name_in, field_in, behind_field, HasField, HasNoField, ReadsStamp}
 use Rattle.ym_header.specs.Reading.{Reads, ReadsHeader, IsFault, length_in, behind_length}
 
@@ -197,3 +197,11 @@ pub wider : (narrow wide : ℕ) (body : List ℕ) (z : Zero) → narrow ≤ wide
 wider narrow wide body End le x = x
 wider narrow wide body (File h) le x =
     record { name = x.name; safe = x.safe; digits = x.digits; length = x.length; fits = omega (arith, x.fits, le); stamp = x.stamp }
+
+stamp_fits : (rest : List ℕ) (s : Stamp) → ReadsStamp rest s → IsStamp s
+stamp_fits rest Nothing x = tt
+stamp_fits rest (Time time) x = x.0.fits
+stamp_fits rest (TimeMode time mode) x = (x.0.fits, x.1.fits)
+
+pub read_fits : (limit : ℕ) (body : List ℕ) (h : HeaderParts) → Reads limit body (File h) → IsHeader limit h
+read_fits limit body h x = record { name = x.safe; length = x.fits; stamp = stamp_fits (behind_length body) h.stamp x.stamp }

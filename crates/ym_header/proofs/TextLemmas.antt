@@ -1,21 +1,23 @@
 -- What is written is read.
-use Rattle.std.proofs.Common.{◌≡◌, ◌≢◌, ℕ, zero, suc, ◌+◌, ◌-◌, ◌<◌, ◌≤◌, ◌^◌, Bool, true, false, not, List, [], ◌∷◌, ◌++◌, length, get_or, take, drop, All, decimal, replicate, sym, refl, ap, ◌∙◌, subst, arith}
+use Rattle.std.proofs.Common.{◌≡◌, ◌≢◌, ℕ, zero, suc, ◌+◌, ◌-◌, ◌<◌, ◌≤◌, ◌^◌, ◌⊎◌, inl, inr, Bool, true, false, not, List, [], ◌∷◌, ◌++◌, length, get_or, take, drop, All, decimal, replicate, sym, refl, ap, ◌∙◌, subst, arith}
 use Rattle.std.specs.Char.{is_ascii_digit, digit_value}
 use Rattle.std.specs.List.{prefix_len}
 use Rattle.std.specs.Str.Parse.{AllDigits, IsNumeral, digits_value}
+use Rattle.std.proofs.lemmas.Bool.{cases_lt, lt-ltb, le-ltb}
 use Rattle.std.proofs.lemmas.Bool.Decides.{nat_tests}
-use Rattle.std.proofs.lemmas.Fmt.{digits_is_IsNumeral, decimal_is_IsNumeral}
-use Rattle.std.proofs.lemmas.List.{append_assoc, take_at, drop_at, drop-drop}
+use Rattle.std.proofs.lemmas.Fmt.{digits_is_IsNumeral, decimal_is_IsNumeral, length-decimal-le}
+use Rattle.std.proofs.lemmas.List.{append_assoc, take_at, drop_at, drop-drop, length-append, length-replicate}
 use Rattle.std.proofs.lemmas.List.Elements.{All-head, All-tail}
 use Rattle.std.proofs.lemmas.Str.Parse.{digit_from_value}
 use Rattle.ym_header.specs.declared.stamp.Stamp.{Stamp}
 use Rattle.ym_header.specs.declared.stamp.Stamp.TheVariants.{Nothing, Time, TimeMode}
 use Rattle.ym_header.specs.declared.reading.Zero.{Zero}
 use Rattle.ym_header.specs.declared.reading.Zero.TheVariants.{File}
-use Rattle.ym_header.specs.Header.{HeaderParts, IsName, IsSafe, IsStamp, IsHeader}
+use Rattle.ym_header.specs.Header.{HeaderParts, IsName, IsSafe, IsStamp, IsHeader, length_limit}
 use Rattle.ym_header.specs.Split.{is_zero, ends_field, name_in, behind_name, digits_in, behind_digits, field_in, behind_field, HasField, HasNoField, ReadsStamp}
 use Rattle.ym_header.specs.Reading.{Reads, ReadsHeader}
-use Rattle.ym_header.specs.Text.{octal, stamp_text, fields, text, size_for}
+use Rattle.ym_header.specs.Text.{octal, field, stamp_text, fields, text, size_for, padded}
+use Rattle.ym_header.proofs.OctalLemmas.{octal_short}
 use Rattle.ym_header.proofs.MeaningLemmas.{one_value}
 
 -- ---- Runs
@@ -170,3 +172,29 @@ first_byte h ok =
     let pad = replicate (size_for (length (fields h)) - length (fields h)) 0 in
     let rest = 0 ∷ (decimal h.length ++ (stamp_text h.stamp ++ pad)) in
     subst (λ body. get_or body 0 0 ≢ 0) (sym (regrouped_text h.name (decimal h.length) (stamp_text h.stamp) pad)) (first_of_name h.name rest ok)
+
+-- ---- The size
+
+stamp_short : (s : Stamp) → IsStamp s → length (stamp_text s) ≤ 46
+stamp_short Nothing fits = omega arith
+stamp_short (Time time) fits = omega (arith, octal_short time fits)
+stamp_short (TimeMode time mode) fits =
+    omega (arith, octal_short time fits.0, octal_short mode (omega (arith, fits.1)), length-append (field time) (field mode))
+
+padded_size : (bytes : List ℕ) → length bytes < 1024 → (length (padded bytes) ≡ 128) ⊎ (length (padded bytes) ≡ 1024)
+padded_size bytes h =
+    let all = length-append bytes (replicate (size_for (length bytes) - length bytes) 0) in
+    let pad = length-replicate {A = ℕ} (size_for (length bytes) - length bytes) 0 in
+    elim (cases_lt (length bytes) 128) [
+      | inl small ↦ let size : size_for (length bytes) ≡ 128 = rw (lt-ltb (length bytes) 128 small) refl in inl (omega (arith, all, pad, size, small))
+      | inr large ↦ let size : size_for (length bytes) ≡ 1024 = rw (le-ltb (length bytes) 128 large) refl in inr (omega (arith, all, pad, size, h))
+    ]
+
+pub text_size : (h : HeaderParts) → IsHeader length_limit h → (length (text h) ≡ 128) ⊎ (length (text h) ≡ 1024)
+text_size h ok =
+    let number = length-decimal-le 20 h.length (omega arith) (omega (arith, ok.length)) (omega (arith, ok.length)) in
+    let stamp = stamp_short h.stamp ok.stamp in
+    let named = length-append h.name (0 ∷ []) in
+    let counted = length-append (h.name ++ 0 ∷ []) (decimal h.length) in
+    let all = length-append (h.name ++ (0 ∷ []) ++ decimal h.length) (stamp_text h.stamp) in
+    padded_size (fields h) (omega (arith, number, stamp, named, counted, all, ok.name.short))

@@ -1,4 +1,6 @@
--- What a header says, and which headers there are.
+-- What a header says, and which headers there are. The fields are those of the reference (C. Forsberg, XMODEM/YMODEM Protocol
+-- Reference, 1988), "YMODEM Batch File Transmission": "Pathname", "Length", "Modification Date" and "Mode". The limits on
+-- them, and the order of the faults, are this profile's choice.
 use Rattle.std.specs.Prelude.{◌≡◌, ◌≢◌, ◌<◌, ◌≤◌, ◌^◌, ◌-◌, ℕ, List, [], length, codes, All, IsTrue}
 use Rattle.std.specs.Str.{is_utf8}
 use Rattle.ym_header.specs.declared.stamp.Stamp.{Stamp}
@@ -12,7 +14,7 @@ pub record HeaderParts : Type 0 where
   pub length : ℕ
   pub stamp : Stamp
 
--- the largest length
+-- the largest length that a header may tell
 abbrev pub length_limit : ℕ
 length_limit = 2 ^ 63 - 1
 
@@ -23,6 +25,7 @@ pub record IsSafe (name : List ℕ) : Type 0 where
   pub not_here : name ≢ codes "."
   pub not_above : name ≢ codes ".."
 
+-- a safe name of 1 to 255 bytes
 pub record IsName (name : List ℕ) : Type 0 where
   pub some : 0 < length name
   pub short : length name ≤ 255

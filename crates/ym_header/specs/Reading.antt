@@ -1,4 +1,5 @@
--- Block 0 as read.
+-- Block 0 as read. An empty name ends the batch, as the reference says in "YMODEM Batch File Transmission". This profile
+-- chose that a length is required, its limit, and the order of the faults.
 use Rattle.std.specs.Prelude.{◌≡◌, ◌<◌, ◌≤◌, ℕ, List, [], length, Result, Ok, Err}
 use Rattle.std.specs.Str.Parse.{digits_value}
 use Rattle.ym_header.specs.Header.{HeaderParts, IsName, IsNameFault}
@@ -24,7 +25,7 @@ pub record ReadsHeader (limit : ℕ) (body : List ℕ) (h : HeaderParts) : Type 
   pub fits : h.length ≤ limit
   pub stamp : ReadsStamp (behind_length body) h.stamp
 
--- what a body stands for
+-- what a body stands for: the end where its name is empty, whatever follows, else a header
 abbrev pub Reads : ℕ → List ℕ → Zero → Type 0
 Reads limit body End = name_in body ≡ []
 Reads limit body (File h) = ReadsHeader limit body h
@@ -43,7 +44,7 @@ IsAnswer limit body (Ok zero) = Reads limit body zero
 IsAnswer limit body (Err Memory) = (h : HeaderParts) × ReadsHeader limit body h
 IsAnswer limit body (Err fault) = IsFault limit body fault
 
--- the same of the digits of a length alone
+-- what the digits of a length alone may answer
 abbrev pub IsLengthAnswer : ℕ → List ℕ → Result ℕ HeaderFault → Type 0
 IsLengthAnswer limit digits (Ok n) = (0 < length digits) × (n ≡ digits_value 10 digits) × (n ≤ limit)
 IsLengthAnswer limit digits (Err NoLength) = digits ≡ []

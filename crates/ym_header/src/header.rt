@@ -8,10 +8,13 @@ use crate::stamp::Stamp;
 use std::alloc::{AllocError, Global};
 use std::marker::Model;
 
-/// The largest length that a header may tell.
+/// The largest length that a header may tell: 2^63 - 1.
 pub(crate) const LENGTH_LIMIT: u64 = 0x7fff_ffff_ffff_ffff;
 
-/// A file's name and length, and its stamp.
+/// A file's name, its length in bytes, and its stamp.
+///
+/// The name has 1 to 255 bytes, without control characters and slashes, and is neither `.` nor
+/// `..`; the length is at most 2^63 - 1.
 #[derive(Drop)]
 pub struct Header {
     name: String,
@@ -27,7 +30,8 @@ impl Model for Header {
 
     ghost view = { λ h. record { name = string_bytes h.name; length = h.size; stamp = h.stamp } };
 
-    ghost invariant = { λ h. IsHeader length_limit (record { name = string_bytes h.name; length = h.size; stamp = h.stamp }) };
+    ghost invariant = { λ h. IsHeader length_limit
+        (record { name = string_bytes h.name; length = h.size; stamp = h.stamp }) };
 }
 
 fn has_safe_bytes(name: &[u8]) -> bool
@@ -47,9 +51,11 @@ pub(crate) fn is_safe(name: &str) -> bool
 }
 
 impl Header {
-    /// The header of a file, or the first fault.
+    /// The header of a file, where the name and the length are within the limits; else the first
+    /// fault, in the order of `HeaderFault`.
     pub fn new(alloc: Global, name: &str, length: u64, stamp: Stamp) -> Result<Header, HeaderFault>
-        ensures ok { IfOk result (λ header. header ≡ record { name = name.now; length = length; stamp = stamp }) }
+        ensures ok { IfOk result (λ header.
+            header ≡ record { name = name.now; length = length; stamp = stamp }) }
         ensures within { IfOk result (λ header. IsHeader length_limit header) }
         ensures refused { IfErr result (λ fault. IsRefused length_limit name.now length fault) }
     {
@@ -77,7 +83,8 @@ impl Header {
     ) -> Result<Header, AllocError>
         requires name { IsName name.now }
         requires length { length ≤ length_limit }
-        ensures parts { IfOk result (λ header. header ≡ record { name = name.now; length = length; stamp = stamp }) }
+        ensures parts { IfOk result (λ header.
+            header ≡ record { name = name.now; length = length; stamp = stamp }) }
         ensures within { IfOk result (λ header. IsHeader length_limit header) }
     {
         let name = String::from_str(alloc, name)?;
@@ -88,6 +95,7 @@ impl Header {
         })
     }
 
+    /// The file's name.
     pub fn name(&self) -> &str
         ensures value { result.now ≡ self.now.name }
         ensures within { IsName result.now }
@@ -95,6 +103,7 @@ impl Header {
         self.name.as_str()
     }
 
+    /// The file's length in bytes.
     pub fn length(&self) -> u64
         ensures value { result ≡ self.now.length }
         ensures within { result ≤ length_limit }
@@ -102,6 +111,7 @@ impl Header {
         self.size
     }
 
+    /// When the file was last changed, and its mode, as far as they are told.
     pub fn stamp(&self) -> Stamp
         ensures value { result ≡ self.now.stamp }
         ensures within { IsStamp result }

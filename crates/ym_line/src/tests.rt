@@ -3,3 +3,4 @@ mod fixtures;
 mod refused;
 mod runs;
 mod text;
+mod texts;

@@ -1,11 +1,13 @@
 -- A batch in which one file's source failed.
 use Rattle.std.proofs.Common.{ℕ, ◌≡◌, ◌<◌, List, length, map, get_or, Option, None, Some, Bool, true, false, refl, ap, ap₂, sym, subst, ◌∙◌, slice_set, arith}
+use Rattle.std.specs.Prelude.{All}
 use Rattle.std.proofs.Math.Seq.{map-set_same}
 use Rattle.std.proofs.lemmas.List.{get_or_default}
+use Rattle.std.proofs.lemmas.List.Elements.{All-set, All-get_or}
 use Rattle.ym_header.specs.Header.{HeaderParts}
 use Rattle.ym_file.specs.Counts.{Rose}
 use Rattle.ym_file.specs.declared.plan.Shape.{Shape}
-use Rattle.ym_link.specs.SourceFile.{FileParts, file_at, no_file, blocks_of, counts_of}
+use Rattle.ym_link.specs.SourceFile.{FileParts, IsFile, file_at, no_file, blocks_of, counts_of}
 use Rattle.ym_link.specs.declared.place.Place.{Place}
 use Rattle.ym_link.specs.declared.place.Place.TheVariants.{Header, Block, Eot, End}
 use Rattle.ym_link.specs.Sender.{FailedAt, IsFilled}
@@ -15,6 +17,7 @@ pub failed_at : (files : List FileParts) (file : ℕ) (d y : FileParts) → file
 failed_at files file d y less header bytes rose =
     let e = get_or_default files file no_file d less in
     record {
+      within = less;
       failures = y.failures;
       rose = subst (λ (f : FileParts). Rose f.failures y.failures) (sym e) rose;
       after = ap (slice_set files file) (ap₂ (λ (h : HeaderParts) (b : Option (List ℕ)). record { header = h; bytes = b; failures = y.failures }) (header ∙ ap (λ (f : FileParts). f.header) (sym e)) (bytes ∙ ap (λ (f : FileParts). f.bytes) (sym e)));
@@ -28,3 +31,15 @@ filled_counts shape true (Some (Header file)) old new h = absurd h
 filled_counts shape true (Some (Eot file)) old new h = absurd h
 filled_counts shape true (Some End) old new h = absurd h
 filled_counts shape true None old new h = absurd h
+
+-- each file stays within its limits
+pub filled_files : (failed : Bool) (place : Option Place) (old new : List FileParts) → IsFilled failed place old new → All IsFile old → All IsFile new
+filled_files false place old new h all = subst (All IsFile) (sym h) all
+filled_files true (Some (Block file k)) old new h all = subst (All IsFile) (sym h.after) (All-set IsFile old file _ (record { header = one.header; bytes = one.bytes }) all)
+  where
+    one : IsFile (file_at old file)
+    one = All-get_or IsFile old file no_file h.within all
+filled_files true (Some (Header file)) old new h all = absurd h
+filled_files true (Some (Eot file)) old new h all = absurd h
+filled_files true (Some End) old new h all = absurd h
+filled_files true None old new h all = absurd h

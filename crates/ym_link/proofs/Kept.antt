@@ -1,8 +1,9 @@
 -- What a sender keeps to, after a step.
 use Rattle.std.proofs.Common.{ℕ, ◌≡◌, ◌<◌, List, Bool, true, false, refl, ap, sym, subst, ◌∙◌, Option, None, Some}
+use Rattle.std.specs.Prelude.{All}
 use Rattle.ym_file.specs.declared.plan.Shape.{Shape}
 use Rattle.ym_frame.specs.declared.control.Control.{Control}
-use Rattle.ym_link.specs.SourceFile.{FileParts, counts_of}
+use Rattle.ym_link.specs.SourceFile.{FileParts, IsFile, counts_of}
 use Rattle.ym_link.specs.Place.{IsPlace, IsFrameAt}
 use Rattle.ym_link.specs.declared.place.Place.{Place}
 use Rattle.ym_link.specs.declared.place.Mode.{Mode}
@@ -11,8 +12,9 @@ use Rattle.ym_link.specs.declared.standing.Standing.{Standing}
 use Rattle.ym_link.specs.declared.standing.Step.{Step}
 use Rattle.ym_link.specs.declared.state.SendState.{SendState}
 use Rattle.ym_link.specs.declared.state.SendState.TheVariants.{Running, Finished, NoReply, Cancelled, SourceFailed}
-use Rattle.ym_link.specs.Sender.{SenderParts, IsSender, IsFilled, hears}
-use Rattle.ym_link.proofs.Files.{filled_counts}
+use Rattle.ym_link.specs.Sender.{SenderParts, IsSender, IsFilled}
+use Rattle.ym_link.specs.Standing.{hears}
+use Rattle.ym_link.proofs.Files.{filled_counts, filled_files}
 use Rattle.ym_link.proofs.Steps.{Keeps, step_keeps}
 
 is_failed : SourceFailed ≡ Running → ⊥
@@ -24,9 +26,10 @@ module _ (shape : Shape) (frame : List ℕ) (seen old : List FileParts) (same : 
   within_old place = subst (λ files. IsPlace (counts_of shape files) place → IsPlace (counts_of shape old) place) (sym same) (λ h. h)
 
   -- the source failed
-  pub failed_sender : (new : List FileParts) (place : Option Place) (s t : Standing) → t ≡ record s { state = SourceFailed; farewell = true } → IsFilled true place old new → IsPlace (counts_of shape seen) s.place
+  pub failed_sender : (new : List FileParts) (place : Option Place) (s t : Standing) → t ≡ record s { state = SourceFailed; farewell = true } → IsFilled true place old new → All IsFile old → IsPlace (counts_of shape seen) s.place
       → IsSender (record { standing = t; shape = shape; files = new; frame = frame })
-  failed_sender new place s t is filled within = subst (λ (x : Standing). IsSender (record { standing = x; shape = shape; files = new; frame = frame })) (sym is) (record {
+  failed_sender new place s t is filled files within = subst (λ (x : Standing). IsSender (record { standing = x; shape = shape; files = new; frame = frame })) (sym is) (record {
+    files = filled_files true place old new filled files;
     place = subst (λ counts. IsPlace counts s.place) (sym (filled_counts shape true place old new filled)) (within_old s.place within);
     misses = λ h. absurd (is_failed h);
     frame = λ h. absurd (is_failed h);
@@ -37,10 +40,26 @@ module _ (shape : Shape) (frame : List ℕ) (seen old : List FileParts) (same : 
       → IsPlace (counts_of shape seen) step.standing.place → IsSender (record { standing = s; shape = shape; files = old; frame = frame })
       → IsSender (record { standing = step.standing; shape = shape; files = old; frame = frame })
   unfilled_sender s step cs is none within sender = record {
+    files = sender.files;
     place = within_old step.standing.place within;
     misses = λ h. (keeps h).misses;
     frame = λ h sent. subst (λ p. IsFrameAt shape old p frame) (sym ((keeps h).place none sent)) (sender.frame (keeps h).state ((keeps h).mode none sent));
   }
+    where
+      keeps : step.standing.state ≡ Running → Keeps s step
+      keeps h = subst (λ (x : Step). x.standing.state ≡ Running → Keeps s x) (sym is) (step_keeps (counts_of shape seen) s cs) h
+
+  -- a frame was filled
+  pub filled_sender : (out : List ℕ) (new : List FileParts) (s : Standing) (step : Step) (cs : List Control) (place : Place) → step ≡ hears (counts_of shape seen) s cs
+      → step.fills ≡ Some place → new ≡ old → IsPlace (counts_of shape seen) step.standing.place → IsFrameAt shape old place out → All IsFile old
+      → IsSender (record { standing = step.standing; shape = shape; files = new; frame = out })
+  filled_sender out new s step cs place is fills unchanged within held files =
+      subst (λ (x : List FileParts). IsSender (record { standing = step.standing; shape = shape; files = x; frame = out })) (sym unchanged) (record {
+        files = files;
+        place = within_old step.standing.place within;
+        misses = λ h. (keeps h).misses;
+        frame = λ h sent. subst (λ p. IsFrameAt shape old p out) (sym ((keeps h).filled place fills)) held;
+      })
     where
       keeps : step.standing.state ≡ Running → Keeps s step
       keeps h = subst (λ (x : Step). x.standing.state ≡ Running → Keeps s x) (sym is) (step_keeps (counts_of shape seen) s cs) h

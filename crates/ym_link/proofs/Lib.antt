@@ -3,4 +3,10 @@ pub mod ReceiverDeliveries
 pub mod Files
 pub mod Kept
 pub mod Readings
+pub mod OneStep
+pub mod Positions
+pub mod SenderHalf
+pub mod SenderPlaces
+pub mod SenderStanding
+pub mod Settled
 pub mod Steps

@@ -1,5 +1,5 @@
 -- What a reading comes to, and what a step keeps.
-use Rattle.std.proofs.Common.{ℕ, ◌+◌, ◌≡◌, ◌<◌, List, [], ◌∷◌, Bool, true, false, refl, ap, sym, subst, ◌∙◌, Option, None, Some, nat_lt, cond, arith}
+use Rattle.std.proofs.Common.{ℕ, ◌+◌, ◌≡◌, ◌<◌, ◌⊎◌, inl, inr, List, [], ◌∷◌, Bool, true, false, refl, ap, sym, subst, ◌∙◌, Option, None, Some, nat_lt, cond, arith}
 use Rattle.std.proofs.lemmas.Bool.Decides.{nat_tests}
 use Rattle.ym_frame.specs.declared.control.Control.{Control}
 use Rattle.ym_frame.specs.declared.control.Control.TheVariants.{Ack, Nak, Start, Can}
@@ -15,7 +15,8 @@ use Rattle.ym_link.specs.declared.standing.Standing.{Standing}
 use Rattle.ym_link.specs.declared.standing.Step.{Step}
 use Rattle.ym_link.specs.declared.state.SendState.{SendState}
 use Rattle.ym_link.specs.declared.state.SendState.TheVariants.{Running, Finished, NoReply, Cancelled, SourceFailed}
-use Rattle.ym_link.specs.Sender.{goes_on, stops, turn, reads, missed, moved, read_through, after_reading, runs, hears, hears_in}
+use Rattle.ym_link.specs.Reading.{goes_on, stops, turn, reads}
+use Rattle.ym_link.specs.Standing.{missed, moved, read_through, after_reading, runs, hears, hears_in, IsSame}
 
 -- another frame stands behind it
 abbrev pub IsBefore : Place → Type 0
@@ -117,6 +118,79 @@ reading_keeps counts s on r (waits_next m before e) = subst (λ (x : Reading). K
 reading_keeps counts s on r (sends_next m before e) = subst (λ (x : Reading). KeepsOn s (after_reading s x.place x.mode x.stop)) (sym e)
     (λ _. record { misses = omega arith; place = λ h. cc; mode = λ h. cc; state = on; filled = λ p h. cc })
 reading_keeps counts s on r (cancels_next m before e) = subst (λ (x : Reading). KeepsOn s (after_reading s x.place x.mode x.stop)) (sym e) (λ h. absurd cc)
+
+-- ---- Progress
+
+abbrev pub Counts : Standing → Standing → Type 0
+Counts old new = ((new.misses ≡ 0) × ¬ IsSame old new) ⊎ ((new.misses ≡ old.misses + 1) × IsSame old new)
+
+abbrev CountsOn : Standing → Standing → Type 0
+CountsOn old new = new.state ≡ Running → Counts old new
+
+number_in : Place → ℕ
+number_in (Block file k) = k
+number_in place = 0
+
+other_block : (file k : ℕ) (rest : Bool) → cond rest (Block file (k + 1)) (Eot file) ≡ Block file k → ⊥
+other_block file k true h = let e = number h in omega (arith, e)
+  where
+    number : Block file (k + 1) ≡ Block file k → k + 1 ≡ k
+    number w = cc
+other_block file k false h = absurd cc
+
+other_header : (file : ℕ) (rest : Bool) → cond rest (Block file 1) (Eot file) ≡ Header file → ⊥
+other_header file true h = absurd cc
+other_header file false h = absurd cc
+
+other_eot : (file : ℕ) (rest : Bool) → cond rest (Header (file + 1)) End ≡ Eot file → ⊥
+other_eot file true h = absurd cc
+other_eot file false h = absurd cc
+
+-- the next frame is another one
+pub next_is_other : (counts : List ℕ) (place : Place) → IsBefore place → next_of counts place ≡ place → ⊥
+next_is_other counts (Header file) before h = other_header file _ h
+next_is_other counts (Block file k) before h = other_block file k _ h
+next_is_other counts (Eot file) before h = other_eot file _ h
+next_is_other counts End before h = before
+
+is_sent : Waiting ≡ Sent → ⊥
+is_sent h = absurd cc
+
+missed_counts : (s : Standing) → CountsOn s (missed s).standing
+missed_counts s = by (nat_lt (s.misses + 1) 10)
+  where
+    by : (b : Bool) → CountsOn s (cond {A = Step} b (record { standing = record s { misses = s.misses + 1 }; fills = None }) (record { standing = record s { misses = s.misses + 1; state = NoReply; farewell = true }; fills = None })).standing
+    by true still = inr (refl, record { place = refl; mode = refl })
+    by false still = absurd cc
+
+reading_counts : (counts : List ℕ) (s : Standing) (r : Reading) → Reaches counts s.place s.mode r → CountsOn s (after_reading s r.place r.mode r.stop).standing
+reading_counts counts s r (stays e) = subst (λ (x : Reading). CountsOn s (after_reading s x.place x.mode x.stop).standing) (sym e) (by s.mode)
+  where
+    by : (m : Mode) → CountsOn s (read_through s s.place m m).standing
+    by Waiting = missed_counts s
+    by Sent = missed_counts s
+reading_counts counts s r (cancels e) = subst (λ (x : Reading). CountsOn s (after_reading s x.place x.mode x.stop).standing) (sym e) (λ h. absurd cc)
+reading_counts counts s r (again m e) = subst (λ (x : Reading). CountsOn s (after_reading s x.place x.mode x.stop).standing) (sym e) (missed_counts s)
+reading_counts counts s r (finishes m e) = subst (λ (x : Reading). CountsOn s (after_reading s x.place x.mode x.stop).standing) (sym e) (λ h. absurd cc)
+reading_counts counts s r (sends m e) = subst (λ (x : Reading). CountsOn s (after_reading s x.place x.mode x.stop).standing) (sym e)
+    (λ _. inl (refl, λ same. is_sent (sym (same.mode ∙ m))))
+reading_counts counts s r (waits_next m before e) = subst (λ (x : Reading). CountsOn s (after_reading s x.place x.mode x.stop).standing) (sym e)
+    (subst (λ (m : Mode). CountsOn s (read_through s (next_of counts s.place) m Waiting).standing) (sym m) (λ _. inl (refl, λ same. is_sent (same.mode ∙ m))))
+reading_counts counts s r (sends_next m before e) = subst (λ (x : Reading). CountsOn s (after_reading s x.place x.mode x.stop).standing) (sym e)
+    (λ _. inl (refl, λ same. next_is_other counts s.place before same.place))
+reading_counts counts s r (cancels_next m before e) = subst (λ (x : Reading). CountsOn s (after_reading s x.place x.mode x.stop).standing) (sym e) (λ h. absurd cc)
+
+pub step_counts : (counts : List ℕ) (s : Standing) (cs : List Control) → (hears counts s cs).standing.state ≡ Running → Counts s (hears counts s cs).standing
+step_counts counts s cs still = by s.state refl still
+  where
+    by : (state : SendState) → s.state ≡ state → CountsOn s (hears_in state counts s cs).standing
+    by Running is h = reading_counts counts s _ (reaches counts s.place s.mode cs) h
+    by Finished is h = absurd cc
+    by NoReply is h = absurd cc
+    by Cancelled is h = absurd cc
+    by SourceFailed is h = absurd cc
+
+-- ---- What a step keeps
 
 pub step_keeps : (counts : List ℕ) (s : Standing) (cs : List Control) → (hears counts s cs).standing.state ≡ Running → Keeps s (hears counts s cs)
 step_keeps counts s cs still = by s.state refl still

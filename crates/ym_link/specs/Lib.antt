@@ -1,9 +1,14 @@
 pub mod Hearing
 pub mod Receiver
 pub mod ReceiverInto
+pub mod ReceiverStands
 pub mod SourceFile
 pub mod Port
 pub mod ScriptPort
 pub mod Deliveries
 pub mod Place
+pub mod Reading
+pub mod Standing
 pub mod Sender
+pub mod SenderExamples
+pub mod SenderStands

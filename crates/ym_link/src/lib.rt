@@ -5,6 +5,7 @@ mod delivery;
 mod end_fault;
 mod event;
 mod hearing;
+pub mod laws;
 mod place;
 mod port;
 mod reading;

@@ -3,7 +3,7 @@
 ghost use Rattle.std.specs.Prelude.{◌≡◌};
 ghost use Rattle.ym_link.specs.SourceFile.{counts_of};
 ghost use Rattle.ym_link.specs.Place.{IsPlace};
-ghost use Rattle.ym_link.specs.Sender as sender;
+ghost use Rattle.ym_link.specs.Reading as table;
 
 use crate::place::{Mode, Place, next_place};
 use crate::source_file::SourceFile;
@@ -34,7 +34,7 @@ pub struct Reading {
 /// The frame that is out was acknowledged.
 fn acknowledged<S: Source>(files: &[SourceFile<S>], shape: Shape, place: Place) -> Reading
     requires { IsPlace (counts_of shape files.now) place }
-    ensures turn { result ≡ sender.turn (counts_of shape files.now) Mode.Sent Control.Ack place }
+    ensures turn { result ≡ table.turn (counts_of shape files.now) Mode.Sent Control.Ack place }
     ensures within { IsPlace (counts_of shape files.now) result.place }
 {
     let next = next_place(files, shape, place);
@@ -66,7 +66,7 @@ fn turn<S: Source>(
     control: Control,
 ) -> Reading
     requires { IsPlace (counts_of shape files.now) place }
-    ensures turn { result ≡ sender.turn (counts_of shape files.now) mode control place }
+    ensures turn { result ≡ table.turn (counts_of shape files.now) mode control place }
     ensures within { IsPlace (counts_of shape files.now) result.place }
 {
     match (mode, control) {
@@ -98,7 +98,7 @@ pub fn read_delivery<S: Source>(
     bytes: &[u8],
 ) -> Reading
     requires { IsPlace (counts_of shape files.now) place }
-    ensures reads { result ≡ sender.reads (counts_of shape files.now) place mode (sender.controls_in bytes.now) }
+    ensures reads { result ≡ table.reads (counts_of shape files.now) place mode (table.controls_in bytes.now) }
     ensures within { IsPlace (counts_of shape files.now) result.place }
 {
     let mut read = Reading {

@@ -2,7 +2,7 @@
 
 ghost use Rattle.std.specs.Prelude.{◌≡◌, ◌↔◌, IsTrue, Some, length, map, option_map};
 ghost use Rattle.ym_file.specs.Kept.{Told, IsNew};
-ghost use Rattle.ym_file.specs.Parts.{FileParts};
+ghost use Rattle.ym_file.specs.Received.{ReceivedParts};
 
 mod steps;
 
@@ -137,8 +137,8 @@ impl ReceiverInto<MemSink> {
 
     /// The committed files, in order.
     pub fn files(&self) -> &[Received]
-        ensures headers { map (λ (f : FileParts). f.header) result.now ≡ self.now.kept.headers }
-        ensures bytes { Some (map (λ (f : FileParts). f.bytes) result.now) ≡ option_map (λ (told : Told). told.files) self.now.kept.told }
+        ensures headers { map (λ (f : ReceivedParts). f.header) result.now ≡ self.now.kept.headers }
+        ensures bytes { Some (map (λ (f : ReceivedParts). f.bytes) result.now) ≡ option_map (λ (told : Told). told.files) self.now.kept.told }
     {
         self.sink.files()
     }

@@ -1,7 +1,7 @@
 //! The sender of a batch, over any source.
 
-ghost use Rattle.std.specs.Prelude.{◌≡◌, ◌↔◌, ◌≤◌, length, MatchOption, Some, None, IfOk, IfErr, IsOk, OnOk, OnErr, true};
-ghost use Rattle.ym_link.specs.SourceFile.{counts_of};
+ghost use Rattle.std.specs.Prelude.{◌≡◌, ◌↔◌, ◌≤◌, length, MatchOption, Some, None, IfOk, IfErr, IfSome, IsOk, OnOk, OnErr, All, true};
+ghost use Rattle.ym_link.specs.SourceFile.{IsFile, counts_of};
 ghost use Rattle.ym_link.specs.Place.{IsPlace, IsItemAt, IsFrameAt, done_at};
 ghost use Rattle.ym_link.specs.Sender.{IsFilled};
 
@@ -48,6 +48,15 @@ impl<S: Source> Model for SenderFrom<S> {
     ghost invariant = { λ s. IsSender (record { standing = s.standing; shape = s.shape; files = s.batch.items; frame = s.frame }) };
 }
 
+/// Looks at each file, so that what a file keeps is known of all of them.
+fn look_at<S: Source>(files: &[SourceFile<S>])
+    ensures { All IsFile files.now }
+{
+    for file in files {
+        let _ = file.header();
+    }
+}
+
 /// The item of a place. The body of a data block is read from its source.
 fn item_at<S: Source>(
     files: &mut Vec<SourceFile<S>>,
@@ -86,7 +95,9 @@ fn frame_at<S: Source>(
 }
 
 impl<S: Source> SenderFrom<S> {
-    ghost use Rattle.ym_link.specs.Sender.{Hears, IsSender, spoken, counts, controls_in, is_settled, new_standing};
+    ghost use Rattle.ym_link.specs.Sender.{Hears, IsSender, spoken, counts};
+    ghost use Rattle.ym_link.specs.Reading.{controls_in};
+    ghost use Rattle.ym_link.specs.Standing.{is_settled, new_standing};
 
     /// A sender of a batch of at most 65,535 files, waiting at its first frame.
     pub fn new(batch: Vec<SourceFile<S>>, shape: Shape) -> Result<SenderFrom<S>, BatchFault<S>>
@@ -99,6 +110,7 @@ impl<S: Source> SenderFrom<S> {
         if batch.len() > MOST_FILES {
             return Err(BatchFault::TooMany(batch));
         }
+        look_at(&batch);
         let standing = Standing::new(first_place(&batch, shape));
         Ok(SenderFrom {
             batch,
@@ -108,9 +120,11 @@ impl<S: Source> SenderFrom<S> {
         })
     }
 
-    /// What is to be sent now.
+    /// What is to be sent now: while it runs, the frame of its place or nothing, and after it gave
+    /// up or its source failed, CAN CAN until it hears a delivery.
     pub fn frame(&self) -> Option<&[u8]>
         ensures spoken { MatchOption result (spoken self.now ≡ None) (λ bytes. spoken self.now ≡ Some bytes.now) }
+        ensures place { IfSome result (λ bytes. self.now.standing.state ≡ SendState.Running → IsFrameAt self.now.shape self.now.files self.now.standing.place bytes.now) }
         ensures sender { IsSender self.now }
     {
         let standing = self.standing;

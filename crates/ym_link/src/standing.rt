@@ -3,7 +3,8 @@
 ghost use Rattle.std.specs.Prelude.{◌≡◌, ◌<◌, true, false};
 ghost use Rattle.ym_link.specs.SourceFile.{counts_of};
 ghost use Rattle.ym_link.specs.Place.{IsPlace};
-ghost use Rattle.ym_link.specs.Sender as sender;
+ghost use Rattle.ym_link.specs.Reading.{controls_in};
+ghost use Rattle.ym_link.specs.Standing as table;
 
 use crate::place::{Mode, Place};
 use crate::reading::{Reading, Stop, read_delivery};
@@ -51,7 +52,7 @@ impl Standing {
     /// After a delivery without progress.
     fn missed(self) -> Standing
         requires { self.misses < 10 }
-        ensures { result ≡ (sender.missed self).standing }
+        ensures { result ≡ (table.missed self).standing }
     {
         let misses = self.misses + 1;
         if misses < MOST_MISSES {
@@ -68,7 +69,7 @@ impl Standing {
 
     /// After progress to a place and a mode.
     fn moved(self, place: Place, mode: Mode) -> Standing
-        ensures { result ≡ sender.moved self place mode }
+        ensures { result ≡ table.moved self place mode }
     {
         Standing {
             place,
@@ -92,7 +93,7 @@ impl Standing {
     /// After a delivery has been read.
     fn after_reading(self, read: Reading) -> Step
         requires { self.misses < 10 }
-        ensures { result ≡ sender.after_reading self read.place read.mode read.stop }
+        ensures { result ≡ table.after_reading self read.place read.mode read.stop }
     {
         let standing = match read.stop {
             Some(Stop::Sends) => {
@@ -130,7 +131,7 @@ impl Standing {
     pub fn after<S: Source>(self, files: &[SourceFile<S>], shape: Shape, bytes: &[u8]) -> Step
         requires place { IsPlace (counts_of shape files.now) self.place }
         requires misses { self.state ≡ SendState.Running → self.misses < 10 }
-        ensures step { result ≡ sender.hears (counts_of shape files.now) self (sender.controls_in bytes.now) }
+        ensures step { result ≡ table.hears (counts_of shape files.now) self (controls_in bytes.now) }
         ensures within { IsPlace (counts_of shape files.now) result.standing.place }
     {
         if self.state == SendState::Running {

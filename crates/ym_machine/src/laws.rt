@@ -1,51 +1,179 @@
 //! Laws over the definitions alone.
+//!
+//! Each is a function with an empty body, whose contract is the law: call it where the law is
+//! needed, at a type that names the kind of batch.
 
-ghost use Rattle.std.specs.Prelude.{◌≡◌, ◌≢◌, ◌+◌, ◌<◌, ◌≤◌, ◌∷◌, [], Bool, List, true, length};
+ghost use Rattle.std.specs.Prelude.{◌≡◌, ◌≢◌, ◌⊎◌, ◌+◌, ◌%◌, ◌<◌, ◌≤◌, ◌∷◌, ◌++◌, [], ℕ, Bool, List, true, length, map};
+ghost use Rattle.ym_frame.specs.declared.control.Control.{Control};
+ghost use Rattle.ym_frame.specs.declared.control.Control.TheVariants as control;
+ghost use Rattle.ym_frame.specs.declared.control.Reply.{Reply};
+ghost use Rattle.ym_frame.specs.Control.{reply_bytes, IsSubsequence};
 ghost use Rattle.ym_machine.specs.declared.confirm.Confirm.{Confirm};
-ghost use Rattle.ym_machine.specs.declared.words.Control.{Control};
-ghost use Rattle.ym_machine.specs.Frames.{File, Frame, frames_of};
-ghost use Rattle.ym_machine.specs.Machine.{State, Sent_all, IsMachine, start, there, back, is_within, controls, Turn, IsGoing, IsDamage, NoFailure, AllWhole, CountsWithin, IsComplete, after_turn, after_turns, is_whole, whole_turns, longest_bad_run, left, rounds_needed};
+ghost use Rattle.ym_machine.specs.Frames.{File, Frame, BlockZero, Piece, Eot, EndBlock, frames_of, frame_at, frame_before, body_at, count_within, files_within, IsPrefix, EndsOnce};
+ghost use Rattle.ym_machine.specs.State.{SenderEnd, ReceiverEnd, State, start, FrameAt, said, committed, reported};
+ghost use Rattle.ym_machine.specs.Halves.{there, back, controls, is_within, IsRemnant, control_byte, KeepsSender, KeepsReceiver, SenderStays};
+ghost use Rattle.ym_machine.specs.Run.{Turn, after_turn, after_turns, entries_of, IsTurnDamage, IsDamage, NoFailure, AllWhole, is_whole, whole_turns, longest_bad_run, five_and_five};
+ghost use Rattle.ym_machine.specs.Left.{left, rounds_needed, IsGoing, CountsWithin, IsComplete};
+ghost use Rattle.ym_machine.specs.Machine.{IsMachine};
+
+use crate::Batch;
 
 /// The start is a machine state, and each half of a round leads from a machine state to a machine
-/// state, so what the receiver has taken is what the sender counts, or one frame more.
-pub fn halves_keep_the_machine()
-    ensures at_start { (confirm : Confirm) (files : List File) → IsMachine confirm (frames_of files) start }
-    ensures half_there { (files : List File) (confirm : Confirm) (sink_failed whole : Bool) (old : State) →
+/// state: the half back from the state behind the half there of the same round, with control bytes
+/// that are those of its reply with some left out.
+pub fn halves_keep_machine_states<B: Batch>()
+    ensures at_start { (files : List (File B.Header)) (confirm : Confirm) → IsMachine confirm (frames_of files) start }
+    ensures half_there { (files : List (File B.Header)) (confirm : Confirm) (sink_failed whole : Bool) (old : State) →
         IsMachine confirm (frames_of files) old → IsMachine confirm (frames_of files) (there (frames_of files) confirm sink_failed whole old).0 }
-    ensures half_back { (files : List File) (confirm : Confirm) (sink_failed whole source_failed : Bool) (came : List Control) (old : State) →
+    ensures half_back { (files : List (File B.Header)) (confirm : Confirm) (sink_failed whole source_failed : Bool) (came : List Control) (old : State) →
         IsMachine confirm (frames_of files) old →
         is_within came (controls (there (frames_of files) confirm sink_failed whole old).1) ≡ true →
         IsMachine confirm (frames_of files) (back (frames_of files) source_failed came (there (frames_of files) confirm sink_failed whole old).0) }
+    ensures run { (files : List (File B.Header)) (confirm : Confirm) (turns : List Turn) (old : State) →
+        IsMachine confirm (frames_of files) old → IsDamage (frames_of files) confirm turns old →
+        IsMachine confirm (frames_of files) (after_turns (frames_of files) confirm turns old) }
+{}
+
+/// Each half leaves the other end alone.
+pub fn halves_keep_the_other_end<B: Batch>()
+    ensures there_keeps { (frames : List (Frame B.Header)) (confirm : Confirm) (sink_failed whole : Bool) (old : State) →
+        KeepsSender old (there frames confirm sink_failed whole old).0 }
+    ensures back_keeps { (frames : List (Frame B.Header)) (source_failed : Bool) (came : List Control) (old : State) →
+        KeepsReceiver old (back frames source_failed came old) }
+{}
+
+/// An end that has ended stays as it is; only CAN CAN may still go.
+pub fn ended_ends_stay<B: Batch>()
+    ensures receiver { (frames : List (Frame B.Header)) (confirm : Confirm) (sink_failed whole : Bool) (old : State) →
+        old.receiver ≢ ReceiverEnd.Running → (there frames confirm sink_failed whole old).0 ≡ old }
+    ensures sender { (frames : List (Frame B.Header)) (source_failed : Bool) (came : List Control) (old : State) →
+        old.sender ≢ SenderEnd.Running → SenderStays old (back frames source_failed came old) }
+{}
+
+/// What the receiver has taken is what the sender counts as acknowledged, or one frame more; so the
+/// files committed are those reported, or one more, and both are the first files of the batch.
+pub fn committed_is_reported_or_one_more<B: Batch>()
+    ensures frames { (files : List (File B.Header)) (confirm : Confirm) (st : State) → IsMachine confirm (frames_of files) st →
+        (st.taken ≡ st.acknowledged) ⊎ (st.taken ≡ st.acknowledged + 1) }
+    ensures count { (files : List (File B.Header)) (confirm : Confirm) (st : State) → IsMachine confirm (frames_of files) st →
+        (length (committed files st) ≡ length (reported files st)) ⊎ (length (committed files st) ≡ length (reported files st) + 1) }
+    ensures committed_first { (files : List (File B.Header)) (st : State) → IsPrefix (committed files st) files }
+    ensures reported_first { (files : List (File B.Header)) (st : State) → IsPrefix (reported files st) files }
+    ensures reported_within { (files : List (File B.Header)) (confirm : Confirm) (st : State) → IsMachine confirm (frames_of files) st →
+        IsPrefix (reported files st) (committed files st) }
+    ensures counted { (files : List (File B.Header)) (n : ℕ) → length (files_within files n) ≡ count_within files n }
+{}
+
+/// What the receiver of a machine state hears is the frame that it takes next, or the one that it
+/// took last, which is then not the end block while it runs.
+pub fn heard_is_next_or_last<B: Batch>()
+    ensures place { (files : List (File B.Header)) (confirm : Confirm) (st : State) (i : ℕ) → IsMachine confirm (frames_of files) st → said st ≡ FrameAt i →
+        (i ≡ st.acknowledged) × (i < length (frames_of files)) }
+    ensures next_or_last { (files : List (File B.Header)) (confirm : Confirm) (st : State) (i : ℕ) → IsMachine confirm (frames_of files) st → said st ≡ FrameAt i →
+        (st.taken ≡ i) ⊎ (st.taken ≡ i + 1) }
+    ensures last { (files : List (File B.Header)) (confirm : Confirm) (st : State) → IsMachine confirm (frames_of files) st → st.receiver ≡ ReceiverEnd.Running → 0 < st.taken →
+        frame_before (frames_of files) st.taken ≢ EndBlock }
+{}
+
+/// An ACK that comes back to a sender that runs means that it has sent, and that the receiver has
+/// taken what it sent.
+pub fn acknowledged_is_taken<B: Batch>()
+    ensures taken { (files : List (File B.Header)) (confirm : Confirm) (sink_failed whole : Bool) (came : List Control) (old : State) → IsMachine confirm (frames_of files) old →
+        is_within (control.Ack ∷ came) (controls (there (frames_of files) confirm sink_failed whole old).1) ≡ true →
+        (there (frames_of files) confirm sink_failed whole old).0.sender ≡ SenderEnd.Running →
+        ((there (frames_of files) confirm sink_failed whole old).0.sent ≡ true) ×
+        ((there (frames_of files) confirm sink_failed whole old).0.taken ≡ (there (frames_of files) confirm sink_failed whole old).0.acknowledged + 1) }
+{}
+
+/// A run of some turns and then of others is one run.
+pub fn a_run_goes_on<B: Batch>()
+    ensures states { (frames : List (Frame B.Header)) (confirm : Confirm) (front rest : List Turn) (st : State) →
+        after_turns frames confirm (front ++ rest) st ≡ after_turns frames confirm rest (after_turns frames confirm front st) }
+    ensures trace { (frames : List (Frame B.Header)) (confirm : Confirm) (front rest : List Turn) (st : State) →
+        entries_of frames confirm (front ++ rest) st ≡ entries_of frames confirm front st ++ entries_of frames confirm rest (after_turns frames confirm front st) }
+    ensures damage { (frames : List (Frame B.Header)) (confirm : Confirm) (front rest : List Turn) (st : State) →
+        IsDamage frames confirm front st → IsDamage frames confirm rest (after_turns frames confirm front st) → IsDamage frames confirm (front ++ rest) st }
+{}
+
+/// What stands at each place of the list of frames, file by file.
+pub fn places_of_a_batch<B: Batch>()
+    ensures block_zero { (file : File B.Header) (files : List (File B.Header)) → frame_at (frames_of (file ∷ files)) 0 ≡ BlockZero file.header }
+    ensures piece { (file : File B.Header) (files : List (File B.Header)) (n : ℕ) → n < length file.pieces →
+        frame_at (frames_of (file ∷ files)) (n + 1) ≡ Piece ((n + 1) % 256) (body_at n file.pieces) }
+    ensures eot { (file : File B.Header) (files : List (File B.Header)) → frame_at (frames_of (file ∷ files)) (length file.pieces + 1) ≡ Eot }
+    ensures behind { (file : File B.Header) (files : List (File B.Header)) (n : ℕ) →
+        frame_at (frames_of (file ∷ files)) (length file.pieces + 2 + n) ≡ frame_at (frames_of files) n }
+    ensures end_block { (n : ℕ) → frame_at {H = B.Header} (frames_of []) n ≡ EndBlock }
+    ensures ends_once { (files : List (File B.Header)) → EndsOnce (frames_of files) }
+    ensures size { (file : File B.Header) (files : List (File B.Header)) →
+        length (frames_of (file ∷ files)) ≡ length file.pieces + 2 + length (frames_of files) }
+{}
+
+/// How many files have their EOT among the first frames, file by file.
+pub fn files_within_a_batch<B: Batch>()
+    ensures inside { (file : File B.Header) (files : List (File B.Header)) (n : ℕ) → n ≤ length file.pieces + 1 →
+        count_within (file ∷ files) n ≡ 0 }
+    ensures behind { (file : File B.Header) (files : List (File B.Header)) (n : ℕ) →
+        count_within (file ∷ files) (length file.pieces + 2 + n) ≡ count_within files n + 1 }
+    ensures all { (files : List (File B.Header)) → files_within files (length (frames_of files)) ≡ files }
+{}
+
+/// What can come back of a reply, and what it tells.
+pub fn what_comes_back()
+    ensures remnants { (reply : Reply) (came : List Control) → is_within came (controls reply) ≡ true → IsRemnant came }
+    ensures whole { (reply : Reply) → is_within (controls reply) (controls reply) ≡ true }
+    ensures bytes { (reply : Reply) → map control_byte (controls reply) ≡ reply_bytes reply }
+    ensures subsequence { (reply : Reply) (came : List Control) →
+        IsSubsequence (map control_byte came) (reply_bytes reply) → is_within came (controls reply) ≡ true }
 {}
 
 /// While no end gives up, is cancelled or has failed, no round raises what is left, and each whole
 /// round lowers it by exactly one.
-pub fn whole_rounds_lead_on()
-    ensures never_raised { (files : List File) (confirm : Confirm) (turn : Turn) (old : State) →
+pub fn left_falls_by_whole_rounds<B: Batch>()
+    ensures never_raised { (files : List (File B.Header)) (confirm : Confirm) (turn : Turn) (old : State) →
         IsMachine confirm (frames_of files) old → IsGoing old → IsGoing (after_turn (frames_of files) confirm turn old) →
-        IsDamage (frames_of files) confirm (turn ∷ []) old →
+        IsTurnDamage (frames_of files) confirm turn old →
         left confirm (frames_of files) (after_turn (frames_of files) confirm turn old) ≤ left confirm (frames_of files) old }
-    ensures lowered { (files : List File) (confirm : Confirm) (turn : Turn) (old : State) →
+    ensures lowered { (files : List (File B.Header)) (confirm : Confirm) (turn : Turn) (old : State) →
         IsMachine confirm (frames_of files) old → IsGoing old → IsGoing (after_turn (frames_of files) confirm turn old) →
         is_whole turn ≡ true → 0 < left confirm (frames_of files) old →
         left confirm (frames_of files) old ≡ left confirm (frames_of files) (after_turn (frames_of files) confirm turn old) + 1 }
-    ensures at_start { (files : List File) (confirm : Confirm) → left confirm (frames_of files) start ≡ rounds_needed confirm files }
+    ensures at_start { (files : List (File B.Header)) (confirm : Confirm) → left confirm (frames_of files) start ≡ rounds_needed confirm files }
 {}
 
-/// Where no bad run is longer than four rounds, no end gives up. With enough whole rounds, in any
-/// places, both finish with the whole batch; with whole rounds alone, and fewer, they do not.
-pub fn short_bad_runs_complete()
-    ensures no_end_gives_up { (files : List File) (confirm : Confirm) (turns : List Turn) →
+/// Where no bad run is longer than four rounds, and neither the sink nor the source fails, no end
+/// gives up or is cancelled, and no count passes 9.
+pub fn neither_end_gives_up<B: Batch>()
+    ensures going { (files : List (File B.Header)) (confirm : Confirm) (turns : List Turn) →
         IsDamage (frames_of files) confirm turns start → NoFailure turns → longest_bad_run 0 turns ≤ 4 →
         IsGoing (after_turns (frames_of files) confirm turns start) }
-    ensures counts { (files : List File) (confirm : Confirm) (turns : List Turn) →
+    ensures counts { (files : List (File B.Header)) (confirm : Confirm) (turns : List Turn) →
         IsDamage (frames_of files) confirm turns start → NoFailure turns → longest_bad_run 0 turns ≤ 4 →
         CountsWithin 9 (after_turns (frames_of files) confirm turns start) }
-    ensures complete { (files : List File) (confirm : Confirm) (turns : List Turn) →
+{}
+
+/// Where such a run also holds as many whole rounds as the batch needs, in any places, both ends
+/// finish with the whole batch.
+pub fn both_finish<B: Batch>()
+    ensures complete { (files : List (File B.Header)) (confirm : Confirm) (turns : List Turn) →
         IsDamage (frames_of files) confirm turns start → NoFailure turns → longest_bad_run 0 turns ≤ 4 →
         rounds_needed confirm files ≤ whole_turns turns →
         IsComplete files (after_turns (frames_of files) confirm turns start) }
-    ensures no_sooner { (files : List File) (confirm : Confirm) (turns : List Turn) →
+{}
+
+/// With whole rounds alone, and fewer than the batch needs, the sender has not finished.
+pub fn not_sooner<B: Batch>()
+    ensures running { (files : List (File B.Header)) (confirm : Confirm) (turns : List Turn) →
         AllWhole turns → NoFailure turns → length turns < rounds_needed confirm files →
-        (after_turns (frames_of files) confirm turns start).sender ≢ Sent_all }
+        (after_turns (frames_of files) confirm turns start).sender ≢ SenderEnd.Finished }
+{}
+
+/// Four is the largest bound: with bad runs of five the receiver gives up at the start of any
+/// batch, and neither end finishes.
+pub fn four_is_the_largest<B: Batch>()
+    ensures runs { longest_bad_run 0 five_and_five ≡ 5 }
+    ensures gives_up { (files : List (File B.Header)) (confirm : Confirm) →
+        (after_turns (frames_of files) confirm five_and_five start).receiver ≡ ReceiverEnd.TooManyErrors }
+    ensures damage { (files : List (File B.Header)) (confirm : Confirm) → IsDamage (frames_of files) confirm five_and_five start }
+    ensures no_failure { NoFailure five_and_five }
 {}

@@ -1,3 +1,5 @@
+ghost use Rattle.std.specs.Prelude.{◌≡◌, IfOk, replicate};
+
 use crate::{Delivery, Direct, Round, run, trace_text};
 use std::alloc::{AllocError, Global};
 use std::test::Fail;
@@ -7,7 +9,11 @@ use ym_header::Stamp;
 use ym_link::{Receiver, SendFile, Sender, SourceFile};
 
 /// The bytes of the files in the examples: `A`, 128 times.
-pub(super) const A128: [u8; 128] = [b'A'; 128];
+pub(super) fn a128(alloc: Global) -> Result<Vec<u8>, AllocError>
+    ensures { IfOk result (λ bytes. bytes.items ≡ replicate 128 65) }
+{
+    vec![in alloc; b'A'; 128]
+}
 
 /// A batch of one file, whose fill number `failing` fails.
 pub(super) fn one_file(
@@ -30,7 +36,7 @@ pub(super) fn sender_of(batch: Vec<SendFile>, shape: Shape) -> Result<Sender, Fa
 
 /// A sender of the file a.txt.
 pub(super) fn usual_sender(alloc: Global) -> Result<Sender, Fail> {
-    sender_of(one_file(alloc, "a.txt", &A128, None)?, Shape::Mixed)
+    sender_of(one_file(alloc, "a.txt", &a128(alloc)?, None)?, Shape::Mixed)
 }
 
 /// A receiver whose sink's call number `failing` fails.

@@ -1,8 +1,8 @@
-use super::fixtures::{A128, Rounds, one_file, sender_of, text_of_run, usual_sender};
+use super::fixtures::{Rounds, a128, one_file, sender_of, text_of_run, usual_sender};
 use crate::{Delivery, Direct, LineFault, Round, round, run};
 use std::test::Fail;
-use ym_file::{Shape, block_at};
-use ym_frame::{Bytes, Item, encode};
+use ym_file::Shape;
+use ym_frame::Bytes;
 use ym_link::{Receiver, RecvState, SendState};
 
 #[test]
@@ -23,16 +23,6 @@ fn damage_that_does_not_show(rt: HostRuntime) -> Result<(), Fail> {
     let refused = run(alloc, &mut sender, &mut receiver, &rounds.0, &mut line);
     assert_eq!(rt; refused.err(), Some(LineFault::NotDamage(3)));
     assert_eq!(rt; line.handed().len(), 5);
-
-    let frame = encode(&Item::Block(block_at(&A128, Shape::Mixed, 1)));
-    let mut sender = usual_sender(alloc)?;
-    let mut receiver = Receiver::new(alloc);
-    let rounds = Rounds::new(alloc)
-        .whole(2)?
-        .damaged_there(alloc, frame.as_bytes())?;
-    let mut line = Direct::new(alloc);
-    let refused = run(alloc, &mut sender, &mut receiver, &rounds.0, &mut line);
-    assert_eq!(rt; refused.err(), Some(LineFault::NotDamage(3)));
     Ok(())
 }
 
@@ -62,6 +52,7 @@ fn a_delivery_is_too_long(rt: HostRuntime) -> Result<(), Fail> {
 #[test]
 fn a_growth_is_refused(rt: HostRuntime) -> Result<(), Fail> {
     let alloc = rt.alloc();
+    let bytes = a128(alloc)?;
     let mut sender = usual_sender(alloc)?;
     let rounds = Rounds::new(alloc).whole(6)?;
     let mut receiver = Receiver::new(alloc);
@@ -70,13 +61,13 @@ fn a_growth_is_refused(rt: HostRuntime) -> Result<(), Fail> {
         assert_eq!(rt; fault, LineFault::Memory);
         assert_eq!(rt; sender.state(), SendState::Running);
         if let Some(file) = receiver.files().first() {
-            assert_eq!(rt; file.bytes(), A128.as_slice());
+            assert_eq!(rt; file.bytes(), bytes.as_slice());
         }
         text_of_run(alloc, &mut sender, &mut receiver, &rounds)?;
     }
     assert_eq!(rt; sender.state(), SendState::Finished);
     assert_eq!(rt; receiver.state(), RecvState::Finished);
     let file = receiver.files().first().ok_or("no file")?;
-    assert_eq!(rt; file.bytes(), A128.as_slice());
+    assert_eq!(rt; file.bytes(), bytes.as_slice());
     Ok(())
 }

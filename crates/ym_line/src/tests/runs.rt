@@ -1,41 +1,38 @@
 use super::fixtures::{
-    A128, Rounds, failing_receiver, one_file, sender_of, text_of_run, usual_sender,
+    Rounds, a128, failing_receiver, one_file, sender_of, text_of_run, usual_sender,
 };
+use super::texts;
 use crate::{Direct, LineFault, Way, run, trace_text, whole_rounds_needed};
+use std::alloc::{AllocError, Global};
+use std::process::Abort;
 use std::test::Fail;
 use ym_file::{Shape, block_at};
-use ym_frame::{Item, encode};
-use ym_link::{Confirm, Receiver, RecvState, SendFile, SendState};
+use ym_frame::{FrameBuf, Item, encode};
+use ym_link::{Confirm, Receiver, RecvState, SendFile, SendState, Sender};
 
-const ONE_FILE: &str = "1 > - whole < C whole\n\
-    2 > block 0 128 whole < ACK C whole\n\
-    3 > block 1 128 whole < ACK whole\n\
-    4 > eot whole < NAK whole\n\
-    5 > eot whole < ACK C whole\n\
-    6 > block 0 128 whole < ACK whole\n\
-    sender done 1 finished\n\
-    receiver files 1 finished\n";
+/// The receiver has committed one file of these bytes.
+fn assert_file(rt: &impl Abort, receiver: &Receiver, name: &str, bytes: &[u8]) {
+    assert_eq!(rt; receiver.files().len(), 1);
+    let file = &receiver.files()[0];
+    assert_eq!(rt; file.name(), name);
+    assert_eq!(rt; file.bytes(), bytes);
+}
+
+fn assert_finished(rt: &impl Abort, sender: &Sender, receiver: &Receiver) {
+    assert_eq!(rt; sender.state(), SendState::Finished);
+    assert_eq!(rt; receiver.state(), RecvState::Finished);
+}
 
 #[test]
 fn one_file_in_six_rounds(rt: HostRuntime) -> Result<(), Fail> {
     let alloc = rt.alloc();
-    let batch = one_file(alloc, "a.txt", &A128, None)?;
-    assert_eq!(rt;
-        whole_rounds_needed(&batch, Shape::Mixed, Confirm::Twice),
-        6
-    );
-    assert_eq!(rt; whole_rounds_needed(&batch, Shape::Mixed, Confirm::Once), 5);
-    let none: Vec<SendFile> = Vec::new(alloc);
-    assert_eq!(rt; whole_rounds_needed(&none, Shape::Mixed, Confirm::Twice), 2);
-    let mut sender = sender_of(batch, Shape::Mixed)?;
+    let mut sender = usual_sender(alloc)?;
     let mut receiver = Receiver::new(alloc);
     let mut line = Direct::new(alloc);
     let rounds = Rounds::new(alloc).whole(6)?;
     let trace = run(alloc, &mut sender, &mut receiver, &rounds.0, &mut line)?;
-    assert_eq!(rt; trace_text(alloc, &trace)?.as_str(), ONE_FILE);
-    let file = receiver.files().first().ok_or("no file")?;
-    assert_eq!(rt; file.name(), "a.txt");
-    assert_eq!(rt; file.bytes(), A128.as_slice());
+    assert_eq!(rt; trace_text(alloc, &trace)?.as_str(), texts::one_file());
+    assert_file(&rt, &receiver, "a.txt", a128(alloc)?.as_slice());
     let handed = line.handed();
     assert_eq!(rt; handed.len(), 12);
     assert_eq!(rt; handed[0].bytes.as_slice().len(), 0);
@@ -47,29 +44,24 @@ fn one_file_in_six_rounds(rt: HostRuntime) -> Result<(), Fail> {
 }
 
 #[test]
+fn rounds_needed(rt: HostRuntime) -> Result<(), Fail> {
+    let bytes = a128(rt.alloc())?;
+    let batch = one_file(rt.alloc(), "a.txt", &bytes, None)?;
+    assert_eq!(rt; batch.len(), 1);
+    assert_eq!(rt;
+        whole_rounds_needed(&batch, Shape::Mixed, Confirm::Twice),
+        6
+    );
+    assert_eq!(rt; whole_rounds_needed(&batch, Shape::Mixed, Confirm::Once), 5);
+    let none: Vec<SendFile> = Vec::new(rt.alloc());
+    assert_eq!(rt; whole_rounds_needed(&none, Shape::Mixed, Confirm::Twice), 2);
+    Ok(())
+}
+
+#[test]
 fn one_file_cut_short(rt: HostRuntime) -> Result<(), Fail> {
     let alloc = rt.alloc();
-    for (count, want) in [
-        (
-            5,
-            "1 > - whole < C whole\n\
-             2 > block 0 128 whole < ACK C whole\n\
-             3 > block 1 128 whole < ACK whole\n\
-             4 > eot whole < NAK whole\n\
-             5 > eot whole < ACK C whole\n\
-             sender done 1 running\n\
-             receiver files 1 running\n",
-        ),
-        (
-            4,
-            "1 > - whole < C whole\n\
-             2 > block 0 128 whole < ACK C whole\n\
-             3 > block 1 128 whole < ACK whole\n\
-             4 > eot whole < NAK whole\n\
-             sender done 0 running\n\
-             receiver files 0 running\n",
-        ),
-    ] {
+    for (count, want) in [(5, texts::five_rounds()), (4, texts::four_rounds())] {
         let mut sender = usual_sender(alloc)?;
         let mut receiver = Receiver::new(alloc);
         let rounds = Rounds::new(alloc).whole(count)?;
@@ -82,84 +74,42 @@ fn one_file_cut_short(rt: HostRuntime) -> Result<(), Fail> {
 #[test]
 fn padding_like_bytes(rt: HostRuntime) -> Result<(), Fail> {
     let alloc = rt.alloc();
-    let mut bytes = A128;
-    bytes[126] = 0x1a;
-    bytes[127] = 0x1a;
+    let mut bytes = vec![in alloc; b'A'; 126]?;
+    bytes.push(0x1a)?;
+    bytes.push(0x1a)?;
     let mut sender = sender_of(one_file(alloc, "a", &bytes, None)?, Shape::Mixed)?;
     let mut receiver = Receiver::new(alloc);
     let rounds = Rounds::new(alloc).whole(6)?;
     let text = text_of_run(alloc, &mut sender, &mut receiver, &rounds)?;
-    assert_eq!(rt; text.as_str(), ONE_FILE);
-    let file = receiver.files().first().ok_or("no file")?;
-    assert_eq!(rt; file.bytes(), bytes.as_slice());
+    assert_eq!(rt; text.as_str(), texts::one_file());
+    assert_file(&rt, &receiver, "a", &bytes);
     Ok(())
 }
 
 #[test]
 fn numbers_wrap_at_256(rt: HostRuntime) -> Result<(), Fail> {
     let alloc = rt.alloc();
-    let mut bytes = vec![in alloc; b'A'; 32_896]?;
-    bytes[255 * 128..256 * 128].fill(b'B');
+    let mut bytes = vec![in alloc; b'A'; 32_768]?;
+    bytes.extend_from_slice(vec![in alloc; b'B'; 128]?.as_slice())?;
     let mut sender = sender_of(one_file(alloc, "a", &bytes, None)?, Shape::Short)?;
     let mut receiver = Receiver::new(alloc);
     let rounds = Rounds::new(alloc).whole(257)?.no_reply()?.whole(5)?;
     let text = text_of_run(alloc, &mut sender, &mut receiver, &rounds)?;
-    let last = "258 > block 0 128 whole < ACK lost\n\
-        259 > block 0 128 whole < ACK whole\n\
-        260 > block 1 128 whole < ACK whole\n\
-        261 > eot whole < NAK whole\n\
-        262 > eot whole < ACK C whole\n\
-        263 > block 0 128 whole < ACK whole\n\
-        sender done 1 finished\n\
-        receiver files 1 finished\n";
-    assert!(rt; text.as_str().ends_with(last));
-    let file = receiver.files().first().ok_or("no file")?;
-    assert_eq!(rt; file.bytes(), bytes.as_slice());
+    assert!(rt; text.as_str().ends_with(texts::wrapped()));
+    assert_file(&rt, &receiver, "a", &bytes);
     Ok(())
 }
 
 #[test]
 fn a_source_or_a_sink_fails(rt: HostRuntime) -> Result<(), Fail> {
     let alloc = rt.alloc();
+    let bytes = a128(alloc)?;
     for (fill, call, want) in [
-        (
-            Some(1),
-            0,
-            "1 > - whole < C whole\n\
-             2 > block 0 128 whole < ACK C whole\n\
-             3 > can whole < - whole\n\
-             4 > - whole < - whole\n\
-             5 > - whole < - whole\n\
-             6 > - whole < - whole\n\
-             sender done 0 source-failed\n\
-             receiver files 0 cancelled\n",
-        ),
-        (
-            None,
-            2,
-            "1 > - whole < C whole\n\
-             2 > block 0 128 whole < ACK C whole\n\
-             3 > block 1 128 whole < CAN whole\n\
-             4 > - whole < - whole\n\
-             5 > - whole < - whole\n\
-             6 > - whole < - whole\n\
-             sender done 0 cancelled\n\
-             receiver files 0 sink-failed\n",
-        ),
-        (
-            None,
-            3,
-            "1 > - whole < C whole\n\
-             2 > block 0 128 whole < ACK C whole\n\
-             3 > block 1 128 whole < ACK whole\n\
-             4 > eot whole < NAK whole\n\
-             5 > eot whole < CAN whole\n\
-             6 > - whole < - whole\n\
-             sender done 0 cancelled\n\
-             receiver files 0 sink-failed\n",
-        ),
+        (Some(1), 0, texts::no_source()),
+        (None, 2, texts::no_block_stored()),
+        (None, 3, texts::no_commit()),
     ] {
-        let mut sender = sender_of(one_file(alloc, "a", &A128, fill)?, Shape::Mixed)?;
+        let mut sender = sender_of(one_file(alloc, "a", &bytes, fill)?, Shape::Mixed)?;
         let mut receiver = failing_receiver(alloc, call);
         let rounds = Rounds::new(alloc).whole(6)?;
         let text = text_of_run(alloc, &mut sender, &mut receiver, &rounds)?;
@@ -171,12 +121,12 @@ fn a_source_or_a_sink_fails(rt: HostRuntime) -> Result<(), Fail> {
 #[test]
 fn a_repeat_fills_nothing(rt: HostRuntime) -> Result<(), Fail> {
     let alloc = rt.alloc();
-    let mut sender = sender_of(one_file(alloc, "a", &A128, Some(2))?, Shape::Mixed)?;
+    let bytes = a128(alloc)?;
+    let mut sender = sender_of(one_file(alloc, "a", &bytes, Some(2))?, Shape::Mixed)?;
     let mut receiver = Receiver::new(alloc);
     let rounds = Rounds::new(alloc).whole(2)?.no_reply()?.whole(4)?;
     text_of_run(alloc, &mut sender, &mut receiver, &rounds)?;
-    assert_eq!(rt; sender.state(), SendState::Finished);
-    assert_eq!(rt; receiver.state(), RecvState::Finished);
+    assert_finished(&rt, &sender, &receiver);
     Ok(())
 }
 
@@ -193,56 +143,57 @@ fn a_carry_fails(rt: HostRuntime) -> Result<(), Fail> {
         assert_eq!(rt; line.handed().len(), handed);
         let rounds = Rounds::new(alloc).whole(4)?;
         let text = text_of_run(alloc, &mut sender, &mut receiver, &rounds)?;
-        assert_eq!(rt;
-            text.as_str(),
-            "1 > block 1 128 whole < ACK whole\n\
-             2 > eot whole < NAK whole\n\
-             3 > eot whole < ACK C whole\n\
-             4 > block 0 128 whole < ACK whole\n\
-             sender done 1 finished\n\
-             receiver files 1 finished\n"
-        );
+        assert_eq!(rt; text.as_str(), texts::last_four());
     }
     Ok(())
 }
 
+/// The frame of the only data block.
+fn only_block(alloc: Global) -> Result<FrameBuf, AllocError> {
+    let bytes = a128(alloc)?;
+    Ok(encode(&Item::Block(block_at(&bytes, Shape::Mixed, 1))))
+}
+
 #[test]
-fn deliveries_cut_short(rt: HostRuntime) -> Result<(), Fail> {
+fn a_block_cut_short(rt: HostRuntime) -> Result<(), Fail> {
     let alloc = rt.alloc();
-    let frame = encode(&Item::Block(block_at(&A128, Shape::Mixed, 1)));
+    let frame = only_block(alloc)?;
     let frame = frame.as_bytes();
     assert_eq!(rt; frame.len(), 133);
     for k in 0..133 {
         let mut sender = usual_sender(alloc)?;
         let mut receiver = Receiver::new(alloc);
-        let rounds = Rounds::new(alloc)
-            .whole(2)?
-            .damaged_there(alloc, &frame[..k])?
-            .whole(4)?;
+        let rounds = Rounds::new(alloc).whole(2)?;
+        let rounds = rounds.damaged_there(alloc, &frame[..k])?.whole(4)?;
         let text = text_of_run(alloc, &mut sender, &mut receiver, &rounds)?;
-        assert_eq!(rt;
-            text.as_str(),
-            "1 > - whole < C whole\n\
-             2 > block 0 128 whole < ACK C whole\n\
-             3 > block 1 128 damaged < C whole\n\
-             4 > block 1 128 whole < ACK whole\n\
-             5 > eot whole < NAK whole\n\
-             6 > eot whole < ACK C whole\n\
-             7 > block 0 128 whole < ACK whole\n\
-             sender done 1 finished\n\
-             receiver files 1 finished\n"
-        );
+        assert_eq!(rt; text.as_str(), texts::damaged_block());
     }
-    for reply in [[].as_slice(), [0x06].as_slice()] {
+    let mut sender = usual_sender(alloc)?;
+    let mut receiver = Receiver::new(alloc);
+    let rounds = Rounds::new(alloc).whole(2)?.damaged_there(alloc, frame)?;
+    let whole = run(
+        alloc,
+        &mut sender,
+        &mut receiver,
+        &rounds.0,
+        &mut Direct::new(alloc),
+    );
+    assert_eq!(rt; whole.err(), Some(LineFault::NotDamage(3)));
+    Ok(())
+}
+
+#[test]
+fn a_reply_cut_short(rt: HostRuntime) -> Result<(), Fail> {
+    let alloc = rt.alloc();
+    for count in 0..2 {
         let mut sender = usual_sender(alloc)?;
         let mut receiver = Receiver::new(alloc);
-        let rounds = Rounds::new(alloc)
-            .whole(1)?
-            .damaged_back(alloc, reply)?
+        let rounds = Rounds::new(alloc).whole(1)?;
+        let rounds = rounds
+            .damaged_back(alloc, &[0x06, 0x43][..count])?
             .whole(5)?;
         text_of_run(alloc, &mut sender, &mut receiver, &rounds)?;
-        assert_eq!(rt; sender.state(), SendState::Finished);
-        assert_eq!(rt; receiver.state(), RecvState::Finished);
+        assert_finished(&rt, &sender, &receiver);
     }
     Ok(())
 }
@@ -254,33 +205,21 @@ fn a_single_receiver(rt: HostRuntime) -> Result<(), Fail> {
     let mut receiver = Receiver::single(alloc);
     let rounds = Rounds::new(alloc).whole(5)?;
     let text = text_of_run(alloc, &mut sender, &mut receiver, &rounds)?;
-    assert_eq!(rt;
-        text.as_str(),
-        "1 > - whole < C whole\n\
-         2 > block 0 128 whole < ACK C whole\n\
-         3 > block 1 128 whole < ACK whole\n\
-         4 > eot whole < ACK C whole\n\
-         5 > block 0 128 whole < ACK whole\n\
-         sender done 1 finished\n\
-         receiver files 1 finished\n"
-    );
+    assert_eq!(rt; text.as_str(), texts::single());
+    Ok(())
+}
+
+#[test]
+fn a_single_receiver_goes_on(rt: HostRuntime) -> Result<(), Fail> {
+    let alloc = rt.alloc();
     let mut sender = sender_of(one_file(alloc, "a", &[], None)?, Shape::Mixed)?;
     let mut receiver = Receiver::single(alloc);
     let rounds = Rounds::new(alloc).whole(2)?.no_reply()?;
     let text = text_of_run(alloc, &mut sender, &mut receiver, &rounds)?;
-    let last = "3 > eot whole < ACK C lost\n\
-        sender done 0 running\n\
-        receiver files 1 running\n";
-    assert!(rt; text.as_str().ends_with(last));
+    assert_eq!(rt; text.as_str(), texts::single_reply_lost());
     let rounds = Rounds::new(alloc).whole(2)?;
     let text = text_of_run(alloc, &mut sender, &mut receiver, &rounds)?;
-    assert_eq!(rt;
-        text.as_str(),
-        "1 > eot whole < ACK C whole\n\
-         2 > block 0 128 whole < ACK whole\n\
-         sender done 1 finished\n\
-         receiver files 1 finished\n"
-    );
+    assert_eq!(rt; text.as_str(), texts::single_goes_on());
     Ok(())
 }
 
@@ -294,37 +233,18 @@ fn bursts_of_four(rt: HostRuntime) -> Result<(), Fail> {
         rounds = rounds.lost(4)?.whole(1)?;
     }
     let text = text_of_run(alloc, &mut sender, &mut receiver, &rounds)?;
-    let last = "30 > block 0 128 whole < ACK whole\n\
-        sender done 1 finished\n\
-        receiver files 1 finished\n";
-    assert!(rt; text.as_str().ends_with(last));
+    assert!(rt; text.as_str().ends_with(texts::bursts_of_four()));
     Ok(())
 }
 
 #[test]
 fn bursts_of_five(rt: HostRuntime) -> Result<(), Fail> {
     let alloc = rt.alloc();
-    let none: Vec<SendFile> = Vec::new(alloc);
-    let mut sender = sender_of(none, Shape::Mixed)?;
+    let mut sender = sender_of(Vec::new(alloc), Shape::Mixed)?;
     let mut receiver = Receiver::new(alloc);
-    let rounds = Rounds::new(alloc).lost(5)?.whole(1)?.lost(5)?.whole(1)?;
+    let rounds = Rounds::new(alloc).lost(5)?.whole(1)?;
+    let rounds = rounds.lost(5)?.whole(1)?;
     let text = text_of_run(alloc, &mut sender, &mut receiver, &rounds)?;
-    assert_eq!(rt;
-        text.as_str(),
-        "1 > - lost < C lost\n\
-         2 > - lost < C lost\n\
-         3 > - lost < C lost\n\
-         4 > - lost < C lost\n\
-         5 > - lost < C lost\n\
-         6 > - whole < C whole\n\
-         7 > block 0 128 lost < C lost\n\
-         8 > block 0 128 lost < C lost\n\
-         9 > block 0 128 lost < C lost\n\
-         10 > block 0 128 lost < CAN lost\n\
-         11 > block 0 128 lost < - lost\n\
-         12 > block 0 128 whole < - whole\n\
-         sender done 0 running\n\
-         receiver files 0 too-many-errors\n"
-    );
+    assert_eq!(rt; text.as_str(), texts::bursts_of_five());
     Ok(())
 }

@@ -20,7 +20,7 @@ returns-in_err-go_round g c =
     let p = err_from_is_err_and c.from_residual-in_err-go_round.result c.from_residual-in_err-go_round.ensures.1 in
     let number : c.loop-i.i + 1 ≡ 1 + c.loop-i.i = omega arith in
     rw (p.1, p.2) (StopsIn-at c.args.rounds.now 1 c.loop-i.i c.index-rounds-i.result start here new c.loop-i.seen.items c.in_err-go_round.field-0.0 c.loop-i-test.true c.index-rounds-i.is c.loop-i.invariant
-        (inr (subst (λ n. Stops n c.index-rounds-i.result here c.in_err-go_round.field-0.0 new) number c.in_err-go_round.ensures)))
+    (inr (subst (λ n. Stops n c.index-rounds-i.result here c.in_err-go_round.field-0.0 new) number c.in_err-go_round.ensures)))
 
 pub loop-i-preserved : goal.loop-i-preserved
 loop-i-preserved g c =

@@ -1,7 +1,7 @@
 use Rattle.std.proofs.Common.{◌≡◌, drop, None}
 use Rattle.ym_link.specs.SourceFile.{counts_of}
 use Rattle.ym_link.specs.Place.{IsPlace}
-use Rattle.ym_link.specs.Sender.{reads, controls_in}
+use Rattle.ym_link.specs.Reading.{reads, controls_in}
 use Rattle.ym_link.proofs.Readings.{pending}
 use Rattle.ym_link.proofs.reading.read_delivery.Given as goal
 

@@ -1,0 +1,52 @@
+//! Laws of what a sender does with a delivery.
+
+ghost use Rattle.std.specs.Prelude.{◌≡◌, ◌↔◌, ◌⊎◌, ◌+◌, ◌++◌, ℕ, Bool, List, true, length, All};
+ghost use Rattle.std.specs.List.{AllZip};
+ghost use Rattle.ym_file.specs.declared.plan.Shape.{Shape};
+ghost use Rattle.ym_machine.specs.Frames.{frames_of, count_within};
+ghost use Rattle.ym_machine.specs.Halves.{back, IsRemnant};
+ghost use Rattle.ym_machine.specs.State.{State, start, said};
+ghost use Rattle.ym_link.specs.SourceFile.{FileParts, IsFile, counts_of};
+ghost use Rattle.ym_link.specs.Place.{done_at};
+ghost use Rattle.ym_link.specs.Sender.{SenderParts, IsSender, IsStep, counts, spoken};
+ghost use Rattle.ym_link.specs.Standing.{new_standing};
+ghost use Rattle.ym_link.specs.SenderStands.{Batch, IsFileOf, SenderStands, IsSaid, AllTold, batch_of};
+ghost use Rattle.ym_link.specs.declared.standing.Standing.{Standing};
+ghost use Rattle.ym_link.specs.declared.state.SendState.TheVariants.{Running};
+ghost use Rattle.ym_link.specs.Reading.{controls_in};
+ghost use Rattle.ym_link.specs.Standing.{hears, is_settled, IsSame};
+
+use ym_file::laws::one_pieces;
+
+/// A delivery is settled exactly where no further bytes can change what a sender does with it.
+pub fn a_settled_delivery_stays()
+    ensures { (counts : List ℕ) (old : Standing) (bytes : List ℕ) → is_settled counts old (controls_in bytes) ≡ true ↔
+        ((more : List ℕ) → hears counts old (controls_in (bytes ++ more)) ≡ hears counts old (controls_in bytes)) }
+{}
+
+/// A sender that goes on has a new place or mode, and then counts from 0, or has the same and
+/// counts one more delivery without progress.
+pub fn progress_is_a_change()
+    ensures { (counts : List ℕ) (old : Standing) (bytes : List ℕ) → (hears counts old (controls_in bytes)).standing.state ≡ Running →
+        let new = (hears counts old (controls_in bytes)).standing in
+        ((new.misses ≡ 0) × ¬ IsSame old new) ⊎ ((new.misses ≡ old.misses + 1) × IsSame old new) }
+{}
+
+/// A new sender stands at the start. A sender that stands at a state of the machine stands, after a
+/// delivery, where the machine goes in the half back, with the truth whether its source failed; it
+/// says what the machine's sender says, where its sources tell their bytes; and it has done the
+/// files that the machine's sender reports.
+pub fn a_sender_follows_the_machine()
+    ensures starts { (shape : Shape) (sources : List FileParts) (files : Batch) (frame : List ℕ) → AllZip (IsFileOf shape) sources files →
+        SenderStands files start (record { standing = new_standing (counts_of shape sources); shape = shape; files = sources; frame = frame }) }
+    ensures batch { (shape : Shape) (sources : List FileParts) → All IsFile sources → AllZip (IsFileOf shape) sources (batch_of shape sources) }
+    ensures follows { (files : Batch) (st : State) (old new : SenderParts) (bytes : List ℕ) (failed : Bool) →
+        SenderStands files st old → IsRemnant (controls_in bytes) → IsStep old (hears (counts old) old.standing (controls_in bytes)) failed new →
+        SenderStands files (back (frames_of files) failed (controls_in bytes) st) new }
+    ensures says { (files : Batch) (st : State) (sender : SenderParts) → SenderStands files st sender → IsSender sender → AllTold sender.files →
+        IsSaid files (said st) (spoken sender) }
+    ensures done { (files : Batch) (st : State) (sender : SenderParts) → SenderStands files st sender →
+        done_at (length sender.files) sender.standing.place ≡ count_within files st.acknowledged }
+{
+    one_pieces();
+}

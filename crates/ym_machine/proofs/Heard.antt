@@ -1,0 +1,55 @@
+-- what the receiver hears, what an ACK tells, and runs that go on
+use Rattle.std.proofs.Common.{ℕ, ◌+◌, ◌<◌, ◌≡◌, ◌≢◌, ◌⊎◌, suc, zero, List, [], ◌∷◌, ◌++◌, length, Bool, true, false, refl, sym, ap, ◌∙◌, subst, arith}
+use Rattle.ym_machine.specs.declared.confirm.Confirm.{Confirm}
+use Rattle.ym_machine.proofs.Halves.{none_behind}
+use Rattle.ym_machine.specs.Frames.{EndBlock, EndsOnce, Frame, frame_before}
+use Rattle.ym_machine.specs.State.{FrameAt, ReceiverEnd, SenderEnd, State, said, said_by}
+use Rattle.ym_machine.specs.Run.{IsDamage, Turn, after_turn, after_turns, entries_of, entry_of}
+use Rattle.ym_machine.specs.Machine.{CountersAgree}
+
+-- a frame is said by a Running sender that has sent
+said-running : (st : State) (i : ℕ) → said st ≡ FrameAt i → (i ≡ st.acknowledged) × (st.sender ≡ SenderEnd.Running)
+said-running st i says = go st.sender st.sent st.farewell refl says
+  where
+    go : (sender : SenderEnd) (sent farewell : Bool) → st.sender ≡ sender → said_by sender sent farewell st.acknowledged ≡ FrameAt i → (i ≡ st.acknowledged) × (st.sender ≡ SenderEnd.Running)
+    go SenderEnd.Running true _ e w = (cc, e)
+    go SenderEnd.Running false _ e w = cc
+    go SenderEnd.Finished _ _ e w = cc
+    go SenderEnd.Cancelled _ _ e w = cc
+    go SenderEnd.NoReply _ true e w = cc
+    go SenderEnd.NoReply _ false e w = cc
+    go SenderEnd.SourceFailed _ true e w = cc
+    go SenderEnd.SourceFailed _ false e w = cc
+
+module _ {H : Type 0} (frames : List (Frame H)) (confirm : Confirm) (st : State) (m : CountersAgree confirm frames st) where
+  pub said-place : (i : ℕ) → said st ≡ FrameAt i → (i ≡ st.acknowledged) × (i < length frames)
+  said-place i says = let s = said-running st i says in let e = s.0 in
+      (e, (let no : st.acknowledged ≢ length frames = λ w. let x = m.sender_done.0 w in let y = s.1 in cc in let w = m.within in let a = m.ahead in omega (arith, e, no, w, a)))
+
+  pub said-next-or-last : (i : ℕ) → said st ≡ FrameAt i → (st.taken ≡ i) ⊎ (st.taken ≡ i + 1)
+  said-next-or-last i says = let e = (said-running st i says).0 in subst (λ n. (st.taken ≡ n) ⊎ (st.taken ≡ n + 1)) (sym e) m.ahead
+
+  pub last-is-no-end : EndsOnce frames → st.receiver ≡ ReceiverEnd.Running → 0 < st.taken → frame_before frames st.taken ≢ EndBlock
+  last-is-no-end once running some is = go st.taken refl some is
+    where
+      go : (n : ℕ) → st.taken ≡ n → 0 < n → frame_before frames n ≡ EndBlock → ⊥
+      go zero e less w = omega (arith, less)
+      go (suc n) e less w =
+          let inside = m.within in
+          let full : n + 1 ≡ length frames = none_behind frames n once (omega (arith, e, inside)) w in
+          let done = m.receiver_done.0 (omega (arith, e, full)) in
+          let x : ReceiverEnd.Running ≡ ReceiverEnd.Finished = sym running ∙ done in cc
+
+-- runs that go on
+module _ {H : Type 0} (frames : List (Frame H)) (confirm : Confirm) where
+  pub after_turns-append : (front rest : List Turn) (st : State) → after_turns frames confirm (front ++ rest) st ≡ after_turns frames confirm rest (after_turns frames confirm front st)
+  after_turns-append [] rest st = refl
+  after_turns-append (turn ∷ front) rest st = after_turns-append front rest (after_turn frames confirm turn st)
+
+  pub entries_of-append : (front rest : List Turn) (st : State) → entries_of frames confirm (front ++ rest) st ≡ entries_of frames confirm front st ++ entries_of frames confirm rest (after_turns frames confirm front st)
+  entries_of-append [] rest st = refl
+  entries_of-append (turn ∷ front) rest st = ap (λ es. entry_of frames confirm turn st ∷ es) (entries_of-append front rest (after_turn frames confirm turn st))
+
+  pub IsDamage-append : (front rest : List Turn) (st : State) → IsDamage frames confirm front st → IsDamage frames confirm rest (after_turns frames confirm front st) → IsDamage frames confirm (front ++ rest) st
+  IsDamage-append [] rest st a b = b
+  IsDamage-append (turn ∷ front) rest st a b = (a.0, IsDamage-append front rest (after_turn frames confirm turn st) a.1 b)

@@ -1,0 +1,13 @@
+use Rattle.ym_machine.proofs.Halves.{frames-end}
+use Rattle.ym_machine.proofs.Heard.{said-place, said-next-or-last, last-is-no-end}
+use Rattle.ym_machine.proofs.laws.heard_is_next_or_last.Goals as goal
+use Rattle.ym_machine.specs.Frames.{frames_of}
+
+pub returns-clause-place : goal.returns-clause-place
+returns-clause-place g c files confirm st i m says = said-place (frames_of files) confirm st m.counters i says
+
+pub returns-clause-next_or_last : goal.returns-clause-next_or_last
+returns-clause-next_or_last g c files confirm st i m says = said-next-or-last (frames_of files) confirm st m.counters i says
+
+pub returns-clause-last : goal.returns-clause-last
+returns-clause-last g c files confirm st m running some = last-is-no-end (frames_of files) confirm st m.counters (frames-end files) running some

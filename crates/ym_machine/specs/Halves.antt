@@ -1,0 +1,205 @@
+-- A round, in its two halves: the receiver hears and replies, and the sender hears what comes back.
+--
+-- Of the tables the lines that have a section of the reference beside them come from there, and this profile chose the others.
+use Rattle.std.specs.Prelude.{ℕ, ◌+◌, ◌≡◌, ◌==◌, ◌⊎◌, nat_lt, List, [], ◌∷◌, Bool, true, false, if◌then◌else◌}
+use Rattle.ym_frame.specs.declared.control.Control.{Control}
+use Rattle.ym_frame.specs.declared.control.Control.TheVariants as control
+use Rattle.ym_frame.specs.declared.control.Reply.{Reply}
+use Rattle.ym_frame.specs.declared.control.Reply.TheVariants.{Silence, Start, Ack, AckStart, Nak, Cancel}
+use Rattle.ym_machine.specs.declared.confirm.Confirm.{Confirm}
+use Rattle.ym_machine.specs.declared.confirm.Confirm.TheVariants.{Twice, Once}
+use Rattle.ym_machine.specs.Frames.{Frame, BlockZero, Piece, Eot, EndBlock, frame_at, frame_before}
+use Rattle.ym_machine.specs.State.{SenderEnd, ReceiverEnd, State, Speech, Nothing, FrameAt, CanCan, said}
+
+-- what the receiver hears
+pub data Sound : Type 0 where
+  At : ℕ → Sound  -- the frame at this place
+  Can : Sound
+  Bad : Sound  -- no frame
+
+-- of what the sender said, where the delivery is whole or not
+abbrev pub heard : Bool → Speech → Sound
+heard false speech = Bad
+heard true Nothing = Bad
+heard true (FrameAt place) = At place
+heard true CanCan = Can
+
+-- the state after the half there, and the reply
+abbrev pub Answer : Type 0
+Answer = State × Reply
+
+-- a delivery that brings the receiver no progress: at the tenth in a row it gives up
+-- (reference, "XMODEM Protocol Overview": errors are retried 10 times)
+abbrev pub nothing_taken : State → Reply → Answer
+nothing_taken st reply =
+    if nat_lt (st.receiver_count + 1) 10
+    then (record st { receiver_count = st.receiver_count + 1 }, reply)
+    else (record st { receiver_count = st.receiver_count + 1; receiver = ReceiverEnd.TooManyErrors }, Cancel)
+
+-- a frame is taken, unless the sink failed
+abbrev pub takes : State → Reply → Bool → Answer
+takes st reply false = (record st { taken = st.taken + 1; first_eot = false; receiver_count = 0 }, reply)
+takes st reply true = (record st { receiver = ReceiverEnd.SinkFailed }, Cancel)
+
+-- a Running receiver hears F[r]
+-- (reference: a data block is answered with ACK, "XMODEM Protocol Overview"; a block 0 with ACK and then C, and the end block
+-- with ACK, "YMODEM Batch File Transmission"; that Twice wants an EOT two times, and a C behind its ACK, is this profile's)
+abbrev pub hears_next : {H : Type 0} → Confirm → Bool → Frame H → State → Answer
+hears_next confirm sink_failed (BlockZero header) st = takes st AckStart sink_failed
+hears_next confirm sink_failed (Piece number body) st = takes st Ack sink_failed
+hears_next Twice sink_failed Eot st =
+    if st.first_eot then takes st AckStart sink_failed
+    else (record st { first_eot = true; receiver_count = 0 }, Nak)
+hears_next Once sink_failed Eot st = takes st AckStart sink_failed
+hears_next confirm sink_failed EndBlock st = (record st { taken = st.taken + 1; receiver = ReceiverEnd.Finished }, Ack)
+
+-- a Running receiver hears F[r-1] once more, never the end block, at which it finished
+-- (reference, "XMODEM Protocol Overview": a repeated block is acknowledged and dropped)
+abbrev pub hears_last : {H : Type 0} → Frame H → State → Answer
+hears_last (BlockZero header) st = nothing_taken st AckStart
+hears_last (Piece number body) st = nothing_taken st Ack
+hears_last Eot st = nothing_taken st AckStart
+hears_last EndBlock st = nothing_taken st Start
+
+-- what a Running receiver answers to no frame, by F[r-1]: NAK behind a data block, else C; before F[0] stands the end block
+abbrev pub asks_again : {H : Type 0} → Frame H → Reply
+asks_again (BlockZero header) = Start
+asks_again (Piece number body) = Nak
+asks_again Eot = Start
+asks_again EndBlock = Start
+
+-- a Running receiver: in a machine state a frame that is not F[r] is F[r-1]
+abbrev pub running_hears : {H : Type 0} → List (Frame H) → Confirm → Bool → Sound → State → Answer
+running_hears frames confirm sink_failed (At i) st =
+    if i == st.taken then hears_next confirm sink_failed (frame_at frames i) st
+    else hears_last (frame_at frames i) st
+running_hears frames confirm sink_failed Can st = (record st { receiver = ReceiverEnd.Cancelled }, Silence)
+running_hears frames confirm sink_failed Bad st = nothing_taken st (asks_again (frame_before frames st.taken))
+
+-- a Finished receiver answers its last frame, and nothing else
+abbrev pub finished_hears : Sound → State → Answer
+finished_hears (At i) st = (st, if i + 1 == st.taken then Ack else Silence)
+finished_hears Can st = (st, Silence)
+finished_hears Bad st = (st, Silence)
+
+-- every other ended receiver is silent
+abbrev pub hears : {H : Type 0} → List (Frame H) → Confirm → Bool → Sound → ReceiverEnd → State → Answer
+hears frames confirm sink_failed sound ReceiverEnd.Running st = running_hears frames confirm sink_failed sound st
+hears frames confirm sink_failed sound ReceiverEnd.Finished st = finished_hears sound st
+hears frames confirm sink_failed sound ReceiverEnd.Cancelled st = (st, Silence)
+hears frames confirm sink_failed sound ReceiverEnd.TooManyErrors st = (st, Silence)
+hears frames confirm sink_failed sound ReceiverEnd.SinkFailed st = (st, Silence)
+
+-- the half there: with the truth whether the sink failed, and whether the delivery is whole
+abbrev pub there : {H : Type 0} → List (Frame H) → Confirm → Bool → Bool → State → Answer
+there frames confirm sink_failed whole st = hears frames confirm sink_failed (heard whole (said st)) st.receiver st
+
+-- the control bytes of a reply
+abbrev pub controls : Reply → List Control
+controls Silence = []
+controls Start = control.Start ∷ []
+controls Ack = control.Ack ∷ []
+controls AckStart = control.Ack ∷ control.Start ∷ []
+controls Nak = control.Nak ∷ []
+controls Cancel = control.Can ∷ control.Can ∷ []
+
+-- a delivery that brings the sender no progress: at the tenth in a row it gives up, with CAN CAN to go
+abbrev pub nothing_gained : State → State
+nothing_gained st =
+    if nat_lt (st.sender_count + 1) 10
+    then record st { sender_count = st.sender_count + 1 }
+    else record st { sender_count = st.sender_count + 1; sender = SenderEnd.NoReply; farewell = true }
+
+-- the frame at a place becomes the sent one; a data block is filled from the source, which may fail
+abbrev pub sends : {H : Type 0} → Bool → Frame H → ℕ → State → State
+sends true (Piece number body) place st =
+    record st { acknowledged = place; sent = true; sender_count = 0; sender = SenderEnd.SourceFailed; farewell = true }
+sends true _ place st = record st { acknowledged = place; sent = true; sender_count = 0 }
+sends false _ place st = record st { acknowledged = place; sent = true; sender_count = 0 }
+
+-- F[s] is acknowledged: behind a data block the next frame is sent at once, behind a block 0 or an EOT where a C follows
+abbrev pub acknowledged_at : {H : Type 0} → List (Frame H) → Bool → Bool → Frame H → State → State
+acknowledged_at frames source_failed start_follows (Piece number body) st =
+    sends source_failed (frame_at frames (st.acknowledged + 1)) (st.acknowledged + 1) st
+acknowledged_at frames source_failed start_follows EndBlock st =
+    record st { acknowledged = st.acknowledged + 1; sender = SenderEnd.Finished }
+acknowledged_at frames source_failed start_follows _ st =
+    if start_follows then sends source_failed (frame_at frames (st.acknowledged + 1)) (st.acknowledged + 1) st
+    else record st { acknowledged = st.acknowledged + 1; sent = false; sender_count = 0 }
+
+-- a C is among these
+abbrev pub holds_start : List Control → Bool
+holds_start [] = false
+holds_start (control.Start ∷ came) = true
+holds_start (_ ∷ came) = holds_start came
+
+-- a Running sender, which has sent or waits, gets these control bytes
+-- (reference, "Graceful Abort": two CAN in a row cancel, one does not; this profile: C never acknowledges)
+abbrev pub running_gets : {H : Type 0} → List (Frame H) → Bool → Bool → List Control → State → State
+running_gets frames source_failed sent (control.Can ∷ control.Can ∷ []) st = record st { sender = SenderEnd.Cancelled }
+running_gets frames source_failed true (control.Ack ∷ came) st =
+    acknowledged_at frames source_failed (holds_start came) (frame_at frames st.acknowledged) st
+running_gets frames source_failed true _ st = nothing_gained st
+running_gets frames source_failed false came st =
+    if holds_start came then sends source_failed (frame_at frames st.acknowledged) st.acknowledged st
+    else nothing_gained st
+
+-- CAN CAN goes once, and every other ended sender stays
+abbrev pub gets : {H : Type 0} → List (Frame H) → Bool → List Control → SenderEnd → State → State
+gets frames source_failed came SenderEnd.Running st = running_gets frames source_failed st.sent came st
+gets frames source_failed came SenderEnd.Finished st = st
+gets frames source_failed came SenderEnd.Cancelled st = st
+gets frames source_failed came SenderEnd.NoReply st = record st { farewell = false }
+gets frames source_failed came SenderEnd.SourceFailed st = record st { farewell = false }
+
+-- the half back: with the truth whether the source failed, and the control bytes that came
+abbrev pub back : {H : Type 0} → List (Frame H) → Bool → List Control → State → State
+back frames source_failed came st = gets frames source_failed came st.sender st
+
+abbrev pub same_control : Control → Control → Bool
+same_control control.Ack control.Ack = true
+same_control control.Nak control.Nak = true
+same_control control.Start control.Start = true
+same_control control.Can control.Can = true
+same_control _ _ = false
+
+-- the first list is the second with some of its elements left out
+abbrev pub is_within : List Control → List Control → Bool
+is_within [] reply = true
+is_within (c ∷ came) [] = false
+is_within (c ∷ came) (r ∷ reply) = if same_control c r then is_within came reply else is_within (c ∷ came) reply
+
+-- all that can come back of a reply: nothing, C, ACK, ACK C, NAK, CAN or CAN CAN
+abbrev pub IsRemnant : List Control → Type 0
+IsRemnant came =
+    (came ≡ []) ⊎ (came ≡ control.Start ∷ []) ⊎ (came ≡ control.Ack ∷ []) ⊎ (came ≡ control.Ack ∷ control.Start ∷ []) ⊎
+    (came ≡ control.Nak ∷ []) ⊎ (came ≡ control.Can ∷ []) ⊎ (came ≡ control.Can ∷ control.Can ∷ [])
+
+-- the byte of a control
+abbrev pub control_byte : Control → ℕ
+control_byte control.Ack = 0x06
+control_byte control.Nak = 0x15
+control_byte control.Start = 0x43
+control_byte control.Can = 0x18
+
+-- the half there keeps what is the sender's
+pub record KeepsSender (old new : State) : Type 0 where
+  pub sender : new.sender ≡ old.sender
+  pub acknowledged : new.acknowledged ≡ old.acknowledged
+  pub sent : new.sent ≡ old.sent
+  pub sender_count : new.sender_count ≡ old.sender_count
+  pub farewell : new.farewell ≡ old.farewell
+
+-- a sender that has ended stays; what it still has to say is all that changes
+pub record SenderStays (old new : State) : Type 0 where
+  pub sender : new.sender ≡ old.sender
+  pub acknowledged : new.acknowledged ≡ old.acknowledged
+  pub sent : new.sent ≡ old.sent
+  pub sender_count : new.sender_count ≡ old.sender_count
+
+-- the half back keeps what is the receiver's
+pub record KeepsReceiver (old new : State) : Type 0 where
+  pub receiver : new.receiver ≡ old.receiver
+  pub taken : new.taken ≡ old.taken
+  pub first_eot : new.first_eot ≡ old.first_eot
+  pub receiver_count : new.receiver_count ≡ old.receiver_count

@@ -1,0 +1,11 @@
+use Rattle.std.proofs.Common.{rules, lit<, tests}
+use Rattle.std.proofs.lemmas.Iterator.Search.{any_from_yields_List}
+use Rattle.std.proofs.lemmas.Iterator.Splits.{YieldsList-from_str_split}
+use Rattle.ym_play.specs.Words.{words_of, is_empty}
+use Rattle.ym_play.proofs.words.has_empty_word.Goals as goal
+
+pub returns : goal.returns
+unfolding words_of
+returns c = any_from_yields_List is_empty _ _ _ c.any.ensures.ran
+    (YieldsList-from_str_split 32 c.args.line.now (lit< tt) c.split.ensures.text c.split.ensures.has_more c.split.ensures.pattern)
+    (λ x b q k. search (rules, tests))
