@@ -8,5 +8,8 @@ pub mod Positions
 pub mod SenderHalf
 pub mod SenderPlaces
 pub mod SenderStanding
+pub mod DeliveryHeard
+pub mod SenderDeliveries
 pub mod Settled
 pub mod Steps
+pub mod Taking

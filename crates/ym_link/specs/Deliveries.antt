@@ -1,10 +1,21 @@
 -- How many deliveries an end hears at most: ten for each step of progress, and ten more (this profile).
-use Rattle.std.specs.Prelude.{ℕ, ◌+◌, ◌-◌, ◌*◌, ◌^◌, if◌then◌else◌}
+use Rattle.std.specs.Prelude.{ℕ, ◌+◌, ◌-◌, ◌*◌, ◌^◌, if◌then◌else◌, List, [], ◌∷◌, drop}
 use Rattle.ym_link.specs.declared.stage.Stage.{Stage}
 use Rattle.ym_link.specs.declared.stage.Stage.TheVariants.{AwaitHeader, InFile}
 use Rattle.ym_link.specs.declared.state.RecvState.{RecvState}
 use Rattle.ym_link.specs.declared.state.RecvState.TheVariants as state
 use Rattle.ym_link.specs.Receiver.{Receiver}
+use Rattle.ym_link.specs.Place.{count_at}
+use Rattle.ym_link.specs.Sender.{SenderParts, counts}
+use Rattle.ym_link.specs.declared.place.Place.{Place}
+use Rattle.ym_link.specs.declared.place.Place.TheVariants.{Header, Block, Eot, End}
+use Rattle.ym_link.specs.declared.place.Mode.{Mode}
+use Rattle.ym_link.specs.declared.place.Mode.TheVariants.{Waiting, Sent}
+use Rattle.ym_link.specs.declared.standing.Standing.{Standing}
+use Rattle.ym_link.specs.declared.state.SendState.{SendState}
+use Rattle.ym_link.specs.declared.state.SendState.TheVariants.{Running}
+
+-- ---- A receiver
 
 -- how many steps of progress a file of any length takes at most: each adds a byte, but for the header and two EOTs
 abbrev pub file_steps : ℕ
@@ -22,3 +33,30 @@ deliveries_at _ r = 0
 -- how many deliveries a receiver takes at most until it has ended
 abbrev pub receiver_deliveries : Receiver → ℕ
 receiver_deliveries r = deliveries_at r.state r
+
+-- ---- A sender
+
+-- how many frames a batch has whose files have so many data blocks: of each file its block 0, its blocks and its EOT, and the end block
+unfoldable pub frames_in : List ℕ → ℕ
+frames_in [] = 1
+frames_in (count ∷ more) = count + 2 + frames_in more
+
+-- how many frames there are from a place on
+abbrev pub frames_from : List ℕ → Place → ℕ
+frames_from counts (Header file) = count_at counts file + 2 + frames_in (drop (file + 1) counts)
+frames_from counts (Block file k) = count_at counts file - k + 2 + frames_in (drop (file + 1) counts)
+frames_from counts (Eot file) = 1 + frames_in (drop (file + 1) counts)
+frames_from counts End = 1
+
+-- how many steps of progress a sender has left at most: two for each frame, one of them where it waits for C
+abbrev pub sender_steps : List ℕ → Place → Mode → ℕ
+sender_steps counts place Waiting = 2 * frames_from counts place
+sender_steps counts place Sent = 2 * frames_from counts place - 1
+
+abbrev pub deliveries_in : SendState → List ℕ → Standing → ℕ
+deliveries_in Running counts s = 10 * sender_steps counts s.place s.mode + (10 - s.misses)
+deliveries_in _ counts s = 0
+
+-- how many deliveries a sender takes at most until it has ended
+abbrev pub sender_deliveries : SenderParts → ℕ
+sender_deliveries s = deliveries_in s.standing.state (counts s) s.standing

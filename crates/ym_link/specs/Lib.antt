@@ -5,7 +5,10 @@ pub mod ReceiverStands
 pub mod SourceFile
 pub mod Port
 pub mod ScriptPort
+pub mod Delivery
 pub mod Deliveries
+pub mod ReceiveOver
+pub mod SendOver
 pub mod Place
 pub mod Reading
 pub mod Standing

@@ -4,6 +4,9 @@ ghost use Rattle.std.specs.Prelude.{◌≡◌, ◌<◌, ◌≤◌, ℕ, Option, 
 ghost use Rattle.ym_link.specs.Port.{Tape, seen_of, read_gives, read_leaves, after_write};
 ghost use Rattle.ym_file.specs.Counts.{Rose};
 
+/// How many bytes a delivery has at most.
+pub(crate) const DELIVERY_LIMIT: usize = 2048;
+
 /// How long a read waits.
 #[derive(Clone, Copy, Debug, PartialEq, Eq)]
 pub enum Wait {

@@ -1,19 +1,21 @@
 //! A receiver over a port.
 
-ghost use Rattle.std.specs.Prelude.{◌≡◌, ◌≢◌, ◌≤◌, ◌<◌, Ok, Err, is_ok, true, length};
+ghost use Rattle.std.specs.Prelude.{◌≡◌, ◌≢◌, ◌≤◌, ◌<◌, Ok, Err, Some, is_ok, true, length};
 ghost use Rattle.ym_frame.specs.Block.{BlockParts};
+ghost use Rattle.ym_frame.specs.Control.{reply_bytes};
+ghost use Rattle.ym_frame.specs.declared.control.Reply.TheVariants.{Silence};
 ghost use Rattle.ym_file.specs.Counts.{Rose};
+ghost use Rattle.ym_link.specs.Port.{Tape, after_write};
+ghost use Rattle.ym_link.specs.ReceiveOver.{Receives, heard_at, behind};
 ghost use Rattle.ym_link.specs.declared.state.RecvState.TheVariants as state;
 
 use crate::delivery::Heard;
 use crate::end_fault::EndFault;
-use crate::port::{Got, Port, PortFault, Wait};
+use crate::port::{DELIVERY_LIMIT, Got, Port, PortFault, Wait};
 use crate::receiver::ReceiverInto;
 use ym_file::Sink;
+use ym_frame::laws::any_pieces;
 use ym_frame::{FrameReader, Item, Reply};
-
-/// How many bytes a delivery has at most.
-pub(crate) const DELIVERY_LIMIT: usize = 2048;
 
 /// What is heard of an item. A block has some data bytes.
 fn heard_item(item: Item) -> Heard
@@ -29,11 +31,14 @@ fn heard_item(item: Item) -> Heard
 /// Reads one delivery, which ends with the first item, when the line is quiet, or at its greatest length. What is left of the
 /// last read is dropped.
 fn hear_delivery<P: Port>(port: &mut P, buf: &mut [u8; 2048]) -> Result<Heard, EndFault>
+    ensures told { (t : Tape) → P.tape port.old ≡ Some t → (result ≡ heard_at t) × (P.tape port.new ≡ Some (behind t)) }
     ensures device { result ≡ Err EndFault.Device → Rose (P.failures port.old) (P.failures port.new) }
     ensures calm { result ≢ Err EndFault.Device → P.failures port.new ≡ P.failures port.old }
     ensures memory { result ≢ Err EndFault.Memory }
     ensures sized { (block : BlockParts) → result ≡ Ok (Heard.Item (Item.Block block)) → 0 < length block.body }
 {
+    // in whatever pieces a delivery comes, it is read as one
+    any_pieces();
     let mut reader = FrameReader::new();
     let mut len = 0;
     let mut wait = Wait::Reply;
@@ -58,7 +63,8 @@ fn hear_delivery<P: Port>(port: &mut P, buf: &mut [u8; 2048]) -> Result<Heard, E
 
 /// Writes a reply, if there is one.
 fn write_reply<P: Port>(port: &mut P, reply: Reply) -> Result<(), EndFault>
-    ensures device { (e : EndFault) → result ≡ Err e → (e ≡ EndFault.Device) × Rose (P.failures port.old) (P.failures port.new) }
+    ensures told { (t : Tape) → P.tape port.old ≡ Some t → P.tape port.new ≡ Some (after_write (is_ok result) t (reply_bytes reply)) }
+    ensures device { (e : EndFault) → result ≡ Err e → (e ≡ EndFault.Device) × (reply ≢ Silence) × Rose (P.failures port.old) (P.failures port.new) }
     ensures calm { is_ok result ≡ true → P.failures port.new ≡ P.failures port.old }
 {
     match reply {
@@ -77,6 +83,8 @@ pub fn receive_over<P: Port, K: Sink>(
     port: &mut P,
     receiver: &mut ReceiverInto<K>,
 ) -> Result<(), EndFault>
+    ensures told { (t : Tape) → P.tape port.old ≡ Some t →
+        (u : Tape) × (P.tape port.new ≡ Some u) × Receives receiver.old t (record { receiver = receiver.new; tape = u; answer = result }) }
     ensures device { result ≡ Err EndFault.Device → Rose (P.failures port.old) (P.failures port.new) }
     ensures ended { is_ok result ≡ true → receiver.new.receiver.state ≢ state.Running }
     ensures left { receiver.old.receiver.state ≢ state.Running → (result ≡ Ok tt) × (receiver.new ≡ receiver.old) × (port.new ≡ port.old) }

@@ -1,0 +1,34 @@
+-- What a receiver hears of a delivery that comes in pieces.
+use Rattle.std.proofs.Common.{◌≡◌, ◌+◌, ◌-◌, ◌<◌, ◌≤◌, ℕ, Bool, true, false, List, [], ◌++◌, length, Option, None, Some, Result, Ok, Err, is_ok, refl, sym, ◌∙◌, ap, subst, arith}
+use Rattle.std.proofs.lemmas.List.{length-append}
+use Rattle.ym_frame.specs.Frame.{verdict_of}
+use Rattle.ym_frame.specs.Reading.{Reading, partial, reading_after, item_of, item_in}
+use Rattle.ym_frame.specs.declared.frame.Item.{Item}
+use Rattle.ym_frame.specs.declared.frame.Broken.{Broken}
+use Rattle.ym_link.specs.declared.event.Event.{Event}
+use Rattle.ym_link.specs.declared.delivery.Heard.{Heard}
+use Rattle.ym_link.specs.declared.delivery.Heard.TheVariants as heard
+use Rattle.ym_link.specs.declared.end_fault.EndFault.{EndFault}
+use Rattle.ym_link.specs.Hearing.{heard_at, heard_of}
+use Rattle.ym_link.specs.Port.{Tape, Data}
+use Rattle.ym_link.specs.Delivery.{Taken}
+use Rattle.ym_link.specs.ReceiveOver.{delivery_at, heard_in, behind}
+use Rattle.ym_link.proofs.Taking.{done}
+
+pub verdict-item : (v : Result (Item × ℕ) Broken) (i : Item) → item_in v ≡ Some i → (heard_at v ≡ heard.Item i) × (is_ok v ≡ true)
+verdict-item (Ok found) i h = (by h, refl)
+  where
+    by : Some found.0 ≡ Some i → heard.Item found.0 ≡ heard.Item i
+    by e = cc
+verdict-item (Err broken) i h = absurd cc
+
+pub verdict-bad : (v : Result (Item × ℕ) Broken) → item_in v ≡ None → (heard_at v ≡ heard.Bad) × (is_ok v ≡ false)
+verdict-bad (Ok found) h = absurd cc
+verdict-bad (Err broken) h = (refl, refl)
+
+-- what the delivery is, and the port behind it
+pub heard-out : (t : Tape) (new : Option Tape) (h : Result Heard EndFault) (delivery : Result (List ℕ) EndFault) (rest : List Event) (written : List ℕ)
+    → delivery_at t ≡ record { delivery = delivery; rest = rest } → h ≡ heard_in delivery → written ≡ t.written
+    → new ≡ Some (record { coming = rest; written = written })
+    → (h ≡ heard_in (delivery_at t).delivery) × (new ≡ Some (behind t))
+heard-out t new h delivery rest written is heard wrote leaves = (rw is heard, rw (is, ← wrote) leaves)
