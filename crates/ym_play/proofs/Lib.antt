@@ -1,5 +1,8 @@
+pub mod BytesLemmas
 pub mod CommandLemmas
 pub mod NameLemmas
 pub mod NumberLemmas
+pub mod PlayLemmas
 pub mod ScriptLemmas
+pub mod SessionLemmas
 pub mod WordsLemmas

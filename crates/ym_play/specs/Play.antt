@@ -29,8 +29,8 @@ pub record IsNewPair (script : ScriptParts) (told : Option (List Handed)) (failu
   pub receiver : pair.receiver.receiver ≡ new_receiver script.confirm
   pub kept : pair.receiver.kept ≡ kept_of (record { opened = None; files = []; tally = new_tally None })
   pub no_failures : pair.receiver.failures ≡ 0
-  pub told : pair.told ≡ told
-  pub failures : pair.failures ≡ failures
+  pub line_told : pair.told ≡ told
+  pub line_failures : pair.failures ≡ failures
 
 abbrev pub status_with : SendState → RecvState → ℕ
 status_with send.Finished recv.Finished = 0
@@ -57,6 +57,10 @@ pub record IsStopped (script : ScriptParts) (told : Option (List Handed)) (failu
   pub stops : StopsIn 1 script.rounds old fault new
   pub told_after : new.told ≡ new_told
   pub failures_after : new.failures ≡ new_failures
+
+abbrev pub RunsAs : ScriptParts → Option (List Handed) → ℕ → Result Trace LineFault → Option (List Handed) → ℕ → Type 0
+RunsAs script told failures (Ok trace) new_told new_failures = IsRun script told failures trace new_told new_failures
+RunsAs script told failures (Err fault) new_told new_failures = IsStopped script told failures fault new_told new_failures
 
 -- the text of that run
 pub record IsPlayed (bytes : List ℕ) (told : Option (List Handed)) (failures : ℕ) (played : Played) (new_told : Option (List Handed)) (new_failures : ℕ) : Type 0 where

@@ -7,7 +7,7 @@ mod input;
 mod passing;
 mod play;
 mod script;
-mod session;
+mod sessions;
 mod value;
 mod words;
 
@@ -15,7 +15,7 @@ pub use fault::{PlayFault, ScriptWhy};
 pub use passing::Passing;
 pub use play::{Played, play_script};
 pub use script::{Script, read_script};
-pub use session::session;
+pub use sessions::session;
 
 #[cfg(test)]
 mod tests;

@@ -1,15 +1,15 @@
 //! A script played on a line.
 
-ghost use Rattle.std.specs.Prelude.{◌≡◌, None, []};
+ghost use Rattle.std.specs.Prelude.{◌≡◌, ◌≤◌, None, [], IfOk};
 ghost use Rattle.ym_file.specs.Counts.{new_tally};
 ghost use Rattle.ym_file.specs.Parts.{kept_of};
 ghost use Rattle.ym_link.specs.Receiver.{new_receiver};
-ghost use Rattle.ym_play.specs.Play.{PlayGives, status_of};
+ghost use Rattle.ym_play.specs.Play.{PlayGives, RunsAs, status_of};
 
 use crate::fault::PlayFault;
 use crate::script::{Script, read_script};
 use std::alloc::Global;
-use ym_line::{Carrier, Trace, run, trace_text};
+use ym_line::{Carrier, LineFault, Trace, run, trace_text};
 use ym_link::{Confirm, Receiver, RecvState, SendState, Sender};
 
 /// What was played.
@@ -33,12 +33,32 @@ fn receiver_of(alloc: Global, confirm: Confirm) -> Receiver
 
 /// 0 where both ends have finished, else 1.
 fn status_of(trace: &Trace) -> u8
-    ensures { result ≡ status_of trace.now }
+    ensures value { result ≡ status_of trace.now }
+    ensures small { result ≤ 1 }
 {
     match (trace.send, trace.recv) {
         (SendState::Finished, RecvState::Finished) => 0,
         _ => 1,
     }
+}
+
+/// Sends the batch of a script to a new receiver in memory over its rounds, by this carrier.
+fn run_script<C: Carrier>(
+    alloc: Global,
+    script: Script,
+    carrier: &mut C,
+) -> Result<Trace, LineFault>
+    ensures { RunsAs script (C.told carrier.old) (C.failures carrier.old) result (C.told carrier.new) (C.failures carrier.new) }
+{
+    let Script {
+        batch,
+        shape,
+        confirm,
+        rounds,
+    } = script;
+    let mut sender = Sender::new(batch, shape).unwrap();
+    let mut receiver = receiver_of(alloc, confirm);
+    run(alloc, &mut sender, &mut receiver, &rounds, carrier)
 }
 
 /// Reads a script, and sends its batch to a new receiver in memory over its rounds, by this carrier. The whole script is read before the
@@ -48,17 +68,11 @@ pub fn play_script<C: Carrier>(
     script: &[u8],
     carrier: &mut C,
 ) -> Result<Played, PlayFault>
-    ensures { PlayGives script.now (C.told carrier.old) (C.failures carrier.old) result (C.told carrier.new) (C.failures carrier.new) }
+    ensures gives { PlayGives script.now (C.told carrier.old) (C.failures carrier.old) result (C.told carrier.new) (C.failures carrier.new) }
+    ensures status { IfOk result (λ played. played.status ≤ 1) }
 {
-    let Script {
-        batch,
-        shape,
-        confirm,
-        rounds,
-    } = read_script(alloc, script)?;
-    let mut sender = Sender::new(batch, shape).unwrap();
-    let mut receiver = receiver_of(alloc, confirm);
-    let trace = run(alloc, &mut sender, &mut receiver, &rounds, carrier)?;
+    let script = read_script(alloc, script)?;
+    let trace = run_script(alloc, script, carrier)?;
     let text = trace_text(alloc, &trace)?;
     Ok(Played {
         text,

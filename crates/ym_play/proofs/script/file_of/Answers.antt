@@ -19,4 +19,4 @@ pub returns : goal.returns
 returns c =
     let bytes : bytes_at c.args.bytes.now ≡ Ok c.in_ok-bytes.bytes.items = search rules in
     let stamp : stamp_at (stamp_in c.args.stamp) ≡ Ok c.in_ok-stamp.stamp = search rules in
-    file_written c.args.name.now c.args.bytes.now (stamp_in c.args.stamp) c.in_ok-bytes.bytes.items c.in_ok-stamp.stamp c.in_ok-new.field-0 bytes stamp c.in_ok-new.ensures.ok c.in_ok-new.ensures.within
+    file_written c.args.name.now c.args.bytes.now (stamp_in c.args.stamp) c.in_ok-bytes.bytes.items c.in_ok-stamp.stamp c.in_ok-new.field-0 bytes stamp c.in_ok-new.ensures.ok (c.in_ok-new.ensures.within).header

@@ -1,5 +1,9 @@
 //! A session: a script in, the text of its run out, and a status back.
 
+ghost use Rattle.std.specs.Prelude.{◌≡◌, ◌≢◌, ◌≤◌, ◌⊎◌, ℕ, List, Some, IfOk, OnOk};
+ghost use Rattle.std.specs.Io.KnownBytes.{Appends};
+ghost use Rattle.ym_play.specs.Session.{fault_status, InputPlays, SessionGives};
+
 use crate::fault::PlayFault;
 use crate::input::{InputFault, take_script};
 use crate::play::{Played, play_script};
@@ -33,6 +37,11 @@ impl fmt::Display for SessionFault {
 }
 
 impl From<InputFault> for SessionFault {
+    ghost use Rattle.ym_play.specs.Session.{input_fault};
+    ghost use Rattle.std.specs.Prelude.{◌≡◌};
+
+    ghost from_gives = { λ fault e. e ≡ input_fault fault };
+
     fn from(fault: InputFault) -> SessionFault {
         match fault {
             InputFault::Device => SessionFault::Device,
@@ -43,7 +52,9 @@ impl From<InputFault> for SessionFault {
 
 impl SessionFault {
     /// The status that tells it.
-    fn status(&self) -> u8 {
+    fn status(&self) -> u8
+        ensures { result ≡ fault_status self.now }
+    {
         match self {
             SessionFault::Device
             | SessionFault::Play(
@@ -62,19 +73,30 @@ fn play_input<R: Read, C: Carrier>(
     alloc: Global,
     input: &mut R,
     carrier: &mut C,
-) -> Result<Played, SessionFault> {
+) -> Result<Played, SessionFault>
+    ensures status { IfOk result (λ played. played.status ≤ 1) }
+    ensures plays { (text : List ℕ) → R.remaining input.old ≡ Some text
+        → InputPlays text (C.told carrier.old) (C.failures carrier.old) result (C.told carrier.new) (C.failures carrier.new) }
+{
     let script = take_script(alloc, input)?;
-    play_script(alloc, &script, carrier).map_err(SessionFault::Play)
+    match play_script(alloc, &script, carrier) {
+        Ok(played) => Ok(played),
+        Err(fault) => Err(SessionFault::Play(fault)),
+    }
 }
 
 /// Writes the text.
-fn print<W: Write>(out: &mut W, text: &str) -> io::Result<()> {
+fn print<W: Write>(out: &mut W, text: &str) -> io::Result<()>
+    ensures { OnOk result (Appends (W.contents out.old) (W.contents out.new) text.now) }
+{
     out.write_all(text.as_bytes())?;
     out.flush()
 }
 
 /// Writes the line that tells a fault. The answer is its status, or that of a failed device where the line could not be written.
-fn tell<E: Write>(err: &mut E, fault: SessionFault) -> u8 {
+fn tell<E: Write>(err: &mut E, fault: SessionFault) -> u8
+    ensures { (result ≡ fault_status fault) ⊎ (result ≡ 3) }
+{
     match writeln!(err, "{fault}").and_then(|()| err.flush()) {
         Ok(()) => fault.status(),
         Err(_) => FAILED,
@@ -92,7 +114,14 @@ pub fn session<R: Read, W: Write, E: Write, C: Carrier>(
     out: &mut W,
     err: &mut E,
     carrier: &mut C,
-) -> u8 {
+) -> u8
+    // Where no read and no write fails: a session that meets one has status 3.
+    ensures gives { (text before wrong : List ℕ) → R.remaining input.old ≡ Some text → W.contents out.old ≡ Some before
+        → E.contents err.old ≡ Some wrong → result ≢ 3
+        → SessionGives text before wrong (C.told carrier.old) (C.failures carrier.old) result (W.contents out.new) (E.contents err.new) (C.told carrier.new) (C.failures carrier.new) }
+    ensures refused { result ≡ 2 → W.contents out.new ≡ W.contents out.old }
+    ensures status { result ≤ 3 }
+{
     let played = match play_input(alloc, input, carrier) {
         Ok(played) => played,
         Err(fault) => return tell(err, fault),
