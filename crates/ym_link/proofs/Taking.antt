@@ -1,10 +1,10 @@
 -- A delivery, by one read after another.
 use Rattle.std.proofs.Common.{◌≡◌, ◌<◌, ◌≤◌, ◌+◌, ◌-◌, ℕ, Bool, true, false, nat_lt, nat_le, List, [], ◌∷◌, ◌++◌, length, take, drop, Option, Some, Result, Ok, Err, if◌then◌else◌, refl, sym, ◌∙◌, ap, arith}
 use Rattle.std.proofs.lemmas.Bool.{cond_both, le-leb, lt-leb}
-use Rattle.std.proofs.lemmas.List.{length-append, length-take-le, take-append-le}
+use Rattle.std.proofs.lemmas.List.{length-append, length-drop, length-take-le, take-append-le}
 use Rattle.std.proofs.Math.Seq.{take-append-add}
 use borrow.Author.Tests.{ltb-true}
-use borrow.Rule.Slice.PartMut.{put_mid, post_of}
+use borrow.Rule.Slice.PartMut.{mid_of, put_mid, post_of}
 use Rattle.ym_link.specs.Port.{Tape, Seen, Data, Silence, End, Failed, read_gives, read_leaves}
 use Rattle.ym_link.specs.Delivery.{Taken, taken, delivery_limit}
 use Rattle.ym_link.specs.declared.event.Event.{Event}
@@ -87,3 +87,14 @@ read-into len n k buf new within fits =
     = take-append-add (take len buf) (new ++ post_of len k buf) n in
     let short : take n (new ++ post_of len k buf) ≡ take n new = take-append-le n new (post_of len k buf) fits in
     rw had at more ∙ ap (λ ys. take len buf ++ ys) short
+
+-- the buffer stays as long
+pub into-size : (len n : ℕ) (buf new : List ℕ) → len ≤ n → length buf ≡ n → length new ≡ length (mid_of len (n - len) buf) → length (put_mid len (n - len) buf new) ≡ n
+into-size len n buf new within size room =
+    let front = length-take-le len buf (omega (arith, within, size)) in
+    let room_is : length (mid_of len (n - len) buf) ≡ n - len = length-take-le (n - len) (drop len buf) (omega (arith, length-drop len buf, within, size)) in
+    let back : length (post_of len (n - len) buf) ≡ length (drop len buf) - (n - len) = length-drop (n - len) (drop len buf) in
+    let behind = length-drop len buf in
+    let whole : length (put_mid len (n - len) buf new) ≡ length (take len buf) + (length new + length (post_of len (n - len) buf))
+    = length-append (take len buf) (new ++ post_of len (n - len) buf) ∙ ap (λ k. length (take len buf) + k) (length-append new (post_of len (n - len) buf)) in
+    omega (arith, front, room_is, back, behind, whole, size, within, room)

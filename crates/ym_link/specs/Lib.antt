@@ -9,6 +9,7 @@ pub mod Delivery
 pub mod Deliveries
 pub mod ReceiveOver
 pub mod SendOver
+pub mod Bound
 pub mod Place
 pub mod Reading
 pub mod Standing

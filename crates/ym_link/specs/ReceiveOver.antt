@@ -48,7 +48,7 @@ pub record Outcome : Type 0 where
 pub data Receives : ReceiverParts → Tape → Outcome → Type 0 where
   ended : (r : ReceiverParts) (t : Tape) → r.receiver.state ≢ state.Running
       → Receives r t (record { receiver = r; tape = t; answer = Ok tt })
-  unread : (r : ReceiverParts) (t : Tape) (f : EndFault) → r.receiver.state ≡ state.Running → heard_at t ≡ Err f
+  unread : (r : ReceiverParts) (t : Tape) (f : EndFault) → IsReceiver r → r.receiver.state ≡ state.Running → heard_at t ≡ Err f
       → Receives r t (record { receiver = r; tape = behind t; answer = Err f })
   unheard : (r : ReceiverParts) (t : Tape) (h : Heard) (e : AllocError) → IsReceiver r → r.receiver.state ≡ state.Running → heard_at t ≡ Ok h
       → HearsGives r h (Err e) r

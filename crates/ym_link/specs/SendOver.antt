@@ -49,9 +49,9 @@ pub record Outcome : Type 0 where
 pub data Sends : SenderParts → Tape → Outcome → Type 0 where
   ended : (s : SenderParts) (t : Tape) → s.standing.state ≢ Running
       → Sends s t (record { sender = s; tape = said s t; answer = Ok tt })
-  unwritten : (s : SenderParts) (t : Tape) → spoken s ≢ None
+  unwritten : (s : SenderParts) (t : Tape) → IsSender s → spoken s ≢ None
       → Sends s t (record { sender = s; tape = t; answer = Err fault.Device })
-  unread : (s : SenderParts) (t : Tape) (f : EndFault) → s.standing.state ≡ Running → (delivery_to s t).delivery ≡ Err f
+  unread : (s : SenderParts) (t : Tape) (f : EndFault) → IsSender s → s.standing.state ≡ Running → (delivery_to s t).delivery ≡ Err f
       → Sends s t (record { sender = s; tape = behind s (said s t); answer = Err f })
   heard : (s : SenderParts) (t : Tape) (bytes : List ℕ) (new : SenderParts) (out : Outcome) → IsSender s → s.standing.state ≡ Running
       → (delivery_to s t).delivery ≡ Ok bytes → Hears s bytes new → Sends new (behind s (said s t)) out

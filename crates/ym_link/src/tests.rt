@@ -1,4 +1,5 @@
 //! Tests of the two ends.
 
+mod engines;
 mod receiver;
 mod sender;

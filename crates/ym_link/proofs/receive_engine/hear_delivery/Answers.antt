@@ -50,10 +50,11 @@ returns-in-Some-clause-told g c t e =
     let room : length (mid_of c.loop-len.len (2048 - c.loop-len.len) c.loop-len.buf) ≡ delivery_limit - length inv.1 = rw inv.4 (search rules) in
     let whole = c.any_pieces.ensures (partial []) inv.1 (take c.in-Ok-Bytes.n c.read.new.buf) inv.6 in
     let found : item_of (partial []) (inv.1 ++ take c.in-Ok-Bytes.n c.read.new.buf) ≡ Some c.in-Some.item = sym whole.1 ∙ (rw (← inv.5) (sym c.feed-fed.ensures.item) ∙ c.in-Some.is) in
+    let heard_is : c.heard_item.result ≡ heard.Item c.in-Some.item = search rules in
     let item = verdict-item (verdict_of (inv.1 ++ take c.in-Ok-Bytes.n c.read.new.buf)) c.in-Some.item found in
     heard-out t _ (Ok c.heard_item.result) (Ok (inv.1 ++ take c.in-Ok-Bytes.n c.read.new.buf)) _ inv.0.written
     (after-read has_item inv.1 (Data (take c.in-Ok-Bytes.n c.read.new.buf)) (delivery_at t) inv.0.coming _ less room inv.7 (sym seen ∙ got.0) ∙ rw item.1 refl)
-    (ap Ok (c.heard_item.ensures.item ∙ sym item.0)) inv.3 got.1
+    (ap Ok (heard_is ∙ sym item.0)) inv.3 got.1
 
 pub returns-clause-told : goal.returns-clause-told
 returns-clause-told g c t e =

@@ -28,7 +28,7 @@ returns-in_err-heard-clause-told g c t e =
     let on : c.loop-buf.receiver.receiver.state ≡ state.Running = search rules in
     let answer : c.from_residual.result ≡ Err c.in_err-heard.field-0.0 = search rules in
     let none : heard_at inv.0 ≡ Err c.in_err-heard.field-0.0 = sym got.0 ∙ c.in_err-heard.was in
-    (behind inv.0, got.1, rw answer (inv.2 _ (unread c.loop-buf.receiver inv.0 c.in_err-heard.field-0.0 on none)))
+    (behind inv.0, got.1, rw answer (inv.2 _ (unread c.loop-buf.receiver inv.0 c.in_err-heard.field-0.0 c.is_running.ensures.receiver on none)))
 
 pub returns-in-Err-clause-told : goal.returns-in-Err-clause-told
 returns-in-Err-clause-told g c t e =

@@ -7,7 +7,7 @@ use Rattle.ym_link.specs.Port.{Data, End, Failed, Silence, seen_of}
 use Rattle.ym_link.specs.Delivery.{taken, delivery_limit}
 use Rattle.ym_link.specs.SendOver.{settles}
 use Rattle.ym_link.specs.declared.end_fault.EndFault.TheVariants as fault
-use Rattle.ym_link.proofs.Taking.{onward-full, way-out, read-into, after-read}
+use Rattle.ym_link.proofs.Taking.{onward-full, way-out, read-into, into-size, after-read}
 use Rattle.ym_link.proofs.send_engine.read_delivery.Goals as goal
 
 pub returns-in-Ok-Closed-clause-told : goal.returns-in-Ok-Closed-clause-told
@@ -78,7 +78,7 @@ loop-len-preserved g c =
     ≡ take c.loop-len.len c.loop-len.buf ++ take c.in-Ok-Bytes.n c.read.new.buf = read-into c.loop-len.len c.in-Ok-Bytes.n _ c.loop-len.buf c.read.new.buf within fits in
     record {
       within = search rules;
-      sized = search rules;
+      sized = into-size c.loop-len.len 2048 c.loop-len.buf c.read.new.buf c.loop-len.invariant.within c.loop-len.invariant.sized (search rules);
       told = λ t e.
           let inv = c.loop-len.invariant.told t e in
           let got = c.read.ensures.told inv.0 inv.1 in

@@ -1,7 +1,7 @@
 -- Each way out is a rule of `Sends`, behind the rules of the deliveries before.
 use Rattle.std.proofs.Common.{◌≡◌, ◌≢◌, ◌-◌, Option, Some, None, Result, Ok, Err, take, true, false, is_ok, rules, refl, sym, ◌∙◌}
 use Rattle.ym_link.specs.Port.{Tape, after_write}
-use Rattle.ym_link.specs.Sender.{SenderParts, spoken}
+use Rattle.ym_link.specs.Sender.{SenderParts, IsSender, spoken}
 use Rattle.ym_link.specs.SendOver.{Sends, ended, unwritten, unread, heard, written_for, said, behind, delivery_to}
 use Rattle.ym_link.specs.declared.end_fault.EndFault.{EndFault}
 use Rattle.ym_link.specs.declared.end_fault.EndFault.TheVariants as fault
@@ -10,19 +10,19 @@ use Rattle.ym_link.proofs.SenderDeliveries.{step-fewer}
 use Rattle.ym_link.proofs.send_engine.send_over.Goals as goal
 
 -- the last write
-finishes : (s : SenderParts) (u : Tape) (result : Result Unit EndFault) (new : Option Tape) → s.standing.state ≢ Running
+finishes : (s : SenderParts) (u : Tape) (result : Result Unit EndFault) (new : Option Tape) → IsSender s → s.standing.state ≢ Running
     → new ≡ Some (after_write (is_ok result) u (written_for (spoken s)))
     → ((e : EndFault) → result ≡ Err e → (e ≡ fault.Device) × (spoken s ≢ None))
     → (x : Tape) × (new ≡ Some x) × Sends s u (record { sender = s; tape = x; answer = result })
-finishes s u (Ok done) new over wrote device = (said s u, wrote, ended s u over)
-finishes s u (Err e) new over wrote device = (u, wrote, rw (device e refl).0 (unwritten s u (device e refl).1))
+finishes s u (Ok done) new is over wrote device = (said s u, wrote, ended s u over)
+finishes s u (Err e) new is over wrote device = (u, wrote, rw (device e refl).0 (unwritten s u is (device e refl).1))
 
 pub returns-clause-told : goal.returns-clause-told
 returns-clause-told g c ran t e =
     let inv = c.loop-buf.invariant.told t e in
     let over : c.loop-buf.sender.standing.state ≢ Running = search rules in
-    let last = finishes c.loop-buf.sender inv.0 c.write_frame-2.result _ over (c.write_frame-2.ensures.told inv.0 inv.1)
-    (λ f is. let device = c.write_frame-2.ensures.device f is in (device.0, device.1)) in
+    let last = finishes c.loop-buf.sender inv.0 c.write_frame-2.result _ c.write_frame-2.ensures.sender over (c.write_frame-2.ensures.told inv.0 inv.1)
+    (λ f failed. let device = c.write_frame-2.ensures.device f failed in (device.0, device.1)) in
     (last.0, last.1, inv.2 _ last.2)
 
 pub returns-in_err-write_frame-clause-told : goal.returns-in_err-write_frame-clause-told
@@ -33,7 +33,7 @@ returns-in_err-write_frame-clause-told g c ran t e =
     let device = c.write_frame.ensures.device c.in_err-write_frame.field-0.0 c.in_err-write_frame.was in
     let is_device : c.in_err-write_frame.field-0.0 ≡ fault.Device = device.0 in
     let answer : c.from_residual.result ≡ Err fault.Device = search (rules, is_device) in
-    (inv.0, rw failed at wrote, rw answer (inv.2 _ (unwritten c.loop-buf.sender inv.0 device.1)))
+    (inv.0, rw failed at wrote, rw answer (inv.2 _ (unwritten c.loop-buf.sender inv.0 c.write_frame.ensures.sender device.1)))
 
 pub returns-in_err-len-clause-told : goal.returns-in_err-len-clause-told
 returns-in_err-len-clause-told g c ran t e =
@@ -44,7 +44,7 @@ returns-in_err-len-clause-told g c ran t e =
     let got = c.read_delivery.ensures.told (said c.loop-buf.sender inv.0) wrote in
     let answer : c.from_residual-in_err-len.result ≡ Err c.in_err-len.field-0.0 = search rules in
     let none : (delivery_to c.loop-buf.sender inv.0).delivery ≡ Err c.in_err-len.field-0.0 = sym got.0 ∙ rw c.in_err-len.was refl in
-    (behind c.loop-buf.sender (said c.loop-buf.sender inv.0), got.1, rw answer (inv.2 _ (unread c.loop-buf.sender inv.0 c.in_err-len.field-0.0 on none)))
+    (behind c.loop-buf.sender (said c.loop-buf.sender inv.0), got.1, rw answer (inv.2 _ (unread c.loop-buf.sender inv.0 c.in_err-len.field-0.0 c.write_frame.ensures.sender on none)))
 
 pub loop-buf-smaller : goal.loop-buf-smaller
 loop-buf-smaller g c =

@@ -1,0 +1,60 @@
+-- How many deliveries are heard in a call of an engine, and how many of them bring progress (this profile).
+use Rattle.std.specs.Prelude.{◌≡◌, ℕ, ◌+◌, ◌*◌, ◌/◌, ◌==◌, if◌then◌else◌, sum_by, Option, None, Some}
+use Rattle.ym_header.specs.Header.{HeaderParts}
+use Rattle.ym_file.specs.Kept.{Kept}
+use Rattle.ym_link.specs.Port.{Tape}
+use Rattle.ym_link.specs.Receiver.{Receiver}
+use Rattle.ym_link.specs.ReceiverInto.{ReceiverParts}
+use Rattle.ym_link.specs.ReceiveOver.{Receives, ended, unread, unheard, unwritten, heard}
+use Rattle.ym_link.specs.ReceiveOver as receiving
+use Rattle.ym_link.specs.Sender.{SenderParts}
+use Rattle.ym_link.specs.SendOver as sending
+use Rattle.ym_link.specs.declared.state.RecvState.{RecvState}
+use Rattle.ym_link.specs.declared.state.RecvState.TheVariants as state
+use Rattle.ym_link.specs.declared.state.SendState.{SendState}
+use Rattle.ym_link.specs.declared.state.SendState.TheVariants.{Running}
+
+-- ---- A receiver
+
+-- a delivery brought progress where the receiver goes on and counts from 0
+abbrev pub progress_in : RecvState → ℕ → ℕ
+progress_in state.Running count = if count == 0 then 1 else 0
+progress_in _ count = 0
+
+abbrev pub progress_at : ReceiverParts → ℕ
+progress_at r = progress_in r.receiver.state r.receiver.count
+
+abbrev pub receiver_hears : (r : ReceiverParts) (t : Tape) (out : receiving.Outcome) → Receives r t out → ℕ
+receiver_hears r t out (ended _ _ over) = 0
+receiver_hears r t out (unread _ _ f is on none) = 0
+receiver_hears r t out (unheard _ _ h e is on some gives) = 1
+receiver_hears r t out (unwritten _ _ h reply new is on some gives spoken) = 1
+receiver_hears r t out (heard _ _ h reply new _ is on some gives later) = receiver_hears new _ out later + 1
+
+abbrev pub receiver_progress : (r : ReceiverParts) (t : Tape) (out : receiving.Outcome) → Receives r t out → ℕ
+receiver_progress r t out (ended _ _ over) = 0
+receiver_progress r t out (unread _ _ f is on none) = 0
+receiver_progress r t out (unheard _ _ h e is on some gives) = 0
+receiver_progress r t out (unwritten _ _ h reply new is on some gives spoken) = progress_at new
+receiver_progress r t out (heard _ _ h reply new _ is on some gives later) = receiver_progress new _ out later + progress_at new
+
+-- ---- A sender
+
+abbrev pub sender_progress_in : SendState → ℕ → ℕ
+sender_progress_in Running misses = if misses == 0 then 1 else 0
+sender_progress_in _ misses = 0
+
+abbrev pub sender_progress_at : SenderParts → ℕ
+sender_progress_at s = sender_progress_in s.standing.state s.standing.misses
+
+abbrev pub sender_hears : (s : SenderParts) (t : Tape) (out : sending.Outcome) → sending.Sends s t out → ℕ
+sender_hears s t out (sending.ended _ _ over) = 0
+sender_hears s t out (sending.unwritten _ _ is some) = 0
+sender_hears s t out (sending.unread _ _ f is on none) = 0
+sender_hears s t out (sending.heard _ _ bytes new _ is on some gives later) = sender_hears new _ out later + 1
+
+abbrev pub sender_progress : (s : SenderParts) (t : Tape) (out : sending.Outcome) → sending.Sends s t out → ℕ
+sender_progress s t out (sending.ended _ _ over) = 0
+sender_progress s t out (sending.unwritten _ _ is some) = 0
+sender_progress s t out (sending.unread _ _ f is on none) = 0
+sender_progress s t out (sending.heard _ _ bytes new _ is on some gives later) = sender_progress new _ out later + sender_progress_at new
