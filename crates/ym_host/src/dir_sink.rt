@@ -9,6 +9,7 @@ use std::alloc::{AllocError, Global};
 use std::fs::{File, Files};
 use std::io::{ErrorKind, Write};
 use std::marker::Model;
+use std::path::{Path, PathBuf};
 use std::{fs, io};
 use ym_file::{Sink, SinkFault};
 use ym_header::Header;
@@ -19,9 +20,9 @@ struct OpenPart {
     header: Header,
     file: File,
     /// The path of NAME.part.
-    part: String,
+    part: PathBuf,
     /// The path of NAME.
-    target: String,
+    target: PathBuf,
     taken: u64,
     /// Whether a write failed, so that what stands in the file is not known.
     is_torn: bool,
@@ -52,17 +53,14 @@ impl<R: Files<File = File> + Drop> Model for DirSink<R> {
 }
 
 /// The path of a name in a folder, and the same with `.part` behind it.
-fn paths(alloc: Global, dir: &str, name: &str) -> Result<(String, String), AllocError> {
-    let mut target = String::from_str(alloc, dir)?;
-    target.push('/')?;
-    target.push_str(name)?;
-    let mut part = target.clone()?;
-    part.push_str(".part")?;
+fn paths(alloc: Global, dir: &str, name: &str) -> Result<(PathBuf, PathBuf), AllocError> {
+    let target = Path::new(dir).join(alloc, name)?;
+    let part = target.with_added_extension(alloc, "part")?;
     Ok((target, part))
 }
 
 /// Whether something stands at a path. What cannot be told counts as something.
-fn is_taken<R: Files>(rt: &R, path: &str) -> bool {
+fn is_taken<R: Files>(rt: &R, path: &PathBuf) -> bool {
     match fs::symlink_metadata(rt, path) {
         Ok(_) => true,
         Err(error) => error.kind() != ErrorKind::NotFound,
@@ -70,7 +68,7 @@ fn is_taken<R: Files>(rt: &R, path: &str) -> bool {
 }
 
 /// Gives the part the file's own name, where nothing stands there, and takes the name of the part away.
-fn rename_new<R: Files>(rt: &R, part: &str, target: &str) -> io::Result<()> {
+fn rename_new<R: Files>(rt: &R, part: &PathBuf, target: &PathBuf) -> io::Result<()> {
     // A link fails where the name is taken, also by one that came meanwhile. A rename would overwrite it.
     fs::hard_link(rt, part, target)?;
     // The file is whole under its name, so a part that stays is no failure.
@@ -115,7 +113,7 @@ impl<R: Files<File = File> + Drop> DirSink<R> {
         let Some(OpenPart { part, .. }) = self.taking.take() else {
             return Ok(());
         };
-        match fs::remove_file(&self.rt, part.as_str()) {
+        match fs::remove_file(&self.rt, &part) {
             Ok(()) => Ok(()),
             Err(_) => Err(self.fail()),
         }
@@ -144,10 +142,10 @@ impl<R: Files<File = File> + Drop> Sink for DirSink<R> {
         let Ok((target, part)) = paths(self.alloc, self.dir.as_str(), header.name()) else {
             return Err(SinkFault::Memory);
         };
-        if is_taken(&self.rt, target.as_str()) || is_taken(&self.rt, part.as_str()) {
+        if is_taken(&self.rt, &target) {
             return Err(self.fail());
         }
-        match File::create_new(&self.rt, part.as_str()) {
+        match File::create_new(&self.rt, &part) {
             Ok(file) => {
                 self.taking = Some(OpenPart {
                     header,
@@ -180,7 +178,7 @@ impl<R: Files<File = File> + Drop> Sink for DirSink<R> {
     fn commit(&mut self) -> Result<(), SinkFault> {
         let is_stored = match &self.taking {
             Some(open) => !open.is_torn
-                && rename_new(&self.rt, open.part.as_str(), open.target.as_str()).is_ok(),
+                && rename_new(&self.rt, &open.part, &open.target).is_ok(),
             None => unreachable!(),
         };
         if !is_stored {

@@ -1,6 +1,6 @@
 //! A carrier over the two ends of one TCP connection.
 
-ghost use Rattle.std.specs.Prelude.{◌≡◌, ◌≢◌, ◌<◌, None, Err, OnOk, OnErr, IsOk, IfOk, length};
+ghost use Rattle.std.specs.Prelude.{◌≡◌, ◌≢◌, ◌<◌, None, Ok, Err, OnOk, length};
 ghost use Rattle.ym_file.specs.Counts.{Rose};
 
 use std::io;
@@ -17,13 +17,14 @@ const DELIVERY_LIMIT: usize = 2048;
 const WAIT_SECONDS: u64 = 10;
 
 /// A carrier over the two ends of one TCP connection: what is written at one end is read at the other, and compared with what was handed
-/// over. It tells no deliveries. After a device fault every later carry is one.
+/// over. It tells no deliveries. After a device fault every later carry is one: what is still under way would be taken for its bytes.
 #[derive(Drop)]
 pub struct SocketCarrier {
     near: TcpStream,
     far: TcpStream,
+    /// Whether the waits of both streams are bounded.
     is_ready: bool,
-    is_broken: bool,
+    /// How many carries failed. Where one did, every later one does.
     failed: u64,
 }
 
@@ -58,7 +59,6 @@ impl SocketCarrier {
             near,
             far,
             is_ready: false,
-            is_broken: false,
             failed: 0,
         }
     }
@@ -68,7 +68,6 @@ impl SocketCarrier {
         ensures rose { Rose self.old self.new }
         ensures fault { result ≡ CarryFault.Device }
     {
-        self.is_broken = true;
         self.failed = self.failed.saturating_add(1);
         CarryFault::Device
     }
@@ -105,10 +104,19 @@ impl Carrier for SocketCarrier {
 
     ghost failures = { λ c. c };
 
-    fn carry(&mut self, way: Way, bytes: &[u8], into: &mut Vec<u8>) -> Result<(), CarryFault> {
+    fn carry(&mut self, way: Way, bytes: &[u8], into: &mut Vec<u8>) -> Result<(), CarryFault>
+        ensures arrived { OnOk result (into.new.items ≡ bytes.now) }
+        ensures broken { self.old ≢ 0 → result ≡ Err CarryFault.Device }
+        ensures limit { 2048 < length bytes.now → result ≢ Ok tt }
+        ensures failed { result ≡ Err CarryFault.Device → Rose self.old self.new }
+        ensures not_failed { result ≢ Err CarryFault.Device → self.new ≡ self.old }
+    {
+        if self.failed > 0 {
+            return Err(self.fail());
+        }
         into.clear();
         into.resize(bytes.len(), 0)?;
-        if self.is_broken || bytes.len() > DELIVERY_LIMIT {
+        if bytes.len() > DELIVERY_LIMIT {
             return Err(self.fail());
         }
         if self.exchange(way, bytes, into).is_err() || into.as_slice() != bytes {

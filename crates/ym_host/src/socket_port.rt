@@ -45,6 +45,8 @@ fn read_once(stream: &mut TcpStream, buf: &mut [u8]) -> Result<Got, PortFault>
             Ok(n) => return Ok(Got::Bytes(n)),
             Err(error) => match error.kind() {
                 ErrorKind::WouldBlock | ErrorKind::TimedOut => return Ok(Got::Quiet),
+                // A peer that ends with bytes unread resets the connection: it is closed all the same.
+                ErrorKind::ConnectionReset => return Ok(Got::Closed),
                 ErrorKind::Interrupted => {}
                 _ => return Err(PortFault),
             },

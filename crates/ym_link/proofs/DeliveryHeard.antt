@@ -2,7 +2,7 @@
 use Rattle.std.proofs.Common.{◌≡◌, ◌+◌, ◌-◌, ◌<◌, ◌≤◌, ℕ, Bool, true, false, List, [], ◌++◌, length, Option, None, Some, Result, Ok, Err, is_ok, refl, sym, ◌∙◌, ap, subst, arith}
 use Rattle.std.proofs.lemmas.List.{length-append}
 use Rattle.ym_frame.specs.Frame.{verdict_of}
-use Rattle.ym_frame.specs.Reading.{Reading, partial, reading_after, item_of, item_in}
+use Rattle.ym_frame.specs.Reading.{Reading, partial, reading_after, item_of, item_found}
 use Rattle.ym_frame.specs.declared.frame.Item.{Item}
 use Rattle.ym_frame.specs.declared.frame.Broken.{Broken}
 use Rattle.ym_link.specs.declared.event.Event.{Event}
@@ -15,14 +15,14 @@ use Rattle.ym_link.specs.Delivery.{Taken}
 use Rattle.ym_link.specs.ReceiveOver.{delivery_at, heard_in, behind}
 use Rattle.ym_link.proofs.Taking.{done}
 
-pub verdict-item : (v : Result (Item × ℕ) Broken) (i : Item) → item_in v ≡ Some i → (heard_at v ≡ heard.Item i) × (is_ok v ≡ true)
+pub verdict-item : (v : Result (Item × ℕ) Broken) (i : Item) → item_found v ≡ Some i → (heard_at v ≡ heard.Item i) × (is_ok v ≡ true)
 verdict-item (Ok found) i h = (by h, refl)
   where
     by : Some found.0 ≡ Some i → heard.Item found.0 ≡ heard.Item i
     by e = cc
 verdict-item (Err broken) i h = absurd cc
 
-pub verdict-bad : (v : Result (Item × ℕ) Broken) → item_in v ≡ None → (heard_at v ≡ heard.Bad) × (is_ok v ≡ false)
+pub verdict-bad : (v : Result (Item × ℕ) Broken) → item_found v ≡ None → (heard_at v ≡ heard.Bad) × (is_ok v ≡ false)
 verdict-bad (Ok found) h = absurd cc
 verdict-bad (Err broken) h = (refl, refl)
 
