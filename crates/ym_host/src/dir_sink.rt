@@ -177,8 +177,7 @@ impl<R: Files<File = File> + Drop> Sink for DirSink<R> {
 
     fn commit(&mut self) -> Result<(), SinkFault> {
         let is_stored = match &self.taking {
-            Some(open) => !open.is_torn
-                && rename_new(&self.rt, &open.part, &open.target).is_ok(),
+            Some(open) => !open.is_torn && rename_new(&self.rt, &open.part, &open.target).is_ok(),
             None => unreachable!(),
         };
         if !is_stored {

@@ -10,3 +10,6 @@ pub use dir_sink::DirSink;
 pub use file_source::FileSource;
 pub use socket_carrier::SocketCarrier;
 pub use socket_port::SocketPort;
+
+#[cfg(test)]
+mod tests;
