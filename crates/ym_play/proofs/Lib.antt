@@ -1,5 +1,6 @@
 pub mod BytesLemmas
 pub mod CommandLemmas
+mod Examples
 pub mod NameLemmas
 pub mod NumberLemmas
 pub mod PlayLemmas

@@ -1,3 +1,5 @@
+ghost use Rattle.std.specs.Prelude.{None};
+
 use crate::{Passing, PlayFault, play_script, read_script, session};
 use std::io;
 use std::io::{ErrorKind, Write};
