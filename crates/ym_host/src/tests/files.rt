@@ -50,6 +50,7 @@ fn a_source_reads_from_any_place(rt: HostRuntime) -> Result<(), Fail> {
     let mut source = FileSource::new(&rt, rt.alloc(), path.as_str())?;
     assert_eq!(rt; source.length(), 200);
     let mut tail = [0; 72];
+    assert_eq!(rt; all.len(), 200);
     assert_eq!(rt; source.fill(128, &mut tail), Ok(()));
     assert_eq!(rt; tail.as_slice(), &all[128..]);
     let mut front = [0; 3];
