@@ -18,7 +18,8 @@ use std::io::{Read, Write};
 use std::net::{Net, TcpListener, TcpStream};
 use ym_file::Shape;
 use ym_link::Confirm;
-use ym_play::{Passing, session};
+use ym_line::Direct;
+use ym_play::session;
 use ym_words::{Job, JobFault, job_of};
 
 /// The status after refused words.
@@ -61,7 +62,10 @@ where
     ensures status { IfOk result (λ status. status ≤ 3) }
 {
     match job {
-        Job::Play => Ok(session(alloc, input, out, err, &mut Passing)),
+        Job::Play => {
+            let mut carrier = Direct::new(alloc);
+            Ok(session(alloc, input, out, err, &mut carrier))
+        }
         Job::Loop { port } => {
             let mut carrier = looped_carrier(rt, port)?;
             Ok(session(alloc, input, out, err, &mut carrier))
