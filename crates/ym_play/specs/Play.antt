@@ -1,7 +1,7 @@
 -- What playing a script gives: the text of the run of what it stands for, and whether both ends finished.
 use Rattle.std.specs.Prelude.{◌≡◌, ◌≢◌, ℕ, List, [], Option, None, Result, Ok, Err, string_bytes}
 use Rattle.ym_file.specs.Counts.{new_tally}
-use Rattle.ym_file.specs.Parts.{kept_of}
+use Rattle.ym_file.specs.MemSink.{kept_of}
 use Rattle.ym_link.specs.Receiver.{new_receiver}
 use Rattle.ym_link.specs.Sender.{new_standing}
 use Rattle.ym_link.specs.SourceFile.{counts_of}

@@ -117,6 +117,7 @@ impl fmt::Display for Octal {
 }
 
 /// A file that was committed: `file NAME LENGTH TIME MODE`, time and mode in octal.
+#[derive(Clone, Copy)]
 pub struct FileLine<'a>(pub &'a Header);
 
 impl fmt::Display for FileLine<'_> {

@@ -1,10 +1,8 @@
 //! What the program's words ask for, done.
 
-ghost use Rattle.std.specs.Prelude.{◌≡◌, ◌≢◌, ◌≤◌, ◌⊎◌, ℕ, List, Some, None, true, map, string_bytes};
-ghost use Rattle.clap.specs.Words.{takes, subcommand_of};
-ghost use Rattle.ym_words.specs.Command.{the_app};
-ghost use Rattle.ym_words.specs.Job.{asked, Asked};
-ghost use Rattle.ym_play.specs.Session.{SessionGives};
+ghost use Rattle.std.specs.Prelude.{◌≡◌, ◌≢◌, ◌≤◌, ◌⊎◌, ℕ, List, Some, None, IfOk, is_ok, true, map, string_bytes};
+ghost use Rattle.ym_words.specs.Job.{Asked, asked_of};
+ghost use Rattle.ymodem.specs.Program.{AsksFor, IsPlayed};
 ghost use Rattle.ymodem.specs.Status.{fault_status};
 
 use crate::command_fault::CommandFault;
@@ -17,8 +15,8 @@ use std::fs::{File, Files};
 use std::io::{Read, Write};
 use std::net::{Net, TcpListener, TcpStream};
 use ym_file::Shape;
-use ym_link::Confirm;
 use ym_line::Direct;
+use ym_link::Confirm;
 use ym_play::session;
 use ym_words::{Job, JobFault, job_of};
 
@@ -45,6 +43,16 @@ fn tell_fault<E: Write>(err: &mut E, fault: CommandFault) -> u8
     tell(err, format_args!("{fault}\n"), fault.status())
 }
 
+/// Plays a script, carried in memory.
+fn play<I: Read, W: Write, E: Write>(alloc: Global, input: &mut I, out: &mut W, err: &mut E) -> u8
+    ensures plays { (text before wrong : List ℕ) → I.remaining input.old ≡ Some text → W.contents out.old ≡ Some before
+        → E.contents err.old ≡ Some wrong → result ≢ 3 → IsPlayed text before wrong result (W.contents out.new) (E.contents err.new) }
+    ensures status { result ≤ 3 }
+{
+    let mut carrier = Direct::new(alloc);
+    session(alloc, input, out, err, &mut carrier)
+}
+
 /// Does a job. The answer is the status, unless it ends in a fault that is still to be told.
 fn do_job<R, I, W, E>(
     rt: &R,
@@ -59,13 +67,13 @@ where
     I: Read,
     W: Write,
     E: Write,
+    ensures ends { asked_of job ≡ Asked.Play → is_ok result ≡ true }
+    ensures plays { asked_of job ≡ Asked.Play → (text before wrong : List ℕ) → I.remaining input.old ≡ Some text → W.contents out.old ≡ Some before
+        → E.contents err.old ≡ Some wrong → IfOk result (λ status. status ≢ 3 → IsPlayed text before wrong status (W.contents out.new) (E.contents err.new)) }
     ensures status { IfOk result (λ status. status ≤ 3) }
 {
     match job {
-        Job::Play => {
-            let mut carrier = Direct::new(alloc);
-            Ok(session(alloc, input, out, err, &mut carrier))
-        }
+        Job::Play => Ok(play(alloc, input, out, err)),
         Job::Loop { port } => {
             let mut carrier = looped_carrier(rt, port)?;
             Ok(session(alloc, input, out, err, &mut carrier))
@@ -102,6 +110,11 @@ where
     I: Read,
     W: Write,
     E: Write,
+    // Where no read and no write fails: a session that meets one has status 3.
+    ensures plays { AsksFor (map string_bytes words.items) (Some Asked.Play) → (text before wrong : List ℕ) → I.remaining input.old ≡ Some text
+        → W.contents out.old ≡ Some before → E.contents err.old ≡ Some wrong → result ≢ 3
+        → IsPlayed text before wrong result (W.contents out.new) (E.contents err.new) }
+    ensures refused { AsksFor (map string_bytes words.items) None → (result ≡ 2) ⊎ (result ≡ 3) }
     ensures status { result ≤ 3 }
 {
     let ended = match job_of(alloc, words.as_slice()) {

@@ -1,6 +1,6 @@
 //! `send`: files, to whoever listens.
 
-ghost use Rattle.std.specs.Prelude.{◌≡◌};
+ghost use Rattle.std.specs.Prelude.{◌≡◌, ◌≤◌, IfOk};
 ghost use Rattle.ymodem.specs.Status.{send_answer};
 
 use crate::command_fault::CommandFault;

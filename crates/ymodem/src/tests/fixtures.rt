@@ -5,14 +5,15 @@ use std::fmt::Write;
 use std::test::Fail;
 
 /// What a command did.
-pub(super) struct Ran {
+#[derive(Drop)]
+pub(super) struct Ending {
     pub(super) status: u8,
     pub(super) out: Vec<u8>,
     pub(super) err: Vec<u8>,
 }
 
 /// Runs the words of a line, on this input.
-pub(super) fn ran(rt: &HostRuntime, line: &str, input: &[u8]) -> Result<Ran, Fail> {
+pub(super) fn ran(rt: &HostRuntime, line: &str, input: &[u8]) -> Result<Ending, Fail> {
     let alloc = rt.alloc();
     let mut words = Vec::new(alloc);
     for word in line.split(' ') {
@@ -22,7 +23,7 @@ pub(super) fn ran(rt: &HostRuntime, line: &str, input: &[u8]) -> Result<Ran, Fai
     let mut out = Vec::new(alloc);
     let mut err = Vec::new(alloc);
     let status = command(rt, alloc, words, &mut input, &mut out, &mut err);
-    Ok(Ran { status, out, err })
+    Ok(Ending { status, out, err })
 }
 
 /// Whether a command of this line, on this input, ends with this status and these texts.
