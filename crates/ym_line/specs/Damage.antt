@@ -5,6 +5,8 @@ use Rattle.std.specs.Prelude.{◌≡◌, ℕ, ◌≤◌, List, [], length, Resul
 use Rattle.ym_frame.specs.Control.{reply_bytes, controls, IsSubsequence}
 use Rattle.ym_frame.specs.Frame.{HasFrame}
 use Rattle.ym_frame.specs.declared.control.Reply.{Reply}
+use Rattle.ym_link.specs.Hearing.{heard_of}
+use Rattle.ym_link.specs.declared.delivery.Heard.TheVariants.{Bad}
 use Rattle.ym_line.specs.declared.delivery.Delivery.{Delivery}
 use Rattle.ym_line.specs.declared.delivery.Delivery.TheVariants.{Whole, Lost, Damaged}
 use Rattle.ym_line.specs.declared.fault.LineFault.{LineFault}
@@ -28,6 +30,12 @@ abbrev pub ShowsThere : Delivery → Type 0
 ShowsThere Whole = Unit {0}
 ShowsThere Lost = Unit {0}
 ShowsThere (Damaged bytes) = HasFrame bytes → ⊥
+
+-- so it is heard as bad
+abbrev pub IsHeardBad : Delivery → Type 0
+IsHeardBad Whole = Unit {0}
+IsHeardBad Lost = Unit {0}
+IsHeardBad (Damaged bytes) = heard_of bytes ≡ Bad
 
 -- what is damaged on its way to the sender has some of the reply's control bytes, in order, and no other
 abbrev pub ShowsBack : Reply → Delivery → Type 0

@@ -1,8 +1,10 @@
 pub mod Carried
 pub mod Damage
 pub mod Direct
+pub mod Examples
 pub mod Fault
 pub mod Needed
 pub mod Rounds
 pub mod Text
+pub mod Turns
 pub mod What

@@ -10,10 +10,10 @@ use Rattle.ym_link.specs.Hearing.{heard_of}
 use Rattle.ym_link.specs.ReceiverInto.{ReceiverParts}
 use Rattle.ym_link.specs.ReceiverInto as receiver
 use Rattle.ym_link.specs.Place.{done_at}
-use Rattle.ym_link.specs.Sender.{SenderParts, spoken}
+use Rattle.ym_link.specs.Sender.{SenderParts, IsSender, spoken}
 use Rattle.ym_link.specs.Sender as sender
 use Rattle.ym_line.specs.Carried.{told_more}
-use Rattle.ym_line.specs.Damage.{arrives, how_of, ShowsThere, ShowsBack, IsShort, IsRefusal}
+use Rattle.ym_line.specs.Damage.{arrives, how_of, ShowsThere, ShowsBack, IsShort, IsHeardBad, IsRefusal}
 use Rattle.ym_line.specs.What.{what_of}
 use Rattle.ym_line.specs.declared.delivery.Delivery.{Delivery}
 use Rattle.ym_line.specs.declared.delivery.Handed.{Handed}
@@ -50,6 +50,8 @@ sent_by parts = unwrap_or (spoken parts) []
 pub record GoesThere (delivery : Delivery) (old : Pair) (reply : Reply) (new : Pair) : Type 0 where
   pub shows : ShowsThere delivery
   pub short : IsShort delivery
+  pub bad : IsHeardBad delivery
+  pub keeps : IsSender old.sender
   pub hears : receiver.HearsGives old.receiver (heard_of (arrives delivery (sent_by old.sender))) (Ok reply) new.receiver
   pub others : new ≡ record (handed There (arrives delivery (sent_by old.sender)) old) { receiver = new.receiver }
 

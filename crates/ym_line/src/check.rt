@@ -1,6 +1,7 @@
 //! The checks of a round's deliveries: damage has to show, and has to be short enough.
 
-ghost use Rattle.ym_line.specs.Damage.{ShowsThere, ShowsBack, IsShort, IsChecked};
+ghost use Rattle.std.specs.Prelude.{OnOk};
+ghost use Rattle.ym_line.specs.Damage.{ShowsThere, ShowsBack, IsShort, IsHeardBad, IsChecked};
 
 use crate::delivery::Delivery;
 use crate::fault::LineFault;
@@ -11,7 +12,8 @@ const DELIVERY_LIMIT: usize = 2048;
 
 /// Refuses a delivery of round `n` to the receiver whose damage does not show, or which is too long.
 pub(crate) fn check_there(delivery: &Delivery, n: usize) -> Result<(), LineFault>
-    ensures { IsChecked n (ShowsThere delivery.now) (IsShort delivery.now) result }
+    ensures checked { IsChecked n (ShowsThere delivery.now) (IsShort delivery.now) result }
+    ensures bad { OnOk result (IsHeardBad delivery.now) }
 {
     let Delivery::Damaged(bytes) = delivery else {
         return Ok(());

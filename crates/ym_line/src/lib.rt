@@ -6,6 +6,7 @@ mod check;
 mod delivery;
 mod direct;
 mod fault;
+pub mod laws;
 mod needed;
 mod rounds;
 mod text;

@@ -1,17 +1,19 @@
 //! Rounds of two deliveries between a sender and a receiver, and runs of them.
 
-ghost use Rattle.std.specs.Prelude.{◌≡◌, ◌≢◌, ◌⊎◌, Ok, Err, OnOk, OnErr, unwrap_or, [], length as list_length};
+ghost use Rattle.std.specs.Prelude.{◌≡◌, ◌≢◌, ◌⊎◌, Ok, Err, OnOk, OnErr, IfOk, ◌∷◌, []};
 ghost use Rattle.ym_file.specs.Counts.{Rose};
 ghost use Rattle.ym_link.specs.ReceiverInto.{ReceiverParts};
-ghost use Rattle.ym_link.specs.Sender.{spoken};
+ghost use Rattle.ym_link.specs.Sender.{IsSender, spoken};
 ghost use Rattle.ym_line.specs.Carried.{told_more};
 ghost use Rattle.ym_line.specs.Damage.{arrives};
+ghost use Rattle.ym_line.specs.Turns.{FollowsMachine, StopsWithMachine};
 ghost use Rattle.ym_line.specs.Rounds.{Pair, sent_by, GoesThere, StopsThere, ThereGives, BackGives, RoundGives, RunGives};
 
 use crate::carrier::{Carrier, CarryFault};
 use crate::check::{check_back, check_there};
 use crate::delivery::{Delivery, Round, Way};
 use crate::fault::LineFault;
+use crate::laws::rounds_are_turns;
 use crate::trace::{How, Seen, Trace, What};
 use std::alloc::Global;
 use ym_file::{Sink, Source};
@@ -20,7 +22,8 @@ use ym_link::{ReceiverInto, SenderFrom, heard};
 
 /// What a sender has to send: its frame, CAN CAN, or no bytes.
 fn sent_by<S: Source>(sender: &SenderFrom<S>) -> &[u8]
-    ensures { result.now ≡ sent_by sender.now }
+    ensures bytes { result.now ≡ sent_by sender.now }
+    ensures sender { IsSender sender.now }
 {
     sender.frame().unwrap_or(&[])
 }
@@ -110,26 +113,8 @@ fn go_round<S: Source, K: Sink, C: Carrier>(
     })
 }
 
-/// One round: the receiver hears what arrives of the sender's frame, and the sender what arrives of the reply. A damaged delivery is checked
-/// before it is carried. A fault leaves what the steps before it did, and no later step is taken. The round's number is 1.
-pub fn round<S: Source, K: Sink, C: Carrier>(
-    alloc: Global,
-    sender: &mut SenderFrom<S>,
-    receiver: &mut ReceiverInto<K>,
-    round: &Round,
-    carrier: &mut C,
-) -> Result<Seen, LineFault>
-    ensures { RoundGives 1 round.now
-        (record { sender = sender.old; receiver = receiver.old; told = C.told carrier.old; failures = C.failures carrier.old })
-        result
-        (record { sender = sender.new; receiver = receiver.new; told = C.told carrier.new; failures = C.failures carrier.new }) }
-{
-    go_round(1, sender, receiver, round, carrier, &mut Vec::new(alloc))
-}
-
-/// All rounds of a list, in order, also those after both ends have ended. A fault leaves what the rounds before it did, and what the steps
-/// before it did in its own round; rounds are numbered from 1.
-pub fn run<S: Source, K: Sink, C: Carrier>(
+/// All rounds of a list, one after another.
+fn go_all<S: Source, K: Sink, C: Carrier>(
     alloc: Global,
     sender: &mut SenderFrom<S>,
     receiver: &mut ReceiverInto<K>,
@@ -154,4 +139,51 @@ pub fn run<S: Source, K: Sink, C: Carrier>(
         files: receiver.committed(),
         recv: receiver.state(),
     })
+}
+
+/// One round: the receiver hears what arrives of the sender's frame, and the sender what arrives of the reply. A damaged delivery is checked
+/// before it is carried. A fault leaves what the steps before it did, and no later step is taken. The round's number is 1.
+pub fn round<S: Source, K: Sink, C: Carrier>(
+    alloc: Global,
+    sender: &mut SenderFrom<S>,
+    receiver: &mut ReceiverInto<K>,
+    round: &Round,
+    carrier: &mut C,
+) -> Result<Seen, LineFault>
+    ensures gives { RoundGives 1 round.now
+        (record { sender = sender.old; receiver = receiver.old; told = C.told carrier.old; failures = C.failures carrier.old })
+        result
+        (record { sender = sender.new; receiver = receiver.new; told = C.told carrier.new; failures = C.failures carrier.new }) }
+    ensures machine { IfOk result (λ seen. FollowsMachine (round.now ∷ [])
+        (record { sender = sender.old; receiver = receiver.old; told = C.told carrier.old; failures = C.failures carrier.old })
+        (seen ∷ [])
+        (record { sender = sender.new; receiver = receiver.new; told = C.told carrier.new; failures = C.failures carrier.new })) }
+{
+    rounds_are_turns();
+    go_round(1, sender, receiver, round, carrier, &mut Vec::new(alloc))
+}
+
+/// All rounds of a list, in order, also those after both ends have ended. A fault leaves what the rounds before it did, and what the steps
+/// before it did in its own round; rounds are numbered from 1.
+pub fn run<S: Source, K: Sink, C: Carrier>(
+    alloc: Global,
+    sender: &mut SenderFrom<S>,
+    receiver: &mut ReceiverInto<K>,
+    rounds: &[Round],
+    carrier: &mut C,
+) -> Result<Trace, LineFault>
+    ensures gives { RunGives rounds.now
+        (record { sender = sender.old; receiver = receiver.old; told = C.told carrier.old; failures = C.failures carrier.old })
+        result
+        (record { sender = sender.new; receiver = receiver.new; told = C.told carrier.new; failures = C.failures carrier.new }) }
+    ensures machine { IfOk result (λ trace. FollowsMachine rounds.now
+        (record { sender = sender.old; receiver = receiver.old; told = C.told carrier.old; failures = C.failures carrier.old })
+        trace.rounds.items
+        (record { sender = sender.new; receiver = receiver.new; told = C.told carrier.new; failures = C.failures carrier.new })) }
+    ensures stopped { OnErr result (StopsWithMachine rounds.now
+        (record { sender = sender.old; receiver = receiver.old; told = C.told carrier.old; failures = C.failures carrier.old })
+        (record { sender = sender.new; receiver = receiver.new; told = C.told carrier.new; failures = C.failures carrier.new })) }
+{
+    rounds_are_turns();
+    go_all(alloc, sender, receiver, rounds, carrier)
 }

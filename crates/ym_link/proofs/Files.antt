@@ -1,5 +1,5 @@
 -- A batch in which one file's source failed.
-use Rattle.std.proofs.Common.{ℕ, ◌≡◌, ◌<◌, List, length, map, get_or, Option, None, Some, Bool, true, false, refl, ap, ap₂, sym, subst, ◌∙◌, slice_set, arith}
+use Rattle.std.proofs.Common.{ℕ, ◌≡◌, ◌<◌, List, length, get_or, Option, None, Some, Bool, true, false, refl, ap, ap₂, sym, subst, ◌∙◌, slice_set}
 use Rattle.std.specs.Prelude.{All}
 use Rattle.std.proofs.Math.Seq.{map-set_same}
 use Rattle.std.proofs.lemmas.List.{get_or_default}

@@ -1,18 +1,15 @@
 -- What a sender keeps to, after a step.
-use Rattle.std.proofs.Common.{ℕ, ◌≡◌, ◌<◌, List, Bool, true, false, refl, ap, sym, subst, ◌∙◌, Option, None, Some}
+use Rattle.std.proofs.Common.{ℕ, ◌≡◌, List, true, sym, subst, Option, None, Some}
 use Rattle.std.specs.Prelude.{All}
 use Rattle.ym_file.specs.declared.plan.Shape.{Shape}
 use Rattle.ym_frame.specs.declared.control.Control.{Control}
 use Rattle.ym_link.specs.SourceFile.{FileParts, IsFile, counts_of}
 use Rattle.ym_link.specs.Place.{IsPlace, IsFrameAt}
 use Rattle.ym_link.specs.declared.place.Place.{Place}
-use Rattle.ym_link.specs.declared.place.Mode.{Mode}
-use Rattle.ym_link.specs.declared.place.Mode.TheVariants.{Waiting, Sent}
 use Rattle.ym_link.specs.declared.standing.Standing.{Standing}
 use Rattle.ym_link.specs.declared.standing.Step.{Step}
-use Rattle.ym_link.specs.declared.state.SendState.{SendState}
-use Rattle.ym_link.specs.declared.state.SendState.TheVariants.{Running, Finished, NoReply, Cancelled, SourceFailed}
-use Rattle.ym_link.specs.Sender.{SenderParts, IsSender, IsFilled}
+use Rattle.ym_link.specs.declared.state.SendState.TheVariants.{Running, SourceFailed}
+use Rattle.ym_link.specs.Sender.{IsSender, IsFilled}
 use Rattle.ym_link.specs.Standing.{hears}
 use Rattle.ym_link.proofs.Files.{filled_counts, filled_files}
 use Rattle.ym_link.proofs.Steps.{Keeps, step_keeps}

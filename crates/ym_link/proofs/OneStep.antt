@@ -15,7 +15,7 @@ use Rattle.ym_link.specs.declared.stage.Stage.{Stage}
 use Rattle.ym_link.specs.declared.stage.Stage.TheVariants.{AwaitHeader, InFile}
 use Rattle.ym_link.specs.declared.state.RecvState.{RecvState}
 use Rattle.ym_link.specs.declared.state.RecvState.TheVariants as state
-use Rattle.ym_link.specs.Receiver.{Receiver, Step, hears_at, running_hears, hears, zero_heard, ends}
+use Rattle.ym_link.specs.Receiver.{Receiver, hears_at, running_hears, hears, zero_heard, ends}
 use Rattle.ym_link.specs.ReceiverInto.{StandsFor, Means}
 
 pub some_meaning : (body : List ℕ) → ((z : Zero) × Reads length_limit body z) ⊎ ((f : HeaderFault) × IsFault length_limit body f) → (zero : Result Zero HeaderFault) × StandsFor body zero

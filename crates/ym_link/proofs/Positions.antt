@@ -4,7 +4,7 @@ use Rattle.std.specs.Prelude.{nat_le, true, false, All}
 use Rattle.std.proofs.lemmas.Bool.Decides.{nat_tests}
 use Rattle.std.proofs.lemmas.List.Elements.{All-head, All-tail}
 use Rattle.ym_header.specs.Header.{HeaderParts}
-use Rattle.ym_machine.specs.Frames.{File, Frame, BlockZero, Piece, Eot, EndBlock, frames_of, frame_at, body_at, count_within, files_within}
+use Rattle.ym_machine.specs.Frames.{File, BlockZero, Piece, Eot, EndBlock, frames_of, frame_at, body_at, count_within, files_within}
 use Rattle.ym_link.specs.ReceiverStands.{open_at}
 
 -- what the machine's laws say of the places of a batch
@@ -13,6 +13,7 @@ pub record PlaceLaws : Type 0 where
   pub eot : (file : File HeaderParts) (files : List (File HeaderParts)) → frame_at (frames_of (file ∷ files)) (length file.pieces + 1) ≡ Eot
   pub behind : (file : File HeaderParts) (files : List (File HeaderParts)) (n : ℕ) → frame_at (frames_of (file ∷ files)) (length file.pieces + 2 + n) ≡ frame_at (frames_of files) n
   pub size : (file : File HeaderParts) (files : List (File HeaderParts)) → length (frames_of (file ∷ files)) ≡ length file.pieces + 2 + length (frames_of files)
+  pub last : (files : List (File HeaderParts)) (i : ℕ) → i + 1 ≡ length (frames_of files) → frame_at (frames_of files) i ≡ EndBlock
   pub inside : (file : File HeaderParts) (files : List (File HeaderParts)) (n : ℕ) → n ≤ length file.pieces + 1 → count_within (file ∷ files) n ≡ 0
   pub counted : (file : File HeaderParts) (files : List (File HeaderParts)) (n : ℕ) → count_within (file ∷ files) (length file.pieces + 2 + n) ≡ count_within files n + 1
 

@@ -11,7 +11,7 @@ use Rattle.ym_link.specs.declared.place.Mode.{Mode}
 use Rattle.ym_link.specs.declared.place.Mode.TheVariants.{Waiting, Sent}
 use Rattle.ym_link.specs.declared.reading.Reading.{Reading}
 use Rattle.ym_link.specs.declared.reading.Stop.TheVariants.{Cancels}
-use Rattle.ym_link.specs.Reading.{controls_in, turn, reads, stops}
+use Rattle.ym_link.specs.Reading.{controls_in, turn, reads}
 
 -- a CAN that was passed over stands before what is left
 abbrev pub pending : Bool → List Control → List Control

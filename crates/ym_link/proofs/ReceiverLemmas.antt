@@ -1,5 +1,5 @@
 -- What the receiver's table and what always holds of a receiver tell.
-use Rattle.std.proofs.Common.{ℕ, ◌+◌, ◌*◌, ◌<◌, ◌≤◌, ◌≡◌, ◌⊎◌, inl, inr, Bool, true, false, refl, sym, subst, arith, cond, nat_lt, min, Ok}
+use Rattle.std.proofs.Common.{◌≡◌, ◌⊎◌, inl, inr, Bool, true, false, refl, arith, cond, nat_lt, Ok}
 use Rattle.ym_frame.specs.declared.control.Reply.TheVariants.{AckStart, Cancel}
 use Rattle.ym_header.specs.Header.{HeaderParts}
 use Rattle.ym_header.specs.declared.reading.Zero.TheVariants.{File}

@@ -32,7 +32,7 @@ frames-none : (counts : List ℕ) (i : ℕ) → length counts ≤ i → frames_i
 unfolding frames_in
 frames-none counts i over = ap frames_in (drop_all i counts over)
 
-next-frames : (counts : List ℕ) (place : Place) → IsPlace counts place → IsBefore place → frames_from counts place ≡ frames_from counts (next_of counts place) + 1
+pub next-frames : (counts : List ℕ) (place : Place) → IsPlace counts place → IsBefore place → frames_from counts place ≡ frames_from counts (next_of counts place) + 1
 next-frames counts (Header file) within before =
     cond_both (nat_lt 0 (count_at counts file)) (Block file 1) (Eot file) (λ p. frames_from counts (Header file) ≡ frames_from counts p + 1)
     (λ e. let some = ltb-true 0 (count_at counts file) e in omega (arith, some))
@@ -47,7 +47,7 @@ next-frames counts (Eot file) within before =
     (λ e. let none = frames-none counts (file + 1) (ltb-false (file + 1) (length counts) e) in omega (arith, none))
 next-frames counts End within before = absurd before
 
-some-frames : (counts : List ℕ) (place : Place) → 0 < frames_from counts place
+pub some-frames : (counts : List ℕ) (place : Place) → 0 < frames_from counts place
 some-frames counts (Header file) = omega arith
 some-frames counts (Block file k) = omega arith
 some-frames counts (Eot file) = omega arith
@@ -56,7 +56,7 @@ some-frames counts End = omega arith
 -- ---- A step
 
 -- a running sender
-abbrev runs_at : Place → Mode → ℕ → Bool → Standing
+abbrev pub runs_at : Place → Mode → ℕ → Bool → Standing
 runs_at place mode misses farewell = record { place = place; mode = mode; misses = misses; state = Running; farewell = farewell }
 
 abbrev Fewer : List ℕ → Standing → Standing → Type 0
@@ -71,9 +71,9 @@ missed-fewer counts place mode misses farewell few = by (nat_lt (misses + 1) 10)
     by true e = omega arith
     by false e = omega arith
 
-moved-fewer : (counts : List ℕ) (place next : Place) (mode then : Mode) (misses : ℕ) (farewell : Bool) → misses < 10 → sender_steps counts next then < sender_steps counts place mode
-    → Fewer counts (runs_at place mode misses farewell) (moved (runs_at place mode misses farewell) next then)
-moved-fewer counts place next mode then misses farewell few less = omega arith
+moved-fewer : (counts : List ℕ) (place next : Place) (mode after : Mode) (misses : ℕ) (farewell : Bool) → misses < 10 → sender_steps counts next after < sender_steps counts place mode
+    → Fewer counts (runs_at place mode misses farewell) (moved (runs_at place mode misses farewell) next after)
+moved-fewer counts place next mode after misses farewell few less = omega arith
 
 reading-fewer : (counts : List ℕ) (place : Place) (mode : Mode) (misses : ℕ) (farewell : Bool) (r : Reading) → misses < 10 → IsPlace counts place → Reaches counts place mode r
     → Fewer counts (runs_at place mode misses farewell) (after_reading (runs_at place mode misses farewell) r.place r.mode r.stop).standing

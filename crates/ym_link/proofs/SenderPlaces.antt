@@ -1,5 +1,5 @@
 -- The place of each frame of a batch.
-use Rattle.std.proofs.Common.{ℕ, ◌+◌, ◌-◌, ◌%◌, ◌<◌, ◌≤◌, ◌≡◌, ◌⊎◌, ◌==◌, inl, inr, suc, zero, List, [], ◌∷◌, ◌++◌, length, Bool, true, false, refl, sym, ap, ◌∙◌, arith, add-one, add-zero, nat_lt, cond, take, get_or}
+use Rattle.std.proofs.Common.{ℕ, ◌+◌, ◌-◌, ◌%◌, ◌<◌, ◌≤◌, ◌≡◌, ◌⊎◌, ◌==◌, inl, inr, suc, zero, List, [], ◌∷◌, ◌++◌, length, true, false, refl, sym, ap, ◌∙◌, arith, add-zero, nat_lt, cond, take, get_or}
 use Rattle.std.proofs.lemmas.Bool.Decides.{nat_tests}
 use Rattle.ym_header.specs.Header.{HeaderParts}
 use Rattle.ym_machine.specs.Frames.{File, Frame, BlockZero, Piece, Eot as EotFrame, EndBlock, frames_of, frame_at, numbered_from, body_at, eots}

@@ -1,19 +1,18 @@
 -- A sender with its files, where it stands.
-use Rattle.std.proofs.Common.{ℕ, ◌+◌, ◌-◌, ◌%◌, ◌<◌, ◌≡◌, suc, zero, List, [], ◌∷◌, ◌++◌, length, map, replicate, get_or, Bool, true, false, refl, sym, ap, ap₂, ◌∙◌, subst, arith, take, Option, None, Some}
+use Rattle.std.proofs.Common.{ℕ, ◌+◌, ◌%◌, ◌≡◌, suc, zero, List, [], ◌∷◌, ◌++◌, length, get_or, Bool, true, false, refl, sym, ap, ap₂, ◌∙◌, subst, arith, Option, None, Some}
 use Rattle.std.specs.Prelude.{All, IfSome, IsSome, slice_set}
 use Rattle.std.specs.List.{AllZip}
 use Rattle.std.proofs.lemmas.List.{length-replicate}
 use Rattle.std.proofs.lemmas.List.Elements.{All-head, All-tail}
 use Rattle.ym_frame.specs.Block.{BlockParts}
 use Rattle.ym_frame.specs.Frame.{IsFrame}
-use Rattle.ym_frame.specs.declared.control.Control.{Control}
 use Rattle.ym_frame.specs.declared.frame.Item.{Item}
 use Rattle.ym_frame.specs.declared.frame.Item.TheVariants as item
 use Rattle.ym_header.specs.Header.{HeaderParts}
-use Rattle.ym_header.specs.Text.{text, end_text}
+use Rattle.ym_header.specs.Text.{text}
 use Rattle.ym_file.specs.declared.plan.Shape.{Shape}
 use Rattle.ym_file.specs.Plan.{pieces_of, piece_at, count_of}
-use Rattle.ym_machine.specs.Frames.{File, Frame, Piece, Eot as EotFrame, frames_of, frame_at, numbered_from, body_at, count_within}
+use Rattle.ym_machine.specs.Frames.{Eot as EotFrame, frames_of, frame_at, numbered_from, body_at, count_within}
 use Rattle.ym_machine.specs.State.{State, SenderEnd, start, said, said_by}
 use Rattle.ym_machine.specs.Halves.{back, IsRemnant}
 use Rattle.ym_link.specs.declared.place.Place.{Place}
@@ -27,9 +26,9 @@ use Rattle.ym_link.specs.Place.{IsItemAt, IsFrameAt, first_of, done_at}
 use Rattle.ym_link.specs.Reading.{controls_in}
 use Rattle.ym_link.specs.Standing.{hears, new_standing}
 use Rattle.ym_link.specs.Sender.{SenderParts, IsSender, IsStep, IsFilled, counts, spoken, spoken_in}
-use Rattle.ym_link.specs.SenderStands.{Batch, IsFileOf, told_pieces, file_of, batch_of, counts_in, place_from, place_at, state_of, mode_of, farewell_of, StandsAt, SenderStands, item_of, IsSaid, AllTold}
+use Rattle.ym_link.specs.SenderStands.{Batch, IsFileOf, told_pieces, batch_of, counts_in, place_from, place_at, state_of, mode_of, farewell_of, StandsAt, SenderStands, item_of, IsSaid, AllTold}
 use Rattle.ym_link.proofs.SenderPlaces.{Ordered, below, equal, above, ordered, place_block, place_eot, place_rest, in_blocks, behind_blocks, body_is, done_is}
-use Rattle.ym_link.proofs.SenderHalf.{after, half_back}
+use Rattle.ym_link.proofs.SenderHalf.{half_back}
 
 abbrev Are : Shape → List FileParts → Batch → Type 0
 Are shape sources files = AllZip (IsFileOf shape) sources files

@@ -1,5 +1,5 @@
 -- Where a reading stops, further controls change nothing; where it does not, two CAN do.
-use Rattle.std.proofs.Common.{ℕ, ◌+◌, ◌≡◌, List, [], ◌∷◌, ◌++◌, Bool, true, false, refl, sym, ap, subst, ◌∙◌, Option, None, Some, nat_lt, cond}
+use Rattle.std.proofs.Common.{ℕ, ◌+◌, ◌≡◌, List, [], ◌∷◌, ◌++◌, Bool, true, false, refl, sym, ap, ◌∙◌, Option, None, Some, nat_lt, cond}
 use Rattle.std.specs.Prelude.{is_some}
 use Rattle.std.proofs.lemmas.List.Elements.{filter_map-append}
 use Rattle.ym_frame.specs.Control.{control_at}
@@ -16,7 +16,7 @@ use Rattle.ym_link.specs.declared.standing.Step.{Step}
 use Rattle.ym_link.specs.declared.state.SendState.{SendState}
 use Rattle.ym_link.specs.declared.state.SendState.TheVariants.{Running, Finished, NoReply, Cancelled, SourceFailed}
 use Rattle.ym_link.specs.Reading.{controls_in, turn, reads}
-use Rattle.ym_link.specs.Standing.{missed, read_through, after_reading, runs, hears, hears_in, is_settled, is_settled_in}
+use Rattle.ym_link.specs.Standing.{missed, read_through, after_reading, hears, hears_in, is_settled, is_settled_in}
 
 -- a reading that goes on, or stops
 on_stop : (b : Bool) (r x y : Reading) → (is_some x.stop ≡ true → y ≡ x) → is_some (cond b r x).stop ≡ true → cond b r y ≡ cond b r x

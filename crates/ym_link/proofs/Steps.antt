@@ -1,5 +1,5 @@
 -- What a reading comes to, and what a step keeps.
-use Rattle.std.proofs.Common.{ℕ, ◌+◌, ◌≡◌, ◌<◌, ◌⊎◌, inl, inr, List, [], ◌∷◌, Bool, true, false, refl, ap, sym, subst, ◌∙◌, Option, None, Some, nat_lt, cond, arith}
+use Rattle.std.proofs.Common.{ℕ, ◌+◌, ◌≡◌, ◌<◌, ◌⊎◌, inl, inr, List, [], ◌∷◌, Bool, true, false, refl, sym, subst, ◌∙◌, None, Some, nat_lt, cond, arith}
 use Rattle.std.proofs.lemmas.Bool.Decides.{nat_tests}
 use Rattle.ym_frame.specs.declared.control.Control.{Control}
 use Rattle.ym_frame.specs.declared.control.Control.TheVariants.{Ack, Nak, Start, Can}
@@ -8,15 +8,14 @@ use Rattle.ym_link.specs.declared.place.Place.{Place}
 use Rattle.ym_link.specs.declared.place.Place.TheVariants.{Header, Block, Eot, End}
 use Rattle.ym_link.specs.declared.place.Mode.{Mode}
 use Rattle.ym_link.specs.declared.place.Mode.TheVariants.{Waiting, Sent}
-use Rattle.ym_link.specs.declared.reading.Stop.{Stop}
 use Rattle.ym_link.specs.declared.reading.Stop.TheVariants.{Sends, Again, Finishes, Cancels}
 use Rattle.ym_link.specs.declared.reading.Reading.{Reading}
 use Rattle.ym_link.specs.declared.standing.Standing.{Standing}
 use Rattle.ym_link.specs.declared.standing.Step.{Step}
 use Rattle.ym_link.specs.declared.state.SendState.{SendState}
 use Rattle.ym_link.specs.declared.state.SendState.TheVariants.{Running, Finished, NoReply, Cancelled, SourceFailed}
-use Rattle.ym_link.specs.Reading.{goes_on, stops, turn, reads}
-use Rattle.ym_link.specs.Standing.{missed, moved, read_through, after_reading, runs, hears, hears_in, IsSame}
+use Rattle.ym_link.specs.Reading.{goes_on, stops, reads}
+use Rattle.ym_link.specs.Standing.{missed, read_through, after_reading, hears, hears_in, IsSame}
 
 -- another frame stands behind it
 abbrev pub IsBefore : Place → Type 0

@@ -1,20 +1,41 @@
 -- How many deliveries are heard in a call of an engine, and how many of them bring progress (this profile).
-use Rattle.std.specs.Prelude.{◌≡◌, ℕ, ◌+◌, ◌*◌, ◌/◌, ◌==◌, if◌then◌else◌, sum_by, Option, None, Some}
+use Rattle.std.specs.Prelude.{ℕ, ◌+◌, ◌-◌, ◌/◌, ◌==◌, if◌then◌else◌, List, ◌++◌, sum_by, option_to_list}
 use Rattle.ym_header.specs.Header.{HeaderParts}
-use Rattle.ym_file.specs.Kept.{Kept}
 use Rattle.ym_link.specs.Port.{Tape}
-use Rattle.ym_link.specs.Receiver.{Receiver}
 use Rattle.ym_link.specs.ReceiverInto.{ReceiverParts}
 use Rattle.ym_link.specs.ReceiveOver.{Receives, ended, unread, unheard, unwritten, heard}
 use Rattle.ym_link.specs.ReceiveOver as receiving
 use Rattle.ym_link.specs.Sender.{SenderParts}
 use Rattle.ym_link.specs.SendOver as sending
+use Rattle.ym_link.specs.declared.stage.Stage.{Stage}
+use Rattle.ym_link.specs.declared.stage.Stage.TheVariants.{AwaitHeader, InFile}
 use Rattle.ym_link.specs.declared.state.RecvState.{RecvState}
 use Rattle.ym_link.specs.declared.state.RecvState.TheVariants as state
 use Rattle.ym_link.specs.declared.state.SendState.{SendState}
 use Rattle.ym_link.specs.declared.state.SendState.TheVariants.{Running}
 
 -- ---- A receiver
+
+-- how many blocks of 128 bytes hold so many bytes
+abbrev pub blocks_in : ℕ → ℕ
+blocks_in length = (length + 127) / 128
+
+-- the steps of progress of these files at most: of each its header, its blocks and two EOTs
+abbrev pub steps_of : List HeaderParts → ℕ
+steps_of headers = sum_by (λ (h : HeaderParts). blocks_in h.length + 3) headers
+
+-- the headers that were accepted: those of the committed files and of the open one
+abbrev pub accepted : ReceiverParts → List HeaderParts
+accepted r = r.kept.headers ++ option_to_list r.kept.opened
+
+-- The steps that a receiver has taken at most, where these files are committed: of the open one its header, the blocks that are no
+-- longer missing, and a first EOT.
+abbrev pub steps_taken : Stage → List HeaderParts → ℕ
+steps_taken AwaitHeader headers = steps_of headers
+steps_taken (InFile file) headers = steps_of headers + (blocks_in file.length - blocks_in (file.length - file.taken)) + (if file.first_eot then 2 else 1)
+
+abbrev pub steps_at : ReceiverParts → ℕ
+steps_at r = steps_taken r.receiver.stage r.kept.headers
 
 -- a delivery brought progress where the receiver goes on and counts from 0
 abbrev pub progress_in : RecvState → ℕ → ℕ

@@ -1,7 +1,6 @@
 pub mod Hearing
 pub mod Receiver
 pub mod ReceiverInto
-pub mod ReceiverStands
 pub mod SourceFile
 pub mod Port
 pub mod ScriptPort
@@ -12,7 +11,9 @@ pub mod SendOver
 pub mod Bound
 pub mod Place
 pub mod Reading
-pub mod Standing
+pub mod ReceiverExamples
+pub mod ReceiverStands
 pub mod Sender
 pub mod SenderExamples
 pub mod SenderStands
+pub mod Standing

@@ -1,6 +1,6 @@
 -- The frames of a batch, in order, as places: of each file its block 0, its data blocks and its EOT, and behind the last file the end
 -- block. A batch is given as the number of data blocks of each file. (XMODEM/YMODEM Protocol Reference, "YMODEM Batch File Transmission".)
-use Rattle.std.specs.Prelude.{◌≡◌, ℕ, ◌+◌, ◌%◌, ◌<◌, ◌≤◌, nat_lt, if◌then◌else◌, List, [], ◌∷◌, length, slice_index_or}
+use Rattle.std.specs.Prelude.{◌≡◌, ℕ, ◌+◌, ◌<◌, ◌≤◌, nat_lt, if◌then◌else◌, List, [], ◌∷◌, length, slice_index_or}
 use Rattle.ym_frame.specs.Block.{BlockParts}
 use Rattle.ym_frame.specs.Frame.{IsFrame}
 use Rattle.ym_frame.specs.declared.frame.Item.{Item}

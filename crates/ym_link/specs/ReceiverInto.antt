@@ -1,5 +1,5 @@
 -- A receiver with its sink: what hearing one delivery answers and leaves.
-use Rattle.std.specs.Prelude.{ℕ, ◌+◌, ◌*◌, ◌≡◌, ◌≢◌, ◌≤◌, ◌<◌, ◌^◌, ◌⊎◌, List, [], length, Option, None, Some, Bool, true, false, if◌then◌else◌, Result, Ok, Err, min}
+use Rattle.std.specs.Prelude.{ℕ, ◌+◌, ◌*◌, ◌≡◌, ◌≤◌, ◌<◌, ◌^◌, ◌⊎◌, List, [], length, None, Some, Bool, true, false, if◌then◌else◌, Result, Ok, Err, min}
 use Rattle.std.specs.declared.alloc.AllocError.{AllocError}
 use Rattle.ym_frame.specs.Block.{BlockParts}
 use Rattle.ym_frame.specs.declared.control.Reply.{Reply}

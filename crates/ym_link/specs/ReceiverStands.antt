@@ -9,8 +9,9 @@ use Rattle.ym_file.specs.Kept.{Kept, Told}
 use Rattle.ym_file.specs.Collecting.{keep_all}
 use Rattle.ym_machine.specs.declared.confirm.Confirm.{Confirm}
 use Rattle.ym_machine.specs.Frames.{File, Frame, BlockZero, Piece, Eot, EndBlock, frames_of, frame_at, count_within, files_within}
-use Rattle.ym_machine.specs.State.{ReceiverEnd, State}
-use Rattle.ym_machine.specs.Halves.{Sound, At, Can, Bad}
+use Rattle.ym_machine.specs.Halves.{Sound, At, Can, Bad, there}
+use Rattle.ym_machine.specs.Halves as machine
+use Rattle.ym_machine.specs.State.{ReceiverEnd, State, said}
 use Rattle.ym_link.specs.declared.delivery.Heard.{Heard}
 use Rattle.ym_link.specs.declared.delivery.Heard.TheVariants as heard
 use Rattle.ym_link.specs.declared.stage.Stage.{Stage}
@@ -115,17 +116,25 @@ receiver_at confirm files st = record {
   state = state.Running;
 }
 
--- a receiver stands at a state of the machine
-pub record ReceiverStands (confirm : Confirm) (files : List (File HeaderParts)) (st : State) (parts : ReceiverParts) : Type 0 where
-  pub confirm_is : parts.receiver.confirm ≡ confirm
-  pub state_is : parts.receiver.state ≡ state_of st.receiver
-  pub files_is : parts.receiver.files ≡ count_within files st.taken
-  pub keeps : KeepsFirst files st.taken parts.kept
-  pub running : st.receiver ≡ ReceiverEnd.Running → parts.receiver ≡ receiver_at confirm files st
-  pub keeps_open : st.receiver ≡ ReceiverEnd.Running → KeepsOpen (open_at files st.taken) parts.kept
+-- a receiver, with what its sink tells, stands at a state of the machine
+pub record ReceiverStands (confirm : Confirm) (files : List (File HeaderParts)) (st : State) (r : Receiver) (kept : Kept) : Type 0 where
+  pub confirm_is : r.confirm ≡ confirm
+  pub state_is : r.state ≡ state_of st.receiver
+  pub files_is : r.files ≡ count_within files st.taken
+  pub keeps : KeepsFirst files st.taken kept
+  pub running : st.receiver ≡ ReceiverEnd.Running → r ≡ receiver_at confirm files st
+  pub keeps_open : st.receiver ≡ ReceiverEnd.Running → KeepsOpen (open_at files st.taken) kept
 
--- it has gone where the machine goes, with its reply and its truth whether the sink failed
-pub record ReceiverFollows (confirm : Confirm) (files : List (File HeaderParts)) (answer : State × Reply) (failed : Bool) (old : ReceiverParts) (reply : Reply) (new : ReceiverParts) : Type 0 where
-  pub truth : Tells failed old.failures new.failures
+-- it has gone where the machine goes, with its reply
+pub record Goes (confirm : Confirm) (files : List (File HeaderParts)) (answer : State × Reply) (reply : Reply) (new : ReceiverParts) : Type 0 where
   pub reply_is : reply ≡ answer.1
-  pub stands : ReceiverStands confirm files answer.0 new
+  pub stands : ReceiverStands confirm files answer.0 new.receiver new.kept
+
+-- what it hears of the half there, where the delivery is whole or not
+abbrev pub heard_there : List (File HeaderParts) → Bool → State → Heard
+heard_there files whole st = heard_as (frames_of files) (machine.heard whole (said st))
+
+-- a delivery takes it where the half there takes the machine, with the truth whether its sink failed
+abbrev pub Follows : Confirm → List (File HeaderParts) → Bool → State → ReceiverParts → Reply → ReceiverParts → Type 0
+Follows confirm files whole st old reply new =
+    (failed : Bool) × Tells failed old.failures new.failures × Goes confirm files (there (frames_of files) confirm failed whole st) reply new

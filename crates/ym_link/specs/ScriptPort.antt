@@ -1,14 +1,39 @@
 -- A port that plays a list of events.
-use Rattle.std.specs.Prelude.{ℕ, List, [], ◌∷◌, drop}
-use Rattle.ym_file.specs.Counts.{Tally}
+use Rattle.std.specs.Prelude.{ℕ, Bool, if◌then◌else◌, List, [], ◌∷◌, ◌++◌, drop, Option}
+use Rattle.ym_file.specs.Counts.{Tally, new_tally, counted, raised}
+use Rattle.ym_link.specs.Port.{read_leaves}
 use Rattle.ym_link.specs.declared.event.Event.{Event}
 use Rattle.ym_link.specs.declared.event.Event.TheVariants as event
 
--- the events still to come, the bytes written, and the count down to the write that is to fail
+-- the events still to come, the bytes written, the count down to the write that is to fail with the calls that failed, and the
+-- writes among them that found no memory
 pub record PortParts : Type 0 where
   pub coming : List Event
   pub written : List ℕ
   pub tally : Tally
+  pub refused : ℕ
+
+abbrev pub new_port : List Event → Option ℕ → PortParts
+new_port events failing_write = record { coming = events; written = []; tally = new_tally failing_write; refused = 0 }
+
+-- after a read into a buffer of this length, which failed or not
+abbrev pub after_read : Bool → ℕ → PortParts → PortParts
+after_read ok room p = record p {
+  coming = read_leaves room p.coming;
+  tally = if ok then p.tally else record { failing = p.tally.failing; failures = raised p.tally.failures };
+}
+
+-- after a write that was made
+abbrev pub after_writing : List ℕ → PortParts → PortParts
+after_writing bytes p = record p { written = p.written ++ bytes; tally = counted p.tally }
+
+-- after the write that is to fail
+abbrev pub after_failing : PortParts → PortParts
+after_failing p = record p { tally = counted p.tally }
+
+-- after a write that found no memory
+abbrev pub after_refusing : PortParts → PortParts
+after_refusing p = record p { tally = record { failing = (counted p.tally).failing; failures = raised p.tally.failures }; refused = raised p.refused }
 
 -- the first events are read, and of the next one the first bytes
 abbrev pub cut_event : ℕ → Event → Event

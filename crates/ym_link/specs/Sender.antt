@@ -7,13 +7,13 @@ use Rattle.ym_link.specs.Place.{IsPlace, IsFrameAt}
 use Rattle.ym_link.specs.Reading.{controls_in}
 use Rattle.ym_link.specs.Standing.{hears, after_fill}
 use Rattle.ym_link.specs.declared.place.Place.{Place}
-use Rattle.ym_link.specs.declared.place.Place.TheVariants.{Header, Block, Eot, End}
+use Rattle.ym_link.specs.declared.place.Place.TheVariants.{Block}
 use Rattle.ym_link.specs.declared.place.Mode.{Mode}
-use Rattle.ym_link.specs.declared.place.Mode.TheVariants.{Waiting, Sent}
+use Rattle.ym_link.specs.declared.place.Mode.TheVariants.{Sent}
 use Rattle.ym_link.specs.declared.standing.Standing.{Standing}
 use Rattle.ym_link.specs.declared.standing.Step.{Step}
 use Rattle.ym_link.specs.declared.state.SendState.{SendState}
-use Rattle.ym_link.specs.declared.state.SendState.TheVariants.{Running, Finished, NoReply, Cancelled, SourceFailed}
+use Rattle.ym_link.specs.declared.state.SendState.TheVariants.{Running, NoReply, SourceFailed}
 
 -- the source of a data block's file failed: its failure count rose, and nothing else of the batch changed
 pub record FailedAt (file : ℕ) (old new : List FileParts) : Type 0 where

@@ -1,14 +1,12 @@
 -- A sender of one file of two data blocks, computed: the file is number 0, and its frames are its block 0, blocks 1 and 2, its EOT, and
 -- the end block.
-use Rattle.std.specs.Prelude.{◌≡◌, ℕ, List, [], ◌∷◌, true, false, None, Some, refl}
-use Rattle.ym_link.specs.Place.{next_of, done_at}
-use Rattle.ym_link.specs.Reading.{controls_in, goes_on, stops, reads}
-use Rattle.ym_link.specs.Standing.{new_standing, step, hears, is_settled}
+use Rattle.std.specs.Prelude.{◌≡◌, ℕ, List, [], ◌∷◌, true, false, Some, refl}
+use Rattle.ym_link.specs.Reading.{controls_in}
+use Rattle.ym_link.specs.Standing.{step, hears, is_settled}
 use Rattle.ym_link.specs.declared.place.Place.{Place}
 use Rattle.ym_link.specs.declared.place.Place.TheVariants.{Header, Block, Eot, End}
 use Rattle.ym_link.specs.declared.place.Mode.{Mode}
 use Rattle.ym_link.specs.declared.place.Mode.TheVariants.{Waiting, Sent}
-use Rattle.ym_link.specs.declared.reading.Stop.TheVariants.{Sends, Again, Finishes, Cancels}
 use Rattle.ym_link.specs.declared.standing.Standing.{Standing}
 use Rattle.ym_link.specs.declared.standing.Step.{Step}
 use Rattle.ym_link.specs.declared.state.SendState.TheVariants.{Running, NoReply, Cancelled}

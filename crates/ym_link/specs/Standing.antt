@@ -4,7 +4,7 @@ use Rattle.ym_frame.specs.declared.control.Control.{Control}
 use Rattle.ym_link.specs.Place.{first_of}
 use Rattle.ym_link.specs.Reading.{reads}
 use Rattle.ym_link.specs.declared.place.Place.{Place}
-use Rattle.ym_link.specs.declared.place.Place.TheVariants.{Header, Block, Eot, End}
+use Rattle.ym_link.specs.declared.place.Place.TheVariants.{Block}
 use Rattle.ym_link.specs.declared.place.Mode.{Mode}
 use Rattle.ym_link.specs.declared.place.Mode.TheVariants.{Waiting, Sent}
 use Rattle.ym_link.specs.declared.reading.Stop.{Stop}

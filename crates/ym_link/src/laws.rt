@@ -1,7 +1,15 @@
 //! Laws of the definitions: each is the promise of a function that does nothing.
 
+mod deliveries;
 mod receiver;
 mod sender;
 
-pub use receiver::{a_block_zero_means_one_thing, a_delivery_has_one_step};
-pub use sender::{a_sender_follows_the_machine, a_settled_delivery_stays, progress_is_a_change};
+pub use deliveries::{a_receiver_hears_few_deliveries, a_sender_hears_few_deliveries};
+pub use receiver::{
+    Headers, a_block_zero_means_one_thing, a_delivery_has_one_step, a_planned_file_is_sent,
+    a_standing_receiver_follows_the_machine,
+};
+pub use sender::{
+    a_sender_follows_the_machine, a_settled_delivery_stays, progress_is_a_change,
+    what_came_back_is_of_the_reply,
+};

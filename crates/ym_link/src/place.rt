@@ -1,6 +1,7 @@
 //! Where a sender stands in its batch.
 
 ghost use Rattle.std.specs.Prelude.{◌≡◌, ◌<◌, length};
+ghost use Rattle.ym_file.specs.declared.plan.Shape.{Shape};
 ghost use Rattle.ym_link.specs.SourceFile.{counts_of};
 ghost use Rattle.ym_link.specs.Place.{IsPlace, count_at, first_of, next_of};
 
@@ -38,11 +39,11 @@ fn blocks_at<S: Source>(files: &[SourceFile<S>], shape: Shape, file: usize) -> u
 }
 
 /// The first frame of the batch.
-pub fn first_place<S: Source>(files: &[SourceFile<S>], shape: Shape) -> Place
-    ensures first { result ≡ first_of (counts_of shape files.now) }
-    ensures within { IsPlace (counts_of shape files.now) result }
+pub fn first_place<S: Source>(files: &[SourceFile<S>]) -> Place
+    ensures first { (shape : Shape) → result ≡ first_of (counts_of shape files.now) }
+    ensures within { (shape : Shape) → IsPlace (counts_of shape files.now) result }
 {
-    if files.len() == 0 {
+    if files.is_empty() {
         Place::End
     } else {
         Place::Header { file: 0 }

@@ -111,7 +111,7 @@ impl<S: Source> SenderFrom<S> {
             return Err(BatchFault::TooMany(batch));
         }
         look_at(&batch);
-        let standing = Standing::new(first_place(&batch, shape));
+        let standing = Standing::new(first_place(&batch));
         Ok(SenderFrom {
             batch,
             shape,
@@ -155,7 +155,9 @@ impl<S: Source> SenderFrom<S> {
             .is_some()
     }
 
-    /// Hears one delivery.
+    /// Hears one delivery. A data block that is to be sent next is read from its source once: what
+    /// is sent again is the frame that it holds. Where the source fails, the sender stands at that
+    /// block and has ended, with CAN CAN to go.
     pub fn hear(&mut self, bytes: &[u8])
         ensures { Hears self.old bytes.now self.new }
     {
@@ -169,7 +171,7 @@ impl<S: Source> SenderFrom<S> {
         }
     }
 
-    /// How many files' EOT was acknowledged.
+    /// How many files are done: those whose EOT was acknowledged. No end takes this back.
     pub fn done(&self) -> usize
         ensures { result ≡ done_at (length self.now.files) self.now.standing.place }
     {

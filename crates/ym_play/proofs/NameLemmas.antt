@@ -1,13 +1,13 @@
 -- The test of a name, and the files that a header refuses.
-use Rattle.std.proofs.Common.{◌≡◌, ◌≢◌, ◌<◌, ◌≤◌, ◌^◌, ◌-◌, ◌&&◌, ◌==◌, ℕ, Bool, not, List, [], ◌∷◌, length, true, false, refl, arith, rules, tests, nat_lt, nat_le, Some, Ok, Err, Result, if◌then◌else◌, sym, ◌∙◌, ap, codes, All, get_or}
+use Rattle.std.proofs.Common.{◌≡◌, ◌≢◌, ◌<◌, ◌≤◌, ◌^◌, ◌&&◌, ◌==◌, ℕ, Bool, not, List, length, true, false, refl, arith, rules, tests, nat_lt, nat_le, Some, Ok, Err, if◌then◌else◌, sym, ap, codes, All, get_or}
 use Rattle.std.specs.List.{list_all}
 use Rattle.std.specs.Str.{is_utf8, bytes_eq}
 use Rattle.std.proofs.lemmas.Grind.{common_steps}
-use Rattle.std.proofs.lemmas.Bool.{ltb-true, lt-ltb, le-leb, ltb-false}
+use Rattle.std.proofs.lemmas.Bool.{ltb-true, lt-ltb, le-leb}
 use Rattle.std.proofs.lemmas.Bool.Decides.{nat_tests}
 use Rattle.std.proofs.lemmas.List.Sums.{AllPass-from_list_all, list_all-from_AllPass}
 use Rattle.std.proofs.lemmas.Slice.Eq.{bytes_eq-Decides}
-use Rattle.ym_header.specs.Header.{HeaderParts, IsHeader, IsName, IsSafe, IsRefused, length_limit}
+use Rattle.ym_header.specs.Header.{IsHeader, IsName, IsRefused, length_limit}
 use Rattle.ym_header.specs.declared.fault.HeaderFault.{HeaderFault}
 use Rattle.ym_header.specs.declared.fault.HeaderFault.TheVariants as header
 use Rattle.ym_header.specs.declared.stamp.Stamp.{Stamp}
@@ -16,7 +16,6 @@ use Rattle.ym_play.specs.Command.{StampWords}
 use Rattle.ym_play.specs.Fault.{IsRefusal, refusal_of}
 use Rattle.ym_play.specs.Value.{bytes_at, stamp_at}
 use Rattle.ym_play.specs.Script.{is_name, named_file, file_at}
-use Rattle.ym_play.specs.declared.fault.ScriptWhy.{ScriptWhy}
 use Rattle.ym_play.specs.declared.fault.ScriptWhy.TheVariants as why
 
 and_true : (a b : Bool) → (a && b) ≡ true → (a ≡ true) × (b ≡ true)

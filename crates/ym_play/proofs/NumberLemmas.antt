@@ -1,9 +1,9 @@
 -- The numbers of digits.
-use Rattle.std.proofs.Common.{◌≡◌, ◌<◌, ◌≤◌, ◌&&◌, ℕ, Bool, List, [], ◌∷◌, length, true, false, refl, arith, rules, tests, nat_lt, nat_le, Ok, Err, if◌then◌else◌, sym, inl, inr}
+use Rattle.std.proofs.Common.{◌≡◌, ◌<◌, ◌≤◌, ◌&&◌, ℕ, Bool, List, [], ◌∷◌, length, true, false, refl, rules, tests, nat_lt, nat_le, Ok, Err, if◌then◌else◌}
 use Rattle.std.specs.Char.{is_digit}
 use Rattle.std.specs.List.{list_all}
 use Rattle.std.specs.Str.Parse.{AllDigits, IsNumeral, digits_value}
-use Rattle.std.proofs.lemmas.Bool.{ltb-true, lt-ltb, le-leb, ltb-false}
+use Rattle.std.proofs.lemmas.Bool.{ltb-true, lt-ltb, le-leb}
 use Rattle.ym_play.specs.Value.{is_numeral, number_at}
 use Rattle.ym_play.specs.declared.fault.ScriptWhy.{ScriptWhy}
 

@@ -1,16 +1,15 @@
 -- What a session takes from its reader, and how it ends.
-use Rattle.std.proofs.Common.{◌≡◌, ◌≢◌, ◌⊎◌, inl, inr, ◌≤◌, ◌<◌, ◌++◌, ℕ, List, Option, Some, Result, Ok, Err, length, take, nat_le, true, false, refl, sym, ◌∙◌, ap, arith, string_bytes}
-use Rattle.std.proofs.lemmas.Bool.{cases_lt, le-leb, lt-leb}
+use Rattle.std.proofs.Common.{◌≡◌, ◌≢◌, ◌⊎◌, inl, inr, ◌≤◌, ℕ, List, Option, Some, Result, Ok, Err, length, take, nat_le, false, refl, sym, ◌∙◌, ap, arith, string_bytes}
+use Rattle.std.proofs.lemmas.Bool.{cases_lt, lt-leb}
 use Rattle.std.proofs.lemmas.List.{take_all, length-take-le}
 use Rattle.ym_line.specs.declared.delivery.Handed.{Handed}
 use Rattle.ym_line.specs.declared.fault.LineFault.{LineFault}
-use Rattle.ym_play.specs.Script.{ScriptParts, script_of}
-use Rattle.ym_play.specs.Play.{PlayGives, IsPlayed, IsNotPlayed}
+use Rattle.ym_play.specs.Script.{script_of}
+use Rattle.ym_play.specs.Play.{PlayGives}
 use Rattle.std.specs.Io.KnownBytes.{Appends}
 use Rattle.ym_line.specs.declared.fault.LineFault.TheVariants as round
 use Rattle.ym_play.proofs.BytesLemmas.{appended}
 use Rattle.ym_play.specs.Session.{InputPlays, SessionGives, fault_status, line_status}
-use Rattle.ym_play.specs.declared.fault.ScriptWhy.{ScriptWhy}
 use Rattle.ym_play.specs.declared.fault.PlayFault.{PlayFault}
 use Rattle.ym_play.specs.declared.fault.PlayFault.TheVariants as play
 use Rattle.ym_play.specs.declared.play.Played.{Played}

@@ -1,6 +1,5 @@
 -- What a line of a script says, its values still as they are written.
-use Rattle.std.specs.Prelude.{◌≡◌, ◌==◌, ◌&&◌, ℕ, Bool, List, [], ◌∷◌, length, Option, Some, None, codes, if◌then◌else◌}
-use Rattle.std.specs.Option.{option_map, option_and_then}
+use Rattle.std.specs.Prelude.{◌&&◌, ℕ, List, [], ◌∷◌, Option, Some, None, codes, if◌then◌else◌}
 use Rattle.std.specs.Str.{bytes_eq}
 use Rattle.ym_play.specs.Words.{words_of, has_empty_word, has_colon, before_colon, behind_colon}
 use Rattle.ym_play.specs.declared.command.DeliveryText.{DeliveryText}

@@ -3,7 +3,7 @@ use Rattle.std.specs.Prelude.{◌≡◌, ◌≢◌, ℕ, List, [], Option, None,
 use Rattle.ym_file.specs.Counts.{new_tally}
 use Rattle.ym_file.specs.MemSink.{kept_of}
 use Rattle.ym_link.specs.Receiver.{new_receiver}
-use Rattle.ym_link.specs.Sender.{new_standing}
+use Rattle.ym_link.specs.Standing.{new_standing}
 use Rattle.ym_link.specs.SourceFile.{counts_of}
 use Rattle.ym_link.specs.declared.state.RecvState.{RecvState}
 use Rattle.ym_link.specs.declared.state.RecvState.TheVariants as recv
@@ -16,7 +16,6 @@ use Rattle.ym_line.specs.declared.fault.LineFault.{LineFault}
 use Rattle.ym_line.specs.declared.fault.LineFault.TheVariants as round
 use Rattle.ym_line.specs.declared.trace.Trace.{Trace}
 use Rattle.ym_play.specs.Script.{ScriptParts, script_of}
-use Rattle.ym_play.specs.declared.fault.ScriptWhy.{ScriptWhy}
 use Rattle.ym_play.specs.declared.fault.PlayFault.{PlayFault}
 use Rattle.ym_play.specs.declared.fault.PlayFault.TheVariants as play
 use Rattle.ym_play.specs.declared.play.Played.{Played}

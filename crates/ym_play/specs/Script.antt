@@ -1,5 +1,5 @@
 -- What the bytes of a script stand for: a batch of files, how it is sent and received, and the rounds of the line.
-use Rattle.std.specs.Prelude.{ℕ, ◌+◌, ◌-◌, ◌≤◌, ◌<◌, ◌==◌, ◌&&◌, not, nat_lt, nat_le, Bool, List, [], ◌∷◌, ◌++◌, length, Option, Some, None, Result, Ok, Err, codes, replicate, if◌then◌else◌}
+use Rattle.std.specs.Prelude.{ℕ, ◌+◌, ◌==◌, ◌&&◌, not, nat_lt, nat_le, Bool, List, [], ◌∷◌, ◌++◌, length, Option, Some, None, Result, Ok, Err, codes, replicate, if◌then◌else◌}
 use Rattle.std.specs.List.{slice_split, list_all}
 use Rattle.std.specs.Str.{bytes_eq, is_utf8}
 use Rattle.ym_header.specs.declared.stamp.Stamp.{Stamp}
@@ -8,7 +8,6 @@ use Rattle.ym_file.specs.declared.plan.Shape.TheVariants as shape
 use Rattle.ym_machine.specs.declared.confirm.Confirm.{Confirm}
 use Rattle.ym_machine.specs.declared.confirm.Confirm.TheVariants as confirm
 use Rattle.ym_link.specs.SourceFile.{FileParts}
-use Rattle.ym_line.specs.declared.delivery.Delivery.{Delivery}
 use Rattle.ym_line.specs.declared.delivery.Delivery.TheVariants as line
 use Rattle.ym_line.specs.declared.delivery.Round.{Round}
 use Rattle.ym_play.specs.Command.{StampWords, DeliveryWords, CommandWords, Short, Single, File, Rounds, Round as RoundWords, command_of}

@@ -4,7 +4,10 @@ ghost use Rattle.std.specs.Prelude.{◌≡◌, ◌↔◌, ◌⊎◌, ◌+◌, �
 ghost use Rattle.std.specs.List.{AllZip};
 ghost use Rattle.ym_file.specs.declared.plan.Shape.{Shape};
 ghost use Rattle.ym_machine.specs.Frames.{frames_of, count_within};
-ghost use Rattle.ym_machine.specs.Halves.{back, IsRemnant};
+ghost use Rattle.ym_frame.specs.Control.{IsSubsequence, reply_bytes, controls as control_bytes};
+ghost use Rattle.ym_frame.specs.declared.control.Control.{Control};
+ghost use Rattle.ym_frame.specs.declared.control.Reply.{Reply};
+ghost use Rattle.ym_machine.specs.Halves.{back, is_within, IsRemnant, controls as reply_controls};
 ghost use Rattle.ym_machine.specs.State.{State, start, said};
 ghost use Rattle.ym_link.specs.SourceFile.{FileParts, IsFile, counts_of};
 ghost use Rattle.ym_link.specs.Place.{done_at};
@@ -17,6 +20,7 @@ ghost use Rattle.ym_link.specs.Reading.{controls_in};
 ghost use Rattle.ym_link.specs.Standing.{hears, is_settled, IsSame};
 
 use ym_file::laws::one_pieces;
+use ym_machine::laws::what_comes_back;
 
 /// A delivery is settled exactly where no further bytes can change what a sender does with it.
 pub fn a_settled_delivery_stays()
@@ -31,6 +35,17 @@ pub fn progress_is_a_change()
         let new = (hears counts old (controls_in bytes)).standing in
         ((new.misses ≡ 0) × ¬ IsSame old new) ⊎ ((new.misses ≡ old.misses + 1) × IsSame old new) }
 {}
+
+/// What comes back of a reply holds its controls, with some of them left out where the delivery is
+/// damaged.
+pub fn what_came_back_is_of_the_reply()
+    ensures whole { (reply : Reply) → controls_in (reply_bytes reply) ≡ reply_controls reply }
+    ensures damaged { (reply : Reply) (bytes : List ℕ) → IsSubsequence (control_bytes bytes) (reply_bytes reply) →
+        is_within (controls_in bytes) (reply_controls reply) ≡ true }
+    ensures remnants { (reply : Reply) (came : List Control) → is_within came (reply_controls reply) ≡ true → IsRemnant came }
+{
+    what_comes_back();
+}
 
 /// A new sender stands at the start. A sender that stands at a state of the machine stands, after a
 /// delivery, where the machine goes in the half back, with the truth whether its source failed; it

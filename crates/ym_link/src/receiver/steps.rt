@@ -159,6 +159,7 @@ impl<K: Sink> ReceiverInto<K> {
         requires in_file { self.old.receiver.stage ≡ Stage.InFile file }
         ensures { StepGives self.old (block_heard self.old.receiver file block.now.number block.now.body) result self.new }
     {
+        // that the count of blocks is small always holds, which is known once a field was read
         let _ = &self.stage;
         let number = u64::from(block.number());
         if number == (file.blocks + 1) % 256 {
@@ -182,6 +183,7 @@ impl<K: Sink> ReceiverInto<K> {
         requires sized { (list_length body.now ≡ 128) ⊎ (list_length body.now ≡ 1024) }
         ensures { StepGives self.old (next_block self.old.receiver file body.now) result self.new }
     {
+        // as in `hear_block`
         let _ = &self.stage;
         let blocks = file.blocks + 1;
         if file.taken >= file.length {
@@ -247,11 +249,12 @@ impl<K: Sink> ReceiverInto<K> {
     }
 }
 
-/// The body of a block.
+/// The body of a block, which has 128 or 1024 bytes.
 fn body_of(block: &Block) -> &[u8]
     ensures body { result.now ≡ block.now.body }
     ensures sized { (list_length result.now ≡ 128) ⊎ (list_length result.now ≡ 1024) }
 {
+    // the size tells how many bytes the body has
     let _size = block.size();
     block.body()
 }

@@ -1,6 +1,6 @@
 //! The receiver, delivery by delivery.
 
-use crate::{Confirm, Heard, Receiver, ReceiverInto, RecvState};
+use crate::{Confirm, Heard, Receiver, ReceiverInto, RecvState, laws};
 use std::alloc::{AllocError, Global};
 use std::test::Fail;
 use ym_file::{MemSink, Sink};
@@ -185,4 +185,12 @@ fn failing_sink(rt: HostRuntime) -> Result<(), Fail> {
         [Reply::AckStart, Reply::Ack, Reply::Cancel]
     );
     Ok(())
+}
+
+#[test]
+fn laws_hold() {
+    laws::a_block_zero_means_one_thing();
+    laws::a_delivery_has_one_step();
+    laws::a_planned_file_is_sent();
+    laws::a_standing_receiver_follows_the_machine();
 }

@@ -3,8 +3,8 @@
 use crate::{BatchFault, SendFile, SendState, Sender, SenderFrom, SourceFile};
 use std::alloc::Global;
 use std::test::Fail;
-use ym_file::{MemSource, Shape};
-use ym_header::Stamp;
+use ym_file::{MemSource, Shape, Source, SourceFault};
+use ym_header::{HeaderFault, Stamp};
 
 const C: u8 = 0x43;
 
@@ -27,30 +27,55 @@ fn one_file(alloc: Global, length: usize, failing: Option<u64>) -> Result<Sender
     Ok(SenderFrom::new(batch, Shape::Short).map_err(|_| "batch")?)
 }
 
+/// So many bytes 00, of which contracts are told nothing.
+#[derive(Drop)]
+struct Zeros {
+    length: u64,
+}
+
+impl Source for Zeros {
+    ghost use Rattle.std.specs.Prelude.{None};
+
+    ghost size = { λ s. s.length };
+
+    ghost bytes = { λ s. None };
+
+    ghost failures = { λ s. 0 };
+
+    fn length(&self) -> u64 {
+        self.length
+    }
+
+    fn fill(&mut self, _at: u64, into: &mut [u8]) -> Result<(), SourceFault> {
+        into.fill(0);
+        Ok(())
+    }
+}
+
+/// Whether the frame to be sent begins with these bytes.
+fn begins_with<S: Source>(sender: &SenderFrom<S>, bytes: &[u8]) -> bool {
+    match sender.frame() {
+        Some(frame) => frame.starts_with(bytes),
+        None => false,
+    }
+}
+
 #[test]
 fn all_frames_of_a_batch(rt: HostRuntime) -> Result<(), Fail> {
     let alloc = rt.alloc();
     let mut sender = one_file(alloc, 130, None)?;
     assert!(rt; sender.frame().is_none());
     sender.hear(&[C]);
-    let header = sender.frame().ok_or("block 0")?;
-    assert_eq!(rt; header.len(), 133);
-    assert_eq!(rt; &header[..8], b"\x01\x00\xffa\x00130".as_slice());
+    assert_eq!(rt; sender.frame().ok_or("block 0")?.len(), 133);
+    assert!(rt; begins_with(&sender, b"\x01\x00\xffa\x00130\x00"));
     assert!(rt; !sender.settled(&[ACK]));
     assert!(rt; sender.settled(&[ACK, C]));
     sender.hear(&[ACK, C]);
-    let first = sender.frame().ok_or("block 1")?;
-    assert_eq!(rt; &first[..4], [0x01, 0x01, 0xfe, 0x41].as_slice());
-    assert_eq!(rt; first[130], 0x41);
+    assert!(rt; begins_with(&sender, b"\x01\x01\xfeAAA"));
     sender.hear(&[NAK]);
-    assert_eq!(rt; sender.frame().ok_or("block 1 again")?[1], 1);
+    assert!(rt; begins_with(&sender, b"\x01\x01\xfeAAA"));
     sender.hear(&[ACK]);
-    let second = sender.frame().ok_or("block 2")?;
-    assert_eq!(rt;
-        &second[..6],
-        [0x01, 0x02, 0xfd, 0x41, 0x41, 0x1a].as_slice()
-    );
-    assert_eq!(rt; second[130], 0x1a);
+    assert!(rt; begins_with(&sender, b"\x01\x02\xfdAA\x1a\x1a"));
     sender.hear(&[ACK]);
     assert_eq!(rt; sender.frame().ok_or("EOT")?, [0x04].as_slice());
     sender.hear(&[NAK]);
@@ -59,9 +84,8 @@ fn all_frames_of_a_batch(rt: HostRuntime) -> Result<(), Fail> {
     assert_eq!(rt; sender.done(), 1);
     assert!(rt; sender.frame().is_none());
     sender.hear(&[C]);
-    let end = sender.frame().ok_or("the end block")?;
-    assert_eq!(rt; end.len(), 133);
-    assert_eq!(rt; &end[..4], [0x01, 0x00, 0xff, 0x00].as_slice());
+    assert_eq!(rt; sender.frame().ok_or("the end block")?.len(), 133);
+    assert!(rt; begins_with(&sender, b"\x01\x00\xff\x00"));
     sender.hear(&[ACK]);
     assert_eq!(rt; sender.state(), SendState::Finished);
     assert!(rt; sender.frame().is_none());
@@ -76,7 +100,7 @@ fn a_source_that_fails(rt: HostRuntime) -> Result<(), Fail> {
     sender.hear(&[ACK, C]);
     sender.hear(&[NAK]);
     assert_eq!(rt; sender.state(), SendState::Running);
-    assert_eq!(rt; sender.frame().ok_or("block 1")?[1], 1);
+    assert!(rt; begins_with(&sender, b"\x01\x01\xfe"));
     sender.hear(&[ACK]);
     assert_eq!(rt; sender.state(), SendState::SourceFailed);
     assert_eq!(rt; sender.frame().ok_or("CAN CAN")?, [CAN, CAN].as_slice());
@@ -133,4 +157,54 @@ fn too_many_files_are_handed_back(rt: HostRuntime) -> Result<(), Fail> {
             Ok(())
         }
     }
+}
+
+#[test]
+fn a_source_of_any_kind(rt: HostRuntime) -> Result<(), Fail> {
+    let alloc = rt.alloc();
+    let stamp = Stamp::TimeMode(12, 0o644);
+    let file = SourceFile::from_source(alloc, "zeros", Zeros { length: 1025 }, stamp).map_err(
+        |_| "file",
+    )?;
+    assert_eq!(rt; file.header().name(), "zeros");
+    assert_eq!(rt; file.header().length(), 1025);
+    assert_eq!(rt; file.header().stamp(), stamp);
+    assert_eq!(rt; file.blocks(Shape::Mixed), 2);
+    assert_eq!(rt; file.blocks(Shape::Short), 9);
+    let mut batch = Vec::new(alloc);
+    batch.push(file)?;
+    let mut sender = SenderFrom::new(batch, Shape::Mixed).map_err(|_| "batch")?;
+    sender.hear(&[C]);
+    sender.hear(&[ACK, C]);
+    assert_eq!(rt; sender.frame().ok_or("block 1")?.len(), 1029);
+    sender.hear(&[ACK]);
+    assert!(rt; begins_with(&sender, b"\x01\x02\xfd\x00\x1a"));
+    Ok(())
+}
+
+#[test]
+fn a_source_that_is_too_long(rt: HostRuntime) -> Result<(), Fail> {
+    let source = Zeros { length: 1 << 63 };
+    let refused = SourceFile::from_source(rt.alloc(), "zeros", source, Stamp::Nothing);
+    assert!(rt; matches!(refused, Err(HeaderFault::LengthLarge)));
+    Ok(())
+}
+
+#[test]
+fn a_file_in_memory(rt: HostRuntime) -> Result<(), Fail> {
+    let alloc = rt.alloc();
+    let bytes = b"one".as_slice().to_vec(alloc)?;
+    let file = SendFile::new(alloc, "a.txt", bytes, Stamp::Time(0)).map_err(|_| "file")?;
+    assert_eq!(rt; file.bytes(), b"one".as_slice());
+    assert_eq!(rt; file.header().length(), 3);
+    let mut batch = Vec::new(alloc);
+    batch.push(file)?;
+    let mut sender = Sender::new(batch, Shape::Mixed).map_err(|_| "batch")?;
+    sender.hear(&[C]);
+    sender.hear(&[ACK, C]);
+    assert_eq!(rt; sender.state(), SendState::Running);
+    assert!(rt; begins_with(&sender, b"\x01\x01\xfeone\x1a"));
+    let nameless = SendFile::new(alloc, "", Vec::new(alloc), Stamp::Nothing);
+    assert!(rt; matches!(nameless, Err(HeaderFault::NameEmpty)));
+    Ok(())
 }

@@ -1,4 +1,4 @@
-use Rattle.std.proofs.Common.{◌<◌, ◌≡◌, length, subst, sym, ap, ◌∙◌, arith, Some, true, Result, Ok, Err}
+use Rattle.std.proofs.Common.{◌<◌, length, subst, sym, ap, ◌∙◌, arith, Some, true, Result, Ok, Err}
 use Rattle.std.specs.Prelude.{slice_set, OnErr}
 use Rattle.std.proofs.lemmas.List.{length-map}
 use Rattle.ym_file.specs.Counts.{Rose}

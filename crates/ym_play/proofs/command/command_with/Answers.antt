@@ -1,5 +1,4 @@
-use Rattle.std.proofs.Common.{rules, sym, ◌≡◌, false, codes}
-use Rattle.std.specs.Str.{bytes_eq}
+use Rattle.std.proofs.Common.{rules, sym}
 use Rattle.ym_play.specs.Words.{words_of}
 use Rattle.ym_play.proofs.WordsLemmas.{some_words}
 use Rattle.ym_play.proofs.CommandLemmas.{no_command}

@@ -1,8 +1,5 @@
 use Rattle.std.proofs.Common.{rules, arith, ◌≡◌, ◌<◌, ◌^◌, Ok, length}
-use Rattle.std.proofs.lemmas.Grind.{common_steps}
 use Rattle.ym_play.specs.Command.{stamp_in}
-use Rattle.ym_play.specs.Fault.{IsRefusal, refusal_of}
-use Rattle.ym_play.specs.Script.{file_at}
 use Rattle.ym_play.proofs.NameLemmas.{file_written, file_refused}
 use Rattle.ym_play.specs.Value.{bytes_at, stamp_at}
 use Rattle.ym_play.proofs.script.file_of.Goals as goal

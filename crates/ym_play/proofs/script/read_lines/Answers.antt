@@ -1,10 +1,10 @@
 -- Each turn reads one line more of those between the line ends.
-use Rattle.std.proofs.Common.{rules, arith, ◌≡◌, ◌+◌, ◌++◌, ◌∷◌, [], length, drop, lit<, sym, ◌∙◌, ap, Ok}
+use Rattle.std.proofs.Common.{rules, arith, ◌≡◌, ◌+◌, length, lit<, ◌∙◌, Ok}
 use Rattle.std.proofs.lemmas.Grind.{common_steps}
 use Rattle.std.proofs.lemmas.Iterator.Consumers.{YieldsList-at, YieldsList-turn, YieldsList-end}
 use Rattle.std.proofs.lemmas.Iterator.Splits.{YieldsList-from_str_split}
 use Rattle.std.proofs.lemmas.List.{length_push}
-use Rattle.ym_play.specs.Script.{lines_of, lines_read, line_read, empty}
+use Rattle.ym_play.specs.Script.{lines_of, line_read}
 use Rattle.ym_play.proofs.ScriptLemmas.{line_taken, line_refused, none_left}
 use Rattle.ym_play.proofs.script.read_lines.Goals as goal
 

@@ -1,5 +1,5 @@
 -- What was taken is the text, or enough of it to refuse it.
-use Rattle.std.proofs.Common.{rules, ◌≡◌, ◌∙◌, ap, Ok, Err}
+use Rattle.std.proofs.Common.{◌∙◌, ap, Ok, Err}
 use Rattle.ym_play.proofs.SessionLemmas.{script_of-take, plays_same}
 use Rattle.ym_play.specs.Script.{script_of}
 use Rattle.ym_play.proofs.sessions.play_input.Goals as goal

@@ -1,5 +1,5 @@
 -- A fault that was told, or a text that was printed.
-use Rattle.std.proofs.Common.{rules, arith, ◌≡◌, ◌≤◌}
+use Rattle.std.proofs.Common.{rules}
 use Rattle.ym_play.proofs.SessionLemmas.{told_ends, played_ends, small_status}
 use Rattle.ym_play.proofs.sessions.session.Goals as goal
 

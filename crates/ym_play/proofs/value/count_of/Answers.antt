@@ -1,4 +1,4 @@
-use Rattle.std.proofs.Common.{rules, arith, ◌≡◌, ◌≤◌, ◌<◌}
+use Rattle.std.proofs.Common.{rules, arith}
 use Rattle.ym_play.proofs.NumberLemmas.{number_some, number_none}
 use Rattle.ym_play.specs.declared.fault.ScriptWhy.TheVariants as why
 use Rattle.ym_play.proofs.value.count_of.Goals as goal

@@ -1,5 +1,4 @@
 use Rattle.ym_link.proofs.Settled.{settled_stays, stays_settled}
-use Rattle.ym_link.specs.Reading.{controls_in}
 use Rattle.ym_link.proofs.laws.sender.a_settled_delivery_stays.Goals as goal
 
 pub returns : goal.returns

@@ -1,0 +1,175 @@
+-- A round of a pair that stands is a turn of the machine.
+use Rattle.std.proofs.Common.{◌≡◌, ◌∙◌, ℕ, Bool, true, false, List, [], ◌∷◌, Option, None, Some, Ok, IsSome, refl, sym, ap, subst}
+use Rattle.std.proofs.lemmas.List.Elements.{All-set}
+use Rattle.ym_frame.specs.Control.{reply_bytes}
+use Rattle.ym_frame.specs.declared.control.Control.{Control}
+use Rattle.ym_frame.specs.declared.control.Reply.{Reply}
+use Rattle.ym_machine.specs.declared.confirm.Confirm.{Confirm}
+use Rattle.ym_machine.specs.Frames.{File, Frame, frames_of}
+use Rattle.ym_machine.specs.Halves as machine
+use Rattle.ym_machine.specs.Machine.{State, IsMachine, Answer, said, there, back, KeepsSender, KeepsReceiver}
+use Rattle.ym_machine.specs.Run.{Turn, came_back, after_turn}
+use Rattle.ym_header.specs.Header.{HeaderParts}
+use Rattle.ym_link.specs.Hearing.{heard_of}
+use Rattle.ym_link.specs.Reading.{controls_in}
+use Rattle.ym_link.specs.ReceiverInto.{ReceiverParts, HearsGives, Tells}
+use Rattle.ym_link.specs.Receiver.{Receiver}
+use Rattle.ym_link.specs.ReceiverStands.{IsBatch, ReceiverStands, heard_there, open_at, receiver_at}
+use Rattle.ym_link.specs.ReceiverStands as receiver
+use Rattle.ym_link.specs.SenderStands.{Batch, SenderStands, IsSaid, AllTold}
+use Rattle.ym_link.specs.Sender.{SenderParts, IsSender, IsStep, IsFilled, counts, spoken}
+use Rattle.ym_link.specs.SourceFile.{FileParts, file_at, no_file}
+use Rattle.ym_link.specs.Standing.{hears}
+use Rattle.ym_file.specs.Kept.{Kept}
+use Rattle.ym_link.specs.declared.place.Place.{Place}
+use Rattle.ym_link.specs.declared.place.Place.TheVariants.{Header, Block, Eot, End}
+use Rattle.ym_line.specs.declared.delivery.Round.{Round}
+use Rattle.ym_line.specs.declared.trace.Seen.{Seen}
+use Rattle.ym_line.specs.Carried.{told_more}
+use Rattle.ym_line.specs.declared.delivery.Way.TheVariants.{There, Back}
+use Rattle.ym_line.specs.Damage.{arrives}
+use Rattle.ym_line.specs.Rounds.{Pair, sent_by, Goes, GoOn}
+use Rattle.ym_line.specs.Turns.{PairStands, IsTurn, RunsAsMachine, IsSourceTruth, is_whole, came_of, turn_of}
+use Rattle.ym_line.proofs.Turns.{FrameFound, WithinReply, said-heard, said-shown, said-bytes, came-within, controls-arrive}
+
+-- ---- What the laws below say
+
+pub record Laws : Type 0 where
+  pub found : FrameFound
+  pub within : WithinReply
+  pub whole : (r : Reply) → machine.is_within (machine.controls r) (machine.controls r) ≡ true
+  pub remnants : (r : Reply) (came : List Control) → machine.is_within came (machine.controls r) ≡ true → machine.IsRemnant came
+  pub says : (files : Batch) (st : State) (sender : SenderParts) → SenderStands files st sender → IsSender sender → AllTold sender.files → IsSaid files (said st) (spoken sender)
+  pub sender_follows : (files : Batch) (st : State) (old new : SenderParts) (bytes : List ℕ) (failed : Bool) →
+      SenderStands files st old → machine.IsRemnant (controls_in bytes) → IsStep old (hears (counts old) old.standing (controls_in bytes)) failed new →
+      SenderStands files (back (frames_of files) failed (controls_in bytes) st) new
+  pub receiver_follows : (confirm : Confirm) (files : List (File HeaderParts)) (whole : Bool) (st : State) (old : ReceiverParts) (reply : Reply) (new : ReceiverParts) →
+      IsBatch files → IsMachine confirm (frames_of files) st → ReceiverStands confirm files st old.receiver old.kept →
+      HearsGives old (heard_there files whole st) (Ok reply) new → receiver.Follows confirm files whole st old reply new
+  pub machine_there : (files : List (File HeaderParts)) (confirm : Confirm) (sink_failed whole : Bool) (old : State) →
+      IsMachine confirm (frames_of files) old → IsMachine confirm (frames_of files) (there (frames_of files) confirm sink_failed whole old).0
+  pub machine_back : (files : List (File HeaderParts)) (confirm : Confirm) (sink_failed whole source_failed : Bool) (came : List Control) (old : State) →
+      IsMachine confirm (frames_of files) old → machine.is_within came (machine.controls (there (frames_of files) confirm sink_failed whole old).1) ≡ true →
+      IsMachine confirm (frames_of files) (back (frames_of files) source_failed came (there (frames_of files) confirm sink_failed whole old).0)
+  pub keeps_sender : (files : List (File HeaderParts)) (confirm : Confirm) (sink_failed whole : Bool) (old : State) →
+      KeepsSender old (there (frames_of files) confirm sink_failed whole old).0
+  pub keeps_receiver : (files : List (File HeaderParts)) (source_failed : Bool) (came : List Control) (old : State) →
+      KeepsReceiver old (back (frames_of files) source_failed came old)
+
+-- ---- An end that the half leaves alone
+
+pub sender-still : (files : Batch) (old new : State) (sender : SenderParts) → KeepsSender old new → SenderStands files old sender → SenderStands files new sender
+sender-still files old new sender same stands = record {
+  standing = record {
+    state = rw same.sender stands.standing.state;
+    farewell = rw (same.sender, same.farewell) stands.standing.farewell;
+    place = rw same.acknowledged stands.standing.place;
+    mode = λ runs. rw same.sent (stands.standing.mode (sym same.sender ∙ runs));
+    misses = λ runs. rw same.sender_count (stands.standing.misses (sym same.sender ∙ runs));
+  };
+  batch = stands.batch;
+}
+
+receiver-still : (confirm : Confirm) (files : Batch) (old new : State) (r : Receiver) (kept : Kept) → KeepsReceiver old new → ReceiverStands confirm files old r kept → ReceiverStands confirm files new r kept
+receiver-still confirm files old new r kept same stands = record {
+  confirm_is = stands.confirm_is;
+  state_is = rw same.receiver stands.state_is;
+  files_is = rw same.taken stands.files_is;
+  keeps = rw same.taken stands.keeps;
+  running = λ runs. rw (same.taken, same.first_eot, same.receiver_count) (stands.running (sym same.receiver ∙ runs));
+  keeps_open = λ runs. rw same.taken (stands.keeps_open (sym same.receiver ∙ runs));
+}
+
+-- ---- The sources
+
+source-truth : (failed : Bool) (fills : Option Place) (old new : List FileParts) → IsFilled failed fills old new → IsSourceTruth failed old new
+source-truth false fills old new filled = filled
+source-truth true (Some (Block file k)) old new filled = (file, filled)
+source-truth true (Some (Header file)) old new filled = absurd filled
+source-truth true (Some (Eot file)) old new filled = absurd filled
+source-truth true (Some End) old new filled = absurd filled
+source-truth true None old new filled = absurd filled
+
+-- the files go on to tell their bytes
+still-told : (failed : Bool) (old new : List FileParts) → IsSourceTruth failed old new → AllTold old → AllTold new
+still-told false old new truth told = rw truth told
+still-told true old new truth told =
+    let tells : FileParts → Type 0 = λ f. IsSome f.bytes in
+    rw truth.1.after (All-set tells old truth.0 (record (file_at old truth.0) { failures = truth.1.failures }) (told truth.0 no_file truth.1.within) told)
+
+-- ---- A round
+
+pub goes-turn : Laws → (confirm : Confirm) (files : Batch) (st : State) (round : Round) (old new : Pair) (seen : Seen) →
+    PairStands confirm files st old → Goes round old seen new → (turn : Turn) × IsTurn confirm files st round turn old seen new
+goes-turn laws confirm files st round old new seen stands goes =
+    let between : Pair = goes.between in
+    let frames : List (Frame HeaderParts) = frames_of files in
+    let whole : Bool = is_whole round.there in
+    let says : IsSaid files (said st) (spoken old.sender) = laws.says files st old.sender stands.sender goes.there.keeps stands.told in
+    let heard : heard_of (arrives round.there (sent_by old.sender)) ≡ heard_there files whole st = said-heard laws.found files (said st) old.sender round.there says goes.there.bad in
+    let answers : receiver.Follows confirm files whole st old.receiver seen.reply between.receiver =
+    laws.receiver_follows confirm files whole st old.receiver seen.reply between.receiver stands.batch stands.machine stands.receiver
+    (subst (λ h. HearsGives old.receiver h (Ok seen.reply) between.receiver) heard goes.there.hears) in
+    let sink_failed : Bool = answers.0 in
+    let answer : Answer = there frames confirm sink_failed whole st in
+    let reply_is : seen.reply ≡ answer.1 = answers.2.reply_is in
+    let came : List Control = came_back (came_of round.back) answer.1 in
+    let same_sender : between.sender ≡ old.sender = ap (λ (p : Pair). p.sender) goes.there.others in
+    let same_receiver : new.receiver ≡ between.receiver = ap (λ (p : Pair). p.receiver) goes.back.others in
+    let bytes : List ℕ = arrives round.back (reply_bytes seen.reply) in
+    let came_is : controls_in bytes ≡ came = controls-arrive round.back seen.reply ∙ ap (came_back (came_of round.back)) reply_is in
+    let within : machine.is_within came (machine.controls answer.1) ≡ true =
+    subst (λ r. machine.is_within (came_back (came_of round.back) r) (machine.controls r) ≡ true) reply_is (came-within laws.within laws.whole round.back seen.reply goes.back.shows) in
+    let remnant : machine.IsRemnant (controls_in bytes) = subst machine.IsRemnant (sym came_is) (laws.remnants answer.1 came within) in
+    let source_failed : Bool = goes.back.hears.0 in
+    let sender_between : SenderStands files answer.0 between.sender =
+    subst (λ s. SenderStands files answer.0 s) (sym same_sender) (sender-still files st answer.0 old.sender (laws.keeps_sender files confirm sink_failed whole st) stands.sender) in
+    let sender_new : SenderStands files (back frames source_failed came answer.0) new.sender =
+    subst (λ c. SenderStands files (back frames source_failed c answer.0) new.sender) came_is
+    (laws.sender_follows files answer.0 between.sender new.sender bytes source_failed sender_between remnant goes.back.hears.1) in
+    let receiver_new : ReceiverStands confirm files (back frames source_failed came answer.0) new.receiver.receiver new.receiver.kept =
+    subst (λ r. ReceiverStands confirm files (back frames source_failed came answer.0) r.receiver r.kept) (sym same_receiver)
+    (receiver-still confirm files answer.0 (back frames source_failed came answer.0) between.receiver.receiver between.receiver.kept (laws.keeps_receiver files source_failed came answer.0) answers.2.stands) in
+    let source : IsSourceTruth source_failed old.sender.files new.sender.files =
+    subst (λ s. IsSourceTruth source_failed s.files new.sender.files) same_sender (source-truth source_failed _ between.sender.files new.sender.files goes.back.hears.1.files) in (
+      turn_of round sink_failed source_failed,
+      record {
+        turn_is = refl;
+        sink = subst (λ (r : ReceiverParts). Tells sink_failed old.receiver.failures r.failures) (sym same_receiver) answers.1;
+        source = source;
+        damage = within;
+        what_is = ap (λ (s : Seen). s.what) goes.seen_is ∙ said-shown files (said st) old.sender says;
+        reply_is = reply_is;
+        handed_on = ap (λ (p : Pair). p.told) goes.back.others ∙ ap (told_more Back bytes) (ap (λ (p : Pair). p.told) goes.there.others
+            ∙ ap (λ b. told_more There (arrives round.there b) old.told) (said-bytes files (said st) old.sender says));
+        stands = record {
+          machine = laws.machine_back files confirm sink_failed whole source_failed came st stands.machine within;
+          batch = stands.batch;
+          told = still-told source_failed old.sender.files new.sender.files source stands.told;
+          sender = sender_new;
+          receiver = receiver_new;
+        };
+      },
+    )
+
+-- ---- A run
+
+pub run-turns : Laws → (confirm : Confirm) (files : Batch) (rounds : List Round) (st : State) (old new : Pair) (all : List Seen) →
+    PairStands confirm files st old → GoOn rounds old all new → RunsAsMachine confirm files st rounds old all new
+run-turns laws confirm files [] st old new [] stands went = record {
+  turns = [];
+  are_turns = went;
+  damage = tt;
+  stands = rw went stands;
+}
+run-turns laws confirm files [] st old new (seen ∷ all) stands went = absurd went
+run-turns laws confirm files (round ∷ rounds) st old new [] stands went = absurd went
+run-turns laws confirm files (round ∷ rounds) st old new (seen ∷ all) stands went =
+    let first = goes-turn laws confirm files st round old went.0 seen stands went.1 in
+    let others = run-turns laws confirm files rounds (after_turn (frames_of files) confirm first.0 st) went.0 new all first.1.stands went.2 in
+    record {
+      turns = first.0 ∷ others.turns;
+      are_turns = (went.0, first.1, others.are_turns);
+      damage = (first.1.damage, others.damage);
+      stands = others.stands;
+    }

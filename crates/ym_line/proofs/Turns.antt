@@ -1,0 +1,153 @@
+-- What is heard of a delivery, and what comes back of a reply, by the machine.
+use Rattle.std.proofs.Common.{◌≡◌, ◌∙◌, inl, inr, is_some, if◌then◌else◌, append-nil, ℕ, true, List, [], ◌∷◌, ◌++◌, length, map, Option, None, Some, Ok, refl, sym, ap, subst}
+use Rattle.std.specs.List.{cons_option}
+use Rattle.std.proofs.lemmas.Bool.Decides.{eqb_tells}
+use Rattle.ym_header.specs.Header.{HeaderParts}
+use Rattle.ym_frame.specs.Control.{control_at, reply_bytes, controls, IsSubsequence}
+use Rattle.ym_frame.specs.Frame.{IsFrame, verdict_of}
+use Rattle.ym_frame.specs.declared.control.Reply.{Reply}
+use Rattle.ym_frame.specs.declared.control.Reply.TheVariants as reply
+use Rattle.ym_frame.specs.declared.control.Control.{Control}
+use Rattle.ym_frame.specs.declared.control.Control.TheVariants as control
+use Rattle.ym_frame.specs.declared.frame.Item.{Item}
+use Rattle.ym_frame.specs.declared.frame.Item.TheVariants as item
+use Rattle.ym_machine.specs.Frames.{Frame, BlockZero, Piece, Eot, EndBlock, frames_of, frame_at}
+use Rattle.ym_machine.specs.Halves as machine
+use Rattle.ym_machine.specs.Machine.{Speech, Nothing, FrameAt, CanCan}
+use Rattle.ym_machine.specs.Run.{came_back}
+use Rattle.ym_link.specs.Hearing.{heard_of, heard_at}
+use Rattle.ym_link.specs.declared.delivery.Heard.TheVariants as heard
+use Rattle.ym_link.specs.Reading.{controls_in}
+use Rattle.ym_link.specs.ReceiverStands as receiver
+use Rattle.ym_link.specs.SenderStands.{Batch, IsSaid, item_of}
+use Rattle.ym_link.specs.Sender.{SenderParts, spoken}
+use Rattle.ym_line.specs.declared.delivery.Delivery.{Delivery}
+use Rattle.ym_line.specs.declared.delivery.Delivery.TheVariants.{Whole, Lost, Damaged}
+use Rattle.ym_line.specs.Damage.{arrives, ShowsBack, IsHeardBad}
+use Rattle.ym_line.specs.Rounds.{sent_by}
+use Rattle.ym_line.specs.Turns.{is_whole, came_of, what_said, frame_of, bytes_said}
+use Rattle.ym_line.specs.What.{what_is, what_of}
+
+-- ---- What comes back
+
+-- the controls of a whole reply are the reply's
+whole-controls : (r : Reply) → controls_in (reply_bytes r) ≡ machine.controls r
+whole-controls reply.Silence = refl
+whole-controls reply.Start = refl
+whole-controls reply.Ack = refl
+whole-controls reply.AckStart = refl
+whole-controls reply.Nak = refl
+whole-controls reply.Cancel = refl
+
+pub controls-arrive : (delivery : Delivery) (r : Reply) → controls_in (arrives delivery (reply_bytes r)) ≡ came_back (came_of delivery) r
+controls-arrive Whole r = whole-controls r
+controls-arrive Lost r = refl
+controls-arrive (Damaged bytes) r = refl
+
+-- a reply has control bytes alone
+reply-controls : (r : Reply) → controls (reply_bytes r) ≡ reply_bytes r
+reply-controls reply.Silence = refl
+reply-controls reply.Start = refl
+reply-controls reply.Ack = refl
+reply-controls reply.AckStart = refl
+reply-controls reply.Nak = refl
+reply-controls reply.Cancel = refl
+
+-- the byte of the control that a byte is
+known-byte : (byte n : ℕ) (known control : Control) → byte ≡ n → control_at n ≡ Some known → machine.control_byte known ≡ n → control_at byte ≡ Some control →
+    machine.control_byte control ≡ byte
+known-byte byte n known control same at_n is_n is =
+    let found : Some known ≡ Some control = sym at_n ∙ subst (λ m. control_at m ≡ Some control) same is in
+    let control_is : known ≡ control = cc in
+    subst (λ c. machine.control_byte c ≡ byte) control_is (is_n ∙ sym same)
+
+byte-of : (byte : ℕ) (found : Control) → control_at byte ≡ Some found → machine.control_byte found ≡ byte
+byte-of byte found is = elim (eqb_tells byte 0x06) [
+  | inl ack ↦ known-byte byte 0x06 control.Ack found ack.1 refl refl is
+  | inr no_ack ↦ elim (eqb_tells byte 0x15) [
+    | inl nak ↦ known-byte byte 0x15 control.Nak found nak.1 refl refl is
+    | inr no_nak ↦ elim (eqb_tells byte 0x43) [
+      | inl c ↦ known-byte byte 0x43 control.Start found c.1 refl refl is
+      | inr no_c ↦ elim (eqb_tells byte 0x18) [
+        | inl can ↦ known-byte byte 0x18 control.Can found can.1 refl refl is
+        | inr no_can ↦ let none = rw (no_ack.0, no_nak.0, no_c.0, no_can.0) at is in cc
+      ]
+    ]
+  ]
+]
+
+with-control : (byte : ℕ) (found : Option Control) (rest : List Control) (others : List ℕ) → control_at byte ≡ found → map machine.control_byte rest ≡ others →
+    map machine.control_byte (cons_option found rest) ≡ (if is_some found then byte ∷ others else others)
+with-control byte None rest others is same = same
+with-control byte (Some control) rest others is same = rw (byte-of byte control is, same) refl
+
+-- the control bytes are those of the controls
+control-bytes : (bytes : List ℕ) → map machine.control_byte (controls_in bytes) ≡ controls bytes
+control-bytes [] = refl
+control-bytes (byte ∷ bytes) = with-control byte (control_at byte) (controls_in bytes) (controls bytes) refl (control-bytes bytes)
+
+-- ---- What is heard
+
+-- a frame is found, whatever follows it
+abbrev pub FrameFound : Type 0
+FrameFound = (i : Item) (frame more : List ℕ) → IsFrame i frame → verdict_of (frame ++ more) ≡ Ok (i, length frame)
+
+frame-heard : FrameFound → (i : Item) (frame : List ℕ) → IsFrame i frame → heard_of frame ≡ heard.Item i
+frame-heard found i frame is =
+    let e : verdict_of frame ≡ Ok (i, length frame) = simp append-nil at (found i frame [] is) in
+    ap heard_at e
+
+what-frame : (i : Item) (frame : List ℕ) → IsFrame i frame → what_of frame ≡ what_is i
+what-frame (item.Block block) frame is = elim is [ inl short ↦ rw (short.1, short.0) refl | inr long ↦ rw (long.1, long.0) refl ]
+what-frame item.Eot frame is = rw is refl
+what-frame item.Cancel frame is = rw is refl
+
+frame-bytes : (i : Item) (frame : List ℕ) → IsFrame i frame → frame ≡ frame_of i
+frame-bytes (item.Block block) frame is = elim is [
+  | inl short ↦ rw (short.1, short.0) refl
+  | inr long ↦ rw (long.1, long.0) refl
+]
+frame-bytes item.Eot frame is = is
+frame-bytes item.Cancel frame is = is
+
+-- both ends have one item of a frame
+same-item : (frame : Frame HeaderParts) → receiver.item_of frame ≡ item_of frame
+same-item (BlockZero header) = refl
+same-item (Piece number body) = refl
+same-item Eot = refl
+same-item EndBlock = refl
+
+-- what is heard of what the sender said
+pub said-heard : FrameFound → (files : Batch) (speech : Speech) (sender : SenderParts) (delivery : Delivery) → IsSaid files speech (spoken sender) → IsHeardBad delivery →
+    heard_of (arrives delivery (sent_by sender)) ≡ receiver.heard_as (frames_of files) (machine.heard (is_whole delivery) speech)
+unfolding verdict_of
+said-heard found files speech sender Lost says bad = refl
+said-heard found files speech sender (Damaged bytes) says bad = bad
+said-heard found files Nothing sender Whole says bad = rw says refl
+said-heard found files (FrameAt i) sender Whole says bad = rw (says.1, same-item (frame_at (frames_of files) i)) (frame-heard found (item_of (frame_at (frames_of files) i)) says.0 says.2)
+said-heard found files CanCan sender Whole says bad = rw says refl
+
+-- what the trace shows of it
+pub said-shown : (files : Batch) (speech : Speech) (sender : SenderParts) → IsSaid files speech (spoken sender) → what_of (sent_by sender) ≡ what_said (frames_of files) speech
+said-shown files Nothing sender says = rw says refl
+said-shown files (FrameAt i) sender says = rw says.1 (what-frame (item_of (frame_at (frames_of files) i)) says.0 says.2)
+said-shown files CanCan sender says = rw says refl
+
+-- the bytes that the sender has to send
+pub said-bytes : (files : Batch) (speech : Speech) (sender : SenderParts) → IsSaid files speech (spoken sender) → sent_by sender ≡ bytes_said (frames_of files) speech
+said-bytes files Nothing sender says = rw says refl
+said-bytes files (FrameAt i) sender says = rw says.1 (frame-bytes (item_of (frame_at (frames_of files) i)) says.0 says.2)
+said-bytes files CanCan sender says = rw says refl
+
+-- ---- What comes back, within the reply
+
+-- control bytes within the reply's bytes are controls within its controls
+abbrev pub WithinReply : Type 0
+WithinReply = (r : Reply) (came : List Control) → IsSubsequence (map machine.control_byte came) (reply_bytes r) → machine.is_within came (machine.controls r) ≡ true
+
+pub came-within : WithinReply → ((r : Reply) → machine.is_within (machine.controls r) (machine.controls r) ≡ true) → (delivery : Delivery) (r : Reply) → ShowsBack r delivery →
+    machine.is_within (came_back (came_of delivery) r) (machine.controls r) ≡ true
+came-within within whole Whole r shows = whole r
+came-within within whole Lost r shows = refl
+came-within within whole (Damaged bytes) r shows =
+    within r (controls_in bytes) (rw (control-bytes bytes, ← reply-controls r) shows)

@@ -1,0 +1,24 @@
+use Rattle.ym_machine.specs.Frames.{frames_of}
+use Rattle.ym_line.proofs.Halves.{Laws, run-turns}
+use Rattle.ym_line.proofs.Stops.{run-stops}
+use Rattle.ym_line.proofs.laws.rounds_are_turns.Goals as goal
+
+pub returns : goal.returns
+returns c =
+    let laws : Laws = record {
+      found = c.frame_found.ensures;
+      within = c.what_comes_back.ensures.subsequence;
+      whole = c.what_comes_back.ensures.whole;
+      remnants = c.what_comes_back.ensures.remnants;
+      says = c.a_sender_follows_the_machine.ensures.says;
+      sender_follows = c.a_sender_follows_the_machine.ensures.follows;
+      receiver_follows = c.a_standing_receiver_follows_the_machine.ensures.follows;
+      machine_there = c.halves_keep_machine_states.ensures.half_there;
+      machine_back = c.halves_keep_machine_states.ensures.half_back;
+      keeps_sender = λ files confirm sink_failed whole old. c.halves_keep_the_other_end.ensures.there_keeps (frames_of files) confirm sink_failed whole old;
+      keeps_receiver = λ files source_failed came old. c.halves_keep_the_other_end.ensures.back_keeps (frames_of files) source_failed came old;
+    } in
+    record {
+      go_on = λ rounds old new all went confirm files st stands. run-turns laws confirm files rounds st old new all stands went;
+      stop = λ n rounds old new fault stops confirm files st stands. run-stops laws confirm files rounds n st old new fault stands stops;
+    }

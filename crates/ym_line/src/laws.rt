@@ -1,0 +1,71 @@
+//! Laws over the definitions alone: each is the promise of a function that does nothing.
+
+ghost use Rattle.std.specs.Prelude.{◌≤◌, List, ℕ, Option, All, length};
+ghost use Rattle.ym_machine.specs.declared.confirm.Confirm.{Confirm};
+ghost use Rattle.ym_machine.specs.Machine.{State, start};
+ghost use Rattle.ym_file.specs.Kept.{Kept, IsNew};
+ghost use Rattle.ym_file.specs.declared.plan.Shape.{Shape};
+ghost use Rattle.ym_link.specs.Receiver.{new_receiver};
+ghost use Rattle.ym_link.specs.SourceFile.{FileParts, IsFile, counts_of};
+ghost use Rattle.ym_link.specs.Standing.{new_standing};
+ghost use Rattle.ym_link.specs.SenderStands.{Batch, AllTold, batch_of};
+ghost use Rattle.ym_line.specs.declared.delivery.Handed.{Handed};
+ghost use Rattle.ym_line.specs.declared.delivery.Round.{Round};
+ghost use Rattle.ym_line.specs.declared.fault.LineFault.{LineFault};
+ghost use Rattle.ym_line.specs.declared.trace.Seen.{Seen};
+ghost use Rattle.ym_line.specs.Rounds.{Pair, GoOn, StopsIn};
+ghost use Rattle.ym_line.specs.Turns.{FollowsMachine, StopsWithMachine, PairStands, CommitsFirst};
+
+use ym_file::laws::one_pieces;
+use ym_frame::laws::frame_found;
+use ym_link::laws::{
+    Headers, a_planned_file_is_sent, a_sender_follows_the_machine,
+    a_standing_receiver_follows_the_machine,
+};
+use ym_machine::laws::{
+    committed_is_reported_or_one_more, halves_keep_machine_states, halves_keep_the_other_end,
+    what_comes_back,
+};
+
+/// Rounds of two ends that stand at a state of the machine of two counters are turns of that machine, whatever is lost or damaged in them: the
+/// ends stand where the turns lead, and what is seen of each round is what the machine says and replies. Where a round meets a fault, they stand
+/// behind the rounds before, or behind the half of that round that the receiver has heard.
+pub fn rounds_are_turns()
+    ensures go_on { (rounds : List Round) (old new : Pair) (all : List Seen) → GoOn rounds old all new → FollowsMachine rounds old all new }
+    ensures stop { (n : ℕ) (rounds : List Round) (old new : Pair) (fault : LineFault) → StopsIn n rounds old fault new → StopsWithMachine rounds old new }
+{
+    frame_found();
+    what_comes_back();
+    halves_keep_machine_states::<Headers>();
+    halves_keep_the_other_end::<Headers>();
+    a_sender_follows_the_machine();
+    a_standing_receiver_follows_the_machine();
+}
+
+/// Where a pair stands, the committed files are the first ones of the batch, each with its header and its bytes, and what the sender reports is
+/// among them.
+pub fn a_standing_pair_commits_the_first_files()
+    ensures { (confirm : Confirm) (files : Batch) (st : State) (pair : Pair) → PairStands confirm files st pair → CommitsFirst files st pair }
+{
+    committed_is_reported_or_one_more::<Headers>();
+    a_sender_follows_the_machine();
+}
+
+/// New ends stand at the start: a sender of a batch of at most 65,535 files whose sources tell their bytes, and a receiver into a sink that has no
+/// file.
+pub fn new_ends_stand()
+    ensures { (confirm : Confirm) (shape : Shape) (sources : List FileParts) (frame : List ℕ) (kept : Kept) (sink_failures : ℕ) (told : Option (List Handed)) (failures : ℕ) →
+        All IsFile sources → AllTold sources → length sources ≤ 65535 → IsNew kept →
+        PairStands confirm (batch_of shape sources) start (record {
+          sender = record { standing = new_standing (counts_of shape sources); shape = shape; files = sources; frame = frame };
+          receiver = record { receiver = new_receiver confirm; kept = kept; failures = sink_failures };
+          told = told;
+          failures = failures;
+        }) }
+{
+    one_pieces();
+    a_planned_file_is_sent();
+    halves_keep_machine_states::<Headers>();
+    a_sender_follows_the_machine();
+    a_standing_receiver_follows_the_machine();
+}

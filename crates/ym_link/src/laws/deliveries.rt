@@ -1,0 +1,31 @@
+//! Laws of how many deliveries an end hears over a port.
+
+ghost use Rattle.std.specs.Prelude.{◌≡◌, ◌≤◌, ◌+◌, ◌*◌, List, ℕ};
+ghost use Rattle.ym_link.specs.Port.{Tape};
+ghost use Rattle.ym_link.specs.Place.{first_of};
+ghost use Rattle.ym_link.specs.Sender.{SenderParts, counts};
+ghost use Rattle.ym_link.specs.SendOver as sending;
+ghost use Rattle.ym_link.specs.Deliveries.{frames_in, frames_from};
+ghost use Rattle.ym_link.specs.Bound.{accepted, steps_of, steps_at, receiver_hears, receiver_progress, sender_hears, sender_progress};
+ghost use Rattle.ym_link.specs.ReceiverInto.{ReceiverParts, IsReceiver};
+ghost use Rattle.ym_link.specs.ReceiveOver as receiving;
+
+/// A sender over a port hears at most ten deliveries for each step of progress, and ten more; and there are at most
+/// two such steps for each frame from its place on, of which a new sender has the whole batch's.
+pub fn a_sender_hears_few_deliveries()
+    ensures deliveries { (s : SenderParts) (t : Tape) (out : sending.Outcome) (run : sending.Sends s t out) →
+        sender_hears s t out run ≤ 10 * (sender_progress s t out run + 1) }
+    ensures progress { (s : SenderParts) (t : Tape) (out : sending.Outcome) (run : sending.Sends s t out) →
+        sender_progress s t out run ≤ 2 * frames_from (counts s) s.standing.place }
+    ensures batch { (blocks : List ℕ) → frames_from blocks (first_of blocks) ≡ frames_in blocks }
+{}
+
+/// A receiver over a port hears at most ten deliveries for each step of progress, and ten more; and those steps, with
+/// the ones that it has taken before, are among those of the files whose headers it accepted.
+pub fn a_receiver_hears_few_deliveries()
+    ensures deliveries { (r : ReceiverParts) (t : Tape) (out : receiving.Outcome) (run : receiving.Receives r t out) →
+        receiver_hears r t out run ≤ 10 * (receiver_progress r t out run + 1) }
+    ensures progress { (r : ReceiverParts) (t : Tape) (out : receiving.Outcome) (run : receiving.Receives r t out) →
+        receiver_progress r t out run + steps_at r ≤ steps_at out.receiver }
+    ensures accepted { (r : ReceiverParts) → IsReceiver r → steps_at r ≤ steps_of (accepted r) }
+{}
