@@ -7,7 +7,7 @@ use Rattle.std.proofs.lemmas.List.{length-take-le, length-drop}
 use Rattle.std.proofs.lemmas.List.Sums.{sum_by-append}
 use Rattle.ym_frame.specs.Block.{BlockParts}
 use Rattle.ym_frame.specs.Check.{check_of}
-use Rattle.ym_frame.specs.Frame.{verdict_of, block_verdict, cancel_verdict, at, there, body_at, field}
+use Rattle.ym_frame.specs.Frame.{verdict_of, block_verdict, cancel_verdict, fault_at, has_byte_where, body_of, check_field}
 use Rattle.ym_frame.specs.declared.frame.Why.TheVariants.{FirstByte, Complement, Check, Cut}
 use Rattle.ym_frame.specs.declared.control.Reply.{Reply}
 use Rattle.ym_frame.specs.declared.control.Reply.TheVariants.{AckStart, Ack, Nak, Cancel, Start}
@@ -67,39 +67,40 @@ cancel-large size = record { large = λ block h. absurd (no_cancel block h) }
 pick : (b : Bool) (x y : Result (Item × ℕ) Broken) → Large x → (b ≡ false → Large y) → Large (if b then x else y)
 pick b x y p q = cond_both b x y Large (λ e. p) q
 
-body-large : (size : ℕ) (bytes : List ℕ) (place : ℕ) → 128 ≤ size → size + 5 ≤ length bytes → Large (Ok (item.Block (record { number = place; body = body_at size bytes }), size + 5))
+body-large : (size : ℕ) (bytes : List ℕ) (place : ℕ) → 128 ≤ size → size + 5 ≤ length bytes → Large (Ok (item.Block (record { number = place; body = body_of size bytes }), size + 5))
 body-large size bytes place some long = record {
   large = λ block h.
       let fits : size ≤ length (drop 3 bytes) = omega (arith, length-drop 3 bytes) in
-      let sized : length (body_at size bytes) ≡ size = length-take-le size (drop 3 bytes) fits in
+      let sized : length (body_of size bytes) ≡ size = length-take-le size (drop 3 bytes) fits in
       subst (λ (b : BlockParts). 128 ≤ length b.body) (same_block _ block h) (omega (arith, sized));
 }
 
 block-large : (size : ℕ) (bytes : List ℕ) → 128 ≤ size → Large (block_verdict size bytes)
 block-large size bytes some =
-    let whole : Result (Item × ℕ) Broken = Ok (item.Block (record { number = slice_index bytes 1; body = body_at size bytes }), size + 5) in
-    let checked : Result (Item × ℕ) Broken = if check_of (body_at size bytes) == field size bytes then whole else Err (at (size + 3) Check) in
-    pick (there bytes 2 (λ b. not (b == 255 - slice_index bytes 1))) (Err (at 2 Complement)) (if nat_lt (length bytes) (size + 5) then Err (at (length bytes) Cut) else checked)
-    (bad-large (at 2 Complement))
-    (λ e. pick (nat_lt (length bytes) (size + 5)) (Err (at (length bytes) Cut)) checked (bad-large (at (length bytes) Cut))
-    (λ short. pick (check_of (body_at size bytes) == field size bytes) whole (Err (at (size + 3) Check))
-    (body-large size bytes (slice_index bytes 1) some (ltb-false (length bytes) (size + 5) short)) (λ e. bad-large (at (size + 3) Check))))
+    let whole : Result (Item × ℕ) Broken = Ok (item.Block (record { number = slice_index bytes 1; body = body_of size bytes }), size + 5) in
+    let checked : Result (Item × ℕ) Broken = if check_of (body_of size bytes) == check_field size bytes then whole else Err (fault_at (size + 3) Check) in
+    pick (has_byte_where bytes 2 (λ b. not (b == 255 - slice_index bytes 1))) (Err (fault_at 2 Complement)) (if nat_lt (length bytes) (size + 5) then Err (fault_at (length bytes) Cut) else checked)
+    (bad-large (fault_at 2 Complement))
+    (λ e. pick (nat_lt (length bytes) (size + 5)) (Err (fault_at (length bytes) Cut)) checked (bad-large (fault_at (length bytes) Cut))
+    (λ short. pick (check_of (body_of size bytes) == check_field size bytes) whole (Err (fault_at (size + 3) Check))
+    (body-large size bytes (slice_index bytes 1) some (ltb-false (length bytes) (size + 5) short)) (λ e. bad-large (fault_at (size + 3) Check))))
 
 cancels-large : (bytes : List ℕ) → Large (cancel_verdict bytes)
 cancels-large [] = bad-large _
 cancels-large (second ∷ more) = pick _ _ _ (cancel-large 2) (λ e. bad-large _)
 
 verdict-large : (bytes : List ℕ) → Large (verdict_of bytes)
-verdict-large [] = bad-large (at 0 Cut)
+unfolding verdict_of
+verdict-large [] = bad-large (fault_at 0 Cut)
 verdict-large (first ∷ more) =
-    let none : Result (Item × ℕ) Broken = Err (at 0 FirstByte) in
+    let none : Result (Item × ℕ) Broken = Err (fault_at 0 FirstByte) in
     let long : Result (Item × ℕ) Broken = if first == 0x02 then block_verdict 1024 (first ∷ more) else none in
     let short : Result (Item × ℕ) Broken = if first == 0x01 then block_verdict 128 (first ∷ more) else long in
     let cancelled : Result (Item × ℕ) Broken = if first == 0x18 then cancel_verdict more else short in
     pick (first == 0x04) (Ok (item.Eot, 1)) cancelled (eot-large 1)
     (λ e. pick (first == 0x18) (cancel_verdict more) short (cancels-large more)
     (λ e. pick (first == 0x01) (block_verdict 128 (first ∷ more)) long (block-large 128 (first ∷ more) (omega arith))
-    (λ e. pick (first == 0x02) (block_verdict 1024 (first ∷ more)) none (block-large 1024 (first ∷ more) (omega arith)) (λ e. bad-large (at 0 FirstByte)))))
+    (λ e. pick (first == 0x02) (block_verdict 1024 (first ∷ more)) none (block-large 1024 (first ∷ more) (omega arith)) (λ e. bad-large (fault_at 0 FirstByte)))))
 
 heard-large : (delivery : Result (List ℕ) EndFault) (h : Heard) → heard_in delivery ≡ Ok h → (block : BlockParts) → h ≡ heard.Item (item.Block block) → 128 ≤ length block.body
 heard-large (Ok bytes) h is block e = (verdict-large bytes).large block (by is ∙ e)
