@@ -67,8 +67,8 @@ where
     I: Read,
     W: Write,
     E: Write,
-    ensures ends { asked_of job ≡ Asked.Play → is_ok result ≡ true }
-    ensures plays { asked_of job ≡ Asked.Play → (text before wrong : List ℕ) → I.remaining input.old ≡ Some text → W.contents out.old ≡ Some before
+    ensures ends { asked_of job.entry ≡ Asked.Play → is_ok result ≡ true }
+    ensures plays { asked_of job.entry ≡ Asked.Play → (text before wrong : List ℕ) → I.remaining input.old ≡ Some text → W.contents out.old ≡ Some before
         → E.contents err.old ≡ Some wrong → IfOk result (λ status. status ≢ 3 → IsPlayed text before wrong status (W.contents out.new) (E.contents err.new)) }
     ensures status { IfOk result (λ status. status ≤ 3) }
 {
