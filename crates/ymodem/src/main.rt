@@ -1,43 +1,44 @@
-//! `ymodem`: YMODEM batch file transfer. Without words, or with the word `play`, it plays the script that standard input holds.
+//! `ymodem`: YMODEM batch file transfer. It plays scripts of sessions, in memory or over a connection to itself, and sends and receives files
+//! over a connection.
 #![tactic(auto)]
 
+mod command_fault;
+mod lines;
+mod looped;
+mod program;
+mod receiving;
+mod sending;
+
+use program::command;
+use std::io::ErrorKind;
 use std::process::ExitCode;
 use std::{env, io};
-use ym_line::Direct;
-use ym_play::session;
 
-/// The status where the words are refused.
+/// The status where a word is not UTF-8.
 const REFUSED: u8 = 2;
 
-/// The status where memory ran out, or the words could not be read.
+/// The status where memory ran out before the words were read.
 const FAILED: u8 = 3;
 
-/// Whether the words behind the program's name ask for a script to be played.
-fn asks_to_play(rt: &HostRuntime) -> io::Result<bool> {
-    let mut words = env::args(rt)?.skip(1);
-    match words.next() {
-        None => Ok(true),
-        Some(word) => Ok(word.as_str() == "play" && words.next().is_none()),
-    }
-}
-
-/// Plays the script of standard input.
-fn play(rt: &HostRuntime) -> u8 {
-    session(
-        rt.alloc(),
-        &mut rt.stdin(),
-        &mut rt.stdout(),
-        &mut rt.stderr(),
-        &mut Direct::new(rt.alloc()),
-    )
+/// The words of the command line, the program's name first.
+fn words(rt: &HostRuntime) -> io::Result<Vec<String>> {
+    let words: Vec<String> = env::args(rt)?.collect(rt.alloc())?;
+    Ok(words)
 }
 
 /// Does what the words ask for. The answer is the status.
 fn run(rt: &HostRuntime) -> u8 {
-    match asks_to_play(rt) {
-        Ok(true) => play(rt),
-        Ok(false) => {
-            let _ = rt.eprintln("usage: ymodem [play]");
+    match words(rt) {
+        Ok(words) => command(
+            rt,
+            rt.alloc(),
+            words,
+            &mut rt.stdin(),
+            &mut rt.stdout(),
+            &mut rt.stderr(),
+        ),
+        Err(error) if error.kind() == ErrorKind::InvalidData => {
+            let _ = rt.eprintln("error: a word is not UTF-8");
             REFUSED
         }
         Err(_) => {
@@ -50,3 +51,6 @@ fn run(rt: &HostRuntime) -> u8 {
 fn main(rt: HostRuntime) -> ExitCode {
     ExitCode::from(run(&rt))
 }
+
+#[cfg(test)]
+mod tests;

@@ -1,0 +1,3 @@
+pub mod DirSink
+pub mod FileSource
+pub mod OpenPart

@@ -1,0 +1,15 @@
+//! Sockets and files of the host: a port and a carrier over TCP, a source that reads a file, and a sink that stores files in a folder.
+#![tactic(auto)]
+
+mod dir_sink;
+mod file_source;
+mod socket_carrier;
+mod socket_port;
+
+pub use dir_sink::DirSink;
+pub use file_source::FileSource;
+pub use socket_carrier::SocketCarrier;
+pub use socket_port::SocketPort;
+
+#[cfg(test)]
+mod tests;

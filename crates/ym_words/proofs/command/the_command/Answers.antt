@@ -1,0 +1,24 @@
+-- Each `subcommand` adds the shape of what it is given.
+use Rattle.std.proofs.Common.{◌∙◌, ap, ap₂}
+use Rattle.std.proofs.lemmas.Result.{IfOk-weaker}
+use Rattle.clap.specs.Words.{App, with_subcommand}
+use Rattle.ym_words.specs.Command.{the_app}
+use Rattle.ym_words.proofs.command.the_command.Goals as goal
+
+pub returns : goal.returns
+unfolding the_app
+returns c = record {
+  shape = IfOk-weaker c.subcommand-4.result _ _
+      (λ m h. h.shape c.in_ok-receive.ensures.local
+      ∙ ap₂ with_subcommand
+      (c.in_ok-with_send.ensures.shape c.in_ok-send.ensures.local
+      ∙ ap₂ with_subcommand
+      (c.in_ok-with_loop.ensures.shape c.in_ok-looped.ensures.local
+      ∙ ap₂ with_subcommand
+      (c.in_ok-with_play.ensures.shape c.play_command-play.ensures.local
+      ∙ ap₂ with_subcommand c.bare_command-bare.ensures.shape (ap (λ (a : App). a.top) c.play_command-play.ensures.shape))
+      (ap (λ (a : App). a.top) c.in_ok-looped.ensures.shape))
+      (ap (λ (a : App). a.top) c.in_ok-send.ensures.shape))
+      (ap (λ (a : App). a.top) c.in_ok-receive.ensures.shape))
+      c.subcommand-4.ensures;
+}

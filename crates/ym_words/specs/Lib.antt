@@ -1,0 +1,3 @@
+pub mod Command
+pub mod Port
+pub mod Job

@@ -1,0 +1,202 @@
+//! The command line, as clap reads it: what stands in it, and what its help says.
+
+ghost use Rattle.std.specs.Prelude.{◌≡◌, IfOk, false};
+ghost use Rattle.clap.specs.Words.{app_of, rule_of};
+ghost use Rattle.ym_words.specs.Command.{the_app, port_rule, short_rule, single_rule, files_rule, dir_rule, bare_app, play_app, loop_app, send_app, receive_app};
+ghost use Rattle.clap.specs.declared.builder.command.Command.TheViews.{out-Command};
+
+use clap::{Arg, ArgAction, Command};
+use std::alloc::{AllocError, Global};
+
+const ABOUT: &str =
+    "Sends and receives files by YMODEM, and plays sessions over a line that loses and damages bytes.";
+
+const STATUSES: &str = "Without a command, `play` is meant.
+
+Exit status:
+  0  both ends finished (send, receive: its own end)
+  1  ended or left otherwise
+  2  words, script, name, length or number of files refused; or help was asked for
+  3  device, closed connection, or want of memory
+
+Example:
+  printf 'file a.txt 48656C6C6F\\nok 6\\n' | ymodem";
+
+const PLAY_ABOUT: &str =
+    "Plays the session of a script from standard input, round by round, and prints what was seen";
+
+const PLAY_HELP: &str = "Lines of a script:
+  short                      short blocks alone
+  single                     the receiver acknowledges the first EOT
+  file NAME HEX|- [TIME [MODE]]   a file, with its time and mode in octal
+  ok N                       N whole rounds
+  round T B                  one round: each way whole, lost, or hex:DIGITS
+
+Exit status: 0 where both ends finished, 1 where not, 2 where the script is refused, 3 at a device fault or want of memory.
+
+Example:
+  printf 'file a.txt 48656C6C6F\\nok 6\\n' | ymodem play";
+
+const LOOP_ABOUT: &str =
+    "Plays the session of a script from standard input, carried by a connection to itself on 127.0.0.1";
+
+const LOOP_HELP: &str = "It prints what `play` prints.
+
+Exit status: 0 where both ends finished, 1 where not, 2 where the words or the script are refused, 3 at a device fault or want of memory.
+
+Example:
+  printf 'file a.txt 48656C6C6F\\nok 6\\n' | ymodem loop --port 4000";
+
+const SEND_ABOUT: &str = "Connects to 127.0.0.1 and sends files, in order";
+
+const SEND_HELP: &str =
+    "Each file is sent under the last part of its path, without time and mode, in blocks of 1024 bytes while as many remain and then of 128. It waits 10
+seconds for each reply, and gives up after 10 without progress.
+
+Exit status: 0 where all files were acknowledged, 1 where not, 2 where words, a name, a length or the number of files are refused, 3 at a device
+fault, a closed connection or want of memory.
+
+Example:
+  ymodem send --port 4000 firmware.bin settings.txt";
+
+const RECEIVE_ABOUT: &str =
+    "Waits for one connection on 127.0.0.1, and receives files into a folder";
+
+const RECEIVE_HELP: &str =
+    "A file NAME is written as NAME.part and renamed when it is whole. Nothing that is there is overwritten. It waits 3 seconds for each block,
+and gives up after 10 without progress.
+
+Exit status: 0 where the batch was received whole, 1 where not, 2 where the words are refused, 3 at a device fault, a closed connection or want of
+memory.
+
+Example:
+  ymodem receive --port 4000 downloads";
+
+fn port_arg<'a>(alloc: Global) -> Arg<'a>
+    ensures rule { rule_of result ≡ port_rule }
+    ensures local { result.global ≡ false }
+{
+    Arg::new(alloc, "port")
+        .long("port")
+        .value_name("P")
+        .help("The port on 127.0.0.1, from 1 to 65535")
+        .required(true)
+        .action(ArgAction::Set)
+}
+
+fn short_arg<'a>(alloc: Global) -> Arg<'a>
+    ensures rule { rule_of result ≡ short_rule }
+    ensures local { result.global ≡ false }
+{
+    Arg::new(alloc, "short")
+        .long("short")
+        .help("Sends blocks of 128 bytes alone")
+        .action(ArgAction::SetTrue)
+}
+
+fn single_arg<'a>(alloc: Global) -> Arg<'a>
+    ensures rule { rule_of result ≡ single_rule }
+    ensures local { result.global ≡ false }
+{
+    Arg::new(alloc, "single")
+        .long("single")
+        .help("Acknowledges the first EOT of a file (else the second)")
+        .action(ArgAction::SetTrue)
+}
+
+fn files_arg<'a>(alloc: Global) -> Arg<'a>
+    ensures rule { rule_of result ≡ files_rule }
+    ensures local { result.global ≡ false }
+{
+    Arg::new(alloc, "files")
+        .value_name("FILE")
+        .help("The files to send")
+        .required(true)
+        .action(ArgAction::Append)
+        .num_args(1..)
+}
+
+fn dir_arg<'a>(alloc: Global) -> Arg<'a>
+    ensures rule { rule_of result ≡ dir_rule }
+    ensures local { result.global ≡ false }
+{
+    Arg::new(alloc, "dir")
+        .value_name("DIR")
+        .help("The folder to receive into")
+        .required(true)
+        .action(ArgAction::Set)
+}
+
+fn play_command<'a>(alloc: Global) -> Command<'a>
+    ensures shape { app_of result ≡ play_app }
+    ensures local { (out-Command result).has_globals ≡ false }
+{
+    Command::new(alloc, "play")
+        .about(PLAY_ABOUT)
+        .after_help(PLAY_HELP)
+}
+
+fn loop_command<'a>(alloc: Global) -> Result<Command<'a>, AllocError>
+    ensures shape { IfOk result (λ c. app_of c ≡ loop_app) }
+    ensures local { IfOk result (λ c. (out-Command c).has_globals ≡ false) }
+{
+    let port = port_arg(alloc);
+    Command::new(alloc, "loop")
+        .about(LOOP_ABOUT)
+        .after_help(LOOP_HELP)
+        .arg(port)
+}
+
+fn send_command<'a>(alloc: Global) -> Result<Command<'a>, AllocError>
+    ensures shape { IfOk result (λ c. app_of c ≡ send_app) }
+    ensures local { IfOk result (λ c. (out-Command c).has_globals ≡ false) }
+{
+    let port = port_arg(alloc);
+    let short = short_arg(alloc);
+    let files = files_arg(alloc);
+    let bare = Command::new(alloc, "send")
+        .about(SEND_ABOUT)
+        .after_help(SEND_HELP);
+    let with_port = bare.arg(port)?;
+    let with_short = with_port.arg(short)?;
+    with_short.arg(files)
+}
+
+fn receive_command<'a>(alloc: Global) -> Result<Command<'a>, AllocError>
+    ensures shape { IfOk result (λ c. app_of c ≡ receive_app) }
+    ensures local { IfOk result (λ c. (out-Command c).has_globals ≡ false) }
+{
+    let port = port_arg(alloc);
+    let single = single_arg(alloc);
+    let dir = dir_arg(alloc);
+    let bare = Command::new(alloc, "receive")
+        .about(RECEIVE_ABOUT)
+        .after_help(RECEIVE_HELP);
+    let with_port = bare.arg(port)?;
+    let with_single = with_port.arg(single)?;
+    with_single.arg(dir)
+}
+
+fn bare_command<'a>(alloc: Global) -> Command<'a>
+    ensures shape { app_of result ≡ bare_app }
+    ensures local { (out-Command result).has_globals ≡ false }
+{
+    Command::new(alloc, "ymodem")
+        .about(ABOUT)
+        .after_help(STATUSES)
+}
+
+/// The command line of the program.
+pub(crate) fn the_command<'a>(alloc: Global) -> Result<Command<'a>, AllocError>
+    ensures shape { IfOk result (λ c. app_of c ≡ the_app) }
+{
+    let play = play_command(alloc);
+    let looped = loop_command(alloc)?;
+    let send = send_command(alloc)?;
+    let receive = receive_command(alloc)?;
+    let bare = bare_command(alloc);
+    let with_play = bare.subcommand(play)?;
+    let with_loop = with_play.subcommand(looped)?;
+    let with_send = with_loop.subcommand(send)?;
+    with_send.subcommand(receive)
+}

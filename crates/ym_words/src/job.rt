@@ -1,0 +1,141 @@
+//! What the words of the command line ask for.
+
+ghost use Rattle.std.specs.Prelude.{◌≡◌, IfOk, IfErr, Some, None, true, map, codes, string_bytes};
+ghost use Rattle.clap.specs.Words.{takes, subcommand_of, rows_of, found_of, first_of};
+ghost use Rattle.ym_words.specs.Command.{the_app};
+ghost use Rattle.ym_words.specs.Port.{port_value};
+ghost use Rattle.ym_words.specs.Job.{asked, asked_for, asked_of, FaultSays, is_true_text};
+
+use crate::command::the_command;
+use crate::port::port_number;
+use clap::error::ErrorKind;
+use clap::{ArgMatches, Error};
+use std::alloc::Global;
+
+/// What the program is asked to do. Ports are from 1 to 65535, on 127.0.0.1.
+#[derive(Drop)]
+pub enum Job<'a> {
+    /// Play the session of a script from standard input.
+    Play,
+    /// The same, carried by a connection to itself.
+    Loop {
+        port: u16,
+    },
+    /// Send files, in order, at least one; in short blocks alone where `short` says so.
+    Send {
+        port: u16,
+        short: bool,
+        files: Vec<&'a str>,
+    },
+    /// Receive files into a folder, by a single receiver where `single` says so.
+    Receive {
+        port: u16,
+        single: bool,
+        dir: &'a str,
+    },
+}
+
+/// Why the words ask for nothing.
+#[derive(Drop)]
+pub enum JobFault {
+    /// They are no words of the command line, or a request for help; clap says it.
+    Words(Error),
+    /// The port is no number from 1 to 65535 in decimal digits alone.
+    Value,
+    /// Out of memory.
+    Memory,
+}
+
+/// The port of the matches: digits alone, for a number from 1 to 65535.
+fn port_in(matches: &ArgMatches<'_>) -> Option<u16>
+    ensures { result ≡ port_value (first_of (codes "port") (rows_of (found_of matches.now))) }
+{
+    match matches.get_str("port") {
+        Some(text) => port_number(text),
+        None => None,
+    }
+}
+
+/// What `--short` says.
+fn short_in(matches: &ArgMatches<'_>) -> bool
+    ensures { result ≡ is_true_text (first_of (codes "short") (rows_of (found_of matches.now))) }
+{
+    match matches.get_str("short") {
+        Some(text) => text == "true",
+        None => false,
+    }
+}
+
+/// What `--single` says.
+fn single_in(matches: &ArgMatches<'_>) -> bool
+    ensures { result ≡ is_true_text (first_of (codes "single") (rows_of (found_of matches.now))) }
+{
+    match matches.get_str("single") {
+        Some(text) => text == "true",
+        None => false,
+    }
+}
+
+/// The job of a subcommand's matches.
+fn job_for<'a>(alloc: Global, name: &str, matches: &ArgMatches<'a>) -> Result<Job<'a>, JobFault>
+    ensures ok { IfOk result (λ job. asked_for name.now (rows_of (found_of matches.now)) ≡ Some (asked_of job)) }
+    ensures err { IfErr result (λ e. FaultSays e (asked_for name.now (rows_of (found_of matches.now))) true) }
+{
+    let port = port_in(matches);
+    if name == "play" {
+        return Ok(Job::Play);
+    }
+    let Some(port) = port else {
+        return Err(JobFault::Value);
+    };
+    if name == "loop" {
+        return Ok(Job::Loop { port });
+    }
+    if name == "send" {
+        return match matches.get_strs("files") {
+            Some(paths) => match Vec::from_slice(alloc, paths) {
+                Ok(files) => Ok(Job::Send {
+                    port,
+                    short: short_in(matches),
+                    files,
+                }),
+                Err(_) => Err(JobFault::Memory),
+            },
+            None => Err(JobFault::Value),
+        };
+    }
+    if name == "receive" {
+        return match matches.get_str("dir") {
+            Some(dir) => Ok(Job::Receive {
+                port,
+                single: single_in(matches),
+                dir,
+            }),
+            None => Err(JobFault::Value),
+        };
+    }
+    Err(JobFault::Value)
+}
+
+/// What the words ask for. The first word is the program's name, and no further word means `play`.
+pub fn job_of<'a>(alloc: Global, words: &'a [String]) -> Result<Job<'a>, JobFault>
+    ensures ok { IfOk result (λ job. asked (subcommand_of the_app (map string_bytes words.now)) ≡ Some (asked_of job)) }
+    ensures err { IfErr result (λ e. FaultSays e (asked (subcommand_of the_app (map string_bytes words.now))) (takes the_app (map string_bytes words.now))) }
+{
+    let Ok(command) = the_command(alloc) else {
+        return Err(JobFault::Memory);
+    };
+    let matches = match command.try_get_matches_from(words) {
+        Ok(matches) => matches,
+        Err(error) => {
+            if error.kind() == ErrorKind::OutOfMemory {
+                return Err(JobFault::Memory);
+            }
+            return Err(JobFault::Words(error));
+        }
+    };
+    match matches.subcommand() {
+        Some((name, inner)) => job_for(alloc, name, inner),
+        None => Ok(Job::Play),
+    }
+}

@@ -1,0 +1,84 @@
+//! `receive`: files, from whoever connects first.
+
+ghost use Rattle.std.specs.Prelude.{◌≡◌, ◌≤◌, IfOk};
+ghost use Rattle.ymodem.specs.Status.{receive_answer};
+
+use crate::command_fault::CommandFault;
+use crate::lines::{FileLine, ReceiverLine};
+use std::alloc::Global;
+use std::fs::{File, Files};
+use std::io;
+use std::io::Write;
+use std::net::{Ipv4Addr, Net, SocketAddr, TcpListener, TcpStream};
+use ym_header::Header;
+use ym_host::{DirSink, SocketPort};
+use ym_link::{Confirm, ReceiverInto, RecvState, receive_over};
+
+/// How many milliseconds a receiver waits for a frame.
+const REPLY_MS: u32 = 3000;
+
+/// How many milliseconds it waits for more of a frame that has begun.
+const WITHIN_MS: u32 = 1000;
+
+/// The first connection to 127.0.0.1 at this port. It waits for it as long as it takes.
+fn accept_one<R: Net<Listener = TcpListener, Stream = TcpStream>>(
+    rt: &R,
+    port: u16,
+) -> io::Result<TcpStream> {
+    let address = SocketAddr::from((Ipv4Addr::LOCALHOST, port));
+    let (stream, _) = TcpListener::bind(rt, address)?.accept()?;
+    Ok(stream)
+}
+
+/// Prints a line for each file, and one for the receiver.
+fn print<W: Write>(out: &mut W, headers: &[Header], line: ReceiverLine) -> io::Result<()> {
+    for header in headers {
+        let file = FileLine(header);
+        writeln!(out, "{file}")?;
+    }
+    writeln!(out, "{line}")?;
+    out.flush()
+}
+
+/// The status of a receiver that no port stopped.
+fn status_of(state: RecvState) -> Result<u8, CommandFault>
+    ensures { result ≡ receive_answer state }
+{
+    match state {
+        RecvState::Finished => Ok(0),
+        RecvState::SinkFailed => Err(CommandFault::Device),
+        _ => Ok(1),
+    }
+}
+
+/// Receives files into a folder from whoever connects first to 127.0.0.1 at this port, and prints them and how the receiver has ended.
+pub fn receive<R, W>(
+    rt: &R,
+    alloc: Global,
+    port: u16,
+    confirm: Confirm,
+    dir: &str,
+    out: &mut W,
+) -> Result<u8, CommandFault>
+where
+    R: Files<File = File> + Net<Listener = TcpListener, Stream = TcpStream>,
+    W: Write,
+    ensures { IfOk result (λ status. status ≤ 1) }
+{
+    let sink = DirSink::new(rt, alloc, dir)?;
+    let mut receiver = ReceiverInto::with_sink(alloc, sink, confirm);
+    let mut port = SocketPort::new(accept_one(rt, port)?, REPLY_MS, WITHIN_MS);
+    let ended = receive_over(&mut port, &mut receiver);
+    let line = ReceiverLine {
+        files: receiver.committed(),
+        state: receiver.state(),
+    };
+    let mut sink = receiver.into_sink();
+    let closed = sink.close();
+    let printed = print(out, sink.headers(), line);
+    // Of several faults the engine's is told, and then that of the folder.
+    ended?;
+    closed?;
+    printed?;
+    status_of(line.state)
+}

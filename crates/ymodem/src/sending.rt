@@ -1,0 +1,106 @@
+//! `send`: files, to whoever listens.
+
+ghost use Rattle.std.specs.Prelude.{◌≡◌, ◌≤◌, IfOk};
+ghost use Rattle.ymodem.specs.Status.{send_answer};
+
+use crate::command_fault::CommandFault;
+use crate::lines::SenderLine;
+use std::alloc::Global;
+use std::fs::{File, Files};
+use std::io;
+use std::io::Write;
+use std::net::{Ipv4Addr, Net, SocketAddr, TcpStream};
+use std::path::Path;
+use std::time::Duration;
+use ym_file::Shape;
+use ym_header::Stamp;
+use ym_host::{FileSource, SocketPort};
+use ym_link::{SendState, SenderFrom, SourceFile, send_over};
+
+/// How many milliseconds a sender waits for a reply, and for somebody to answer its call.
+const REPLY_MS: u32 = 10_000;
+
+/// How many milliseconds it waits for more of a reply that has begun.
+const WITHIN_MS: u32 = 1000;
+
+/// The file at this path, under the last part of the path. No stamp is sent.
+fn open_file<R: Files<File = File>>(
+    rt: &R,
+    alloc: Global,
+    path: &str,
+) -> Result<SourceFile<FileSource>, CommandFault> {
+    let source = FileSource::new(rt, alloc, path)?;
+    let name = Path::new(path).file_name().unwrap_or("");
+    let file = SourceFile::from_source(alloc, name, source, Stamp::Nothing)?;
+    Ok(file)
+}
+
+/// The files at these paths, opened in order, or the first fault.
+fn open_batch<R: Files<File = File>>(
+    rt: &R,
+    alloc: Global,
+    paths: &[&str],
+) -> Result<Vec<SourceFile<FileSource>>, CommandFault> {
+    let mut batch = Vec::new(alloc);
+    for path in paths {
+        let file = open_file(rt, alloc, path)?;
+        if batch.push(file).is_err() {
+            return Err(CommandFault::Memory);
+        }
+    }
+    Ok(batch)
+}
+
+/// A connection to whoever listens on 127.0.0.1 at this port.
+fn connect<R: Net<Stream = TcpStream>>(rt: &R, port: u16) -> io::Result<TcpStream> {
+    let address = SocketAddr::from((Ipv4Addr::LOCALHOST, port));
+    let wait = Duration::from_millis(u64::from(REPLY_MS));
+    let stream = TcpStream::connect_timeout(rt, &address, wait)?;
+    // Where nobody listens, the system may by chance connect a socket to itself.
+    if stream.local_addr()? == address {
+        return Err(io::Error::from(io::ErrorKind::ConnectionRefused));
+    }
+    Ok(stream)
+}
+
+/// The status of a sender that no port stopped.
+fn status_of(state: SendState) -> Result<u8, CommandFault>
+    ensures { result ≡ send_answer state }
+{
+    match state {
+        SendState::Finished => Ok(0),
+        SendState::Running | SendState::NoReply | SendState::Cancelled => Ok(1),
+        SendState::SourceFailed => Err(CommandFault::Device),
+    }
+}
+
+/// Sends the files at these paths, in order, to whoever listens on 127.0.0.1 at this port, and prints how the sender has ended.
+pub fn send<R, W>(
+    rt: &R,
+    alloc: Global,
+    port: u16,
+    shape: Shape,
+    paths: &[&str],
+    out: &mut W,
+) -> Result<u8, CommandFault>
+where
+    R: Files<File = File> + Net<Stream = TcpStream>,
+    W: Write,
+    ensures { IfOk result (λ status. status ≤ 1) }
+{
+    let batch = open_batch(rt, alloc, paths)?;
+    let Ok(mut sender) = SenderFrom::new(batch, shape) else {
+        return Err(CommandFault::TooManyFiles);
+    };
+    let mut port = SocketPort::new(connect(rt, port)?, REPLY_MS, WITHIN_MS);
+    let ended = send_over(&mut port, &mut sender);
+    let line = SenderLine {
+        done: sender.done(),
+        state: sender.state(),
+    };
+    let printed = writeln!(out, "{line}").and_then(|()| out.flush());
+    // The engine's fault is told before that of the output.
+    ended?;
+    printed?;
+    status_of(line.state)
+}
