@@ -67,8 +67,8 @@ where
     I: Read,
     W: Write,
     E: Write,
-    ensures ends { asked_of job ≡ Asked.Play → is_ok result ≡ true }
-    ensures plays { asked_of job ≡ Asked.Play → (text before wrong : List ℕ) → I.remaining input.old ≡ Some text → W.contents out.old ≡ Some before
+    ensures ends { asked_of job.entry ≡ Asked.Play → is_ok result ≡ true }
+    ensures plays { asked_of job.entry ≡ Asked.Play → (text before wrong : List ℕ) → I.remaining input.old ≡ Some text → W.contents out.old ≡ Some before
         → E.contents err.old ≡ Some wrong → IfOk result (λ status. status ≢ 3 → IsPlayed text before wrong status (W.contents out.new) (E.contents err.new)) }
     ensures status { IfOk result (λ status. status ≤ 3) }
 {
@@ -117,14 +117,13 @@ where
     ensures refused { AsksFor (map string_bytes words.items) None → (result ≡ 2) ⊎ (result ≡ 3) }
     ensures status { result ≤ 3 }
 {
-    let ended = match job_of(alloc, words.as_slice()) {
-        Ok(job) => do_job(rt, alloc, job, input, out, err),
-        Err(JobFault::Words(error)) => return tell(err, error, REFUSED),
-        Err(JobFault::Value) => Err(CommandFault::Port),
-        Err(JobFault::Memory) => Err(CommandFault::Memory),
-    };
-    match ended {
-        Ok(status) => status,
-        Err(fault) => tell_fault(err, fault),
+    match job_of(alloc, words.as_slice()) {
+        Ok(job) => match do_job(rt, alloc, job, input, out, err) {
+            Ok(status) => status,
+            Err(fault) => tell_fault(err, fault),
+        },
+        Err(JobFault::Words(error)) => tell(err, error, REFUSED),
+        Err(JobFault::Value) => tell_fault(err, CommandFault::Port),
+        Err(JobFault::Memory) => tell_fault(err, CommandFault::Memory),
     }
 }
