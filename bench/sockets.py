@@ -119,7 +119,7 @@ def compiled(folder):
 
 
 def times(here, there, pingpong):
-    print("from send to receive, best of %d      send and receive   stop and wait in C   ratio   peak of send   peak of receive" % TURNS)
+    print("%-8s %18s %20s %7s %14s %17s" % ("size", "send to receive", "stop and wait in C", "ratio", "peak of send", "peak of receive"))
     for mib in SIZES:
         path = make_file(here, mib)
         ours, theirs, peaks = [], [], []
@@ -132,7 +132,7 @@ def times(here, there, pingpong):
         best = min(ours) / mib
         other, ratio = ("%.4f s/MiB" % (min(theirs) / mib), "%.2f" % (min(ours) / min(theirs))) if theirs else ("no cc", "-")
         peak = ["%.1f MiB" % (max(it) / 1024) for it in zip(*peaks)]
-        print("  %3d MiB %29.4f s/MiB %20s %7s %14s %17s" % (mib, best, other, ratio, *peak))
+        print("%4d MiB %12.4f s/MiB %20s %7s %14s %17s" % (mib, best, other, ratio, *peak))
 
 
 def instructions(here, there):

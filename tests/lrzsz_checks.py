@@ -6,6 +6,7 @@ import shutil
 import socket
 import subprocess
 import threading
+import time
 
 from program import folders, free_port, running, wants_stored, write_files
 from relay import connected
@@ -40,16 +41,18 @@ def pumped(child, end):
     try:
         while data := os.read(child.stdout.fileno(), 65536):
             end.sendall(data)
+        end.shutdown(socket.SHUT_WR)
     except OSError:
         pass  # the program has ended; its report tells why
-    end.shutdown(socket.SHUT_WR)
 
 
 def lrzsz(words, folder):
     return subprocess.Popen(words, cwd=folder, stdin=subprocess.PIPE, stdout=subprocess.PIPE, stderr=subprocess.DEVNULL)
 
 
-def from_sb(*flags, receive_flags=()):
+def from_sb(*flags, receive_flags=(), late=0):
+    """`sb` starts so many seconds late, and then finds each C in its input that the receiver has sent meanwhile."""
+
     def check():
         with folders() as (here, there):
             batch = files()
@@ -59,6 +62,7 @@ def from_sb(*flags, receive_flags=()):
                 os.chmod(os.path.join(here, name), 0o644)
             port = free_port()
             with running("receive", "--port", port, *receive_flags, there, limit=LIMIT) as receive, connected(port) as end:
+                time.sleep(late)
                 child = lrzsz(["sb", *flags, *(name for name, _ in batch)], here)
                 pump = threading.Thread(target=pumped, args=(child, end), daemon=True)
                 pump.start()
@@ -107,6 +111,7 @@ CHECKS = [
     ("files from sb", from_sb()),
     ("files from sb -k", from_sb("-k")),
     ("files from sb, --single", from_sb(receive_flags=["--single"])),
+    ("files from sb that starts late", from_sb(late=10)),
     ("files to rb", to_rb()),
     ("files to rb, --short", to_rb("--short")),
 ]
