@@ -71,7 +71,7 @@ def from_sender(peer, status, out, err="", there=(), least=0, limit=20, flags=()
     return check
 
 
-def to_receiver(peer, status, out, err="", least=0, limit=20):
+def to_receiver(peer, status, out, err="", least=0, limit=20, flags=()):
     """`send`, called to this peer, ends so."""
 
     def check():
@@ -91,7 +91,7 @@ def to_receiver(peer, status, out, err="", least=0, limit=20):
             paths = write_files(here, [("a", b"x" * 3000), ("b", b"")])
             thread = threading.Thread(target=answer, args=(listener,), daemon=True)
             thread.start()
-            with running("send", "--port", listener.getsockname()[1], *paths, limit=limit) as send:
+            with running("send", "--port", listener.getsockname()[1], *flags, *paths, limit=limit) as send:
                 ended = send.ended()
             thread.join(limit)
             ended.wants(status, out, err)
@@ -155,14 +155,18 @@ def bad_header(frame, fault):
     return from_sender(talks((frame, CANCEL)), 1, "receiver files 0 bad-header %s\n" % fault)
 
 
-STAMPED = talks(
-    (header(b"stamped", b"3 14012345670 100644 0 1 3"), bytes((ACK, START))),
-    (block(1, b"abc" + b"\x1a" * 125), bytes((ACK,))),
-    (block(2, b"past the length" + bytes(113)), bytes((ACK,))),
-    (bytes((EOT,)), bytes((NAK,))),
-    (bytes((EOT,)), bytes((ACK, START))),
-    (block(0, b"\x00not all 00" + bytes(117)), bytes((ACK,))),
-)
+def stamped(*answers):
+    """One file with a stamp and with data past its length, and an EOT for each of these answers."""
+    return talks(
+        (header(b"stamped", b"3 14012345670 100644 0 1 3"), bytes((ACK, START))),
+        (block(1, b"abc" + b"\x1a" * 125), bytes((ACK,))),
+        (block(2, b"past the length" + bytes(113)), bytes((ACK,))),
+        *[(bytes((EOT,)), answer) for answer in answers],
+        (block(0, b"\x00not all 00" + bytes(117)), bytes((ACK,))),
+    )
+
+
+TOLD = "file stamped 3 14012345670 100644\nreceiver files 1 finished\n"
 
 OF_RECEIVE = [
     ("closes at once", from_sender(lambda end: end.close(), 3, "receiver files 0 running\n", "fault: closed\n")),
@@ -184,8 +188,10 @@ OF_RECEIVE = [
     ("sends EOT before the length is covered", from_sender(
         talks((header(b"a", b"1"), bytes((ACK, START))), *[(bytes((EOT,)), bytes((NAK,)))] * 9, (bytes((EOT,)), CANCEL)),
         1, "receiver files 0 too-many-errors\n")),
-    ("sends a stamp, data past the length, and an end block that is not all 00", from_sender(
-        STAMPED, 0, "file stamped 3 14012345670 100644\nreceiver files 1 finished\n", there=[("stamped", b"abc")])),
+    ("sends a stamp, data past the length, and an end block that is not all 00",
+     from_sender(stamped(bytes((NAK,)), bytes((ACK, START))), 0, TOLD, there=[("stamped", b"abc")])),
+    ("sends the same to --single, which acknowledges the first EOT",
+     from_sender(stamped(bytes((ACK, START))), 0, TOLD, there=[("stamped", b"abc")], flags=["--single"])),
     ("ends the batch at once", from_sender(talks((END, bytes((ACK,)))), 0, "receiver files 0 finished\n")),
 ]
 
@@ -234,28 +240,35 @@ def cancels_behind_block_0(end):
     expect_no_more(end)
 
 
-def one_can_is_no_end(end):
-    """One CAN before each reply changes nothing."""
-    can = bytes((CAN,))
-    end.sendall(can + bytes((START,)))
-    expect(end, header(b"a", b"3000"))
-    end.sendall(can + bytes((ACK, START)))
-    data = b"x" * 3000
-    blocks = [data[:1024], data[1024:2048], *(data[at : at + 128].ljust(128, b"\x1a") for at in range(2048, 3000, 128))]
-    for number, body in enumerate(blocks, 1):
-        expect(end, block(number, body))
-        end.sendall(can + bytes((ACK,)))
-    expect(end, bytes((EOT,)))
-    end.sendall(bytes((ACK, START)))
-    expect(end, header(b"b"))
-    end.sendall(bytes((ACK, START)))
-    expect(end, bytes((EOT,)))
-    end.sendall(bytes((NAK,)))
-    expect(end, bytes((EOT,)))
-    end.sendall(bytes((ACK, START)))
-    expect(end, END)
-    end.sendall(bytes((ACK,)))
-    expect_no_more(end)
+def mixed(data):
+    """The data blocks of a file: long ones while they are full, then short ones."""
+    long = len(data) // 1024 * 1024
+    return [data[at : at + 1024] for at in range(0, long, 1024)] + short(data[long:])
+
+
+def short(data):
+    return [data[at : at + 128].ljust(128, b"\x1a") for at in range(0, len(data), 128)]
+
+
+def takes_all(cut, lead=b""):
+    """Takes both files, in the blocks that they are cut into, and sends this before each reply."""
+    call = lead + bytes((ACK, START))
+
+    def peer(end):
+        end.sendall(lead + bytes((START,)))
+        expect(end, header(b"a", b"3000"))
+        end.sendall(call)
+        for number, body in enumerate(cut(b"x" * 3000), 1):
+            expect(end, block(number, body))
+            end.sendall(lead + bytes((ACK,)))
+        for asked, answer in ((bytes((EOT,)), call), (header(b"b"), call), (bytes((EOT,)), lead + bytes((NAK,))), (bytes((EOT,)), call)):
+            expect(end, asked)
+            end.sendall(answer)
+        expect(end, END)
+        end.sendall(bytes((ACK,)))
+        expect_no_more(end)
+
+    return peer
 
 
 CLOSED = ("fault: closed\n", "fault: device\n")
@@ -270,7 +283,9 @@ OF_SEND = [
     ("sends junk without end", to_receiver(floods, (1, 3), "sender done 0 no-reply\n", ("", "fault: device\n"))),
     ("cancels at once", to_receiver(talks((CANCEL, b"")), 1, "sender done 0 cancelled\n")),
     ("cancels behind block 0", to_receiver(cancels_behind_block_0, 1, "sender done 0 cancelled\n")),
-    ("sends a lone CAN before each reply", to_receiver(one_can_is_no_end, 0, "sender done 2 finished\n")),
+    ("takes both files, each byte as it has to be", to_receiver(takes_all(mixed), 0, "sender done 2 finished\n")),
+    ("takes both files in short blocks, for --short", to_receiver(takes_all(short), 0, "sender done 2 finished\n", flags=["--short"])),
+    ("sends a lone CAN before each reply", to_receiver(takes_all(mixed, bytes((CAN,))), 0, "sender done 2 finished\n")),
 ]
 
 # Ports and words
