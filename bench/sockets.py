@@ -1,0 +1,185 @@
+#!/usr/bin/env python3
+"""Measures `ymodem send` to `ymodem receive` over a loopback connection: time, instructions, system calls and peak memory.
+
+Times are the best of three, from the moment at which the receiver has made NAME.part to the one at which NAME is there, since a receiver
+calls only after it has waited three seconds. They are to be read as ratios to bench/pingpong.c, a stop and wait with nothing else in it
+that is run in turns with the program. Instructions (callgrind) and system calls (strace) are differences between two sizes, so that
+what does not grow with the file is left out. Figures, not promises.
+
+usage: bench/sockets.py [PROGRAM]     (default: the environment variable YMODEM, else crates/ymodem/out/ymodem)
+"""
+
+import ctypes
+import os
+import re
+import shutil
+import struct
+import subprocess
+import sys
+import tempfile
+import threading
+import time
+
+HERE = os.path.dirname(os.path.abspath(__file__))
+DEFAULT = os.environ.get("YMODEM", os.path.join(HERE, "..", "crates", "ymodem", "out", "ymodem"))
+PROGRAM = sys.argv[1] if len(sys.argv) > 1 else DEFAULT
+MIB = 1 << 20
+BLOCKS_PER_MIB = 1024
+SIZES = (1, 16, 64)
+TURNS = 3
+PORTS = iter(range(19001, 20000))
+NAME = "file"
+IN_CREATE = 0x100
+C = ctypes.CDLL(None, use_errno=True)
+
+
+class Folder:
+    """Tells when a name appears in a folder."""
+
+    def __init__(self, folder):
+        self.end = C.inotify_init()
+        if C.inotify_add_watch(self.end, folder.encode(), IN_CREATE) < 0:
+            sys.exit("the folder %s cannot be watched" % folder)
+        self.seen = {}
+        threading.Thread(target=self.watch, daemon=True).start()
+
+    def watch(self):
+        while True:
+            data = os.read(self.end, 4096)
+            now = time.monotonic()
+            while data:
+                length = struct.unpack_from("iIII", data)[3]
+                self.seen.setdefault(data[16 : 16 + length].rstrip(b"\0").decode(), now)
+                data = data[16 + length :]
+            if NAME in self.seen:
+                os.close(self.end)
+                return
+
+
+def listens(port):
+    wanted = ":%04X" % port
+    with open("/proc/net/tcp") as it:
+        return any(line.split()[1].endswith(wanted) and line.split()[3] == "0A" for line in it.readlines()[1:])
+
+
+def peak_of(pid, found):
+    """Keeps the largest resident set that a process had, in KiB, for as long as it runs."""
+    try:
+        while True:
+            with open("/proc/%d/status" % pid) as it:
+                told = re.search(r"VmHWM:\s+(\d+)", it.read())
+            if not told:
+                return
+            found[pid] = int(told[1])
+            time.sleep(0.02)
+    except (FileNotFoundError, ProcessLookupError):
+        pass
+
+
+def transfer(path, folder, send_tool=(), receive_tool=()):
+    """Sends a file. Gives the seconds from NAME.part to NAME, both peaks in KiB, and what both ends wrote to standard error."""
+    port = next(PORTS)
+    watch = Folder(folder)
+    how = {"stdout": subprocess.PIPE, "stderr": subprocess.PIPE}
+    receiver = subprocess.Popen([*receive_tool, PROGRAM, "receive", "--port", str(port), folder], **how)
+    while not listens(port):
+        if receiver.poll() is not None:
+            sys.exit("receive said: " + receiver.stderr.read().decode())
+        time.sleep(0.02)
+    sender = subprocess.Popen([*send_tool, PROGRAM, "send", "--port", str(port), path], **how)
+    peaks = {}
+    for child in (sender, receiver):
+        threading.Thread(target=peak_of, args=(child.pid, peaks), daemon=True).start()
+    said = [child.communicate()[1].decode() for child in (sender, receiver)]
+    if sender.returncode or receiver.returncode:
+        sys.exit("the transfer failed: " + "; ".join(said))
+    stored = os.path.join(folder, NAME)
+    if os.path.getsize(stored) != os.path.getsize(path):
+        sys.exit("the stored file has another length")
+    while NAME not in watch.seen:
+        time.sleep(0.001)
+    os.remove(stored)
+    return watch.seen[NAME] - watch.seen[NAME + ".part"], [peaks.get(it.pid, 0) for it in (sender, receiver)], said
+
+
+def make_file(folder, mib):
+    path = os.path.join(folder, NAME)
+    with open(path, "wb") as it:
+        for _ in range(mib):
+            it.write(os.urandom(MIB))
+    return path
+
+
+def compiled(folder):
+    if not shutil.which("cc"):
+        return None
+    made = os.path.join(folder, "pingpong")
+    subprocess.run(["cc", "-O2", "-o", made, os.path.join(HERE, "pingpong.c")], check=True)
+    return made
+
+
+def times(here, there, pingpong):
+    print("%-8s %18s %20s %7s %14s %17s" % ("size", "send to receive", "stop and wait in C", "ratio", "peak of send", "peak of receive"))
+    for mib in SIZES:
+        path = make_file(here, mib)
+        ours, theirs, peaks = [], [], []
+        for _ in range(TURNS):
+            seconds, found, _ = transfer(path, there)
+            ours.append(seconds)
+            peaks.append(found)
+            if pingpong:
+                theirs.append(float(subprocess.check_output([pingpong, path, os.path.join(there, "other")])))
+        best = min(ours) / mib
+        other, ratio = ("%.4f s/MiB" % (min(theirs) / mib), "%.2f" % (min(ours) / min(theirs))) if theirs else ("no cc", "-")
+        peak = ["%.1f MiB" % (max(it) / 1024) for it in zip(*peaks)]
+        print("%4d MiB %12.4f s/MiB %20s %7s %14s %17s" % (mib, best, other, ratio, *peak))
+
+
+def instructions(here, there):
+    if not shutil.which("valgrind"):
+        print("instructions: not counted (no valgrind)")
+        return
+    tool = ["valgrind", "--tool=callgrind", "--callgrind-out-file=/dev/null"]
+    counted = {}
+    for mib in (1, 3):
+        path = make_file(here, mib)
+        for end, tools in (("send", (tool, ())), ("receive", ((), tool))):
+            said = "".join(transfer(path, there, *tools)[2])
+            counted[end, mib] = int(re.search(r"Collected : (\d+)", said)[1])
+    for end in ("send", "receive"):
+        each = (counted[end, 3] - counted[end, 1]) / 2
+        print("instructions of %-8s %12.0f per MiB, %5.2f per byte" % (end, each, each / MIB))
+
+
+def system_calls(here, there):
+    if not shutil.which("strace"):
+        print("system calls: not counted (no strace)")
+        return
+    counted = {}
+    log = os.path.join(here, "calls")
+    for mib in (1, 3):
+        path = make_file(here, mib)
+        tool = ["strace", "-c", "-f", "-o", log]
+        for end, tools in (("send", (tool, ())), ("receive", ((), tool))):
+            transfer(path, there, *tools)
+            with open(log) as it:
+                rows = [line.split() for line in it]
+            counted[end, mib] = {row[-1]: int(row[3]) for row in rows if len(row) > 4 and row[3].isdigit()}
+    for end in ("send", "receive"):
+        most, least = counted[end, 3], counted[end, 1]
+        each = {name: (most[name] - least.get(name, 0)) / (2 * BLOCKS_PER_MIB) for name in most}
+        names = ", ".join("%s %.2f" % it for it in sorted(each.items(), key=lambda it: -it[1]) if it[1] > 0.005 and it[0] != "total")
+        print("system calls of %-8s %5.2f per block (%s)" % (end, each["total"], names))
+
+
+def main():
+    with tempfile.TemporaryDirectory(prefix="ymodem-bench-") as top:
+        here, there = os.path.join(top, "here"), os.path.join(top, "there")
+        os.mkdir(here)
+        os.mkdir(there)
+        times(here, there, compiled(top))
+        instructions(here, there)
+        system_calls(here, there)
+
+
+main()
