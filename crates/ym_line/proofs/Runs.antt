@@ -1,5 +1,5 @@
 -- What is seen of a round, and runs one round more.
-use Rattle.std.proofs.Common.{◌≡◌, ℕ, ◌+◌, ◌<◌, suc, zero, List, [], ◌∷◌, ◌++◌, length, take, get_or, refl, subst, inl, inr, ◌⊎◌, arith}
+use Rattle.std.proofs.Common.{◌≡◌, ℕ, ◌+◌, ◌<◌, suc, zero, List, [], ◌∷◌, ◌++◌, length, take, get_or, Result, Ok, Err, IfOk, refl, subst, inl, inr, ◌⊎◌, arith}
 use Rattle.ym_frame.specs.declared.control.Reply.{Reply}
 use Rattle.ym_link.specs.Sender.{SenderParts}
 use Rattle.ym_line.specs.declared.delivery.Round.{Round}
@@ -10,7 +10,8 @@ use Rattle.ym_line.specs.declared.trace.Seen.{Seen}
 use Rattle.ym_line.specs.declared.trace.What.{What}
 use Rattle.ym_line.specs.Damage.{how_of}
 use Rattle.ym_line.specs.What.{what_of}
-use Rattle.ym_line.specs.Rounds.{Pair, Goes, GoOn, Stops, StopsIn, sent_by, seen_of}
+use Rattle.ym_line.specs.declared.trace.Trace.{Trace}
+use Rattle.ym_line.specs.Rounds.{Pair, Goes, GoOn, IsTrace, RunGives, Stops, StopsIn, sent_by, seen_of}
 
 -- what is seen, part by part
 pub seen-parts : (round : Round) (sender : SenderParts) (reply : Reply) (what : What) (there back : How) (sent : List ℕ) →
@@ -46,3 +47,9 @@ StopsIn-at (first ∷ rounds) n (suc i) round old between new [] fault below at 
 StopsIn-at (first ∷ rounds) n (suc i) round old between new (x ∷ all) fault below at went stops =
     let number : n + suc i ≡ n + 1 + i = omega arith in
     inr (inr (x, went.0, went.1, StopsIn-at rounds (n + 1) i round went.0 between new all fault (omega arith) at went.2 (subst (λ m. StopsAt m round between fault new) number stops)))
+
+-- what holds of each trace of a run holds of the one that it answers
+pub trace-gives : (rounds : List Round) (old new : Pair) (result : Result Trace LineFault) (P : Trace → Type 0) →
+    RunGives rounds old result new → ((trace : Trace) → IsTrace rounds old trace new → P trace) → IfOk result P
+trace-gives rounds old new (Ok trace) P gives each = each trace gives
+trace-gives rounds old new (Err fault) P gives each = tt

@@ -1,9 +1,11 @@
 pub mod Carried
+pub mod Completion
 pub mod Damage
 pub mod Direct
 pub mod Examples
 pub mod Fault
 pub mod Needed
+pub mod Promise
 pub mod Rounds
 pub mod Text
 pub mod Turns

@@ -1,6 +1,6 @@
 //! Laws over the definitions alone: each is the promise of a function that does nothing.
 
-ghost use Rattle.std.specs.Prelude.{◌≤◌, List, ℕ, Option, All, length};
+ghost use Rattle.std.specs.Prelude.{◌≤◌, List, ℕ, Option, Result, All, length};
 ghost use Rattle.ym_machine.specs.declared.confirm.Confirm.{Confirm};
 ghost use Rattle.ym_machine.specs.Machine.{State, start};
 ghost use Rattle.ym_file.specs.Kept.{Kept, IsNew};
@@ -13,7 +13,10 @@ ghost use Rattle.ym_line.specs.declared.delivery.Handed.{Handed};
 ghost use Rattle.ym_line.specs.declared.delivery.Round.{Round};
 ghost use Rattle.ym_line.specs.declared.fault.LineFault.{LineFault};
 ghost use Rattle.ym_line.specs.declared.trace.Seen.{Seen};
-ghost use Rattle.ym_line.specs.Rounds.{Pair, GoOn, StopsIn};
+ghost use Rattle.ym_line.specs.declared.trace.Trace.{Trace};
+ghost use Rattle.ym_line.specs.Completion.{NeitherGivesUp, BothFinish, NotSooner};
+ghost use Rattle.ym_line.specs.Promise.{AreNew, CommitsAPrefix, ReportsCommitted};
+ghost use Rattle.ym_line.specs.Rounds.{Pair, GoOn, StopsIn, IsTrace, RunGives};
 ghost use Rattle.ym_line.specs.Turns.{FollowsMachine, StopsWithMachine, PairStands, CommitsFirst};
 
 use ym_file::laws::one_pieces;
@@ -23,8 +26,8 @@ use ym_link::laws::{
     a_standing_receiver_follows_the_machine,
 };
 use ym_machine::laws::{
-    committed_is_reported_or_one_more, halves_keep_machine_states, halves_keep_the_other_end,
-    what_comes_back,
+    both_finish, committed_is_reported_or_one_more, halves_keep_machine_states,
+    halves_keep_the_other_end, neither_end_gives_up, not_sooner, what_comes_back,
 };
 
 /// Rounds of two ends that stand at a state of the machine of two counters are turns of that machine, whatever is lost or damaged in them: the
@@ -68,4 +71,34 @@ pub fn new_ends_stand()
     halves_keep_machine_states::<Headers>();
     a_sender_follows_the_machine();
     a_standing_receiver_follows_the_machine();
+}
+
+/// Whatever is lost or damaged in a run of new ends, and also where it met a fault, the files committed are the first ones of the batch, each with
+/// its header and its bytes, and those that the sender reports are among them.
+pub fn new_ends_commit_a_prefix()
+    ensures commits { (rounds : List Round) (old new : Pair) (result : Result Trace LineFault) → RunGives rounds old result new → AreNew old → CommitsAPrefix old.sender.files new }
+    ensures reports { (rounds : List Round) (old new : Pair) (trace : Trace) → IsTrace rounds old trace new → AreNew old → ReportsCommitted trace new }
+{
+    one_pieces();
+    a_planned_file_is_sent();
+    rounds_are_turns();
+    a_standing_pair_commits_the_first_files();
+    new_ends_stand();
+}
+
+/// Where damage comes in short bursts, and no failure count rose, a run of new ends goes on, finishes with as many whole rounds as the batch needs, and
+/// not sooner.
+pub fn short_bad_runs_complete()
+    ensures going { (rounds : List Round) (old new : Pair) (trace : Trace) → IsTrace rounds old trace new → NeitherGivesUp rounds old trace new }
+    ensures complete { (rounds : List Round) (old new : Pair) (trace : Trace) → IsTrace rounds old trace new → BothFinish rounds old trace new }
+    ensures sooner { (rounds : List Round) (old new : Pair) (trace : Trace) → IsTrace rounds old trace new → NotSooner rounds old trace new }
+{
+    one_pieces();
+    a_planned_file_is_sent();
+    rounds_are_turns();
+    a_standing_pair_commits_the_first_files();
+    new_ends_stand();
+    neither_end_gives_up::<Headers>();
+    both_finish::<Headers>();
+    not_sooner::<Headers>();
 }

@@ -5,7 +5,9 @@ ghost use Rattle.ym_file.specs.Counts.{Rose};
 ghost use Rattle.ym_link.specs.ReceiverInto.{ReceiverParts};
 ghost use Rattle.ym_link.specs.Sender.{IsSender, spoken};
 ghost use Rattle.ym_line.specs.Carried.{told_more};
+ghost use Rattle.ym_line.specs.Completion.{NeitherGivesUp, BothFinish, NotSooner};
 ghost use Rattle.ym_line.specs.Damage.{arrives};
+ghost use Rattle.ym_line.specs.Promise.{AreNew, CommitsAPrefix, ReportsCommitted};
 ghost use Rattle.ym_line.specs.Turns.{FollowsMachine, StopsWithMachine};
 ghost use Rattle.ym_line.specs.Rounds.{Pair, sent_by, GoesThere, StopsThere, ThereGives, BackGives, RoundGives, RunGives};
 
@@ -13,7 +15,7 @@ use crate::carrier::{Carrier, CarryFault};
 use crate::check::{check_back, check_there};
 use crate::delivery::{Delivery, Round, Way};
 use crate::fault::LineFault;
-use crate::laws::rounds_are_turns;
+use crate::laws::{new_ends_commit_a_prefix, rounds_are_turns, short_bad_runs_complete};
 use crate::trace::{How, Seen, Trace, What};
 use std::alloc::Global;
 use ym_file::{Sink, Source};
@@ -183,7 +185,29 @@ pub fn run<S: Source, K: Sink, C: Carrier>(
     ensures stopped { OnErr result (StopsWithMachine rounds.now
         (record { sender = sender.old; receiver = receiver.old; told = C.told carrier.old; failures = C.failures carrier.old })
         (record { sender = sender.new; receiver = receiver.new; told = C.told carrier.new; failures = C.failures carrier.new })) }
+    ensures commits { AreNew
+        (record { sender = sender.old; receiver = receiver.old; told = C.told carrier.old; failures = C.failures carrier.old }) →
+        CommitsAPrefix sender.old.files
+        (record { sender = sender.new; receiver = receiver.new; told = C.told carrier.new; failures = C.failures carrier.new }) }
+    ensures reports { IfOk result (λ trace. AreNew
+        (record { sender = sender.old; receiver = receiver.old; told = C.told carrier.old; failures = C.failures carrier.old }) →
+        ReportsCommitted trace
+        (record { sender = sender.new; receiver = receiver.new; told = C.told carrier.new; failures = C.failures carrier.new })) }
+    ensures neither_gives_up { IfOk result (λ trace. NeitherGivesUp rounds.now
+        (record { sender = sender.old; receiver = receiver.old; told = C.told carrier.old; failures = C.failures carrier.old })
+        trace
+        (record { sender = sender.new; receiver = receiver.new; told = C.told carrier.new; failures = C.failures carrier.new })) }
+    ensures both_finish { IfOk result (λ trace. BothFinish rounds.now
+        (record { sender = sender.old; receiver = receiver.old; told = C.told carrier.old; failures = C.failures carrier.old })
+        trace
+        (record { sender = sender.new; receiver = receiver.new; told = C.told carrier.new; failures = C.failures carrier.new })) }
+    ensures not_sooner { IfOk result (λ trace. NotSooner rounds.now
+        (record { sender = sender.old; receiver = receiver.old; told = C.told carrier.old; failures = C.failures carrier.old })
+        trace
+        (record { sender = sender.new; receiver = receiver.new; told = C.told carrier.new; failures = C.failures carrier.new })) }
 {
     rounds_are_turns();
+    new_ends_commit_a_prefix();
+    short_bad_runs_complete();
     go_all(alloc, sender, receiver, rounds, carrier)
 }

@@ -1,0 +1,157 @@
+-- What a pair that stands has committed, in words of the two ends.
+use Rattle.std.proofs.Common.{◌≡◌, ◌∙◌, ◌≤◌, ◌⊎◌, ℕ, min, suc, zero, List, [], ◌∷◌, length, map, take, Option, None, Some, IfSome, IsSome, All, Bool, Result, Ok, Err, refl, sym, ap, subst, inl, inr, arith}
+use Rattle.std.proofs.lemmas.List.{length-map, length-take, take-map}
+use Rattle.std.proofs.lemmas.Simd.{map-map}
+use Rattle.ym_header.specs.Header.{HeaderParts, IsHeader, length_limit}
+use Rattle.ym_file.specs.Kept.{Kept, Told, IsNew}
+use Rattle.ym_file.specs.Plan.{IsPieces, pieces_of}
+use Rattle.ym_file.specs.declared.plan.Shape.{Shape}
+use Rattle.ym_machine.specs.declared.confirm.Confirm.{Confirm}
+use Rattle.ym_machine.specs.Frames.{File, frames_of, IsPrefix}
+use Rattle.ym_machine.specs.Machine.{State, start, committed, reported}
+use Rattle.ym_link.specs.Place.{done_at}
+use Rattle.ym_link.specs.Receiver.{new_receiver}
+use Rattle.ym_link.specs.ReceiverStands.{bytes_of}
+use Rattle.ym_link.specs.SenderStands.{Batch, AllTold, batch_of, file_of, told_pieces}
+use Rattle.ym_link.specs.SourceFile.{FileParts, IsFile, counts_of}
+use Rattle.ym_link.specs.Standing.{new_standing}
+use Rattle.ym_line.specs.declared.delivery.Handed.{Handed}
+use Rattle.ym_line.specs.declared.delivery.Round.{Round}
+use Rattle.ym_line.specs.declared.fault.LineFault.{LineFault}
+use Rattle.ym_line.specs.declared.trace.Seen.{Seen}
+use Rattle.ym_line.specs.declared.trace.Trace.{Trace}
+use Rattle.ym_line.specs.Promise.{AreNew, CommitsAPrefix, ReportsCommitted}
+use Rattle.ym_line.specs.Rounds.{Pair, GoOn, StopsIn, IsTrace, RunGives}
+use Rattle.ym_line.specs.Turns.{FollowsMachine, StopsWithMachine, StopsAsMachine, RunsAsMachine, PairStands, CommitsFirst}
+
+-- ---- What the laws say
+
+abbrev pub PlannedBytes : Type 0
+PlannedBytes = (shape : Shape) (header : HeaderParts) (bytes : List ℕ) (pieces : List (List ℕ)) →
+    IsHeader length_limit header → header.length ≡ length bytes → IsPieces shape bytes pieces → bytes_of (record { header = header; pieces = pieces }) ≡ bytes
+
+abbrev pub NewStand : Type 0
+NewStand = (confirm : Confirm) (shape : Shape) (sources : List FileParts) (frame : List ℕ) (kept : Kept) (sink_failures : ℕ) (told : Option (List Handed)) (failures : ℕ) →
+    All IsFile sources → AllTold sources → length sources ≤ 65535 → IsNew kept →
+    PairStands confirm (batch_of shape sources) start (record {
+      sender = record { standing = new_standing (counts_of shape sources); shape = shape; files = sources; frame = frame };
+      receiver = record { receiver = new_receiver confirm; kept = kept; failures = sink_failures };
+      told = told;
+      failures = failures;
+    })
+
+pub record Laws : Type 0 where
+  pub bytes : PlannedBytes
+  pub pieces : (shape : Shape) (file : List ℕ) → IsPieces shape file (pieces_of shape file)
+  pub go_on : (rounds : List Round) (old new : Pair) (all : List Seen) → GoOn rounds old all new → FollowsMachine rounds old all new
+  pub stop : (n : ℕ) (rounds : List Round) (old new : Pair) (fault : LineFault) → StopsIn n rounds old fault new → StopsWithMachine rounds old new
+  pub first : (confirm : Confirm) (files : Batch) (st : State) (pair : Pair) → PairStands confirm files st pair → CommitsFirst files st pair
+  pub new_stand : NewStand
+
+-- ---- New ends
+
+abbrev pub batch_to_send : Pair → Batch
+batch_to_send pair = batch_of pair.sender.shape pair.sender.files
+
+abbrev pub confirm_of : Pair → Confirm
+confirm_of pair = pair.receiver.receiver.confirm
+
+pub new-stands : NewStand → (pair : Pair) → AreNew pair → PairStands (confirm_of pair) (batch_to_send pair) start pair
+new-stands stand pair new =
+    let made = stand (confirm_of pair) pair.sender.shape pair.sender.files pair.sender.frame pair.receiver.kept pair.receiver.failures pair.told pair.failures new.files new.tells new.few new.sink in
+    let with_sender = subst (λ s. PairStands (confirm_of pair) (batch_to_send pair) start (record {
+          sender = record { standing = s; shape = pair.sender.shape; files = pair.sender.files; frame = pair.sender.frame };
+          receiver = record { receiver = new_receiver (confirm_of pair); kept = pair.receiver.kept; failures = pair.receiver.failures };
+          told = pair.told;
+          failures = pair.failures;
+        })) (sym new.sender) made in
+    subst (λ r. PairStands (confirm_of pair) (batch_to_send pair) start (record {
+      sender = pair.sender;
+      receiver = record { receiver = r; kept = pair.receiver.kept; failures = pair.receiver.failures };
+      told = pair.told;
+      failures = pair.failures;
+    })) (sym new.receiver) with_sender
+
+-- ---- The bytes of a file as it is sent
+
+abbrev pub known : List ℕ → Option (List ℕ)
+known bytes = Some bytes
+
+source-bytes : Laws → (shape : Shape) (count : ℕ) (header : HeaderParts) (bytes : Option (List ℕ)) → IsHeader length_limit header →
+    IfSome bytes (λ all. length all ≡ header.length) → IsSome bytes → known (bytes_of (record { header = header; pieces = told_pieces shape count bytes })) ≡ bytes
+source-bytes laws shape count header None within sized told = absurd (cc)
+source-bytes laws shape count header (Some all) within sized told = ap known (laws.bytes shape header all (pieces_of shape all) within (sym sized) (laws.pieces shape all))
+
+pub all-bytes : Laws → (shape : Shape) (sources : List FileParts) → All IsFile sources → AllTold sources →
+    map (λ f. known (bytes_of (file_of shape f))) sources ≡ map (λ (f : FileParts). f.bytes) sources
+all-bytes laws shape [] files tells = refl
+all-bytes laws shape (source ∷ sources) files tells =
+    let file : IsFile source = files 0 source (omega arith) in
+    let tell : IsSome source.bytes = tells 0 source (omega arith) in
+    let here : known (bytes_of (file_of shape source)) ≡ source.bytes = source-bytes laws shape _ source.header source.bytes file.header file.bytes tell in
+    let others = all-bytes laws shape sources (λ k d below. files (suc k) d (omega (arith, below))) (λ k d below. tells (suc k) d (omega (arith, below))) in
+    rw (here, others) refl
+
+pub sent-bytes : Laws → (shape : Shape) (sources : List FileParts) (n : ℕ) → All IsFile sources → AllTold sources →
+    map known (map bytes_of (map (file_of shape) (take n sources))) ≡ map (λ (f : FileParts). f.bytes) (take n sources)
+sent-bytes laws shape sources n files tells =
+    ap (map known) (map-map bytes_of (file_of shape) (take n sources)) ∙ (map-map known (λ f. bytes_of (file_of shape f)) (take n sources)
+    ∙ (sym (take-map (λ f. known (bytes_of (file_of shape f))) n sources)
+    ∙ (ap (take n) (all-bytes laws shape sources files tells) ∙ take-map (λ (f : FileParts). f.bytes) n sources)))
+
+-- ---- What was committed
+
+-- the first list is no longer
+prefix-long : {A : Type 0} → (front all : List A) → IsPrefix front all → length front ≤ length all
+prefix-long front all first =
+    let long : length front ≡ min (length front) (length all) = sym (ap length first) ∙ length-take (length front) all in
+    omega (arith, long)
+
+pub commits-prefix : Laws → (shape : Shape) (sources : List FileParts) (st : State) (pair : Pair) → All IsFile sources → AllTold sources →
+    CommitsFirst (batch_of shape sources) st pair → CommitsAPrefix sources pair
+commits-prefix laws shape sources st pair files tells commits =
+    let batch : Batch = batch_of shape sources in
+    let n : ℕ = length (committed batch st) in
+    let committed_is : committed batch st ≡ map (file_of shape) (take n sources) = sym commits.first ∙ take-map (file_of shape) n sources in
+    let within : n ≤ length batch = prefix-long (committed batch st) batch commits.first in
+    let among : length (reported batch st) ≤ n = prefix-long (reported batch st) (committed batch st) commits.among in
+    let long : length batch ≡ length sources = length-map sources (file_of shape) in
+    let done_is : done_at (length pair.sender.files) pair.sender.standing.place ≡ length (reported batch st) = commits.done_is in
+    record {
+      number = n;
+      within = subst (λ m. n ≤ m) long within;
+      headers = commits.headers ∙ (ap (map (λ (f : File HeaderParts). f.header)) committed_is ∙ map-map (λ (f : File HeaderParts). f.header) (file_of shape) (take n sources));
+      bytes = λ told told_is. ap (map known) (commits.bytes told told_is ∙ ap (map bytes_of) committed_is) ∙ sent-bytes laws shape sources n files tells;
+      files_is = commits.files_is;
+      done = subst (λ m. m ≤ n) (sym done_is) among;
+    }
+
+pub run-of : Laws → (rounds : List Round) (old new : Pair) (trace : Trace) → IsTrace rounds old trace new → AreNew old →
+    RunsAsMachine (confirm_of old) (batch_to_send old) start rounds old trace.rounds.items new
+run-of laws rounds old new trace gives fresh = laws.go_on rounds old new trace.rounds.items gives.goes_on (confirm_of old) (batch_to_send old) start (new-stands laws.new_stand old fresh)
+
+stopped-commits : Laws → (rounds : List Round) (old new : Pair) → AreNew old → StopsAsMachine (confirm_of old) (batch_to_send old) start rounds new → CommitsAPrefix old.sender.files new
+stopped-commits laws rounds old new fresh stops = elim stops.stands [
+  | inl stands ↦ commits-prefix laws old.sender.shape old.sender.files _ new fresh.files fresh.tells (laws.first (confirm_of old) (batch_to_send old) _ new stands)
+  | inr half ↦ commits-prefix laws old.sender.shape old.sender.files _ new fresh.files fresh.tells (laws.first (confirm_of old) (batch_to_send old) _ new half.2)
+]
+
+pub run-commits : Laws → (rounds : List Round) (old new : Pair) (result : Result Trace LineFault) → RunGives rounds old result new → AreNew old → CommitsAPrefix old.sender.files new
+run-commits laws rounds old new (Ok trace) gives fresh =
+    let runs = run-of laws rounds old new trace gives fresh in
+    commits-prefix laws old.sender.shape old.sender.files _ new fresh.files fresh.tells (laws.first (confirm_of old) (batch_to_send old) _ new runs.stands)
+run-commits laws rounds old new (Err fault) gives fresh =
+    stopped-commits laws rounds old new fresh (laws.stop 1 rounds old new fault gives (confirm_of old) (batch_to_send old) start (new-stands laws.new_stand old fresh))
+
+pub run-reports : Laws → (rounds : List Round) (old new : Pair) (trace : Trace) → IsTrace rounds old trace new → AreNew old → ReportsCommitted trace new
+run-reports laws rounds old new trace gives fresh =
+    let commits = run-commits laws rounds old new (Ok trace) gives fresh in
+    let headers_long : length new.receiver.kept.headers ≡ min commits.number (length old.sender.files) =
+        ap length commits.headers ∙ (length-map (take commits.number old.sender.files) (λ (f : FileParts). f.header) ∙ length-take commits.number old.sender.files) in
+    let files_is : trace.files ≡ commits.number = gives.files ∙ commits.files_is in
+    let done : trace.done ≤ commits.number = subst (λ m. m ≤ commits.number) (sym gives.done) commits.done in
+    let within : commits.number ≤ length old.sender.files = commits.within in
+    record {
+      files_is = omega (arith, headers_long, files_is, within);
+      done = omega (arith, headers_long, done, within);
+    }

@@ -1,0 +1,75 @@
+-- Runs of new ends in which damage comes in short bursts: how they go on, and when they finish.
+--
+-- The bounds are this profile's choice; that an end gives up at its tenth error in a row is the reference's ("XMODEM Protocol Overview").
+use Rattle.std.specs.Prelude.{◌≡◌, ◌≢◌, ◌≤◌, ◌<◌, ◌⊎◌, ℕ, ◌+◌, ◌&&◌, max, Bool, true, if◌then◌else◌, List, [], ◌∷◌, length, map, Some}
+use Rattle.ym_file.specs.Counts.{Rose}
+use Rattle.ym_file.specs.Kept.{Told}
+use Rattle.ym_link.specs.SourceFile.{FileParts, file_at}
+use Rattle.ym_link.specs.declared.state.SendState.TheVariants as sender
+use Rattle.ym_link.specs.declared.state.RecvState.TheVariants as receiver
+use Rattle.ym_line.specs.declared.delivery.Round.{Round}
+use Rattle.ym_line.specs.declared.trace.Trace.{Trace}
+use Rattle.ym_line.specs.Needed.{rounds_of}
+use Rattle.ym_line.specs.Promise.{AreNew}
+use Rattle.ym_line.specs.Rounds.{Pair}
+use Rattle.ym_line.specs.Turns.{is_whole}
+
+-- ---- Whole rounds and bad runs
+
+-- a round is whole where both deliveries are; else it is bad
+abbrev pub both_whole : Round → Bool
+both_whole round = is_whole round.there && is_whole round.back
+
+-- how many rounds are whole
+abbrev pub whole_rounds : List Round → ℕ
+whole_rounds [] = 0
+whole_rounds (round ∷ rounds) = if both_whole round then whole_rounds rounds + 1 else whole_rounds rounds
+
+abbrev pub AllWhole : List Round → Type 0
+AllWhole [] = Unit {0}
+AllWhole (round ∷ rounds) = (both_whole round ≡ true) × AllWhole rounds
+
+-- the length of the longest bad run, of bad rounds one behind another, where so many bad rounds went before
+abbrev pub longest_bad_run : ℕ → List Round → ℕ
+longest_bad_run before [] = before
+longest_bad_run before (round ∷ rounds) =
+    if both_whole round then max before (longest_bad_run 0 rounds) else longest_bad_run (before + 1) rounds
+
+-- ---- What is promised of them
+
+-- no failure count rose, neither the sink's nor that of any file's source
+pub record NoneRose (old new : Pair) : Type 0 where
+  pub sink : ¬ Rose old.receiver.failures new.receiver.failures
+  pub sources : (i : ℕ) → i < length old.sender.files → ¬ Rose (file_at old.sender.files i).failures (file_at new.sender.files i).failures
+
+-- how many whole rounds these ends need
+abbrev pub rounds_for : Pair → ℕ
+rounds_for pair = rounds_of pair.sender.shape pair.receiver.receiver.confirm pair.sender.files
+
+-- neither end gave up, was cancelled or has failed, and the count of one that runs is at most 9
+pub record AreGoing (trace : Trace) (pair : Pair) : Type 0 where
+  pub send : (trace.send ≡ sender.Running) ⊎ (trace.send ≡ sender.Finished)
+  pub recv : (trace.recv ≡ receiver.Running) ⊎ (trace.recv ≡ receiver.Finished)
+  pub sender_count : trace.send ≡ sender.Running → pair.sender.standing.misses ≤ 9
+  pub receiver_count : trace.recv ≡ receiver.Running → pair.receiver.receiver.count ≤ 9
+
+-- both ends have finished, and the whole batch is committed and reported
+pub record HaveFinished (batch : List FileParts) (trace : Trace) (pair : Pair) : Type 0 where
+  pub send : trace.send ≡ sender.Finished
+  pub recv : trace.recv ≡ receiver.Finished
+  pub done : trace.done ≡ length batch
+  pub files : trace.files ≡ length batch
+  pub headers : pair.receiver.kept.headers ≡ map (λ (f : FileParts). f.header) batch
+  pub bytes : (told : Told) → pair.receiver.kept.told ≡ Some told → map (λ (bytes : List ℕ). Some bytes) told.files ≡ map (λ (f : FileParts). f.bytes) batch
+
+-- where no bad run is longer than four rounds, neither end gives up
+abbrev pub NeitherGivesUp : List Round → Pair → Trace → Pair → Type 0
+NeitherGivesUp rounds old trace new = AreNew old → NoneRose old new → longest_bad_run 0 rounds ≤ 4 → AreGoing trace new
+
+-- where the list also holds as many whole rounds as the batch needs, in any places, both ends finish
+abbrev pub BothFinish : List Round → Pair → Trace → Pair → Type 0
+BothFinish rounds old trace new = AreNew old → NoneRose old new → longest_bad_run 0 rounds ≤ 4 → rounds_for old ≤ whole_rounds rounds → HaveFinished old.sender.files trace new
+
+-- with whole rounds alone, and fewer than the batch needs, the sender has not finished
+abbrev pub NotSooner : List Round → Pair → Trace → Pair → Type 0
+NotSooner rounds old trace new = AreNew old → NoneRose old new → AllWhole rounds → length rounds < rounds_for old → trace.send ≢ sender.Finished
