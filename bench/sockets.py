@@ -11,6 +11,7 @@ usage: bench/sockets.py [PROGRAM]     (default: the environment variable YMODEM,
 
 import ctypes
 import os
+import random
 import re
 import shutil
 import struct
@@ -27,7 +28,7 @@ MIB = 1 << 20
 BLOCKS_PER_MIB = 1024
 SIZES = (1, 16, 64)
 TURNS = 3
-PORTS = iter(range(19001, 20000))
+PORTS = iter(random.Random(os.getpid()).sample(range(20000, 32000), 500))
 NAME = "file"
 IN_CREATE = 0x100
 C = ctypes.CDLL(None, use_errno=True)

@@ -8,8 +8,7 @@ import subprocess
 import threading
 import time
 
-from program import folders, free_port, running, wants_stored, write_files
-from relay import connected
+from program import connected, folders, free_port, running, wants_stored, write_files
 
 LIMIT = 90
 

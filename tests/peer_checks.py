@@ -7,8 +7,8 @@ import struct
 import threading
 import time
 
-from program import folders, free_port, run, running, wants_stored, write_files
-from relay import ACK, CAN, DELIVERY, EOT, NAK, START, block, connected
+from program import connected, folders, free_port, run, running, wants_stored, write_files
+from relay import ACK, CAN, DELIVERY, EOT, NAK, START, block
 
 CANCEL = bytes((CAN, CAN))
 JUNK = bytes(DELIVERY)

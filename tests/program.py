@@ -2,6 +2,7 @@
 
 import contextlib
 import os
+import random
 import socket
 import subprocess
 import tempfile
@@ -14,12 +15,16 @@ PROGRAM = os.path.abspath(os.environ.get("YMODEM", os.path.join(ROOT, "crates", 
 # Seconds that a child may take where a check says nothing else.
 LIMIT = 60
 
-PORTS = iter(range(20011, 32000, 7))
+# When the whole run is over: what is still running then has failed.
+OVER = time.monotonic() + 175
+
+# Below those that the system gives away by itself, and other ones in each run.
+PORTS = iter(random.Random(os.getpid()).sample(range(20000, 32000), 2000))
 PORTS_LOCK = threading.Lock()
 
 
 def free_port():
-    """A port of 127.0.0.1 that nobody has, below those that the system gives away by itself. None is given twice."""
+    """A port of 127.0.0.1 that nobody has. None is given twice."""
     with PORTS_LOCK:
         for port in PORTS:
             with contextlib.suppress(OSError), socket.create_server(("127.0.0.1", port)):
@@ -52,13 +57,13 @@ class Child:
         self.child = subprocess.Popen(words, stdin=given_file, stdout=out, stderr=subprocess.PIPE)
 
     def ended(self):
-        left = max(self.began + self.limit - time.monotonic(), 0.1)
+        left = max(min(self.began + self.limit, OVER) - time.monotonic(), 0.1)
         try:
             out, err = self.child.communicate(self.given, timeout=left)
         except subprocess.TimeoutExpired:
             self.child.kill()
             self.child.communicate()
-            raise AssertionError("%s ran past its limit of %d s" % (self.words[0], self.limit)) from None
+            raise AssertionError("%s ran past its limit of %d s, or past the end of all" % (self.words[0], self.limit)) from None
         seconds = time.monotonic() - self.began
         return Ending(self.words, self.child.returncode, (out or b"").decode(), err.decode(), seconds)
 
@@ -81,6 +86,18 @@ def running(*words, **how):
 def run(*words, **how):
     with running(*words, **how) as child:
         return child.ended()
+
+
+def connected(port, seconds=10):
+    """A connection to whoever listens at this port soon."""
+    until = min(time.monotonic() + seconds, OVER)
+    while True:
+        try:
+            return socket.create_connection(("127.0.0.1", port), timeout=LIMIT)
+        except ConnectionRefusedError:
+            if time.monotonic() > until:
+                raise AssertionError("nobody listens at the port of receive") from None
+            time.sleep(0.02)
 
 
 @contextlib.contextmanager

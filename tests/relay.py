@@ -14,7 +14,8 @@ import random
 import select
 import socket
 import threading
-import time
+
+from program import connected
 
 SOH, STX, EOT, ACK, NAK, CAN, START = 0x01, 0x02, 0x04, 0x06, 0x15, 0x18, 0x43
 CONTROLS = bytes((ACK, NAK, CAN, START))
@@ -271,15 +272,3 @@ def hand(end, data):
             end.sendall(data)
         except (BrokenPipeError, ConnectionResetError):
             pass  # it has ended; its report tells why
-
-
-def connected(port, seconds=20):
-    """A connection to whoever listens at this port soon."""
-    until = time.monotonic() + seconds
-    while True:
-        try:
-            return socket.create_connection(("127.0.0.1", port), timeout=60)
-        except ConnectionRefusedError:
-            if time.monotonic() > until:
-                raise
-            time.sleep(0.02)
