@@ -1,5 +1,5 @@
 -- What one or two controls are read as.
-use Rattle.std.proofs.Common.{ℕ, ◌≡◌, ◌≢◌, List, [], ◌∷◌, true, false, refl, ap, sym, ◌∙◌, subst, cond}
+use Rattle.std.proofs.Common.{ℕ, ◌≡◌, ◌≢◌, List, [], ◌∷◌, true, false, refl, ap, sym, ◌∙◌, cond}
 use Rattle.std.specs.Prelude.{is_some}
 use Rattle.ym_frame.specs.declared.control.Control.{Control}
 use Rattle.ym_frame.specs.declared.control.Control.TheVariants.{Ack, Nak, Start, Can}

@@ -68,21 +68,6 @@ fn new_sender(alloc: Global) -> Result<Sender, Fail> {
     Ok(Sender::new(batch, Shape::Short).map_err(|_| "batch")?)
 }
 
-/// A sender at a frame of the batch, waiting or not, after so many deliveries without progress.
-fn sender_at(alloc: Global, frame: usize, mode: Mode, misses: usize) -> Result<Sender, Fail> {
-    let mut sender = new_sender(alloc)?;
-    for _ in 0..frame {
-        sender.skip();
-    }
-    if mode == Mode::Sent {
-        sender.hear(&[0x43]);
-    }
-    for _ in 0..misses {
-        sender.hear(&[]);
-    }
-    Ok(sender)
-}
-
 /// Whether a delivery of at most two control bytes does to a sender what the table says.
 fn hears_alike(alloc: Global, sender: &mut Sender, bytes: &[u8]) -> Result<bool, Fail> {
     let first = bytes.first().copied().and_then(|byte| control_of(byte));
@@ -111,12 +96,23 @@ fn delivery(index: usize) -> ([u8; 2], usize)
     ([CONTROLS[pair / 4], CONTROLS[pair % 4]], 2)
 }
 
-/// Compares each delivery, and one more behind it, at one state of a sender.
+/// Compares each delivery, and one more behind it, at one frame of the batch: waiting or not, after so many empty
+/// deliveries.
 fn compare_sender(alloc: Global, frame: usize, mode: Mode, misses: usize) -> Result<bool, Fail> {
     for index in 0..272 {
-        let mut sender = sender_at(alloc, frame, mode, misses)?;
+        let mut sender = new_sender(alloc)?;
+        for _ in 0..frame {
+            sender.skip();
+        }
+        let mut alike = true;
+        if mode == Mode::Sent {
+            alike = hears_alike(alloc, &mut sender, &[0x43])?;
+        }
+        for _ in 0..misses {
+            alike = alike && hears_alike(alloc, &mut sender, &[])?;
+        }
         let (bytes, count) = delivery(index);
-        let alike = hears_alike(alloc, &mut sender, &bytes[..count])?;
+        alike = alike && hears_alike(alloc, &mut sender, &bytes[..count])?;
         if !alike || !hears_alike(alloc, &mut sender, &[0x06, 0x43])? {
             return Ok(false);
         }
