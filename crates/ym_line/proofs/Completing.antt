@@ -157,11 +157,11 @@ run-going laws completion rounds old new trace gives fresh none short =
       send = sender-going st.sender trace.send ran_so.send_is goes.0;
       recv = receiver-going st.receiver trace.recv ran_so.recv_is goes.1;
       sender_count = λ running.
-        let runs : st.sender ≡ SenderEnd.Running = sender-runs st.sender (sym ran_so.send_is ∙ running) in
-        subst (λ n. n ≤ 9) (sym (ran_so.runs.stands.sender.standing.misses runs)) (counts.sender_count runs);
+          let runs : st.sender ≡ SenderEnd.Running = sender-runs st.sender (sym ran_so.send_is ∙ running) in
+          subst (λ n. n ≤ 9) (sym (ran_so.runs.stands.sender.standing.misses runs)) (counts.sender_count runs);
       receiver_count = λ running.
-        let runs : st.receiver ≡ ReceiverEnd.Running = receiver-runs st.receiver (sym ran_so.recv_is ∙ running) in
-        subst (λ n. n ≤ 9) (sym (ap (λ (r : Receiver). r.count) (ran_so.runs.stands.receiver.running runs))) (counts.receiver_count runs);
+          let runs : st.receiver ≡ ReceiverEnd.Running = receiver-runs st.receiver (sym ran_so.recv_is ∙ running) in
+          subst (λ n. n ≤ 9) (sym (ap (λ (r : Receiver). r.count) (ran_so.runs.stands.receiver.running runs))) (counts.receiver_count runs);
     }
 
 pub run-complete : Laws → Completion → (rounds : List Round) (old new : Pair) (trace : Trace) → IsTrace rounds old trace new → BothFinish rounds old trace new
@@ -173,7 +173,7 @@ run-complete laws completion rounds old new trace gives fresh none short enough 
     let sources : List FileParts = old.sender.files in
     let brief : machine.longest_bad_run 0 turns ≤ 4 = subst (λ n. n ≤ 4) (sym (ran_so.same.longest 0)) short in
     let many : rounds_needed (confirm_of old) (batch_to_send old) ≤ machine.whole_turns turns =
-        subst (λ n. n ≤ machine.whole_turns turns) (sym (needed-is completion old fresh)) (subst (λ n. rounds_for old ≤ n) (sym ran_so.same.whole) enough) in
+    subst (λ n. n ≤ machine.whole_turns turns) (sym (needed-is completion old fresh)) (subst (λ n. rounds_for old ≤ n) (sym ran_so.same.whole) enough) in
     let complete : IsComplete (batch_to_send old) st = completion.complete (batch_to_send old) (confirm_of old) turns ran_so.runs.damage ran_so.none brief many in
     record {
       send = ran_so.send_is ∙ ap sender.state_of complete.sender;
@@ -191,5 +191,5 @@ run-sooner laws completion rounds old new trace gives fresh none whole fewer =
     let turns : List Turn = ran_so.runs.turns in
     let st : State = after old turns in
     let few : length turns < rounds_needed (confirm_of old) (batch_to_send old) =
-        subst (λ n. length turns < n) (sym (needed-is completion old fresh)) (subst (λ n. n < rounds_for old) (sym ran_so.same.long) fewer) in
+    subst (λ n. length turns < n) (sym (needed-is completion old fresh)) (subst (λ n. n < rounds_for old) (sym ran_so.same.long) fewer) in
     λ finished. completion.running (batch_to_send old) (confirm_of old) turns (ran_so.same.all_whole whole) ran_so.none few (sender-finished st.sender (sym ran_so.send_is ∙ finished))

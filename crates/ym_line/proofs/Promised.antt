@@ -60,11 +60,11 @@ pub new-stands : NewStand → (pair : Pair) → AreNew pair → PairStands (conf
 new-stands stand pair new =
     let made = stand (confirm_of pair) pair.sender.shape pair.sender.files pair.sender.frame pair.receiver.kept pair.receiver.failures pair.told pair.failures new.files new.tells new.few new.sink in
     let with_sender = subst (λ s. PairStands (confirm_of pair) (batch_to_send pair) start (record {
-          sender = record { standing = s; shape = pair.sender.shape; files = pair.sender.files; frame = pair.sender.frame };
-          receiver = record { receiver = new_receiver (confirm_of pair); kept = pair.receiver.kept; failures = pair.receiver.failures };
-          told = pair.told;
-          failures = pair.failures;
-        })) (sym new.sender) made in
+      sender = record { standing = s; shape = pair.sender.shape; files = pair.sender.files; frame = pair.sender.frame };
+      receiver = record { receiver = new_receiver (confirm_of pair); kept = pair.receiver.kept; failures = pair.receiver.failures };
+      told = pair.told;
+      failures = pair.failures;
+    })) (sym new.sender) made in
     subst (λ r. PairStands (confirm_of pair) (batch_to_send pair) start (record {
       sender = pair.sender;
       receiver = record { receiver = r; kept = pair.receiver.kept; failures = pair.receiver.failures };
@@ -147,7 +147,7 @@ pub run-reports : Laws → (rounds : List Round) (old new : Pair) (trace : Trace
 run-reports laws rounds old new trace gives fresh =
     let commits = run-commits laws rounds old new (Ok trace) gives fresh in
     let headers_long : length new.receiver.kept.headers ≡ min commits.number (length old.sender.files) =
-        ap length commits.headers ∙ (length-map (take commits.number old.sender.files) (λ (f : FileParts). f.header) ∙ length-take commits.number old.sender.files) in
+    ap length commits.headers ∙ (length-map (take commits.number old.sender.files) (λ (f : FileParts). f.header) ∙ length-take commits.number old.sender.files) in
     let files_is : trace.files ≡ commits.number = gives.files ∙ commits.files_is in
     let done : trace.done ≤ commits.number = subst (λ m. m ≤ commits.number) (sym gives.done) commits.done in
     let within : commits.number ≤ length old.sender.files = commits.within in

@@ -42,14 +42,14 @@ tells-grew false a b same = omega (arith, same)
 failed-grew : (at : ℕ) (old new : List FileParts) → FailedAt at old new → (i : ℕ) → (file_at old i).failures ≤ (file_at new i).failures
 failed-grew at old new failed i = elim (cases_eq i at) [
   | inl same ↦
-    let set_is : file_at new at ≡ record (file_at old at) { failures = failed.failures } = ap (λ l. file_at l at) failed.after ∙ get_or-set_same old at _ no_file failed.within in
-    let counts : (file_at new at).failures ≡ failed.failures = ap (λ (f : FileParts). f.failures) set_is in
-    let grew : (file_at old at).failures ≤ (file_at new at).failures = omega (arith, counts, rose-grew (file_at old at).failures failed.failures failed.rose) in
-    subst (λ j. (file_at old j).failures ≤ (file_at new j).failures) (sym same) grew
+      let set_is : file_at new at ≡ record (file_at old at) { failures = failed.failures } = ap (λ l. file_at l at) failed.after ∙ get_or-set_same old at _ no_file failed.within in
+      let counts : (file_at new at).failures ≡ failed.failures = ap (λ (f : FileParts). f.failures) set_is in
+      let grew : (file_at old at).failures ≤ (file_at new at).failures = omega (arith, counts, rose-grew (file_at old at).failures failed.failures failed.rose) in
+      subst (λ j. (file_at old j).failures ≤ (file_at new j).failures) (sym same) grew
   | inr other ↦
-    let kept_is : file_at new i ≡ file_at old i = ap (λ l. file_at l i) failed.after ∙ get_or-set_other old at i _ no_file other in
-    let counts : (file_at new i).failures ≡ (file_at old i).failures = ap (λ (f : FileParts). f.failures) kept_is in
-    omega (arith, counts)
+      let kept_is : file_at new i ≡ file_at old i = ap (λ l. file_at l i) failed.after ∙ get_or-set_other old at i _ no_file other in
+      let counts : (file_at new i).failures ≡ (file_at old i).failures = ap (λ (f : FileParts). f.failures) kept_is in
+      omega (arith, counts)
 ]
 
 sources-grew : (failed : Bool) (old new : List FileParts) → IsSourceTruth failed old new → (i : ℕ) → (file_at old i).failures ≤ (file_at new i).failures
