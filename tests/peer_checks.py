@@ -1,7 +1,6 @@
 """Peers that misbehave, and words that are refused: how the program ends then, and how soon."""
 
 import contextlib
-import os
 import socket
 import struct
 import threading
