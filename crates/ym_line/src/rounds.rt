@@ -167,6 +167,12 @@ pub fn round<S: Source, K: Sink, C: Carrier>(
 
 /// All rounds of a list, in order, also those after both ends have ended. A fault leaves what the rounds before it did, and what the steps
 /// before it did in its own round; rounds are numbered from 1.
+///
+/// From new ends, whatever is lost or damaged, the committed files are the first ones of the batch, each exact, and what the sender reports is among them
+/// (`commits`, `reports`), and damage in short bursts cannot stop the batch (`neither_gives_up`, `both_finish`, `not_sooner`). From any ends that stand at a
+/// state of the machine of two counters, the rounds are turns of that machine (`machine`, `stopped`). All this rests on these premises: damage shows, and
+/// other damage is refused here by `NotDamage` and `TooLong`; the sources tell their bytes, and source, sink and carrier keep the contracts of their traits;
+/// and, outside this program, a delivery belongs to its round.
 pub fn run<S: Source, K: Sink, C: Carrier>(
     alloc: Global,
     sender: &mut SenderFrom<S>,
