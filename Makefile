@@ -32,6 +32,7 @@ install: build
 bench: build
 	bench/play.py
 	bench/sockets.py
+	bench/ends.py
 
 clean:
 	rm -rf crates/*/out out
