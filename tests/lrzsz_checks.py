@@ -45,8 +45,19 @@ def pumped(child, end):
         pass  # the program has ended; its report tells why
 
 
-def lrzsz(words, folder):
-    return subprocess.Popen(words, cwd=folder, stdin=subprocess.PIPE, stdout=subprocess.PIPE, stderr=subprocess.DEVNULL)
+def beside_lrzsz(words, folder, end, program):
+    """Runs `sb` or `rb` on a connection, and answers how the program at its other side has ended."""
+    child = subprocess.Popen(words, cwd=folder, stdin=subprocess.PIPE, stdout=subprocess.PIPE, stderr=subprocess.DEVNULL)
+    threading.Thread(target=pumped, args=(child, end), daemon=True).start()
+    try:
+        ended = program.ended()
+        status = child.wait(20)
+    finally:
+        child.kill()
+        child.wait()
+    if status:
+        raise AssertionError("%s ended with status %d, the program with %d: %r" % (words[0], status, ended.status, ended.err))
+    return ended
 
 
 def from_sb(*flags, receive_flags=(), late=0):
@@ -62,20 +73,10 @@ def from_sb(*flags, receive_flags=(), late=0):
             port = free_port()
             with running("receive", "--port", port, *receive_flags, there, limit=LIMIT) as receive, connected(port) as end:
                 time.sleep(late)
-                child = lrzsz(["sb", *flags, *(name for name, _ in batch)], here)
-                pump = threading.Thread(target=pumped, args=(child, end), daemon=True)
-                pump.start()
-                try:
-                    ended = receive.ended()
-                    status = child.wait(20)
-                finally:
-                    child.kill()
-                    child.wait()
+                ended = beside_lrzsz(["sb", *flags, *(name for name, _ in batch)], here, end, receive)
             lines = "".join("file %s %d %o 100644\n" % (name, len(data), 1234567890) for name, data in batch)
             ended.wants(0, lines + "receiver files %d finished\n" % len(batch))
             wants_stored(there, batch)
-            if status:
-                raise AssertionError("sb ended with status %d" % status)
 
     return check
 
@@ -89,19 +90,9 @@ def to_rb(*flags):
             with running("send", "--port", listener.getsockname()[1], *flags, *paths, limit=LIMIT) as send:
                 end, _ = listener.accept()
                 with end:
-                    child = lrzsz(["rb"], there)
-                    pump = threading.Thread(target=pumped, args=(child, end), daemon=True)
-                    pump.start()
-                    try:
-                        ended = send.ended()
-                        status = child.wait(20)
-                    finally:
-                        child.kill()
-                        child.wait()
+                    ended = beside_lrzsz(["rb"], there, end, send)
             ended.wants(0, "sender done %d finished\n" % len(batch))
             wants_stored(there, batch)
-            if status:
-                raise AssertionError("rb ended with status %d" % status)
 
     return check
 
