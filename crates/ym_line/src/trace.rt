@@ -97,9 +97,13 @@ impl fmt::Display for How {
 /// deliveries were given.
 #[derive(Clone, Copy, Debug, PartialEq, Eq)]
 pub struct Seen {
+    /// What the sender had to send.
     pub what: What,
+    /// How the delivery to the receiver was given.
     pub there: How,
+    /// What the receiver replied.
     pub reply: Reply,
+    /// How the delivery to the sender was given.
     pub back: How,
 }
 

@@ -26,8 +26,11 @@ pub enum Stop {
 /// Where the reading of a delivery has come to.
 #[derive(Clone, Copy, Debug, PartialEq, Eq)]
 pub struct Reading {
+    /// The frame that is out or to go.
     pub place: Place,
+    /// Whether that frame is out.
     pub mode: Mode,
+    /// What ended the reading, where something has.
     pub stop: Option<Stop>,
 }
 

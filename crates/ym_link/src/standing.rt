@@ -18,10 +18,13 @@ const MOST_MISSES: u8 = 10;
 /// Where a sender stands.
 #[derive(Clone, Copy, Debug, PartialEq, Eq)]
 pub struct Standing {
+    /// The frame that is out or to go.
     pub place: Place,
+    /// Whether that frame is out.
     pub mode: Mode,
     /// Deliveries in a row without progress.
     pub misses: u8,
+    /// Whether it runs, or how it has ended.
     pub state: SendState,
     /// CAN CAN is still to go.
     pub farewell: bool,
@@ -30,6 +33,7 @@ pub struct Standing {
 /// What a delivery leads to.
 #[derive(Clone, Copy, Debug, PartialEq, Eq)]
 pub struct Step {
+    /// Where the sender stands behind it.
     pub standing: Standing,
     /// The place whose frame becomes the sent one.
     pub fills: Option<Place>,

@@ -72,7 +72,9 @@ impl fmt::Display for RecvWords {
 /// How a sender has ended, and how many files were acknowledged: `sender done D STATE`.
 #[derive(Clone, Copy)]
 pub struct SenderLine {
+    /// Files acknowledged.
     pub done: usize,
+    /// How the sender has ended.
     pub state: SendState,
 }
 
@@ -89,7 +91,9 @@ impl fmt::Display for SenderLine {
 /// How a receiver has ended, and how many files were committed: `receiver files M STATE`.
 #[derive(Clone, Copy)]
 pub struct ReceiverLine {
+    /// Files committed.
     pub files: usize,
+    /// How the receiver has ended.
     pub state: RecvState,
 }
 

@@ -12,10 +12,15 @@ use ym_machine::Confirm;
 /// A receiver apart from its sink.
 #[derive(Clone, Copy, Debug, PartialEq, Eq)]
 pub(crate) struct Stand {
+    /// Whether a first EOT is questioned.
     pub confirm: Confirm,
+    /// What it waits for.
     pub stage: Stage,
+    /// Files committed.
     pub files: usize,
+    /// Deliveries in a row without progress.
     pub count: u8,
+    /// Whether it runs, or how it has ended.
     pub state: RecvState,
 }
 
