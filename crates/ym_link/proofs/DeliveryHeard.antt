@@ -23,8 +23,8 @@ verdict-bad (Ok found) h = absurd cc
 verdict-bad (Err broken) h = (refl, refl)
 
 -- what the delivery is, and the port behind it
-pub heard-out : (t : Tape) (new : Option Tape) (h : Result Heard EndFault) (delivery : Result (List ℕ) EndFault) (rest : List Event) (written : List ℕ)
+pub heard-out : (t new : Tape) (h : Result Heard EndFault) (delivery : Result (List ℕ) EndFault) (rest : List Event) (written : List ℕ)
     → delivery_at t ≡ record { delivery = delivery; rest = rest } → h ≡ heard_in delivery → written ≡ t.written
-    → new ≡ Some (record { coming = rest; written = written })
-    → (h ≡ heard_in (delivery_at t).delivery) × (new ≡ Some (behind t))
+    → new ≡ record { coming = rest; written = written }
+    → (h ≡ heard_in (delivery_at t).delivery) × (new ≡ behind t)
 heard-out t new h delivery rest written is heard wrote leaves = (rw is heard, rw (is, ← wrote) leaves)

@@ -1,5 +1,5 @@
 -- A delivery, by one read after another.
-use Rattle.std.proofs.Common.{◌≡◌, ◌<◌, ◌≤◌, ◌+◌, ◌-◌, ℕ, Bool, true, false, nat_lt, nat_le, List, [], ◌∷◌, ◌++◌, length, take, drop, Option, Some, Result, Ok, Err, if◌then◌else◌, refl, sym, ◌∙◌, ap, arith}
+use Rattle.std.proofs.Common.{◌≡◌, ◌<◌, ◌≤◌, ◌+◌, ◌-◌, ℕ, Bool, true, false, nat_lt, nat_le, List, [], ◌∷◌, ◌++◌, length, take, drop, Result, Ok, Err, if◌then◌else◌, refl, sym, ◌∙◌, ap, arith}
 use Rattle.std.proofs.lemmas.Bool.{cond_both, le-leb, lt-leb}
 use Rattle.std.proofs.lemmas.List.{length-append, length-drop, length-take-le, take-append-le}
 use Rattle.std.proofs.Math.Seq.{take-append-add}
@@ -72,10 +72,10 @@ module _ (ends : List ℕ → Bool) where
       rw (brings, is_room) (before ∙ (onward-open had coming less ∙ taken-step had coming less))
 
 -- the delivery that ends with a read, and the port behind it
-pub way-out : (t : Tape) (new : Option Tape) (whole : Taken) (delivery : Result (List ℕ) EndFault) (rest : List Event) (written : List ℕ)
+pub way-out : (t new : Tape) (whole : Taken) (delivery : Result (List ℕ) EndFault) (rest : List Event) (written : List ℕ)
     → whole ≡ record { delivery = delivery; rest = rest } → written ≡ t.written
-    → new ≡ Some (record { coming = rest; written = written })
-    → (delivery ≡ whole.delivery) × (new ≡ Some (record { coming = whole.rest; written = t.written }))
+    → new ≡ record { coming = rest; written = written }
+    → (delivery ≡ whole.delivery) × (new ≡ record { coming = whole.rest; written = t.written })
 way-out t new whole delivery rest written is wrote leaves = (rw is refl, rw (is, ← wrote) leaves)
 
 -- what stands in the buffer behind a read of n bytes into its part from len on

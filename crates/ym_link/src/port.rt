@@ -1,6 +1,6 @@
 //! What an engine asks of a port, and what a port answers.
 
-ghost use Rattle.std.specs.Prelude.{◌≡◌, ◌<◌, ◌≤◌, ℕ, Option, Some, Ok, OnOk, OnErr, length, is_ok};
+ghost use Rattle.std.specs.Prelude.{◌≡◌, ◌<◌, ◌≤◌, ℕ, Ok, OnOk, OnErr, length, is_ok};
 ghost use Rattle.ym_link.specs.Port.{Tape, seen_of, read_gives, read_leaves, after_write};
 ghost use Rattle.ym_file.specs.Counts.{Rose};
 
@@ -33,8 +33,10 @@ pub struct PortFault;
 
 /// A line as one end has it: bytes are read from it and written to it.
 pub trait Port {
-    /// What is still to come and what was written so far, where they are known.
-    ghost tape: { Self → Option Tape };
+    /// The tapes that it may turn out to have: what is still to come, and what was written so far. A port that knows both has exactly one;
+    /// one that passes on what another port brings may have several, as long as it is open what will be written; and of a device nobody
+    /// knows any.
+    ghost tells: { Self → Tape → Type 0 };
 
     /// How often a call failed. At its greatest value the count stays.
     ghost failures: { Self → ℕ };
@@ -43,16 +45,15 @@ pub trait Port {
     fn read(&mut self, wait: Wait, buf: &mut [u8]) -> Result<Got, PortFault>
         requires { 0 < length buf.old }
         ensures count { (n : ℕ) → result ≡ Ok (Got.Bytes n) → (0 < n) × (n ≤ length buf.old) }
-        ensures told { (t : Tape) → tape self.old ≡ Some t →
-            (seen_of result buf.new ≡ read_gives (length buf.old) t.coming)
-            × (tape self.new ≡ Some (record t { coming = read_leaves (length buf.old) t.coming })) }
+        ensures told { (u : Tape) → tells self.new u → (t : Tape) × tells self.old t
+            × (seen_of result buf.new ≡ read_gives (length buf.old) t.coming)
+            × (u ≡ record t { coming = read_leaves (length buf.old) t.coming }) }
         ensures ok { OnOk result (failures self.new ≡ failures self.old) }
         ensures failed { OnErr result (Rose (failures self.old) (failures self.new)) };
 
     /// Writes all the bytes, or fails, and then none of them counts as written.
     fn write(&mut self, bytes: &[u8]) -> Result<(), PortFault>
-        ensures told { (t : Tape) → tape self.old ≡ Some t →
-            tape self.new ≡ Some (after_write (is_ok result) t bytes.now) }
+        ensures told { (u : Tape) → tells self.new u → (t : Tape) × tells self.old t × (u ≡ after_write (is_ok result) t bytes.now) }
         ensures ok { OnOk result (failures self.new ≡ failures self.old) }
         ensures failed { OnErr result (Rose (failures self.old) (failures self.new)) };
 }

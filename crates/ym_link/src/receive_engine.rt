@@ -31,7 +31,7 @@ fn heard_item(item: Item) -> Heard
 /// Reads one delivery, which ends with the first item, when the line is quiet, or at its greatest length. What is left of the
 /// last read is dropped.
 fn hear_delivery<P: Port>(port: &mut P, buf: &mut [u8; 2048]) -> Result<Heard, EndFault>
-    ensures told { (t : Tape) → P.tape port.old ≡ Some t → (result ≡ heard_at t) × (P.tape port.new ≡ Some (behind t)) }
+    ensures told { (u : Tape) → P.tells port.new u → (t : Tape) × P.tells port.old t × (result ≡ heard_at t) × (u ≡ behind t) }
     ensures device { result ≡ Err EndFault.Device → Rose (P.failures port.old) (P.failures port.new) }
     ensures calm { result ≢ Err EndFault.Device → P.failures port.new ≡ P.failures port.old }
     ensures memory { result ≢ Err EndFault.Memory }
@@ -63,7 +63,7 @@ fn hear_delivery<P: Port>(port: &mut P, buf: &mut [u8; 2048]) -> Result<Heard, E
 
 /// Writes a reply, if there is one.
 fn write_reply<P: Port>(port: &mut P, reply: Reply) -> Result<(), EndFault>
-    ensures told { (t : Tape) → P.tape port.old ≡ Some t → P.tape port.new ≡ Some (after_write (is_ok result) t (reply_bytes reply)) }
+    ensures told { (u : Tape) → P.tells port.new u → (t : Tape) × P.tells port.old t × (u ≡ after_write (is_ok result) t (reply_bytes reply)) }
     ensures device { (e : EndFault) → result ≡ Err e → (e ≡ EndFault.Device) × (reply ≢ Silence) × Rose (P.failures port.old) (P.failures port.new) }
     ensures calm { is_ok result ≡ true → P.failures port.new ≡ P.failures port.old }
 {
@@ -83,8 +83,8 @@ pub fn receive_over<P: Port, K: Sink>(
     port: &mut P,
     receiver: &mut ReceiverInto<K>,
 ) -> Result<(), EndFault>
-    ensures told { (t : Tape) → P.tape port.old ≡ Some t →
-        (u : Tape) × (P.tape port.new ≡ Some u) × Receives receiver.old t (record { receiver = receiver.new; tape = u; answer = result }) }
+    ensures told { (u : Tape) → P.tells port.new u →
+        (t : Tape) × P.tells port.old t × Receives receiver.old t (record { receiver = receiver.new; tape = u; answer = result }) }
     ensures device { result ≡ Err EndFault.Device → Rose (P.failures port.old) (P.failures port.new) }
     ensures ended { is_ok result ≡ true → receiver.new.receiver.state ≢ state.Running }
     ensures left { receiver.old.receiver.state ≢ state.Running → (result ≡ Ok tt) × (receiver.new ≡ receiver.old) × (port.new ≡ port.old) }

@@ -72,7 +72,7 @@ impl ScriptPort {
 impl Port for ScriptPort {
     ghost use Rattle.ym_link.specs.ScriptPort.{after_read, after_writing, after_failing, after_refusing};
 
-    ghost tape = { λ p. Some (record { coming = p.coming; written = p.written }) };
+    ghost tells = { λ p t. t ≡ record { coming = p.coming; written = p.written } };
 
     ghost failures = { λ p. p.tally.failures };
 

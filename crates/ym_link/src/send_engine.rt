@@ -16,8 +16,8 @@ use ym_file::Source;
 
 /// Writes what is to be sent now, if there is anything.
 fn write_frame<P: Port, S: Source>(port: &mut P, sender: &SenderFrom<S>) -> Result<(), EndFault>
-    ensures told { (t : Tape) → P.tape port.old ≡ Some t →
-        P.tape port.new ≡ Some (after_write (is_ok result) t (written_for (spoken sender.now))) }
+    ensures told { (u : Tape) → P.tells port.new u →
+        (t : Tape) × P.tells port.old t × (u ≡ after_write (is_ok result) t (written_for (spoken sender.now))) }
     ensures device { (e : EndFault) → result ≡ Err e → (e ≡ EndFault.Device) × (spoken sender.now ≢ None) × Rose (P.failures port.old) (P.failures port.new) }
     ensures calm { is_ok result ≡ true → P.failures port.new ≡ P.failures port.old }
     ensures sender { IsSender sender.now }
@@ -39,9 +39,9 @@ fn read_delivery<P: Port, S: Source>(
     buf: &mut [u8; 2048],
 ) -> Result<usize, EndFault>
     ensures within { (n : ℕ) → result ≡ Ok n → n ≤ 2048 }
-    ensures told { (t : Tape) → P.tape port.old ≡ Some t →
-        (bytes_read result buf.new ≡ (taken (settles sender.now) [] t.coming).delivery)
-        × (P.tape port.new ≡ Some (record t { coming = (taken (settles sender.now) [] t.coming).rest })) }
+    ensures told { (u : Tape) → P.tells port.new u → (t : Tape) × P.tells port.old t
+        × (bytes_read result buf.new ≡ (taken (settles sender.now) [] t.coming).delivery)
+        × (u ≡ record t { coming = (taken (settles sender.now) [] t.coming).rest }) }
     ensures device { result ≡ Err EndFault.Device → Rose (P.failures port.old) (P.failures port.new) }
     ensures memory { result ≢ Err EndFault.Memory }
     ensures calm { result ≢ Err EndFault.Device → P.failures port.new ≡ P.failures port.old }
@@ -70,8 +70,8 @@ pub fn send_over<P: Port, S: Source>(
     port: &mut P,
     sender: &mut SenderFrom<S>,
 ) -> Result<(), EndFault>
-    ensures told { sender.old.standing.state ≡ state.Running → (t : Tape) → P.tape port.old ≡ Some t →
-        (u : Tape) × (P.tape port.new ≡ Some u) × Sends sender.old t (record { sender = sender.new; tape = u; answer = result }) }
+    ensures told { sender.old.standing.state ≡ state.Running → (u : Tape) → P.tells port.new u →
+        (t : Tape) × P.tells port.old t × Sends sender.old t (record { sender = sender.new; tape = u; answer = result }) }
     ensures device { result ≡ Err EndFault.Device → Rose (P.failures port.old) (P.failures port.new) }
     ensures memory { result ≢ Err EndFault.Memory }
     ensures ended { is_ok result ≡ true → sender.new.standing.state ≢ state.Running }

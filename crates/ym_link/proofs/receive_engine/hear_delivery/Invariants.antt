@@ -1,5 +1,5 @@
 -- What was read so far is what the delivery begins with, and what the reader holds.
-use Rattle.std.proofs.Common.{◌-◌, ◌≡◌, ◌≤◌, ℕ, List, [], Some, None, length}
+use Rattle.std.proofs.Common.{◌-◌, ◌≡◌, ◌≤◌, ℕ, List, [], None, length}
 use Rattle.ym_frame.specs.Reading.{partial, reading_after, item_of}
 use Rattle.ym_link.specs.Port.{Tape}
 use Rattle.ym_link.specs.ReceiveOver.{delivery_at, has_item}
@@ -9,8 +9,8 @@ use Rattle.ym_link.proofs.receive_engine.hear_delivery.Given as goal
 abbrev pub invariant-loop-len : goal.invariant-loop-len
 invariant-loop-len g l = record {
   within : l.len ≤ 2048;
-  told : (t : Tape) → g.P.Port.tape l.fn.port ≡ Some t
-      → (u : Tape) × (had : List ℕ) × (g.P.Port.tape l.port ≡ Some u) × (u.written ≡ t.written)
+  told : (u : Tape) → g.P.Port.tells l.port u
+      → (t : Tape) × (had : List ℕ) × g.P.Port.tells l.fn.port t × (u.written ≡ t.written)
       × (length had ≡ l.len) × (l.reader ≡ reading_after (partial []) had) × (item_of (partial []) had ≡ None)
       × (delivery_at t ≡ onward has_item had u.coming);
   calm : g.P.Port.failures l.port ≡ g.P.Port.failures l.fn.port;

@@ -1,11 +1,12 @@
 -- Each way out is a rule of `Receives`, behind the rules of the deliveries before.
-use Rattle.std.proofs.Common.{◌≡◌, ◌≢◌, rules, refl, sym, ◌∙◌, true, false, is_ok, Ok, Err}
+use Rattle.std.proofs.Common.{◌≡◌, ◌≢◌, rules, refl, sym, ◌∙◌, true, false, is_ok, Result, Ok, Err}
 use Rattle.std.specs.declared.alloc.AllocError.{AllocError}
 use Rattle.ym_frame.specs.Control.{reply_bytes}
-use Rattle.ym_link.specs.Port.{after_write}
-use Rattle.ym_link.specs.ReceiveOver.{ended, unread, unheard, unwritten, heard, heard_at, behind}
+use Rattle.ym_link.specs.Port.{Tape, after_write}
+use Rattle.ym_link.specs.ReceiveOver.{Receives, ended, unread, unheard, unwritten, heard, heard_at, behind}
 use Rattle.ym_link.specs.ReceiverInto.{ReceiverParts, HearsGives}
 use Rattle.ym_link.specs.declared.delivery.Heard.{Heard}
+use Rattle.ym_link.specs.declared.end_fault.EndFault.{EndFault}
 use Rattle.ym_link.specs.declared.end_fault.EndFault.TheVariants as fault
 use Rattle.ym_link.specs.declared.state.RecvState.TheVariants as state
 use Rattle.ym_link.proofs.ReceiverDeliveries.{step-fewer}
@@ -15,44 +16,50 @@ use Rattle.ym_link.proofs.receive_engine.receive_over.Goals as goal
 wanted : (old : ReceiverParts) (h : Heard) (e : AllocError) (new : ReceiverParts) → HearsGives old h (Err e) new → (new ≡ old) × HearsGives old h (Err e) old
 wanted old h e new gives = (gives.2.0, (gives.0, gives.1, (refl, gives.2.1)))
 
+-- the same, at a tape that is the one left
+at : (r : ReceiverParts) (t : Tape) (new : ReceiverParts) (v w : Tape) (answer : Result Unit EndFault) → v ≡ w
+    → Receives r t (record { receiver = new; tape = w; answer = answer }) → Receives r t (record { receiver = new; tape = v; answer = answer })
+at r t new v w answer same gives = rw same gives
+
 pub returns-clause-told : goal.returns-clause-told
-returns-clause-told g c t e =
-    let inv = c.loop-buf.invariant.told t e in
+returns-clause-told g c u e =
+    let inv = c.loop-buf.invariant.told u e in
     let over : c.loop-buf.receiver.receiver.state ≢ state.Running = search rules in
-    (inv.0, inv.1, inv.2 _ (ended c.loop-buf.receiver inv.0 over))
+    (inv.0, inv.1, inv.2 _ (ended c.loop-buf.receiver u over))
 
 pub returns-in_err-heard-clause-told : goal.returns-in_err-heard-clause-told
-returns-in_err-heard-clause-told g c t e =
-    let inv = c.loop-buf.invariant.told t e in
-    let got = c.hear_delivery.ensures.told inv.0 inv.1 in
+returns-in_err-heard-clause-told g c u e =
+    let got = c.hear_delivery.ensures.told u e in
+    let inv = c.loop-buf.invariant.told got.0 got.1 in
     let on : c.loop-buf.receiver.receiver.state ≡ state.Running = search rules in
     let answer : c.from_residual.result ≡ Err c.in_err-heard.field-0.0 = search rules in
-    let none : heard_at inv.0 ≡ Err c.in_err-heard.field-0.0 = sym got.0 ∙ c.in_err-heard.was in
-    (behind inv.0, got.1, rw answer (inv.2 _ (unread c.loop-buf.receiver inv.0 c.in_err-heard.field-0.0 c.is_running.ensures.receiver on none)))
+    let none : heard_at got.0 ≡ Err c.in_err-heard.field-0.0 = sym got.2 ∙ c.in_err-heard.was in
+    (inv.0, inv.1, rw answer (at _ _ _ _ _ _ got.3 (inv.2 _ (unread c.loop-buf.receiver got.0 c.in_err-heard.field-0.0 c.is_running.ensures.receiver on none))))
 
 pub returns-in-Err-clause-told : goal.returns-in-Err-clause-told
-returns-in-Err-clause-told g c t e =
-    let inv = c.loop-buf.invariant.told t e in
-    let got = c.hear_delivery.ensures.told inv.0 inv.1 in
+returns-in-Err-clause-told g c u e =
+    let got = c.hear_delivery.ensures.told u e in
+    let inv = c.loop-buf.invariant.told got.0 got.1 in
     let on : c.loop-buf.receiver.receiver.state ≡ state.Running = search rules in
-    let some : heard_at inv.0 ≡ Ok c.in_ok-heard.heard = sym got.0 ∙ c.in_ok-heard.was in
+    let some : heard_at got.0 ≡ Ok c.in_ok-heard.heard = sym got.2 ∙ c.in_ok-heard.was in
     let gives : HearsGives c.loop-buf.receiver c.in_ok-heard.heard (Err c.in-Err.field-0) c.hear.new.self = search rules in
     let kept = wanted c.loop-buf.receiver c.in_ok-heard.heard c.in-Err.field-0 c.hear.new.self gives in
-    (behind inv.0, got.1, rw kept.0 (inv.2 _ (unheard c.loop-buf.receiver inv.0 c.in_ok-heard.heard c.in-Err.field-0 c.is_running.ensures.receiver on some kept.1)))
+    (inv.0, inv.1, rw kept.0 (at _ _ _ _ _ _ got.3 (inv.2 _ (unheard c.loop-buf.receiver got.0 c.in_ok-heard.heard c.in-Err.field-0 c.is_running.ensures.receiver on some kept.1))))
 
 pub returns-in_err-write_reply-in-Ok-clause-told : goal.returns-in_err-write_reply-in-Ok-clause-told
-returns-in_err-write_reply-in-Ok-clause-told g c t e =
-    let inv = c.loop-buf.invariant.told t e in
-    let got = c.hear_delivery.ensures.told inv.0 inv.1 in
+returns-in_err-write_reply-in-Ok-clause-told g c u e =
+    let wrote = c.write_reply.ensures.told u e in
+    let got = c.hear_delivery.ensures.told wrote.0 wrote.1 in
+    let inv = c.loop-buf.invariant.told got.0 got.1 in
     let on : c.loop-buf.receiver.receiver.state ≡ state.Running = search rules in
-    let some : heard_at inv.0 ≡ Ok c.in_ok-heard.heard = sym got.0 ∙ c.in_ok-heard.was in
+    let some : heard_at got.0 ≡ Ok c.in_ok-heard.heard = sym got.2 ∙ c.in_ok-heard.was in
     let gives : HearsGives c.loop-buf.receiver c.in_ok-heard.heard (Ok c.in-Ok.reply) c.hear.new.self = search rules in
-    let wrote = c.write_reply.ensures.told (behind inv.0) got.1 in
     let failed : is_ok c.write_reply.result ≡ false = rw c.in_err-write_reply-in-Ok.was refl in
+    let same : u ≡ wrote.0 = rw failed at wrote.2 in
     let device = c.write_reply.ensures.device c.in_err-write_reply-in-Ok.field-0.0 c.in_err-write_reply-in-Ok.was in
     let is_device : c.in_err-write_reply-in-Ok.field-0.0 ≡ fault.Device = device.0 in
     let answer : c.from_residual-in_err-write_reply-in-Ok.result ≡ Err fault.Device = search (rules, is_device) in
-    (behind inv.0, rw failed at wrote, rw answer (inv.2 _ (unwritten c.loop-buf.receiver inv.0 c.in_ok-heard.heard c.in-Ok.reply c.hear.new.self c.is_running.ensures.receiver on some gives device.1)))
+    (inv.0, inv.1, rw answer (at _ _ _ _ _ _ (same ∙ got.3) (inv.2 _ (unwritten c.loop-buf.receiver got.0 c.in_ok-heard.heard c.in-Ok.reply c.hear.new.self c.is_running.ensures.receiver on some gives device.1))))
 
 pub loop-buf-smaller : goal.loop-buf-smaller
 loop-buf-smaller g c =
@@ -60,17 +67,18 @@ loop-buf-smaller g c =
 
 pub loop-buf-preserved : goal.loop-buf-preserved
 loop-buf-preserved g c = record {
-  told = λ t e.
-      let inv = c.loop-buf.invariant.told t e in
-      let got = c.hear_delivery.ensures.told inv.0 inv.1 in
+  told = λ u e.
+      let wrote = c.write_reply.ensures.told u e in
+      let got = c.hear_delivery.ensures.told wrote.0 wrote.1 in
+      let inv = c.loop-buf.invariant.told got.0 got.1 in
       let on : c.loop-buf.receiver.receiver.state ≡ state.Running = search rules in
-      let some : heard_at inv.0 ≡ Ok c.in_ok-heard.heard = sym got.0 ∙ c.in_ok-heard.was in
+      let some : heard_at got.0 ≡ Ok c.in_ok-heard.heard = sym got.2 ∙ c.in_ok-heard.was in
       let gives : HearsGives c.loop-buf.receiver c.in_ok-heard.heard (Ok c.in-Ok.reply) c.hear.new.self = search rules in
-      let wrote = c.write_reply.ensures.told (behind inv.0) got.1 in
-      let went : is_ok c.write_reply.result ≡ true = rw c.in_ok-write_reply-in-Ok.was refl in (
-        after_write true (behind inv.0) (reply_bytes c.in-Ok.reply),
-        rw went at wrote,
-        λ out later. inv.2 out (heard c.loop-buf.receiver inv.0 c.in_ok-heard.heard c.in-Ok.reply c.hear.new.self out c.is_running.ensures.receiver on some gives later),
+      let went : is_ok c.write_reply.result ≡ true = rw c.in_ok-write_reply-in-Ok.was refl in
+      let spoke : u ≡ after_write true (behind got.0) (reply_bytes c.in-Ok.reply) = rw (went, got.3) at wrote.2 in (
+        inv.0,
+        inv.1,
+        λ out later. inv.2 out (heard c.loop-buf.receiver got.0 c.in_ok-heard.heard c.in-Ok.reply c.hear.new.self out c.is_running.ensures.receiver on some gives (rw spoke at later)),
       );
   calm = search rules;
   left = search rules;

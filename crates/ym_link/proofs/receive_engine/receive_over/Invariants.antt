@@ -1,5 +1,5 @@
 -- However the call may end from here, it may end so from the start.
-use Rattle.std.proofs.Common.{◌≡◌, ◌≢◌, Some}
+use Rattle.std.proofs.Common.{◌≡◌, ◌≢◌}
 use Rattle.ym_link.specs.declared.state.RecvState.TheVariants as state
 use Rattle.ym_link.specs.Port.{Tape}
 use Rattle.ym_link.specs.ReceiveOver.{Receives, Outcome}
@@ -8,8 +8,8 @@ use Rattle.ym_link.proofs.receive_engine.receive_over.Given as goal
 
 abbrev pub invariant-loop-buf : goal.invariant-loop-buf
 invariant-loop-buf g l = record {
-  told : (t : Tape) → g.P.Port.tape l.fn.port ≡ Some t
-      → (u : Tape) × (g.P.Port.tape l.port ≡ Some u)
+  told : (u : Tape) → g.P.Port.tells l.port u
+      → (t : Tape) × g.P.Port.tells l.fn.port t
       × ((out : Outcome) → Receives l.receiver u out → Receives l.fn.receiver t out);
   calm : g.P.Port.failures l.port ≡ g.P.Port.failures l.fn.port;
   left : l.fn.receiver.receiver.state ≢ state.Running → (l.receiver ≡ l.fn.receiver) × (l.port ≡ l.fn.port);

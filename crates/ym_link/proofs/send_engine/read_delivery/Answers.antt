@@ -1,53 +1,56 @@
 -- Each way out of a read is what the definition says there.
-use Rattle.std.proofs.Common.{◌≡◌, ◌<◌, ◌≤◌, ◌++◌, true, false, ◌+◌, ◌-◌, [], length, take, arith, rules, refl, sym, ◌∙◌, Ok, Err}
+use Rattle.std.proofs.Common.{◌≡◌, ◌<◌, ◌≤◌, ◌++◌, true, false, ◌+◌, ◌-◌, [], length, take, arith, rules, refl, sym, ◌∙◌, ap, Ok, Err}
 use Rattle.std.proofs.lemmas.List.{length-take-le}
 use Rattle.std.proofs.lemmas.Slice.{overwrites}
 use borrow.Rule.Slice.PartMut.{mid_of, put_mid}
-use Rattle.ym_link.specs.Port.{Data, End, Failed, Silence, seen_of}
+use Rattle.ym_link.specs.Port.{Tape, Data, End, Failed, Silence, seen_of}
 use Rattle.ym_link.specs.Delivery.{taken, delivery_limit}
 use Rattle.ym_link.specs.SendOver.{settles}
 use Rattle.ym_link.specs.declared.end_fault.EndFault.TheVariants as fault
-use Rattle.ym_link.proofs.Taking.{onward-full, way-out, read-into, into-size, after-read}
+use Rattle.ym_link.proofs.Taking.{onward, onward-full, way-out, read-into, into-size, after-read}
 use Rattle.ym_link.proofs.send_engine.read_delivery.Goals as goal
 
 pub returns-in-Ok-Closed-clause-told : goal.returns-in-Ok-Closed-clause-told
-returns-in-Ok-Closed-clause-told g c t e =
-    let inv = c.loop-len.invariant.told t e in
-    let got = c.read.ensures.told inv.0 inv.1 in
+returns-in-Ok-Closed-clause-told g c u e =
+    let got = c.read.ensures.told u e in
+    let inv = c.loop-len.invariant.told got.0 got.1 in
     let seen : seen_of c.read.result c.read.new.buf ≡ End = rw (c.in-Ok-Closed.is, c.in-Ok-Closed.field-0-is) refl in
     let had_len : length (take c.loop-len.len c.loop-len.buf) ≡ c.loop-len.len = search rules in
     let less : length (take c.loop-len.len c.loop-len.buf) < delivery_limit = rw had_len c.loop-len-test.true in
     let room : length (mid_of c.loop-len.len (2048 - c.loop-len.len) c.loop-len.buf) ≡ delivery_limit - length (take c.loop-len.len c.loop-len.buf) = rw had_len (search rules) in
-    way-out t _ (taken (settles c.args.sender.now) [] t.coming) (Err fault.Closed) _ inv.0.written
-    (after-read (settles c.args.sender.now) (take c.loop-len.len c.loop-len.buf) End _ inv.0.coming _ less room inv.3 (sym seen ∙ got.0)) inv.2 got.1
+    let out = way-out inv.0 _ (taken (settles c.args.sender.now) [] inv.0.coming) (Err fault.Closed) _ got.0.written
+    (after-read (settles c.args.sender.now) (take c.loop-len.len c.loop-len.buf) End _ got.0.coming _ less room inv.3 (sym seen ∙ got.2)) inv.2 got.3 in
+    (inv.0, inv.1, out.0, out.1)
 
 pub returns-in-Err-clause-told : goal.returns-in-Err-clause-told
-returns-in-Err-clause-told g c t e =
-    let inv = c.loop-len.invariant.told t e in
-    let got = c.read.ensures.told inv.0 inv.1 in
+returns-in-Err-clause-told g c u e =
+    let got = c.read.ensures.told u e in
+    let inv = c.loop-len.invariant.told got.0 got.1 in
     let seen : seen_of c.read.result c.read.new.buf ≡ Failed = rw c.in-Err.is refl in
     let had_len : length (take c.loop-len.len c.loop-len.buf) ≡ c.loop-len.len = search rules in
     let less : length (take c.loop-len.len c.loop-len.buf) < delivery_limit = rw had_len c.loop-len-test.true in
     let room : length (mid_of c.loop-len.len (2048 - c.loop-len.len) c.loop-len.buf) ≡ delivery_limit - length (take c.loop-len.len c.loop-len.buf) = rw had_len (search rules) in
-    way-out t _ (taken (settles c.args.sender.now) [] t.coming) (Err fault.Device) _ inv.0.written
-    (after-read (settles c.args.sender.now) (take c.loop-len.len c.loop-len.buf) Failed _ inv.0.coming _ less room inv.3 (sym seen ∙ got.0)) inv.2 got.1
+    let out = way-out inv.0 _ (taken (settles c.args.sender.now) [] inv.0.coming) (Err fault.Device) _ got.0.written
+    (after-read (settles c.args.sender.now) (take c.loop-len.len c.loop-len.buf) Failed _ got.0.coming _ less room inv.3 (sym seen ∙ got.2)) inv.2 got.3 in
+    (inv.0, inv.1, out.0, out.1)
 
 pub returns-in-Ok-Quiet-clause-told : goal.returns-in-Ok-Quiet-clause-told
-returns-in-Ok-Quiet-clause-told g c t e =
-    let inv = c.loop-len.invariant.told t e in
-    let got = c.read.ensures.told inv.0 inv.1 in
+returns-in-Ok-Quiet-clause-told g c u e =
+    let got = c.read.ensures.told u e in
+    let inv = c.loop-len.invariant.told got.0 got.1 in
     let seen : seen_of c.read.result c.read.new.buf ≡ Silence = rw (c.in-Ok-Quiet.is, c.in-Ok-Quiet.field-0-is) refl in
     let had_len : length (take c.loop-len.len c.loop-len.buf) ≡ c.loop-len.len = search rules in
     let less : length (take c.loop-len.len c.loop-len.buf) < delivery_limit = rw had_len c.loop-len-test.true in
     let room : length (mid_of c.loop-len.len (2048 - c.loop-len.len) c.loop-len.buf) ≡ delivery_limit - length (take c.loop-len.len c.loop-len.buf) = rw had_len (search rules) in
     let same : take c.loop-len.len (put_mid c.loop-len.len (2048 - c.loop-len.len) c.loop-len.buf c.read.new.buf) ≡ take c.loop-len.len c.loop-len.buf = search (rules, overwrites) in
-    rw same (way-out t _ (taken (settles c.args.sender.now) [] t.coming) (Ok (take c.loop-len.len c.loop-len.buf)) _ inv.0.written
-    (after-read (settles c.args.sender.now) (take c.loop-len.len c.loop-len.buf) Silence _ inv.0.coming _ less room inv.3 (sym seen ∙ got.0)) inv.2 got.1)
+    let out = way-out inv.0 _ (taken (settles c.args.sender.now) [] inv.0.coming) (Ok (take c.loop-len.len c.loop-len.buf)) _ got.0.written
+    (after-read (settles c.args.sender.now) (take c.loop-len.len c.loop-len.buf) Silence _ got.0.coming _ less room inv.3 (sym seen ∙ got.2)) inv.2 got.3 in
+    rw same (inv.0, inv.1, out.0, out.1)
 
 pub returns-then-settled-clause-told : goal.returns-then-settled-clause-told
-returns-then-settled-clause-told g c t e =
-    let inv = c.loop-len.invariant.told t e in
-    let got = c.read.ensures.told inv.0 inv.1 in
+returns-then-settled-clause-told g c u e =
+    let got = c.read.ensures.told u e in
+    let inv = c.loop-len.invariant.told got.0 got.1 in
     let seen : seen_of c.read.result c.read.new.buf ≡ Data (take c.in-Ok-Bytes.n c.read.new.buf) = rw (c.in-Ok-Bytes.is, c.in-Ok-Bytes.field-0-is) refl in
     let had_len : length (take c.loop-len.len c.loop-len.buf) ≡ c.loop-len.len = search rules in
     let less : length (take c.loop-len.len c.loop-len.buf) < delivery_limit = rw had_len c.loop-len-test.true in
@@ -57,18 +60,19 @@ returns-then-settled-clause-told g c t e =
     let same : take (c.loop-len.len + c.in-Ok-Bytes.n) (put_mid c.loop-len.len (2048 - c.loop-len.len) c.loop-len.buf c.read.new.buf)
     ≡ take c.loop-len.len c.loop-len.buf ++ take c.in-Ok-Bytes.n c.read.new.buf = read-into c.loop-len.len c.in-Ok-Bytes.n _ c.loop-len.buf c.read.new.buf within fits in
     let done : settles c.args.sender.now (take c.loop-len.len c.loop-len.buf ++ take c.in-Ok-Bytes.n c.read.new.buf) ≡ true = rw (← same) (sym c.settled.ensures ∙ c.if-settled.true) in
-    rw same (way-out t _ (taken (settles c.args.sender.now) [] t.coming) (Ok (take c.loop-len.len c.loop-len.buf ++ take c.in-Ok-Bytes.n c.read.new.buf)) _ inv.0.written
-    (after-read (settles c.args.sender.now) (take c.loop-len.len c.loop-len.buf) (Data (take c.in-Ok-Bytes.n c.read.new.buf)) _ inv.0.coming _ less room inv.3 (sym seen ∙ got.0) ∙ rw done refl) inv.2 got.1)
+    let out = way-out inv.0 _ (taken (settles c.args.sender.now) [] inv.0.coming) (Ok (take c.loop-len.len c.loop-len.buf ++ take c.in-Ok-Bytes.n c.read.new.buf)) _ got.0.written
+    (after-read (settles c.args.sender.now) (take c.loop-len.len c.loop-len.buf) (Data (take c.in-Ok-Bytes.n c.read.new.buf)) _ got.0.coming _ less room inv.3 (sym seen ∙ got.2) ∙ rw done refl) inv.2 got.3 in
+    rw same (inv.0, inv.1, out.0, out.1)
 
 pub returns-clause-told : goal.returns-clause-told
-returns-clause-told g c t e =
-    let inv = c.loop-len.invariant.told t e in
+returns-clause-told g c u e =
+    let inv = c.loop-len.invariant.told u e in
     let within = c.loop-len.invariant.within in
     let sized = c.loop-len.invariant.sized in
     let had_len : length (take c.loop-len.len c.loop-len.buf) ≡ c.loop-len.len = length-take-le c.loop-len.len c.loop-len.buf (omega (arith, within, sized)) in
     let full : delivery_limit ≤ length (take c.loop-len.len c.loop-len.buf) = rw had_len c.loop-len-test.false in
-    way-out t _ (taken (settles c.args.sender.now) [] t.coming) (Ok (take c.loop-len.len c.loop-len.buf)) inv.0.coming inv.0.written
-    (inv.3 ∙ onward-full (settles c.args.sender.now) (take c.loop-len.len c.loop-len.buf) inv.0.coming full) inv.2 inv.1
+    let out = way-out inv.0 _ (taken (settles c.args.sender.now) [] inv.0.coming) (Ok (take c.loop-len.len c.loop-len.buf)) u.coming u.written (inv.3 ∙ onward-full (settles c.args.sender.now) (take c.loop-len.len c.loop-len.buf) u.coming full) inv.2 refl in
+    (inv.0, inv.1, out.0, out.1)
 
 pub loop-len-preserved : goal.loop-len-preserved
 loop-len-preserved g c =
@@ -79,18 +83,18 @@ loop-len-preserved g c =
     record {
       within = search rules;
       sized = into-size c.loop-len.len 2048 c.loop-len.buf c.read.new.buf c.loop-len.invariant.within c.loop-len.invariant.sized (search rules);
-      told = λ t e.
-          let inv = c.loop-len.invariant.told t e in
-          let got = c.read.ensures.told inv.0 inv.1 in
+      told = λ u e.
+          let got = c.read.ensures.told u e in
+          let inv = c.loop-len.invariant.told got.0 got.1 in
           let seen : seen_of c.read.result c.read.new.buf ≡ Data (take c.in-Ok-Bytes.n c.read.new.buf) = rw (c.in-Ok-Bytes.is, c.in-Ok-Bytes.field-0-is) refl in
           let had_len : length (take c.loop-len.len c.loop-len.buf) ≡ c.loop-len.len = search rules in
           let less : length (take c.loop-len.len c.loop-len.buf) < delivery_limit = rw had_len c.loop-len-test.true in
           let room : length (mid_of c.loop-len.len (2048 - c.loop-len.len) c.loop-len.buf) ≡ delivery_limit - length (take c.loop-len.len c.loop-len.buf) = rw had_len (search rules) in
           let on : settles c.args.sender.now (take c.loop-len.len c.loop-len.buf ++ take c.in-Ok-Bytes.n c.read.new.buf) ≡ false = rw (← same) (sym c.settled.ensures ∙ c.if-settled.false) in (
-            _,
-            got.1,
-            inv.2,
-            rw same (after-read (settles c.args.sender.now) (take c.loop-len.len c.loop-len.buf) (Data (take c.in-Ok-Bytes.n c.read.new.buf)) _ inv.0.coming _ less room inv.3 (sym seen ∙ got.0) ∙ rw on refl),
+            inv.0,
+            inv.1,
+            ap (λ (x : Tape). x.written) got.3 ∙ inv.2,
+            rw same (after-read (settles c.args.sender.now) (take c.loop-len.len c.loop-len.buf) (Data (take c.in-Ok-Bytes.n c.read.new.buf)) _ got.0.coming _ less room inv.3 (sym seen ∙ got.2) ∙ (rw on refl ∙ ap (λ (x : Tape). onward (settles c.args.sender.now) (take c.loop-len.len c.loop-len.buf ++ take c.in-Ok-Bytes.n c.read.new.buf) x.coming) (sym got.3))),
           );
       calm = search rules;
     }

@@ -1,5 +1,5 @@
 -- What was taken so far is what the delivery begins with.
-use Rattle.std.proofs.Common.{◌-◌, ◌≡◌, ◌≤◌, [], take, Some, length}
+use Rattle.std.proofs.Common.{◌-◌, ◌≡◌, ◌≤◌, [], take, length}
 use Rattle.ym_link.specs.Port.{Tape}
 use Rattle.ym_link.specs.Delivery.{taken}
 use Rattle.ym_link.specs.SendOver.{settles}
@@ -10,8 +10,8 @@ abbrev pub invariant-loop-len : goal.invariant-loop-len
 invariant-loop-len g l = record {
   within : l.len ≤ 2048;
   sized : length l.buf ≡ 2048;
-  told : (t : Tape) → g.P.Port.tape l.fn.port ≡ Some t
-      → (u : Tape) × (g.P.Port.tape l.port ≡ Some u) × (u.written ≡ t.written)
+  told : (u : Tape) → g.P.Port.tells l.port u
+      → (t : Tape) × g.P.Port.tells l.fn.port t × (u.written ≡ t.written)
       × (taken (settles l.sender) [] t.coming ≡ onward (settles l.sender) (take l.len l.buf) u.coming);
   calm : g.P.Port.failures l.port ≡ g.P.Port.failures l.fn.port;
 }

@@ -1,5 +1,5 @@
 -- However the call may end from here, it may end so from the start.
-use Rattle.std.proofs.Common.{◌≡◌, Some}
+use Rattle.std.proofs.Common.{◌≡◌}
 use Rattle.ym_link.specs.declared.state.SendState.TheVariants.{Running}
 use Rattle.ym_link.specs.Port.{Tape}
 use Rattle.ym_link.specs.SendOver.{Sends, Outcome}
@@ -9,8 +9,8 @@ use Rattle.ym_link.proofs.send_engine.send_over.Given as goal
 abbrev pub invariant-loop-buf : goal.invariant-loop-buf
 invariant-loop-buf g l = record {
   ran : l.fn.sender.standing.state ≡ Running;
-  told : (t : Tape) → g.P.Port.tape l.fn.port ≡ Some t
-      → (u : Tape) × (g.P.Port.tape l.port ≡ Some u)
+  told : (u : Tape) → g.P.Port.tells l.port u
+      → (t : Tape) × g.P.Port.tells l.fn.port t
       × ((out : Outcome) → Sends l.sender u out → Sends l.fn.sender t out);
   calm : g.P.Port.failures l.port ≡ g.P.Port.failures l.fn.port;
 }
