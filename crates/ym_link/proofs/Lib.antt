@@ -24,4 +24,5 @@ pub mod Settled
 pub mod Steps
 pub mod TableRows
 pub mod Taking
+pub mod Sweeping
 pub mod TwoControls

@@ -5,6 +5,8 @@ pub mod SourceFile
 pub mod Port
 pub mod ScriptPort
 pub mod Delivery
+pub mod Exchange
+pub mod Sweep
 pub mod Deliveries
 pub mod ReceiveOver
 pub mod SendOver

@@ -4,6 +4,7 @@
 mod delivery;
 mod end_fault;
 mod event;
+mod exchange;
 mod hearing;
 pub mod laws;
 mod place;
@@ -18,10 +19,12 @@ mod source_file;
 mod stage;
 mod standing;
 mod state;
+mod sweep;
 
 pub use delivery::Heard;
 pub use end_fault::EndFault;
 pub use event::Event;
+pub use exchange::Role;
 pub use hearing::heard;
 pub use port::{Got, Port, PortFault, Wait};
 pub use receive_engine::receive_over;
