@@ -2,6 +2,7 @@ pub mod Follows
 pub mod Framed
 pub mod Keeping
 pub mod OneStep
+pub mod Passing
 pub mod Planned
 pub mod Positions
 pub mod ReceiverLemmas

@@ -3,6 +3,7 @@
 -- Each write may be answered once. Where an end has written more than once before an answer comes, as many answers may come as it has
 -- written, and only one of them is for what it writes next: so the line has to clear first.
 use Rattle.std.specs.Prelude.{ℕ, ◌+◌, ◌<◌, nat_lt, nat_le, nat_eq, ◌&&◌, ◌||◌, not, Bool, true, false, List, length, slice_index, if◌then◌else◌, min}
+use Rattle.ym_link.specs.Port.{Seen, Data, Silence, End, Failed}
 use Rattle.ym_link.specs.declared.exchange.Exchange.{Exchange}
 use Rattle.ym_link.specs.declared.exchange.Front.{Front}
 use Rattle.ym_link.specs.declared.exchange.Role.{Role}
@@ -29,6 +30,12 @@ heard count x = record x { came = min 2048 (x.came + count); is_quiet = false }
 -- a read found the line quiet
 abbrev pub quieted : Exchange → Exchange
 quieted x = record x { is_quiet = true }
+
+-- what a read brings
+abbrev pub after_seen : Seen → Exchange → Exchange
+after_seen (Data bytes) x = heard (length bytes) x
+after_seen Silence x = quieted x
+after_seen _ x = x
 
 -- Something came since the last write, and it answers that: a receiver that asks for its first frame once more has had no answer, but an
 -- echo of its C, or what a boot loader prints.

@@ -5,6 +5,7 @@ pub mod SourceFile
 pub mod Port
 pub mod ScriptPort
 pub mod Delivery
+pub mod Clearing
 pub mod Exchange
 pub mod Sweep
 pub mod Deliveries

@@ -76,7 +76,7 @@ abbrev pub after_read : Role → Sweep → Seen → Result (Option Sweep) PortFa
 after_read role s (Data bytes) = Ok (Some (dropped role bytes s))
 after_read role s Silence = Ok (Some (waited s))
 after_read role s End = Ok None
-after_read role s Failed = Err record { }
+after_read role s Failed = Err record {}
 
 -- and how it goes on
 abbrev pub behind : (Sweep → List Event → Swept) → Result (Option Sweep) PortFault → List Event → Swept

@@ -1,9 +1,10 @@
 //! What an end has said and heard of late, and whether more answers may be under way than it waits for.
 
-ghost use Rattle.std.specs.Prelude.{◌≡◌, length};
+ghost use Rattle.std.specs.Prelude.{◌≡◌, ◌≤◌, ℕ, List, Ok, length};
 ghost use Rattle.ym_link.specs.Exchange as table;
+ghost use Rattle.ym_link.specs.Port.{seen_of};
 
-use crate::port::DELIVERY_LIMIT;
+use crate::port::{DELIVERY_LIMIT, Got, PortFault};
 
 /// Which end reads and writes.
 #[derive(Clone, Copy, Debug, PartialEq, Eq)]
@@ -90,11 +91,26 @@ impl Exchange {
         ensures { result ≡ table.heard count self }
     {
         let room = DELIVERY_LIMIT.saturating_sub(self.came);
-        let came = if count < room { self.came + count } else { DELIVERY_LIMIT };
+        let came = if count < room {
+            self.came + count
+        } else {
+            DELIVERY_LIMIT
+        };
         Exchange {
             came,
             is_quiet: false,
             ..self
+        }
+    }
+
+    /// After what a read got.
+    pub fn after(self, got: &Result<Got, PortFault>) -> Exchange
+        ensures { (buf : List ℕ) → ((n : ℕ) → got.now ≡ Ok (Got.Bytes n) → n ≤ length buf) → result ≡ table.after_seen (seen_of got.now buf) self }
+    {
+        match got {
+            Ok(Got::Bytes(count)) => self.heard(*count),
+            Ok(Got::Quiet) => self.quieted(),
+            Ok(Got::Closed) | Err(PortFault) => self,
         }
     }
 

@@ -1,6 +1,7 @@
 //! The two ends of a transfer: a sender over any source of files, and a receiver into any sink.
 #![tactic(auto)]
 
+mod clearing;
 mod delivery;
 mod end_fault;
 mod event;
@@ -21,6 +22,7 @@ mod standing;
 mod state;
 mod sweep;
 
+pub use clearing::Clearing;
 pub use delivery::Heard;
 pub use end_fault::EndFault;
 pub use event::Event;

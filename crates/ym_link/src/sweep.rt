@@ -12,7 +12,7 @@ use crate::port::{DELIVERY_LIMIT, Got, Port, PortFault, Wait};
 const MOST_READS: u32 = 65_536;
 
 /// The byte CAN.
-const CAN: u8 = 0x18;
+pub const CAN: u8 = 0x18;
 
 /// What was dropped and is to be heard yet.
 #[derive(Clone, Copy)]

@@ -45,7 +45,7 @@ loop-done-preserved g c = record {
         inv.1,
         ap (λ (x : Tape). x.written) got.3 ∙ inv.2,
         swept-read 65536 c.loop-done._done c.args.role c.loop-done.sweep got.0.coming (Ok (Some c.in-Some.next)) _ c.loop-done-test.true on (sym some ∙ got.2) inv.3
-        ∙ ap (λ (x : Tape). table.swept (65536 - (c.loop-done._done + 1)) c.args.role c.in-Some.next x.coming) (sym got.3),
+            ∙ ap (λ (x : Tape). table.swept (65536 - (c.loop-done._done + 1)) c.args.role c.in-Some.next x.coming) (sym got.3),
       );
   calm = search rules;
 }

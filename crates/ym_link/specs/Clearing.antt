@@ -1,0 +1,93 @@
+-- A port that lets the line clear: which events it drops, and when (this profile).
+use Rattle.std.specs.Prelude.{◌≡◌, ℕ, nat_lt, ◌&&◌, Bool, true, false, List, [], ◌∷◌, ◌++◌, length, Result, Ok, Err, is_ok, if◌then◌else◌}
+use Rattle.ym_link.specs.Exchange.{new_exchange, front_of, heard, after_seen, must_clear, wrote}
+use Rattle.ym_link.specs.Port.{Tape, Seen, Data, Silence, End, Failed, read_gives, read_leaves, after_write}
+use Rattle.ym_link.specs.Sweep.{Swept, swept, most_reads, new_sweep}
+use Rattle.ym_link.specs.declared.clearing.Talk.{Talk}
+use Rattle.ym_link.specs.declared.event.Event.{Event}
+use Rattle.ym_link.specs.declared.event.Event.TheVariants as event
+use Rattle.ym_link.specs.declared.exchange.Role.{Role}
+use Rattle.ym_link.specs.declared.port.PortFault.{PortFault}
+use Rattle.ym_link.specs.declared.sweep.Held.{Held}
+use Rattle.ym_link.specs.declared.sweep.Held.TheVariants as held
+
+-- nothing was said or heard
+abbrev pub new_talk : Role → Talk
+new_talk role = record { role = role; exchange = new_exchange; held = held.Nothing }
+
+-- ---- A write
+
+abbrev pub holds_nothing : Held → Bool
+holds_nothing held.Nothing = true
+holds_nothing _ = false
+
+-- Before a write the line is let clear, where it has to be; what is to be heard yet is heard first.
+abbrev pub cleared : Talk → List ℕ → List Event → Swept
+cleared talk bytes events =
+    if holds_nothing talk.held && must_clear talk.role talk.exchange (front_of bytes)
+    then swept most_reads talk.role (new_sweep talk.role talk.exchange.is_quiet) events
+    else record { answer = Ok talk.held; rest = events }
+
+-- and then the bytes are written
+abbrev pub said : List ℕ → Held → Talk → Talk
+said bytes held talk = record talk { exchange = wrote talk.exchange (front_of bytes); held = held }
+
+-- What a write comes to: where the port fails while the line clears, nothing is written and nothing else changes.
+abbrev pub Writes : Talk → List ℕ → Swept → Result Unit PortFault → Talk → Tape → Tape → Type 0
+Writes talk bytes swept result new t u = by swept.answer
+  where
+    by : Result Held PortFault → Type 0
+    by (Ok h) = (new ≡ said bytes h talk) × (u ≡ after_write (is_ok result) (record t { coming = swept.rest }) bytes)
+    by (Err e) = (new ≡ talk) × (result ≡ Err e) × (u ≡ record t { coming = swept.rest })
+
+-- ---- A read
+
+-- what it gives, and how it leaves the port and the line
+pub record Read : Type 0 where
+  pub seen : Seen
+  pub talk : Talk
+  pub rest : List Event
+
+-- so many bytes that were held are heard
+abbrev pub gave : ℕ → Held → Talk → Talk
+gave count left talk = record talk { exchange = heard count talk.exchange; held = left }
+
+abbrev pub given : List ℕ → Held → Talk → List Event → Read
+given bytes left talk events = record { seen = Data bytes; talk = gave (length bytes) left talk; rest = events }
+
+-- What is to be heard yet is heard first.
+abbrev pub read_in : Held → ℕ → Talk → List Event → Read
+read_in held.Nothing room talk events = record { seen = read_gives room events; talk = record talk { exchange = after_seen (read_gives room events) talk.exchange }; rest = read_leaves room events }
+read_in held.Closed room talk events = record { seen = End; talk = record talk { held = held.Nothing }; rest = events }
+read_in held.Can room talk events = given (24 ∷ []) held.Nothing talk events
+read_in held.CanCan room talk events = if nat_lt 1 room then given (24 ∷ 24 ∷ []) held.Nothing talk events else given (24 ∷ []) held.Can talk events
+
+abbrev pub read_by : ℕ → Talk → List Event → Read
+read_by room talk events = read_in talk.held room talk events
+
+-- ---- What passes
+
+-- what is to be heard yet, as events
+abbrev pub held_events : Held → List Event
+held_events held.Nothing = []
+held_events held.Closed = event.Closed ∷ []
+held_events held.Can = event.Piece (24 ∷ []) ∷ []
+held_events held.CanCan = event.Piece (24 ∷ 24 ∷ []) ∷ []
+
+-- what a read gave, as an event
+abbrev pub event_of : Seen → Event
+event_of (Data bytes) = event.Piece bytes
+event_of Silence = event.Quiet
+event_of End = event.Closed
+event_of Failed = event.Fault
+
+-- What an end may come to hear of the events that come to the port, as it reads and writes: each read's result is an event; a write drops
+-- what `cleared` drops; and where nothing more is written, all that is left passes.
+pub data Passes : Talk → List Event → List Event → Type 0 where
+  left : (talk : Talk) (events : List Event) → Passes talk events (held_events talk.held ++ events)
+  reads : (talk : Talk) (events heard : List Event) (room : ℕ) → Passes (read_by room talk events).talk (read_by room talk events).rest heard
+      → Passes talk events (event_of (read_by room talk events).seen ∷ heard)
+  writes : (talk : Talk) (events heard : List Event) (bytes : List ℕ) (h : Held) → (cleared talk bytes events).answer ≡ Ok h
+      → Passes (said bytes h talk) (cleared talk bytes events).rest heard → Passes talk events heard
+  fails : (talk : Talk) (events heard : List Event) (bytes : List ℕ) (e : PortFault) → (cleared talk bytes events).answer ≡ Err e
+      → Passes talk (cleared talk bytes events).rest heard → Passes talk events heard

@@ -1,0 +1,189 @@
+//! A port that lets the line clear before it writes, where more answers may be under way than one.
+
+ghost use Rattle.std.specs.Prelude.{◌≡◌, ◌<◌, ◌≤◌, ℕ, Ok, Err, OnOk, OnErr, length, is_ok};
+ghost use Rattle.ym_file.specs.Counts.{Rose};
+ghost use Rattle.ym_link.specs.Clearing as table;
+ghost use Rattle.ym_link.specs.Port.{Tape, seen_of, read_gives, read_leaves, after_write};
+
+use crate::exchange::{Exchange, Front, Role};
+use crate::port::{Got, Port, PortFault, Wait};
+use crate::sweep::{CAN, Held, Sweep, let_clear};
+
+/// What an end and its line have said of late.
+#[derive(Clone, Copy)]
+pub struct Talk {
+    /// Which end it is.
+    pub role: Role,
+    /// What it wrote and read of late.
+    pub exchange: Exchange,
+    /// What was dropped and is to be heard yet.
+    pub held: Held,
+}
+
+impl Talk {
+    ghost use Rattle.ym_link.specs.Clearing.{new_talk, said, gave};
+
+    /// Nothing was said or heard.
+    fn new(role: Role) -> Talk
+        ensures { result ≡ new_talk role }
+    {
+        Talk {
+            role,
+            exchange: Exchange::new(),
+            held: Held::Nothing,
+        }
+    }
+
+    /// After so many bytes that were held were heard.
+    fn gave(self, count: usize, held: Held) -> Talk
+        ensures { result ≡ gave count held self }
+    {
+        Talk {
+            role: self.role,
+            exchange: self.exchange.heard(count),
+            held,
+        }
+    }
+
+    /// After these bytes were written.
+    fn said(self, bytes: &[u8], held: Held) -> Talk
+        ensures { result ≡ said bytes.now held self }
+    {
+        Talk {
+            role: self.role,
+            exchange: self.exchange.wrote(Front::of(bytes)),
+            held,
+        }
+    }
+}
+
+/// Lets the line clear, where it has to before these bytes are written, and answers what is to be heard yet.
+fn clear_for<P: Port>(port: &mut P, talk: Talk, bytes: &[u8]) -> Result<Held, PortFault>
+    ensures told { (u : Tape) → P.tells port.new u → (t : Tape) × P.tells port.old t
+        × (result ≡ (table.cleared talk bytes.now t.coming).answer)
+        × (u ≡ record t { coming = (table.cleared talk bytes.now t.coming).rest }) }
+    ensures ok { OnOk result (P.failures port.new ≡ P.failures port.old) }
+    ensures failed { OnErr result (Rose (P.failures port.old) (P.failures port.new)) }
+{
+    match talk.held {
+        Held::Nothing if talk.exchange.must_clear(talk.role, Front::of(bytes)) => {
+            let_clear(
+                port,
+                talk.role,
+                Sweep::new(talk.role, talk.exchange.is_quiet),
+            )
+        }
+        held => Ok(held),
+    }
+}
+
+/// A port that lets the line clear before a write, where more may be under way than the answer to it: where an end has written more than
+/// once before an answer came, where noise filled a delivery, and where a sender repeats a frame that was answered otherwise than by
+/// ACK. What then comes is dropped until the line has been quiet, for a receiver as long as within a delivery, for a sender twice as
+/// long; at most 65,536 reads are made for it. CAN CAN and the end of the line are not dropped: they are heard at the next read. Where each
+/// write was answered, nothing is read and nothing waits.
+#[derive(Drop)]
+pub struct Clearing<P: Port + Drop> {
+    port: P,
+    talk: Talk,
+}
+
+impl<P: Port + Drop> Clearing<P> {
+    ghost use Rattle.ym_link.specs.Clearing.{new_talk, read_by};
+
+    /// The port as this end has it.
+    pub fn new(port: P, role: Role) -> Clearing<P>
+        ensures port { result.port ≡ port }
+        ensures talk { result.talk ≡ new_talk role }
+    {
+        Clearing {
+            port,
+            talk: Talk::new(role),
+        }
+    }
+
+    /// Reads what is to be heard yet, or what is there.
+    fn read_next(&mut self, wait: Wait, buf: &mut [u8]) -> Result<Got, PortFault>
+        requires { 0 < length buf.old }
+        ensures count { (n : ℕ) → result ≡ Ok (Got.Bytes n) → (0 < n) × (n ≤ length buf.old) }
+        ensures exact { (u : Tape) → P.tells self.new.port u → (t : Tape) × P.tells self.old.port t
+            × (seen_of result buf.new ≡ (read_by (length buf.old) self.old.talk t.coming).seen)
+            × (self.new.talk ≡ (read_by (length buf.old) self.old.talk t.coming).talk)
+            × (u ≡ record t { coming = (read_by (length buf.old) self.old.talk t.coming).rest }) }
+        ensures ok { OnOk result (P.failures self.new.port ≡ P.failures self.old.port) }
+        ensures failed { OnErr result (Rose (P.failures self.old.port) (P.failures self.new.port)) }
+    {
+        match self.talk.held {
+            Held::Nothing => {
+                let got = self.port.read(wait, buf);
+                self.talk.exchange = self.talk.exchange.after(&got);
+                got
+            }
+            Held::Closed => {
+                self.talk.held = Held::Nothing;
+                Ok(Got::Closed)
+            }
+            Held::CanCan if 1 < buf.len() => {
+                buf[..2].copy_from_slice(&[CAN, CAN]);
+                self.talk = self.talk.gave(2, Held::Nothing);
+                Ok(Got::Bytes(2))
+            }
+            Held::CanCan => {
+                buf[..1].copy_from_slice(&[CAN]);
+                self.talk = self.talk.gave(1, Held::Can);
+                Ok(Got::Bytes(1))
+            }
+            Held::Can => {
+                buf[..1].copy_from_slice(&[CAN]);
+                self.talk = self.talk.gave(1, Held::Nothing);
+                Ok(Got::Bytes(1))
+            }
+        }
+    }
+
+    /// The port below.
+    pub fn port(&self) -> &P
+        ensures { result.now ≡ self.now.port }
+    {
+        &self.port
+    }
+}
+
+impl<P: Port + Drop> Port for Clearing<P> {
+    ghost use Rattle.ym_link.specs.Clearing.{Passes, read_by, cleared, Writes};
+
+    ghost tells = { λ c u. (t : Tape) × P.tells c.port t × (u.written ≡ t.written) × Passes c.talk t.coming u.coming };
+
+    ghost failures = { λ c. P.failures c.port };
+
+    fn read(&mut self, wait: Wait, buf: &mut [u8]) -> Result<Got, PortFault>
+        requires { 0 < length buf.old }
+        ensures count { (n : ℕ) → result ≡ Ok (Got.Bytes n) → (0 < n) × (n ≤ length buf.old) }
+        ensures exact { (u : Tape) → P.tells self.new.port u → (t : Tape) × P.tells self.old.port t
+            × (seen_of result buf.new ≡ (read_by (length buf.old) self.old.talk t.coming).seen)
+            × (self.new.talk ≡ (read_by (length buf.old) self.old.talk t.coming).talk)
+            × (u ≡ record t { coming = (read_by (length buf.old) self.old.talk t.coming).rest }) }
+        ensures told { (u : Tape) → ((t : Tape) × P.tells self.new.port t × (u.written ≡ t.written) × Passes self.new.talk t.coming u.coming)
+            → (x : Tape) × ((t : Tape) × P.tells self.old.port t × (x.written ≡ t.written) × Passes self.old.talk t.coming x.coming)
+            × (seen_of result buf.new ≡ read_gives (length buf.old) x.coming)
+            × (u ≡ record x { coming = read_leaves (length buf.old) x.coming }) }
+        ensures ok { OnOk result (P.failures self.new.port ≡ P.failures self.old.port) }
+        ensures failed { OnErr result (Rose (P.failures self.old.port) (P.failures self.new.port)) }
+    {
+        self.read_next(wait, buf)
+    }
+
+    fn write(&mut self, bytes: &[u8]) -> Result<(), PortFault>
+        ensures exact { (u : Tape) → P.tells self.new.port u → (t : Tape) × P.tells self.old.port t
+            × Writes self.old.talk bytes.now (cleared self.old.talk bytes.now t.coming) result self.new.talk t u }
+        ensures told { (u : Tape) → ((t : Tape) × P.tells self.new.port t × (u.written ≡ t.written) × Passes self.new.talk t.coming u.coming)
+            → (x : Tape) × ((t : Tape) × P.tells self.old.port t × (x.written ≡ t.written) × Passes self.old.talk t.coming x.coming)
+            × (u ≡ after_write (is_ok result) x bytes.now) }
+        ensures ok { OnOk result (P.failures self.new.port ≡ P.failures self.old.port) }
+        ensures failed { OnErr result (Rose (P.failures self.old.port) (P.failures self.new.port)) }
+    {
+        let held = clear_for(&mut self.port, self.talk, bytes)?;
+        self.talk = self.talk.said(bytes, held);
+        self.port.write(bytes)
+    }
+}
