@@ -1,6 +1,6 @@
 //! A port over a TCP connection.
 
-ghost use Rattle.std.specs.Prelude.{◌≡◌, ◌<◌, ◌≤◌, ℕ, None, Ok, OnOk, OnErr, length};
+ghost use Rattle.std.specs.Prelude.{◌≡◌, ◌<◌, ◌≤◌, ℕ, Ok, OnOk, OnErr, length};
 ghost use Rattle.ym_file.specs.Counts.{Rose};
 
 use std::io;
@@ -113,7 +113,7 @@ impl SocketPort {
 }
 
 impl Port for SocketPort {
-    ghost tape = { λ _. None };
+    ghost tells = { λ _ _. ⊥ };
 
     ghost failures = { λ p. p };
 

@@ -1,6 +1,7 @@
 pub mod Follows
 pub mod Framed
 pub mod Keeping
+pub mod LateAnswersDropped
 pub mod OneStep
 pub mod Passing
 pub mod Planned

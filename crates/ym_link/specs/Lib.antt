@@ -7,6 +7,7 @@ pub mod ScriptPort
 pub mod Delivery
 pub mod Clearing
 pub mod Exchange
+pub mod LateAnswers
 pub mod Sweep
 pub mod Deliveries
 pub mod ReceiveOver

@@ -1,5 +1,5 @@
 -- A line that is let clear: what comes is dropped until the line has been quiet for long enough (this profile).
-use Rattle.std.specs.Prelude.{ℕ, ◌+◌, ◌-◌, ◌*◌, nat_eq, ◌&&◌, ◌||◌, zero, suc, Bool, true, false, List, [], ◌∷◌, Option, Some, None, Result, Ok, Err, if◌then◌else◌}
+use Rattle.std.specs.Prelude.{ℕ, ◌+◌, ◌-◌, nat_eq, ◌&&◌, ◌||◌, zero, suc, Bool, true, false, List, [], ◌∷◌, Option, Some, None, Result, Ok, Err, if◌then◌else◌}
 use Rattle.ym_link.specs.Port.{Seen, Data, Silence, End, Failed, read_gives, read_leaves}
 use Rattle.ym_link.specs.declared.event.Event.{Event}
 use Rattle.ym_link.specs.declared.exchange.Role.{Role}
@@ -35,11 +35,17 @@ abbrev pub quiet_waits : Role → ℕ
 quiet_waits Sender = 2
 quiet_waits Receiver = 1
 
+-- How many waits there are in all, where the line is never quiet for so long: an end writes a frame ten times at most, so nine answers may
+-- be late, each of them behind a quiet wait that is too short.
+abbrev pub most_waits : Role → ℕ
+most_waits Sender = 11
+most_waits Receiver = 1
+
 -- the start; a read that found the line quiet just before counts
 abbrev pub new_sweep : Role → Bool → Sweep
 new_sweep role is_quiet = record {
   quiet_left = if is_quiet then quiet_waits role - 1 else quiet_waits role;
-  waits_left = 2 * quiet_waits role;
+  waits_left = most_waits role;
   heed = heed.Open;
 }
 

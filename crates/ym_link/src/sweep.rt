@@ -61,6 +61,17 @@ fn quiet_waits(role: Role) -> u8
     }
 }
 
+/// How many quiet waits there are in all, where the line is never quiet for so long: an end writes a frame ten times at most, so nine
+/// answers may be late.
+fn most_waits(role: Role) -> u8
+    ensures { result ≡ table.most_waits role }
+{
+    match role {
+        Role::Sender => 11,
+        Role::Receiver => 1,
+    }
+}
+
 impl Heed {
     /// After one more byte.
     fn after(self, role: Role, is_can: bool) -> Heed
@@ -104,7 +115,7 @@ impl Sweep {
         let waits = quiet_waits(role);
         Sweep {
             quiet_left: if is_quiet { waits - 1 } else { waits },
-            waits_left: 2 * waits,
+            waits_left: most_waits(role),
             heed: Heed::Open,
         }
     }

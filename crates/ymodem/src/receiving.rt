@@ -12,7 +12,7 @@ use std::io::Write;
 use std::net::{Ipv4Addr, Net, SocketAddr, TcpListener, TcpStream};
 use ym_header::Header;
 use ym_host::{DirSink, SocketPort};
-use ym_link::{Confirm, ReceiverInto, RecvState, receive_over};
+use ym_link::{Clearing, Confirm, ReceiverInto, RecvState, Role, receive_over};
 
 /// How many milliseconds a receiver waits for a frame.
 const REPLY_MS: u32 = 3000;
@@ -67,7 +67,8 @@ where
 {
     let sink = DirSink::new(rt, alloc, dir)?;
     let mut receiver = ReceiverInto::with_sink(alloc, sink, confirm);
-    let mut port = SocketPort::new(accept_one(rt, port)?, REPLY_MS, WITHIN_MS);
+    let port = SocketPort::new(accept_one(rt, port)?, REPLY_MS, WITHIN_MS);
+    let mut port = Clearing::new(port, Role::Receiver);
     let ended = receive_over(&mut port, &mut receiver);
     let line = ReceiverLine {
         files: receiver.committed(),

@@ -15,7 +15,7 @@ use std::time::Duration;
 use ym_file::Shape;
 use ym_header::Stamp;
 use ym_host::{FileSource, SocketPort};
-use ym_link::{SendState, SenderFrom, SourceFile, send_over};
+use ym_link::{Clearing, Role, SendState, SenderFrom, SourceFile, send_over};
 
 /// How many milliseconds a sender waits for a reply, and for somebody to answer its call.
 const REPLY_MS: u32 = 10_000;
@@ -92,7 +92,8 @@ where
     let Ok(mut sender) = SenderFrom::new(batch, shape) else {
         return Err(CommandFault::TooManyFiles);
     };
-    let mut port = SocketPort::new(connect(rt, port)?, REPLY_MS, WITHIN_MS);
+    let port = SocketPort::new(connect(rt, port)?, REPLY_MS, WITHIN_MS);
+    let mut port = Clearing::new(port, Role::Sender);
     let ended = send_over(&mut port, &mut sender);
     let line = SenderLine {
         done: sender.done(),
