@@ -1,3 +1,4 @@
+pub mod AnsweredCalls
 pub mod Follows
 pub mod Framed
 pub mod Keeping

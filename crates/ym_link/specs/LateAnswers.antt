@@ -1,15 +1,15 @@
 -- A line that answers each copy of what an end writes, late or not, in order; and what the end hears of it through a port that lets the
 -- line clear (this profile).
-use Rattle.std.specs.Prelude.{◌≡◌, ℕ, zero, suc, ◌+◌, ◌<◌, ◌≤◌, nat_lt, Bool, true, false, List, [], ◌∷◌, ◌++◌, length, Result, Ok, Err, if◌then◌else◌}
-use Rattle.ym_link.specs.Clearing.{cleared, said, read_by, Read}
+use Rattle.std.specs.Prelude.{◌≡◌, ℕ, zero, suc, ◌<◌, ◌≤◌, false, List, [], ◌∷◌, ◌++◌, length, Result, Ok, Err}
+use Rattle.ym_link.specs.Clearing.{cleared, said, read_by}
 use Rattle.ym_link.specs.Exchange.{front_of, is_same, asking}
 use Rattle.ym_link.specs.Port.{Seen, Data, Silence}
-use Rattle.ym_link.specs.Sweep.{Swept, heeds_all, is_cancel, quiet_waits}
+use Rattle.ym_link.specs.Sweep.{heeds_all, is_cancel, quiet_waits}
 use Rattle.ym_link.specs.declared.clearing.Talk.{Talk}
 use Rattle.ym_link.specs.declared.event.Event.{Event}
 use Rattle.ym_link.specs.declared.event.Event.TheVariants as event
 use Rattle.ym_link.specs.declared.exchange.Role.{Role}
-use Rattle.ym_link.specs.declared.exchange.Role.TheVariants.{Sender, Receiver}
+use Rattle.ym_link.specs.declared.exchange.Role.TheVariants.{Sender}
 use Rattle.ym_link.specs.declared.port.PortFault.{PortFault}
 use Rattle.ym_link.specs.declared.sweep.Held.{Held}
 use Rattle.ym_link.specs.declared.sweep.Heed.{Heed}
@@ -67,9 +67,14 @@ abbrev pub acts_of : List ℕ → ℕ → List Act
 acts_of written zero = Writes written ∷ Reads ∷ []
 acts_of written (suc again) = Writes written ∷ Reads ∷ acts_of written again
 
--- what comes: nothing so often, an answer, and where there were copies the answers to those
+-- where there were copies, the answers to them come late
+abbrev pub behind : Role → ℕ → List Event → List Event → List Event
+behind role zero late more = more
+behind role (suc again) late more = late_and_quiet role late more
+
+-- what comes: nothing so often, an answer, and what is late
 abbrev pub comes : Role → Call → List Event → List Event
-comes role call more = quiets call.again ++ (event.Piece call.answer ∷ (if nat_lt 0 call.again then late_and_quiet role call.late more else more))
+comes role call more = quiets call.again ++ (event.Piece call.answer ∷ behind role call.again call.late more)
 
 -- what is heard: nothing so often, and then the answer; that is, rounds whose reply is lost, and one whose reply is whole
 abbrev pub hears : ℕ → List ℕ → List Seen
