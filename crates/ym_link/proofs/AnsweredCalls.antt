@@ -3,8 +3,7 @@ use Rattle.std.proofs.Common.{◌≡◌, ◌<◌, ◌≤◌, ◌+◌, ℕ, zero,
 use Rattle.std.proofs.lemmas.Bool.{ne_eqb, lt-ltb, lt-leb}
 use Rattle.ym_link.specs.Clearing.{cleared, said, new_talk}
 use Rattle.ym_link.specs.Exchange.{front_of, is_same, asking, wrote}
-
-use Rattle.ym_link.specs.LateAnswers.{AreLate, late_and_quiet, quiets, Act, Writes, Reads, gives, Call, acts_of, hears, behind, comes, IsCall, all_acts, all_comes, all_hears, AreCalls, one}
+use Rattle.ym_link.specs.LateAnswers.{AreLate, late_and_quiet, quiets, Act, Writes, Reads, gives, Call, acts_of, hears, behind, comes, all_acts, all_comes, all_hears, AreCalls, one}
 use Rattle.ym_link.specs.Port.{Seen, Data, Silence}
 use Rattle.ym_link.specs.declared.clearing.Talk.{Talk}
 use Rattle.ym_link.specs.declared.event.Event.{Event}

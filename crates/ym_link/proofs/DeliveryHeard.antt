@@ -1,5 +1,5 @@
 -- What a receiver hears of a delivery that comes in pieces.
-use Rattle.std.proofs.Common.{◌≡◌, ℕ, true, false, List, Option, None, Some, Result, Ok, Err, is_ok, refl}
+use Rattle.std.proofs.Common.{◌≡◌, ℕ, true, false, List, None, Some, Result, Ok, Err, is_ok, refl}
 use Rattle.ym_frame.specs.Reading.{item_found}
 use Rattle.ym_frame.specs.declared.frame.Item.{Item}
 use Rattle.ym_frame.specs.declared.frame.Broken.{Broken}

@@ -1,5 +1,5 @@
 -- Late answers are dropped while the line clears, and nothing behind the quiet that follows them.
-use Rattle.std.proofs.Common.{◌≡◌, ◌<◌, ◌≤◌, ◌-◌, ◌+◌, ℕ, zero, suc, true, false, nat_lt, nat_eq, List, [], ◌∷◌, ◌++◌, length, Ok, refl, ◌∙◌, ap, arith, lit≤}
+use Rattle.std.proofs.Common.{◌≡◌, ◌<◌, ◌≤◌, ◌-◌, ◌+◌, ℕ, suc, true, false, nat_lt, nat_eq, List, [], ◌∷◌, ◌++◌, length, Ok, refl, ◌∙◌, ap, arith, lit≤}
 use Rattle.std.proofs.lemmas.Bool.{le-ltb, ne_eqb}
 use Rattle.ym_link.specs.LateAnswers.{AreLate, none, soon, later, quiets, late_and_quiet}
 use Rattle.ym_link.specs.Port.{Data, read_gives, read_leaves}

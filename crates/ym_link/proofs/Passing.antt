@@ -1,8 +1,8 @@
 -- What passes a port that lets the line clear, read by read and write by write.
-use Rattle.std.proofs.Common.{◌≡◌, ◌<◌, ◌≤◌, ℕ, zero, suc, Bool, true, false, nat_lt, List, [], ◌∷◌, ◌++◌, length, take, Result, Ok, Err, refl, sym, ◌∙◌, ap, subst, arith}
+use Rattle.std.proofs.Common.{◌≡◌, ◌<◌, ◌≤◌, ℕ, Bool, true, false, nat_lt, List, [], ◌∷◌, length, take, Result, Ok, Err, refl, sym, ◌∙◌, ap, arith}
 use Rattle.std.proofs.lemmas.Bool.{le-ltb}
 use Rattle.std.proofs.lemmas.List.{length-take-le}
-use Rattle.ym_link.specs.Clearing.{Passes, left, reads, writes, fails, read_by, cleared, said, event_of}
+use Rattle.ym_link.specs.Clearing.{Passes, reads, writes, fails, read_by, cleared, said, event_of}
 use Rattle.ym_link.specs.Port.{Tape, Seen, Data, Silence, End, Failed, read_gives, read_leaves, after_write, seen_of}
 use Rattle.ym_link.specs.declared.clearing.Talk.{Talk}
 use Rattle.ym_link.specs.declared.event.Event.{Event}

@@ -2,8 +2,8 @@
 --
 -- Each write may be answered once. Where an end has written more than once before an answer comes, as many answers may come as it has
 -- written, and only one of them is for what it writes next: so the line has to clear first.
-use Rattle.std.specs.Prelude.{ℕ, ◌+◌, ◌<◌, nat_lt, nat_le, nat_eq, ◌&&◌, ◌||◌, not, Bool, true, false, List, length, slice_index, if◌then◌else◌, min}
-use Rattle.ym_link.specs.Port.{Seen, Data, Silence, End, Failed}
+use Rattle.std.specs.Prelude.{ℕ, ◌+◌, nat_lt, nat_le, nat_eq, ◌&&◌, ◌||◌, not, Bool, true, false, List, length, slice_index, if◌then◌else◌, min}
+use Rattle.ym_link.specs.Port.{Seen, Data, Silence}
 use Rattle.ym_link.specs.declared.exchange.Exchange.{Exchange}
 use Rattle.ym_link.specs.declared.exchange.Front.{Front}
 use Rattle.ym_link.specs.declared.exchange.Role.{Role}

@@ -8,6 +8,7 @@ pub mod Delivery
 pub mod Clearing
 pub mod Exchange
 pub mod LateAnswers
+pub mod LateExamples
 pub mod Sweep
 pub mod Deliveries
 pub mod ReceiveOver

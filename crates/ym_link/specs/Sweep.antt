@@ -1,5 +1,5 @@
 -- A line that is let clear: what comes is dropped until the line has been quiet for long enough (this profile).
-use Rattle.std.specs.Prelude.{ℕ, ◌+◌, ◌-◌, nat_eq, ◌&&◌, ◌||◌, zero, suc, Bool, true, false, List, [], ◌∷◌, Option, Some, None, Result, Ok, Err, if◌then◌else◌}
+use Rattle.std.specs.Prelude.{ℕ, ◌-◌, nat_eq, ◌||◌, zero, suc, Bool, true, false, List, [], ◌∷◌, Option, Some, None, Result, Ok, Err, if◌then◌else◌}
 use Rattle.ym_link.specs.Port.{Seen, Data, Silence, End, Failed, read_gives, read_leaves}
 use Rattle.ym_link.specs.declared.event.Event.{Event}
 use Rattle.ym_link.specs.declared.exchange.Role.{Role}

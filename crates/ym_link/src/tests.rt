@@ -1,5 +1,6 @@
 //! Tests of the two ends.
 
+mod clearing;
 mod engines;
 mod every_byte;
 mod receiver;

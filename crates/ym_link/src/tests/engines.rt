@@ -10,19 +10,19 @@ use ym_file::Shape;
 use ym_frame::{Block, Bytes, FrameBuf, Item, encode};
 use ym_header::{Header, HeaderFault, Stamp, write, write_end};
 
-const EOT: &[u8] = &[0x04];
+pub const EOT: &[u8] = &[0x04];
 
-const ACK: &[u8] = &[0x06];
+pub const ACK: &[u8] = &[0x06];
 
-const ACK_START: &[u8] = &[0x06, 0x43];
+pub const ACK_START: &[u8] = &[0x06, 0x43];
 
-const START: &[u8] = &[0x43];
+pub const START: &[u8] = &[0x43];
 
 const CANCEL: &[u8] = &[0x18, 0x18];
 
 /// What comes to a port.
 #[derive(Clone, Copy, Debug, PartialEq, Eq)]
-enum Coming<'a> {
+pub enum Coming<'a> {
     Piece(&'a [u8]),
     Quiet,
     Closed,
@@ -31,7 +31,7 @@ enum Coming<'a> {
 
 /// Whether and how a port fails.
 #[derive(Clone, Copy, Debug, PartialEq, Eq)]
-enum Failing {
+pub enum Failing {
     Never,
     /// Before the event at this place.
     Before(usize),
@@ -54,7 +54,11 @@ fn push_event(alloc: Global, events: &mut Vec<Event>, coming: Coming) -> Result<
 }
 
 /// A port to which these events come.
-fn port_of(alloc: Global, coming: &[Coming], failing: Failing) -> Result<ScriptPort, AllocError> {
+pub fn port_of(
+    alloc: Global,
+    coming: &[Coming],
+    failing: Failing,
+) -> Result<ScriptPort, AllocError> {
     let mut events = Vec::new(alloc);
     for (i, one) in coming.iter().enumerate() {
         if failing == Failing::Before(i) {
@@ -83,7 +87,12 @@ fn times<'a>(
 }
 
 /// These bytes, one after another so many times, and others behind them.
-fn repeated(alloc: Global, bytes: &[u8], count: usize, last: &[u8]) -> Result<Vec<u8>, AllocError> {
+pub fn repeated(
+    alloc: Global,
+    bytes: &[u8],
+    count: usize,
+    last: &[u8],
+) -> Result<Vec<u8>, AllocError> {
     let mut all = Vec::new(alloc);
     for _ in 0..count {
         all.extend_from_slice(bytes)?;
@@ -92,12 +101,12 @@ fn repeated(alloc: Global, bytes: &[u8], count: usize, last: &[u8]) -> Result<Ve
     Ok(all)
 }
 
-fn header_of(alloc: Global, name: &str, length: u64) -> Result<FrameBuf, HeaderFault> {
+pub fn header_of(alloc: Global, name: &str, length: u64) -> Result<FrameBuf, HeaderFault> {
     let header = Header::new(alloc, name, length, Stamp::Nothing)?;
     Ok(encode(&Item::Block(write(&header))))
 }
 
-fn end_block() -> FrameBuf {
+pub fn end_block() -> FrameBuf {
     encode(&Item::Block(write_end()))
 }
 

@@ -1,6 +1,5 @@
 -- What passes goes on passing, whether the write was made or not.
-use Rattle.std.proofs.Common.{◌≡◌, Ok, Err, is_ok, false, rules, refl, sym, ◌∙◌}
-use Rattle.ym_link.specs.Port.{Tape}
+use Rattle.std.proofs.Common.{◌≡◌, is_ok, false, rules, refl, sym, ◌∙◌}
 use Rattle.ym_link.proofs.Passing.{write-passes, clear-fails, tape_of}
 use Rattle.ym_link.proofs.clearing.ClearingPort.write.Goals as goal
 
