@@ -1,28 +1,20 @@
 //! The two ends of a transfer: a sender over any source of files, and a receiver into any sink.
 #![tactic(auto)]
 
-mod delivery;
 mod end_fault;
 mod event;
-mod hearing;
 pub mod laws;
-mod place;
 mod port;
-mod reading;
 mod receive_engine;
 mod receiver;
 mod script_port;
 mod send_engine;
 mod sender;
+mod shaped_batch;
 mod source_file;
-mod stage;
-mod standing;
-mod state;
 
-pub use delivery::Heard;
 pub use end_fault::EndFault;
 pub use event::Event;
-pub use hearing::heard;
 pub use port::{Got, Port, PortFault, Wait};
 pub use receive_engine::receive_over;
 pub use receiver::{Receiver, ReceiverInto};
@@ -30,8 +22,7 @@ pub use script_port::ScriptPort;
 pub use send_engine::send_over;
 pub use sender::{BatchFault, Sender, SenderFrom};
 pub use source_file::{SendFile, SourceFile};
-pub use state::{RecvState, SendState};
-pub use ym_machine::Confirm;
+pub use ym_core::{Confirm, Heard, RecvState, SendState, heard};
 
 #[cfg(test)]
 mod tests;
