@@ -6,3 +6,4 @@ pub mod Reader
 pub mod Control
 pub mod Words
 pub mod Seal
+pub mod ItemRef

@@ -57,3 +57,8 @@ IsRefused limit name len NameUnsafe = IsNameFault name NameUnsafe
 IsRefused limit name len NoLength = ⊥
 IsRefused limit name len LengthLarge = IsName name × (limit < len)
 IsRefused limit name len Memory = IsName name × (len ≤ limit)
+
+-- why there is no header of this name and length where no memory is wanted
+abbrev pub IsUnfit : ℕ → List ℕ → ℕ → HeaderFault → Type 0
+IsUnfit limit name len Memory = ⊥
+IsUnfit limit name len fault = IsRefused limit name len fault

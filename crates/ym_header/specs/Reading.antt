@@ -8,6 +8,8 @@ use Rattle.ym_header.specs.declared.fault.HeaderFault.{HeaderFault}
 use Rattle.ym_header.specs.declared.fault.HeaderFault.TheVariants.{NameLong, NameUnsafe, NoLength, LengthLarge, Memory}
 use Rattle.ym_header.specs.declared.reading.Zero.{Zero}
 use Rattle.ym_header.specs.declared.reading.Zero.TheVariants.{File, End}
+use Rattle.ym_header.specs.declared.reading.ZeroRef.{ZeroRef}
+use Rattle.ym_header.specs.declared.reading.ZeroRef.TheVariants as borrowed
 
 -- the digits of the length that a body tells, and what stands behind them
 abbrev pub length_in : List ℕ → List ℕ
@@ -43,6 +45,16 @@ abbrev pub IsAnswer : ℕ → List ℕ → Result Zero HeaderFault → Type 0
 IsAnswer limit body (Ok zero) = Reads limit body zero
 IsAnswer limit body (Err Memory) = (h : HeaderParts) × ReadsHeader limit body h
 IsAnswer limit body (Err fault) = IsFault limit body fault
+
+-- a borrowed block 0 as one that owns its name: contracts see their headers alike
+abbrev pub owned : ZeroRef → Zero
+owned (borrowed.File h) = File h
+owned borrowed.End = End
+
+-- what reading without memory may answer: what the body stands for, or its fault
+abbrev pub IsBorrowedAnswer : ℕ → List ℕ → Result ZeroRef HeaderFault → Type 0
+IsBorrowedAnswer limit body (Ok zero) = Reads limit body (owned zero)
+IsBorrowedAnswer limit body (Err fault) = IsFault limit body fault
 
 -- what the digits of a length alone may answer
 abbrev pub IsLengthAnswer : ℕ → List ℕ → Result ℕ HeaderFault → Type 0

@@ -4,6 +4,7 @@ ghost use Rattle.std.specs.Prelude.{◌≡◌, ◌≢◌, All, ◌≤◌, ◌<�
 ghost use Rattle.ym_header.specs.Header.{IsName, IsSafe, IsHeader, IsRefused, IsStamp, length_limit};
 
 use crate::fault::HeaderFault;
+use crate::header_ref::HeaderRef;
 use crate::stamp::Stamp;
 use std::alloc::{AllocError, Global};
 use std::marker::Model;
@@ -59,19 +60,16 @@ impl Header {
         ensures within { IfOk result (λ header. IsHeader length_limit header) }
         ensures refused { IfErr result (λ fault. IsRefused length_limit name.now length fault) }
     {
-        if name.is_empty() {
-            return Err(HeaderFault::NameEmpty);
-        }
-        if name.len() > 255 {
-            return Err(HeaderFault::NameLong);
-        }
-        if !is_safe(name) {
-            return Err(HeaderFault::NameUnsafe);
-        }
-        if length > LENGTH_LIMIT {
-            return Err(HeaderFault::LengthLarge);
-        }
-        Ok(Header::from_parts(alloc, name, length, stamp)?)
+        Ok(HeaderRef::new(name, length, stamp)?.to_header(alloc)?)
+    }
+
+    /// The same header with the name where it stands in this one.
+    pub fn borrowed(&self) -> HeaderRef<'_>
+        ensures value { result ≡ self.now }
+        ensures within { IsHeader length_limit result }
+    {
+        let Header { name, size, stamp } = self;
+        HeaderRef::from_parts(name.as_str(), *size, *stamp)
     }
 
     /// The header of parts that are within the limits.

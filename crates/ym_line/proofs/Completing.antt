@@ -16,14 +16,14 @@ use Rattle.ym_machine.specs.Run as machine
 use Rattle.ym_machine.specs.State.{SenderEnd, ReceiverEnd, State, start}
 use Rattle.ym_link.specs.ReceiverStands.{bytes_of}
 use Rattle.ym_link.specs.ReceiverStands as receiver
-use Rattle.ym_link.specs.Receiver.{Receiver}
+use Rattle.ym_core.specs.Receiver.{Receiver}
 use Rattle.ym_link.specs.SenderStands.{Batch, AllTold, batch_of, file_of, told_pieces}
 use Rattle.ym_link.specs.SenderStands as sender
 use Rattle.ym_link.specs.SourceFile.{FileParts, IsFile, blocks_of}
-use Rattle.ym_link.specs.declared.state.SendState.{SendState}
-use Rattle.ym_link.specs.declared.state.SendState.TheVariants as send_state
-use Rattle.ym_link.specs.declared.state.RecvState.{RecvState}
-use Rattle.ym_link.specs.declared.state.RecvState.TheVariants as recv_state
+use Rattle.ym_core.specs.declared.state.SendState.{SendState}
+use Rattle.ym_core.specs.declared.state.SendState.TheVariants as send_state
+use Rattle.ym_core.specs.declared.state.RecvState.{RecvState}
+use Rattle.ym_core.specs.declared.state.RecvState.TheVariants as recv_state
 use Rattle.ym_line.specs.declared.delivery.Round.{Round}
 use Rattle.ym_line.specs.declared.trace.Trace.{Trace}
 use Rattle.ym_line.specs.Completion.{NoneRose, AreGoing, HaveFinished, NeitherGivesUp, BothFinish, NotSooner, rounds_for, whole_rounds}

@@ -10,19 +10,19 @@ use Rattle.ym_machine.specs.Halves as machine
 use Rattle.ym_machine.specs.Machine.{State, IsMachine, Answer, said, there, back, KeepsSender, KeepsReceiver}
 use Rattle.ym_machine.specs.Run.{Turn, came_back, after_turn}
 use Rattle.ym_header.specs.Header.{HeaderParts}
-use Rattle.ym_link.specs.Hearing.{heard_of}
-use Rattle.ym_link.specs.Reading.{controls_in}
+use Rattle.ym_core.specs.Hearing.{heard_of}
+use Rattle.ym_core.specs.Reading.{controls_in}
 use Rattle.ym_link.specs.ReceiverInto.{ReceiverParts, HearsGives, Tells}
-use Rattle.ym_link.specs.Receiver.{Receiver}
+use Rattle.ym_core.specs.Receiver.{Receiver}
 use Rattle.ym_link.specs.ReceiverStands.{IsBatch, ReceiverStands, heard_there, open_at, receiver_at}
 use Rattle.ym_link.specs.ReceiverStands as receiver
 use Rattle.ym_link.specs.SenderStands.{Batch, SenderStands, IsSaid, AllTold}
 use Rattle.ym_link.specs.Sender.{SenderParts, IsSender, IsStep, IsFilled, counts, spoken}
 use Rattle.ym_link.specs.SourceFile.{FileParts, file_at, no_file}
-use Rattle.ym_link.specs.Standing.{hears}
+use Rattle.ym_core.specs.Standing.{hears}
 use Rattle.ym_file.specs.Kept.{Kept}
-use Rattle.ym_link.specs.declared.place.Place.{Place}
-use Rattle.ym_link.specs.declared.place.Place.TheVariants.{Header, Block, Eot, End}
+use Rattle.ym_core.specs.declared.place.Place.{Place}
+use Rattle.ym_core.specs.declared.place.Place.TheVariants.{Header, Block, Eot, End}
 use Rattle.ym_line.specs.declared.delivery.Round.{Round}
 use Rattle.ym_line.specs.declared.trace.Seen.{Seen}
 use Rattle.ym_line.specs.Carried.{told_more}

@@ -9,12 +9,12 @@ use Rattle.ym_file.specs.declared.plan.Shape.{Shape}
 use Rattle.ym_machine.specs.declared.confirm.Confirm.{Confirm}
 use Rattle.ym_machine.specs.Frames.{File, frames_of, IsPrefix}
 use Rattle.ym_machine.specs.Machine.{State, start, committed, reported}
-use Rattle.ym_link.specs.Place.{done_at}
-use Rattle.ym_link.specs.Receiver.{new_receiver}
+use Rattle.ym_core.specs.Place.{done_at}
+use Rattle.ym_core.specs.Receiver.{new_receiver}
 use Rattle.ym_link.specs.ReceiverStands.{bytes_of}
 use Rattle.ym_link.specs.SenderStands.{Batch, AllTold, batch_of, file_of, told_pieces}
 use Rattle.ym_link.specs.SourceFile.{FileParts, IsFile, counts_of}
-use Rattle.ym_link.specs.Standing.{new_standing}
+use Rattle.ym_core.specs.Standing.{new_standing}
 use Rattle.ym_line.specs.declared.delivery.Handed.{Handed}
 use Rattle.ym_line.specs.declared.delivery.Round.{Round}
 use Rattle.ym_line.specs.declared.fault.LineFault.{LineFault}

@@ -5,7 +5,7 @@ use Rattle.ym_machine.specs.declared.confirm.Confirm.{Confirm}
 use Rattle.ym_machine.specs.Frames.{frames_of}
 use Rattle.ym_machine.specs.Machine.{State, said, there}
 use Rattle.ym_machine.specs.Run.{after_turn}
-use Rattle.ym_link.specs.Hearing.{heard_of}
+use Rattle.ym_core.specs.Hearing.{heard_of}
 use Rattle.ym_link.specs.ReceiverInto.{ReceiverParts, HearsGives}
 use Rattle.ym_link.specs.ReceiverStands.{ReceiverStands, heard_there}
 use Rattle.ym_link.specs.ReceiverStands as receiver

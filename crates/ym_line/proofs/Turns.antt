@@ -15,9 +15,9 @@ use Rattle.ym_machine.specs.Frames.{Frame, BlockZero, Piece, Eot, EndBlock, fram
 use Rattle.ym_machine.specs.Halves as machine
 use Rattle.ym_machine.specs.Machine.{Speech, Nothing, FrameAt, CanCan}
 use Rattle.ym_machine.specs.Run.{came_back}
-use Rattle.ym_link.specs.Hearing.{heard_of, heard_at}
-use Rattle.ym_link.specs.declared.delivery.Heard.TheVariants as heard
-use Rattle.ym_link.specs.Reading.{controls_in}
+use Rattle.ym_core.specs.Hearing.{heard_of, heard_at}
+use Rattle.ym_core.specs.declared.delivery.Heard.TheVariants as heard
+use Rattle.ym_core.specs.Reading.{controls_in}
 use Rattle.ym_link.specs.ReceiverStands as receiver
 use Rattle.ym_link.specs.SenderStands.{Batch, IsSaid, item_of}
 use Rattle.ym_link.specs.Sender.{SenderParts, spoken}

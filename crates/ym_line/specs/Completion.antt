@@ -5,8 +5,8 @@ use Rattle.std.specs.Prelude.{◌≡◌, ◌≢◌, ◌≤◌, ◌<◌, ◌⊎�
 use Rattle.ym_file.specs.Counts.{Rose}
 use Rattle.ym_file.specs.Kept.{Told}
 use Rattle.ym_link.specs.SourceFile.{FileParts, file_at}
-use Rattle.ym_link.specs.declared.state.SendState.TheVariants as sender
-use Rattle.ym_link.specs.declared.state.RecvState.TheVariants as receiver
+use Rattle.ym_core.specs.declared.state.SendState.TheVariants as sender
+use Rattle.ym_core.specs.declared.state.RecvState.TheVariants as receiver
 use Rattle.ym_line.specs.declared.delivery.Round.{Round}
 use Rattle.ym_line.specs.declared.trace.Trace.{Trace}
 use Rattle.ym_line.specs.Needed.{rounds_of}

@@ -5,8 +5,8 @@ use Rattle.std.specs.Prelude.{◌≡◌, ℕ, ◌≤◌, List, [], length, Resul
 use Rattle.ym_frame.specs.Control.{reply_bytes, controls, IsSubsequence}
 use Rattle.ym_frame.specs.Frame.{HasFrame}
 use Rattle.ym_frame.specs.declared.control.Reply.{Reply}
-use Rattle.ym_link.specs.Hearing.{heard_of}
-use Rattle.ym_link.specs.declared.delivery.Heard.TheVariants.{Bad}
+use Rattle.ym_core.specs.Hearing.{heard_of}
+use Rattle.ym_core.specs.declared.delivery.Heard.TheVariants.{Bad}
 use Rattle.ym_line.specs.declared.delivery.Delivery.{Delivery}
 use Rattle.ym_line.specs.declared.delivery.Delivery.TheVariants.{Whole, Lost, Damaged}
 use Rattle.ym_line.specs.declared.fault.LineFault.{LineFault}

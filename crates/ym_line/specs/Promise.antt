@@ -3,10 +3,10 @@
 -- That this is promised is this profile's choice.
 use Rattle.std.specs.Prelude.{◌≡◌, ◌≤◌, ℕ, List, length, map, take, All, Some, IsSome}
 use Rattle.ym_file.specs.Kept.{Told, IsNew}
-use Rattle.ym_link.specs.Place.{done_at}
-use Rattle.ym_link.specs.Receiver.{new_receiver}
+use Rattle.ym_core.specs.Place.{done_at}
+use Rattle.ym_core.specs.Receiver.{new_receiver}
 use Rattle.ym_link.specs.SourceFile.{FileParts, IsFile, counts_of}
-use Rattle.ym_link.specs.Standing.{new_standing}
+use Rattle.ym_core.specs.Standing.{new_standing}
 use Rattle.ym_line.specs.Rounds.{Pair}
 use Rattle.ym_line.specs.declared.trace.Trace.{Trace}
 

@@ -6,10 +6,10 @@ use Rattle.std.specs.Prelude.{◌≡◌, ◌⊎◌, ℕ, ◌+◌, List, [], ◌�
 use Rattle.ym_frame.specs.Control.{reply_bytes}
 use Rattle.ym_frame.specs.declared.control.Reply.{Reply}
 use Rattle.ym_file.specs.Counts.{Rose}
-use Rattle.ym_link.specs.Hearing.{heard_of}
+use Rattle.ym_core.specs.Hearing.{heard_of}
 use Rattle.ym_link.specs.ReceiverInto.{ReceiverParts}
 use Rattle.ym_link.specs.ReceiverInto as receiver
-use Rattle.ym_link.specs.Place.{done_at}
+use Rattle.ym_core.specs.Place.{done_at}
 use Rattle.ym_link.specs.Sender.{SenderParts, IsSender, spoken}
 use Rattle.ym_link.specs.Sender as sender
 use Rattle.ym_line.specs.Carried.{told_more}

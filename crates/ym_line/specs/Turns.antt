@@ -6,12 +6,12 @@ use Rattle.ym_machine.specs.Frames.{File, Frame, frames_of, frame_at, IsPrefix}
 use Rattle.ym_machine.specs.Machine.{State, IsMachine, Speech, Nothing, FrameAt, CanCan, said, there, committed, reported}
 use Rattle.ym_machine.specs.Run.{Turn, answer_of, after_turn, after_turns, IsTurnDamage, IsDamage}
 use Rattle.ym_header.specs.Header.{HeaderParts}
-use Rattle.ym_link.specs.Reading.{controls_in}
+use Rattle.ym_core.specs.Reading.{controls_in}
 use Rattle.ym_link.specs.ReceiverInto.{Tells}
 use Rattle.ym_link.specs.ReceiverStands.{IsBatch, ReceiverStands, bytes_of}
 use Rattle.ym_link.specs.ReceiverStands as receiver
 use Rattle.ym_link.specs.SenderStands as sender
-use Rattle.ym_link.specs.Place.{done_at}
+use Rattle.ym_core.specs.Place.{done_at}
 use Rattle.ym_file.specs.Kept.{Told}
 use Rattle.ym_link.specs.Sender.{FailedAt}
 use Rattle.ym_link.specs.SourceFile.{FileParts}

@@ -9,7 +9,7 @@ use Rattle.ym_frame.specs.declared.control.Control.TheVariants.{Ack, Nak, Start,
 use Rattle.ym_frame.specs.declared.control.Reply.{Reply}
 use Rattle.ym_frame.specs.declared.control.Reply.TheVariants as reply
 use Rattle.ym_machine.specs.Halves.{control_byte, controls as reply_controls}
-use Rattle.ym_link.specs.Reading.{controls_in}
+use Rattle.ym_core.specs.Reading.{controls_in}
 
 -- a control and the byte that it is
 abbrev IsByteOf : ℕ → Option Control → Type 0

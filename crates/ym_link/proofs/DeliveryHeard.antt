@@ -4,10 +4,10 @@ use Rattle.ym_frame.specs.Reading.{item_found}
 use Rattle.ym_frame.specs.declared.frame.Item.{Item}
 use Rattle.ym_frame.specs.declared.frame.Broken.{Broken}
 use Rattle.ym_link.specs.declared.event.Event.{Event}
-use Rattle.ym_link.specs.declared.delivery.Heard.{Heard}
-use Rattle.ym_link.specs.declared.delivery.Heard.TheVariants as heard
+use Rattle.ym_core.specs.declared.delivery.Heard.{Heard}
+use Rattle.ym_core.specs.declared.delivery.Heard.TheVariants as heard
 use Rattle.ym_link.specs.declared.end_fault.EndFault.{EndFault}
-use Rattle.ym_link.specs.Hearing.{heard_at}
+use Rattle.ym_core.specs.Hearing.{heard_at}
 use Rattle.ym_link.specs.Port.{Tape}
 use Rattle.ym_link.specs.ReceiveOver.{delivery_at, heard_in, behind}
 

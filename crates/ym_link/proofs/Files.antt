@@ -8,8 +8,8 @@ use Rattle.ym_header.specs.Header.{HeaderParts}
 use Rattle.ym_file.specs.Counts.{Rose}
 use Rattle.ym_file.specs.declared.plan.Shape.{Shape}
 use Rattle.ym_link.specs.SourceFile.{FileParts, IsFile, file_at, no_file, blocks_of, counts_of}
-use Rattle.ym_link.specs.declared.place.Place.{Place}
-use Rattle.ym_link.specs.declared.place.Place.TheVariants.{Header, Block, Eot, End}
+use Rattle.ym_core.specs.declared.place.Place.{Place}
+use Rattle.ym_core.specs.declared.place.Place.TheVariants.{Header, Block, Eot, End}
 use Rattle.ym_link.specs.Sender.{FailedAt, IsFilled}
 
 pub failed_at : (files : List FileParts) (file : ℕ) (d y : FileParts) → file < length files

@@ -14,13 +14,14 @@ use Rattle.ym_machine.specs.declared.confirm.Confirm.TheVariants.{Twice, Once}
 use Rattle.ym_machine.specs.Frames.{File, Frame, BlockZero, Piece, Eot, EndBlock, frames_of, frame_at, body_at, count_within, files_within}
 use Rattle.ym_machine.specs.State.{ReceiverEnd, State}
 use Rattle.ym_machine.specs.Halves.{Answer, nothing_taken, takes, hears_next, hears_last, asks_again}
-use Rattle.ym_link.specs.declared.delivery.Heard.{Heard}
-use Rattle.ym_link.specs.declared.delivery.Heard.TheVariants as heard
-use Rattle.ym_link.specs.declared.stage.Stage.{Stage}
-use Rattle.ym_link.specs.declared.stage.Stage.TheVariants.{AwaitHeader, InFile}
-use Rattle.ym_link.specs.declared.state.RecvState.TheVariants as state
-use Rattle.ym_link.specs.Receiver.{Receiver, Step, No_call, Begins, Adds, Commits, goes_on, stays, ends, opened, hears, covered_eot, commits}
-use Rattle.ym_link.specs.ReceiverInto.{ReceiverParts, StandsFor, Means, outcome, called, Takes}
+use Rattle.ym_core.specs.declared.delivery.Heard.{Heard}
+use Rattle.ym_core.specs.declared.delivery.Heard.TheVariants as heard
+use Rattle.ym_core.specs.declared.stage.Stage.{Stage}
+use Rattle.ym_core.specs.declared.stage.Stage.TheVariants.{AwaitHeader, InFile}
+use Rattle.ym_core.specs.declared.state.RecvState.TheVariants as state
+use Rattle.ym_core.specs.Receiver.{Receiver, Step, No_call, Begins, Adds, Commits, goes_on, stays, ends, opened, hears, covered_eot, commits}
+use Rattle.ym_core.specs.Step.{StandsFor, Means}
+use Rattle.ym_link.specs.ReceiverInto.{ReceiverParts, outcome, called, Takes}
 use Rattle.ym_link.specs.ReceiverStands.{kept_after, bytes_of, IsSent, item_of, open_at, stage_of, state_of, receiver_at, KeepsFirst, KeepsOpen, ReceiverStands, Goes}
 use Rattle.ym_link.proofs.Positions.{Position, opening, piece, closing, ending}
 use Rattle.ym_link.proofs.TableRows as row

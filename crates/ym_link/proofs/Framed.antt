@@ -11,9 +11,9 @@ use Rattle.ym_file.specs.Plan.{piece_at, size_at}
 use Rattle.ym_file.specs.declared.source.SourceFault.{SourceFault}
 use Rattle.ym_link.specs.SourceFile.{FileParts, IsBlockOf, file_at}
 use Rattle.ym_header.specs.Text.{text}
-use Rattle.ym_link.specs.Place.{IsItemAt, IsFrameAt}
-use Rattle.ym_link.specs.declared.place.Place.{Place}
-use Rattle.ym_link.specs.declared.place.Place.TheVariants as place
+use Rattle.ym_link.specs.FrameAt.{IsItemAt, IsFrameAt}
+use Rattle.ym_core.specs.declared.place.Place.{Place}
+use Rattle.ym_core.specs.declared.place.Place.TheVariants as place
 
 block_frame_length : (first : ℕ) (b : BlockParts) → length (block_frame first b) ≡ length b.body + 5
 block_frame_length first b = let h = length-append b.body (check_of b.body / 256 ∷ check_of b.body % 256 ∷ []) in omega (arith, h)

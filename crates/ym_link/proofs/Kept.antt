@@ -4,13 +4,14 @@ use Rattle.std.specs.Prelude.{All}
 use Rattle.ym_file.specs.declared.plan.Shape.{Shape}
 use Rattle.ym_frame.specs.declared.control.Control.{Control}
 use Rattle.ym_link.specs.SourceFile.{FileParts, IsFile, counts_of}
-use Rattle.ym_link.specs.Place.{IsPlace, IsFrameAt}
-use Rattle.ym_link.specs.declared.place.Place.{Place}
-use Rattle.ym_link.specs.declared.standing.Standing.{Standing}
-use Rattle.ym_link.specs.declared.standing.Step.{Step}
-use Rattle.ym_link.specs.declared.state.SendState.TheVariants.{Running, SourceFailed}
+use Rattle.ym_core.specs.Place.{IsPlace}
+use Rattle.ym_link.specs.FrameAt.{IsFrameAt}
+use Rattle.ym_core.specs.declared.place.Place.{Place}
+use Rattle.ym_core.specs.declared.standing.Standing.{Standing}
+use Rattle.ym_core.specs.declared.standing.SendStep.{SendStep as Step}
+use Rattle.ym_core.specs.declared.state.SendState.TheVariants.{Running, SourceFailed}
 use Rattle.ym_link.specs.Sender.{IsSender, IsFilled}
-use Rattle.ym_link.specs.Standing.{hears}
+use Rattle.ym_core.specs.Standing.{hears}
 use Rattle.ym_link.proofs.Files.{filled_counts, filled_files}
 use Rattle.ym_link.proofs.Steps.{Keeps, step_keeps}
 

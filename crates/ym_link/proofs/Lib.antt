@@ -14,7 +14,6 @@ pub mod ReceiverBound
 pub mod ReceiverProgress
 pub mod Files
 pub mod Kept
-pub mod Readings
 pub mod ReceiverStanding
 pub mod SenderHalf
 pub mod SenderPlaces

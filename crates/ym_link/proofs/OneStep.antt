@@ -9,14 +9,14 @@ use Rattle.ym_header.specs.Reading.{Reads, IsFault}
 use Rattle.ym_header.specs.declared.fault.HeaderFault.{HeaderFault}
 use Rattle.ym_header.specs.declared.reading.Zero.{Zero}
 use Rattle.ym_header.specs.declared.reading.Zero.TheVariants.{End}
-use Rattle.ym_link.specs.declared.delivery.Heard.{Heard}
-use Rattle.ym_link.specs.declared.delivery.Heard.TheVariants as heard
-use Rattle.ym_link.specs.declared.stage.Stage.{Stage}
-use Rattle.ym_link.specs.declared.stage.Stage.TheVariants.{AwaitHeader, InFile}
-use Rattle.ym_link.specs.declared.state.RecvState.{RecvState}
-use Rattle.ym_link.specs.declared.state.RecvState.TheVariants as state
-use Rattle.ym_link.specs.Receiver.{Receiver, hears_at, running_hears, hears, zero_heard, ends}
-use Rattle.ym_link.specs.ReceiverInto.{StandsFor, Means}
+use Rattle.ym_core.specs.declared.delivery.Heard.{Heard}
+use Rattle.ym_core.specs.declared.delivery.Heard.TheVariants as heard
+use Rattle.ym_core.specs.declared.stage.Stage.{Stage}
+use Rattle.ym_core.specs.declared.stage.Stage.TheVariants.{AwaitHeader, InFile}
+use Rattle.ym_core.specs.declared.state.RecvState.{RecvState}
+use Rattle.ym_core.specs.declared.state.RecvState.TheVariants as state
+use Rattle.ym_core.specs.Receiver.{Receiver, hears_at, running_hears, hears, zero_heard, ends}
+use Rattle.ym_core.specs.Step.{StandsFor, Means}
 
 pub some_meaning : (body : List ℕ) → ((z : Zero) × Reads length_limit body z) ⊎ ((f : HeaderFault) × IsFault length_limit body f) → (zero : Result Zero HeaderFault) × StandsFor body zero
 some_meaning body (inl found) = (Ok found.0, found.1)

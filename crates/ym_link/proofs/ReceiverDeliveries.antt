@@ -13,16 +13,18 @@ use Rattle.ym_header.specs.declared.reading.Zero.{Zero}
 use Rattle.ym_header.specs.declared.reading.Zero.TheVariants.{File, End}
 use Rattle.ym_machine.specs.declared.confirm.Confirm.{Confirm}
 use Rattle.ym_machine.specs.declared.confirm.Confirm.TheVariants.{Twice, Once}
-use Rattle.ym_link.specs.declared.delivery.Heard.{Heard}
-use Rattle.ym_link.specs.declared.delivery.Heard.TheVariants as heard
-use Rattle.ym_link.specs.declared.stage.OpenFile.{OpenFile}
-use Rattle.ym_link.specs.declared.stage.Stage.{Stage}
-use Rattle.ym_link.specs.declared.stage.Stage.TheVariants.{AwaitHeader, InFile}
-use Rattle.ym_link.specs.declared.state.RecvState.{RecvState}
-use Rattle.ym_link.specs.declared.state.RecvState.TheVariants as state
+use Rattle.ym_core.specs.declared.delivery.Heard.{Heard}
+use Rattle.ym_core.specs.declared.delivery.Heard.TheVariants as heard
+use Rattle.ym_core.specs.declared.stage.OpenFile.{OpenFile}
+use Rattle.ym_core.specs.declared.stage.Stage.{Stage}
+use Rattle.ym_core.specs.declared.stage.Stage.TheVariants.{AwaitHeader, InFile}
+use Rattle.ym_core.specs.declared.state.RecvState.{RecvState}
+use Rattle.ym_core.specs.declared.state.RecvState.TheVariants as state
 use Rattle.ym_link.specs.Deliveries.{receiver_steps, receiver_deliveries}
-use Rattle.ym_link.specs.Receiver.{Receiver, Step, Call, No_call, Begins, Adds, Commits, goes_on, stays, opened, zero_heard, awaiting_hears, next_block, block_heard, commits, covered_eot, in_file_hears, running_hears, hears}
-use Rattle.ym_link.specs.ReceiverInto.{ReceiverParts, IsReceiver, IsOpenFile, FilesFit, StandsFor, Means, HearsGives, outcome}
+use Rattle.ym_core.specs.Receiver.{Receiver, Step, Call, No_call, Begins, Adds, Commits, goes_on, stays, opened, zero_heard, awaiting_hears, next_block, block_heard, commits, covered_eot, in_file_hears, running_hears, hears}
+use Rattle.ym_core.specs.Step.{StandsFor, Means}
+use Rattle.ym_core.specs.Core.{FilesFit}
+use Rattle.ym_link.specs.ReceiverInto.{ReceiverParts, IsReceiver, IsOpenFile, HearsGives, outcome}
 
 -- a running receiver
 abbrev pub runs : Confirm → Stage → ℕ → ℕ → Receiver

@@ -3,11 +3,12 @@ use Rattle.std.proofs.Common.{◌≡◌, ◌⊎◌, inl, inr, Bool, true, false,
 use Rattle.ym_frame.specs.declared.control.Reply.TheVariants.{AckStart, Cancel}
 use Rattle.ym_header.specs.Header.{HeaderParts}
 use Rattle.ym_header.specs.declared.reading.Zero.TheVariants.{File}
-use Rattle.ym_link.specs.declared.stage.Stage.{Stage}
-use Rattle.ym_link.specs.declared.stage.Stage.TheVariants.{AwaitHeader, InFile}
-use Rattle.ym_link.specs.declared.state.RecvState.TheVariants as state
-use Rattle.ym_link.specs.Receiver.{Receiver, Step, Begins, goes_on, ends, opened, zero_heard}
-use Rattle.ym_link.specs.ReceiverInto.{ReceiverParts, IsReceiver, IsWithin, IsOpenFile, BlocksFit, Grows}
+use Rattle.ym_core.specs.declared.stage.Stage.{Stage}
+use Rattle.ym_core.specs.declared.stage.Stage.TheVariants.{AwaitHeader, InFile}
+use Rattle.ym_core.specs.declared.state.RecvState.TheVariants as state
+use Rattle.ym_core.specs.Receiver.{Receiver, Step, Begins, goes_on, ends, opened, zero_heard}
+use Rattle.ym_core.specs.Core.{BlocksFit}
+use Rattle.ym_link.specs.ReceiverInto.{ReceiverParts, IsReceiver, IsWithin, IsOpenFile, Grows}
 
 -- where a header is read, memory may be wanted
 pub wants : (r : Receiver) (header : HeaderParts) → Grows (zero_heard r (Ok (File header))).call ⊎ ((zero_heard r (Ok (File header))).receiver.state ≡ state.TooManyFiles)

@@ -12,11 +12,12 @@ use Rattle.ym_machine.specs.State.{SenderEnd, ReceiverEnd, State, start, said, s
 use Rattle.ym_machine.specs.Halves.{Sound, At, Can, Bad, nothing_taken, hears_next, hears_last, asks_again}
 use Rattle.ym_machine.specs.Halves as machine
 use Rattle.ym_machine.specs.Machine.{IsMachine}
-use Rattle.ym_link.specs.declared.delivery.Heard.TheVariants as heard
-use Rattle.ym_link.specs.declared.state.RecvState.{RecvState}
-use Rattle.ym_link.specs.declared.state.RecvState.TheVariants as state
-use Rattle.ym_link.specs.Receiver.{No_call, hears, hears_at, new_receiver, finished_reply}
-use Rattle.ym_link.specs.ReceiverInto.{ReceiverParts, Means, HearsGives}
+use Rattle.ym_core.specs.declared.delivery.Heard.TheVariants as heard
+use Rattle.ym_core.specs.declared.state.RecvState.{RecvState}
+use Rattle.ym_core.specs.declared.state.RecvState.TheVariants as state
+use Rattle.ym_core.specs.Receiver.{No_call, hears, hears_at, new_receiver, finished_reply}
+use Rattle.ym_core.specs.Step.{Means}
+use Rattle.ym_link.specs.ReceiverInto.{ReceiverParts, HearsGives}
 use Rattle.ym_link.specs.ReceiverStands.{IsSent, IsBatch, item_of, heard_as, IsNextOrLast, open_at, stage_of, state_of, receiver_at, KeepsOpen, ReceiverStands, Goes, heard_there, Follows}
 use Rattle.ym_link.proofs.Positions.{PlaceLaws, position}
 use Rattle.ym_link.proofs.TableRows.{yes, differ}

@@ -5,18 +5,18 @@ use Rattle.std.specs.Prelude.{◌==◌}
 use Rattle.ym_frame.specs.declared.control.Control.{Control}
 use Rattle.ym_link.specs.SourceFile.{counts_of}
 use Rattle.ym_link.specs.Port.{Tape}
-use Rattle.ym_link.specs.Place.{IsPlace, next_of, first_of}
-use Rattle.ym_link.specs.declared.place.Place.{Place}
-use Rattle.ym_link.specs.declared.place.Place.TheVariants.{Header, Block, Eot, End}
-use Rattle.ym_link.specs.declared.place.Mode.{Mode}
-use Rattle.ym_link.specs.declared.place.Mode.TheVariants.{Waiting, Sent}
-use Rattle.ym_link.specs.declared.reading.Reading.{Reading}
-use Rattle.ym_link.specs.declared.standing.Standing.{Standing}
-use Rattle.ym_link.specs.declared.standing.Step.{Step}
-use Rattle.ym_link.specs.declared.state.SendState.{SendState}
-use Rattle.ym_link.specs.declared.state.SendState.TheVariants.{Running, Finished, NoReply, Cancelled, SourceFailed}
-use Rattle.ym_link.specs.Reading.{controls_in}
-use Rattle.ym_link.specs.Standing.{missed, moved, read_through, after_reading, after_fill, hears}
+use Rattle.ym_core.specs.Place.{IsPlace, next_of, first_of}
+use Rattle.ym_core.specs.declared.place.Place.{Place}
+use Rattle.ym_core.specs.declared.place.Place.TheVariants.{Header, Block, Eot, End}
+use Rattle.ym_core.specs.declared.place.Mode.{Mode}
+use Rattle.ym_core.specs.declared.place.Mode.TheVariants.{Waiting, Sent}
+use Rattle.ym_core.specs.declared.reading.Reading.{Reading}
+use Rattle.ym_core.specs.declared.standing.Standing.{Standing}
+use Rattle.ym_core.specs.declared.standing.SendStep.{SendStep as Step}
+use Rattle.ym_core.specs.declared.state.SendState.{SendState}
+use Rattle.ym_core.specs.declared.state.SendState.TheVariants.{Running, Finished, NoReply, Cancelled, SourceFailed}
+use Rattle.ym_core.specs.Reading.{controls_in}
+use Rattle.ym_core.specs.Standing.{missed, moved, read_through, after_reading, after_fill, hears}
 use Rattle.ym_link.specs.Sender.{SenderParts, IsSender, Hears, counts}
 use Rattle.ym_link.specs.SendOver.{Outcome, Sends, ended, unwritten, unread, heard}
 use Rattle.ym_link.specs.Deliveries.{frames_in, frames_from, sender_steps}

@@ -6,16 +6,16 @@ use Rattle.ym_header.specs.Header.{HeaderParts}
 use Rattle.ym_machine.specs.Frames.{Frame, BlockZero, Piece, Eot as EotFrame, EndBlock, frames_of, frame_at}
 use Rattle.ym_machine.specs.State.{State, SenderEnd}
 use Rattle.ym_machine.specs.Halves.{sends, nothing_gained, running_gets, gets, back, acknowledged_at, IsRemnant}
-use Rattle.ym_link.specs.declared.place.Place.{Place}
-use Rattle.ym_link.specs.declared.place.Place.TheVariants.{Header, Block, Eot, End}
-use Rattle.ym_link.specs.declared.place.Mode.{Mode}
-use Rattle.ym_link.specs.declared.place.Mode.TheVariants.{Waiting, Sent}
-use Rattle.ym_link.specs.declared.standing.Standing.{Standing}
-use Rattle.ym_link.specs.declared.standing.Step.{Step}
-use Rattle.ym_link.specs.declared.state.SendState.{SendState}
-use Rattle.ym_link.specs.declared.state.SendState.TheVariants as state
-use Rattle.ym_link.specs.Place.{next_of}
-use Rattle.ym_link.specs.Standing.{step, missed, runs, hears, hears_in, after_fill}
+use Rattle.ym_core.specs.declared.place.Place.{Place}
+use Rattle.ym_core.specs.declared.place.Place.TheVariants.{Header, Block, Eot, End}
+use Rattle.ym_core.specs.declared.place.Mode.{Mode}
+use Rattle.ym_core.specs.declared.place.Mode.TheVariants.{Waiting, Sent}
+use Rattle.ym_core.specs.declared.standing.Standing.{Standing}
+use Rattle.ym_core.specs.declared.standing.SendStep.{SendStep as Step}
+use Rattle.ym_core.specs.declared.state.SendState.{SendState}
+use Rattle.ym_core.specs.declared.state.SendState.TheVariants as state
+use Rattle.ym_core.specs.Place.{next_of}
+use Rattle.ym_core.specs.Standing.{step, missed, runs, hears, hears_in, after_fill}
 use Rattle.ym_link.specs.SenderStands.{Batch, StandsAt, counts_in, place_at, state_of, mode_of, farewell_of}
 use Rattle.ym_link.proofs.SenderPlaces.{SameKind, next_at, kind_at}
 

@@ -3,9 +3,9 @@ use Rattle.std.proofs.Common.{ℕ, ◌+◌, ◌-◌, ◌%◌, ◌<◌, ◌≤◌
 use Rattle.std.proofs.lemmas.Bool.Decides.{nat_tests}
 use Rattle.ym_header.specs.Header.{HeaderParts}
 use Rattle.ym_machine.specs.Frames.{File, Frame, BlockZero, Piece, Eot as EotFrame, EndBlock, frames_of, frame_at, numbered_from, body_at, eots}
-use Rattle.ym_link.specs.declared.place.Place.{Place}
-use Rattle.ym_link.specs.declared.place.Place.TheVariants.{Header, Block, Eot, End}
-use Rattle.ym_link.specs.Place.{count_at, next_of, done_at}
+use Rattle.ym_core.specs.declared.place.Place.{Place}
+use Rattle.ym_core.specs.declared.place.Place.TheVariants.{Header, Block, Eot, End}
+use Rattle.ym_core.specs.Place.{count_at, next_of, done_at}
 use Rattle.ym_link.specs.SenderStands.{Batch, counts_in, place_from, place_at}
 
 lt_true : (a b : ℕ) → a < b → nat_lt a b ≡ true

@@ -15,16 +15,17 @@ use Rattle.ym_file.specs.Plan.{pieces_of, piece_at, count_of}
 use Rattle.ym_machine.specs.Frames.{Eot as EotFrame, frames_of, frame_at, numbered_from, body_at, count_within}
 use Rattle.ym_machine.specs.State.{State, SenderEnd, start, said, said_by}
 use Rattle.ym_machine.specs.Halves.{back, IsRemnant}
-use Rattle.ym_link.specs.declared.place.Place.{Place}
-use Rattle.ym_link.specs.declared.place.Place.TheVariants.{Header, Block, Eot, End}
-use Rattle.ym_link.specs.declared.place.Mode.{Mode}
-use Rattle.ym_link.specs.declared.standing.Standing.{Standing}
-use Rattle.ym_link.specs.declared.state.SendState.{SendState}
-use Rattle.ym_link.specs.declared.state.SendState.TheVariants as state
+use Rattle.ym_core.specs.declared.place.Place.{Place}
+use Rattle.ym_core.specs.declared.place.Place.TheVariants.{Header, Block, Eot, End}
+use Rattle.ym_core.specs.declared.place.Mode.{Mode}
+use Rattle.ym_core.specs.declared.standing.Standing.{Standing}
+use Rattle.ym_core.specs.declared.state.SendState.{SendState}
+use Rattle.ym_core.specs.declared.state.SendState.TheVariants as state
 use Rattle.ym_link.specs.SourceFile.{FileParts, IsFile, IsBlockOf, file_at, blocks_of, counts_of}
-use Rattle.ym_link.specs.Place.{IsItemAt, IsFrameAt, first_of, done_at}
-use Rattle.ym_link.specs.Reading.{controls_in}
-use Rattle.ym_link.specs.Standing.{hears, new_standing}
+use Rattle.ym_core.specs.Place.{first_of, done_at}
+use Rattle.ym_link.specs.FrameAt.{IsItemAt, IsFrameAt}
+use Rattle.ym_core.specs.Reading.{controls_in}
+use Rattle.ym_core.specs.Standing.{hears, new_standing}
 use Rattle.ym_link.specs.Sender.{SenderParts, IsSender, IsStep, IsFilled, counts, spoken, spoken_in}
 use Rattle.ym_link.specs.SenderStands.{Batch, IsFileOf, told_pieces, batch_of, counts_in, place_from, place_at, state_of, mode_of, farewell_of, StandsAt, SenderStands, item_of, IsSaid, AllTold}
 use Rattle.ym_link.proofs.SenderPlaces.{Ordered, below, equal, above, ordered, place_block, place_eot, place_rest, in_blocks, behind_blocks, body_is, done_is}

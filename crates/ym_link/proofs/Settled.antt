@@ -5,18 +5,18 @@ use Rattle.std.proofs.lemmas.List.Elements.{filter_map-append}
 use Rattle.ym_frame.specs.Control.{control_at}
 use Rattle.ym_frame.specs.declared.control.Control.{Control}
 use Rattle.ym_frame.specs.declared.control.Control.TheVariants.{Ack, Nak, Start, Can}
-use Rattle.ym_link.specs.declared.place.Place.{Place}
-use Rattle.ym_link.specs.declared.place.Mode.{Mode}
-use Rattle.ym_link.specs.declared.place.Mode.TheVariants.{Waiting, Sent}
-use Rattle.ym_link.specs.declared.reading.Reading.{Reading}
-use Rattle.ym_link.specs.declared.reading.Stop.{Stop}
-use Rattle.ym_link.specs.declared.reading.Stop.TheVariants.{Cancels}
-use Rattle.ym_link.specs.declared.standing.Standing.{Standing}
-use Rattle.ym_link.specs.declared.standing.Step.{Step}
-use Rattle.ym_link.specs.declared.state.SendState.{SendState}
-use Rattle.ym_link.specs.declared.state.SendState.TheVariants.{Running, Finished, NoReply, Cancelled, SourceFailed}
-use Rattle.ym_link.specs.Reading.{controls_in, turn, reads}
-use Rattle.ym_link.specs.Standing.{missed, read_through, after_reading, hears, hears_in, is_settled, is_settled_in}
+use Rattle.ym_core.specs.declared.place.Place.{Place}
+use Rattle.ym_core.specs.declared.place.Mode.{Mode}
+use Rattle.ym_core.specs.declared.place.Mode.TheVariants.{Waiting, Sent}
+use Rattle.ym_core.specs.declared.reading.Reading.{Reading}
+use Rattle.ym_core.specs.declared.reading.Stop.{Stop}
+use Rattle.ym_core.specs.declared.reading.Stop.TheVariants.{Cancels}
+use Rattle.ym_core.specs.declared.standing.Standing.{Standing}
+use Rattle.ym_core.specs.declared.standing.SendStep.{SendStep as Step}
+use Rattle.ym_core.specs.declared.state.SendState.{SendState}
+use Rattle.ym_core.specs.declared.state.SendState.TheVariants.{Running, Finished, NoReply, Cancelled, SourceFailed}
+use Rattle.ym_core.specs.Reading.{controls_in, turn, reads}
+use Rattle.ym_core.specs.Standing.{missed, read_through, after_reading, hears, hears_in, is_settled, is_settled_in}
 
 -- a reading that goes on, or stops
 on_stop : (b : Bool) (r x y : Reading) → (is_some x.stop ≡ true → y ≡ x) → is_some (cond b r x).stop ≡ true → cond b r y ≡ cond b r x

@@ -3,19 +3,19 @@ use Rattle.std.proofs.Common.{ℕ, ◌+◌, ◌≡◌, ◌<◌, ◌⊎◌, inl, 
 use Rattle.std.proofs.lemmas.Bool.Decides.{nat_tests}
 use Rattle.ym_frame.specs.declared.control.Control.{Control}
 use Rattle.ym_frame.specs.declared.control.Control.TheVariants.{Ack, Nak, Start, Can}
-use Rattle.ym_link.specs.Place.{next_of}
-use Rattle.ym_link.specs.declared.place.Place.{Place}
-use Rattle.ym_link.specs.declared.place.Place.TheVariants.{Header, Block, Eot, End}
-use Rattle.ym_link.specs.declared.place.Mode.{Mode}
-use Rattle.ym_link.specs.declared.place.Mode.TheVariants.{Waiting, Sent}
-use Rattle.ym_link.specs.declared.reading.Stop.TheVariants.{Sends, Again, Finishes, Cancels}
-use Rattle.ym_link.specs.declared.reading.Reading.{Reading}
-use Rattle.ym_link.specs.declared.standing.Standing.{Standing}
-use Rattle.ym_link.specs.declared.standing.Step.{Step}
-use Rattle.ym_link.specs.declared.state.SendState.{SendState}
-use Rattle.ym_link.specs.declared.state.SendState.TheVariants.{Running, Finished, NoReply, Cancelled, SourceFailed}
-use Rattle.ym_link.specs.Reading.{goes_on, stops, reads}
-use Rattle.ym_link.specs.Standing.{missed, read_through, after_reading, hears, hears_in, IsSame}
+use Rattle.ym_core.specs.Place.{next_of}
+use Rattle.ym_core.specs.declared.place.Place.{Place}
+use Rattle.ym_core.specs.declared.place.Place.TheVariants.{Header, Block, Eot, End}
+use Rattle.ym_core.specs.declared.place.Mode.{Mode}
+use Rattle.ym_core.specs.declared.place.Mode.TheVariants.{Waiting, Sent}
+use Rattle.ym_core.specs.declared.reading.Stop.TheVariants.{Sends, Again, Finishes, Cancels}
+use Rattle.ym_core.specs.declared.reading.Reading.{Reading}
+use Rattle.ym_core.specs.declared.standing.Standing.{Standing}
+use Rattle.ym_core.specs.declared.standing.SendStep.{SendStep as Step}
+use Rattle.ym_core.specs.declared.state.SendState.{SendState}
+use Rattle.ym_core.specs.declared.state.SendState.TheVariants.{Running, Finished, NoReply, Cancelled, SourceFailed}
+use Rattle.ym_core.specs.Reading.{goes_on, stops, reads}
+use Rattle.ym_core.specs.Standing.{missed, read_through, after_reading, hears, hears_in, IsSame}
 
 -- another frame stands behind it
 abbrev pub IsBefore : Place → Type 0

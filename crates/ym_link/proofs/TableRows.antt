@@ -8,12 +8,12 @@ use Rattle.ym_header.specs.declared.fault.HeaderFault.{HeaderFault}
 use Rattle.ym_header.specs.declared.reading.Zero.{Zero}
 use Rattle.ym_header.specs.declared.reading.Zero.TheVariants.{File, End}
 use Rattle.ym_machine.specs.declared.confirm.Confirm.{Confirm}
-use Rattle.ym_link.specs.declared.delivery.Heard.TheVariants as heard
-use Rattle.ym_link.specs.declared.stage.OpenFile.{OpenFile}
-use Rattle.ym_link.specs.declared.stage.Stage.{Stage}
-use Rattle.ym_link.specs.declared.stage.Stage.TheVariants.{AwaitHeader, InFile}
-use Rattle.ym_link.specs.declared.state.RecvState.TheVariants as state
-use Rattle.ym_link.specs.Receiver.{Receiver, Begins, Adds, goes_on, stays, ends, opened, hears, next_block, covered_eot}
+use Rattle.ym_core.specs.declared.delivery.Heard.TheVariants as heard
+use Rattle.ym_core.specs.declared.stage.OpenFile.{OpenFile}
+use Rattle.ym_core.specs.declared.stage.Stage.{Stage}
+use Rattle.ym_core.specs.declared.stage.Stage.TheVariants.{AwaitHeader, InFile}
+use Rattle.ym_core.specs.declared.state.RecvState.TheVariants as state
+use Rattle.ym_core.specs.Receiver.{Receiver, Begins, Adds, goes_on, stays, ends, opened, hears, next_block, covered_eot}
 
 pub yes : (a : ℕ) → (a == a) ≡ true
 yes a = grind (arith, nat_tests)

@@ -3,12 +3,12 @@ use Rattle.std.proofs.Common.{ℕ, ◌≡◌, ◌≢◌, List, [], ◌∷◌, tr
 use Rattle.std.specs.Prelude.{is_some}
 use Rattle.ym_frame.specs.declared.control.Control.{Control}
 use Rattle.ym_frame.specs.declared.control.Control.TheVariants.{Ack, Nak, Start, Can}
-use Rattle.ym_link.specs.declared.place.Place.{Place}
-use Rattle.ym_link.specs.declared.place.Place.TheVariants.{Header, Block, Eot, End}
-use Rattle.ym_link.specs.declared.place.Mode.{Mode}
-use Rattle.ym_link.specs.declared.place.Mode.TheVariants.{Waiting, Sent}
-use Rattle.ym_link.specs.declared.reading.Reading.{Reading}
-use Rattle.ym_link.specs.Reading.{turn, reads}
+use Rattle.ym_core.specs.declared.place.Place.{Place}
+use Rattle.ym_core.specs.declared.place.Place.TheVariants.{Header, Block, Eot, End}
+use Rattle.ym_core.specs.declared.place.Mode.{Mode}
+use Rattle.ym_core.specs.declared.place.Mode.TheVariants.{Waiting, Sent}
+use Rattle.ym_core.specs.declared.reading.Reading.{Reading}
+use Rattle.ym_core.specs.Reading.{turn, reads}
 
 pub one_control : (counts : List ℕ) (place : Place) (mode : Mode) (c : Control) → turn counts mode c place ≡ reads counts place mode (c ∷ [])
 one_control counts (Header file) Sent Ack = refl

@@ -1,19 +1,19 @@
 -- How many deliveries an end hears at most: ten for each step of progress, and ten more (this profile).
 use Rattle.std.specs.Prelude.{ℕ, ◌+◌, ◌-◌, ◌*◌, ◌^◌, if◌then◌else◌, List, [], ◌∷◌, drop}
-use Rattle.ym_link.specs.declared.stage.Stage.{Stage}
-use Rattle.ym_link.specs.declared.stage.Stage.TheVariants.{AwaitHeader, InFile}
-use Rattle.ym_link.specs.declared.state.RecvState.{RecvState}
-use Rattle.ym_link.specs.declared.state.RecvState.TheVariants as state
-use Rattle.ym_link.specs.Receiver.{Receiver}
-use Rattle.ym_link.specs.Place.{count_at}
+use Rattle.ym_core.specs.declared.stage.Stage.{Stage}
+use Rattle.ym_core.specs.declared.stage.Stage.TheVariants.{AwaitHeader, InFile}
+use Rattle.ym_core.specs.declared.state.RecvState.{RecvState}
+use Rattle.ym_core.specs.declared.state.RecvState.TheVariants as state
+use Rattle.ym_core.specs.Receiver.{Receiver}
+use Rattle.ym_core.specs.Place.{count_at}
 use Rattle.ym_link.specs.Sender.{SenderParts, counts}
-use Rattle.ym_link.specs.declared.place.Place.{Place}
-use Rattle.ym_link.specs.declared.place.Place.TheVariants.{Header, Block, Eot, End}
-use Rattle.ym_link.specs.declared.place.Mode.{Mode}
-use Rattle.ym_link.specs.declared.place.Mode.TheVariants.{Waiting, Sent}
-use Rattle.ym_link.specs.declared.standing.Standing.{Standing}
-use Rattle.ym_link.specs.declared.state.SendState.{SendState}
-use Rattle.ym_link.specs.declared.state.SendState.TheVariants.{Running}
+use Rattle.ym_core.specs.declared.place.Place.{Place}
+use Rattle.ym_core.specs.declared.place.Place.TheVariants.{Header, Block, Eot, End}
+use Rattle.ym_core.specs.declared.place.Mode.{Mode}
+use Rattle.ym_core.specs.declared.place.Mode.TheVariants.{Waiting, Sent}
+use Rattle.ym_core.specs.declared.standing.Standing.{Standing}
+use Rattle.ym_core.specs.declared.state.SendState.{SendState}
+use Rattle.ym_core.specs.declared.state.SendState.TheVariants.{Running}
 
 -- ---- A receiver
 

@@ -4,7 +4,7 @@ use Rattle.ym_frame.specs.Frame.{verdict_of}
 use Rattle.ym_frame.specs.declared.frame.Item.TheVariants as item
 use Rattle.ym_link.specs.Delivery.{Taken, taken, reads_in}
 use Rattle.ym_link.specs.ReceiveOver.{has_item, heard_in}
-use Rattle.ym_link.specs.declared.delivery.Heard.TheVariants as heard
+use Rattle.ym_core.specs.declared.delivery.Heard.TheVariants as heard
 use Rattle.ym_link.specs.declared.event.Event.{Event}
 use Rattle.ym_link.specs.declared.event.Event.TheVariants.{Piece, Quiet}
 use Rattle.ym_link.specs.declared.end_fault.EndFault.TheVariants.{Closed}

@@ -1,7 +1,7 @@
-pub mod Hearing
-pub mod Receiver
 pub mod ReceiverInto
+pub mod Calls
 pub mod SourceFile
+pub mod FrameAt
 pub mod Port
 pub mod ScriptPort
 pub mod Delivery
@@ -15,11 +15,6 @@ pub mod ReceiveOver
 pub mod SendOver
 pub mod Bound
 pub mod DeliveryExamples
-pub mod Place
-pub mod Reading
-pub mod ReceiverExamples
 pub mod ReceiverStands
 pub mod Sender
-pub mod SenderExamples
 pub mod SenderStands
-pub mod Standing

@@ -5,14 +5,14 @@ use Rattle.ym_frame.specs.Frame.{verdict_of}
 use Rattle.ym_frame.specs.Control.{reply_bytes}
 use Rattle.ym_frame.specs.declared.control.Reply.{Reply}
 use Rattle.ym_frame.specs.declared.control.Reply.TheVariants.{Silence}
-use Rattle.ym_link.specs.Hearing.{heard_of}
+use Rattle.ym_core.specs.Hearing.{heard_of}
 use Rattle.ym_link.specs.Port.{Tape, after_write}
 use Rattle.ym_link.specs.Delivery.{Taken, taken}
 use Rattle.ym_link.specs.ReceiverInto.{ReceiverParts, IsReceiver, HearsGives}
-use Rattle.ym_link.specs.declared.delivery.Heard.{Heard}
+use Rattle.ym_core.specs.declared.delivery.Heard.{Heard}
 use Rattle.ym_link.specs.declared.end_fault.EndFault.{EndFault}
 use Rattle.ym_link.specs.declared.end_fault.EndFault.TheVariants as fault
-use Rattle.ym_link.specs.declared.state.RecvState.TheVariants as state
+use Rattle.ym_core.specs.declared.state.RecvState.TheVariants as state
 
 -- ---- What is read
 

@@ -1,23 +1,21 @@
 -- A receiver with its sink: what hearing one delivery answers and leaves.
-use Rattle.std.specs.Prelude.{ℕ, ◌+◌, ◌*◌, ◌≡◌, ◌≤◌, ◌<◌, ◌^◌, ◌⊎◌, List, [], length, None, Some, Bool, true, false, if◌then◌else◌, Result, Ok, Err, min}
+use Rattle.std.specs.Prelude.{ℕ, ◌*◌, ◌≡◌, ◌≤◌, ◌<◌, ◌^◌, ◌⊎◌, [], length, None, Some, Bool, true, false, Result, Ok, Err, min}
 use Rattle.std.specs.declared.alloc.AllocError.{AllocError}
-use Rattle.ym_frame.specs.Block.{BlockParts}
 use Rattle.ym_frame.specs.declared.control.Reply.{Reply}
 use Rattle.ym_frame.specs.declared.control.Reply.TheVariants.{Cancel}
-use Rattle.ym_frame.specs.declared.frame.Item.TheVariants as item
-use Rattle.ym_header.specs.Header.{HeaderParts, length_limit}
-use Rattle.ym_header.specs.Reading.{Reads, IsFault}
+use Rattle.ym_header.specs.Header.{HeaderParts}
 use Rattle.ym_header.specs.declared.fault.HeaderFault.{HeaderFault}
 use Rattle.ym_header.specs.declared.reading.Zero.{Zero}
 use Rattle.ym_file.specs.Counts.{Rose}
 use Rattle.ym_file.specs.Kept.{Kept, begun, added, committed}
 use Rattle.ym_machine.specs.declared.confirm.Confirm.{Confirm}
-use Rattle.ym_link.specs.declared.delivery.Heard.{Heard}
-use Rattle.ym_link.specs.declared.delivery.Heard.TheVariants as heard
-use Rattle.ym_link.specs.declared.stage.Stage.{Stage}
-use Rattle.ym_link.specs.declared.stage.Stage.TheVariants.{AwaitHeader, InFile}
-use Rattle.ym_link.specs.declared.state.RecvState.TheVariants as state
-use Rattle.ym_link.specs.Receiver.{Receiver, Call, No_call, Begins, Adds, Commits, Step, ends, hears, new_receiver}
+use Rattle.ym_core.specs.declared.delivery.Heard.{Heard}
+use Rattle.ym_core.specs.declared.stage.Stage.{Stage}
+use Rattle.ym_core.specs.declared.stage.Stage.TheVariants.{AwaitHeader, InFile}
+use Rattle.ym_core.specs.declared.state.RecvState.TheVariants as state
+use Rattle.ym_core.specs.Core.{BlocksFit, FilesFit}
+use Rattle.ym_core.specs.Step.{Means}
+use Rattle.ym_core.specs.Receiver.{Receiver, Call, No_call, Begins, Adds, Commits, Step, ends, hears, new_receiver}
 
 -- a receiver as contracts see it, with what its sink tells and how often that failed
 pub record ReceiverParts : Type 0 where
@@ -34,15 +32,6 @@ new_in_memory confirm = record {
 }
 
 -- ---- What a step answers, and what it leaves
-
--- what a body stands for: the end, a header or a fault, and one of them alone
-abbrev pub StandsFor : List ℕ → Result Zero HeaderFault → Type 0
-StandsFor body (Ok zero) = Reads length_limit body zero
-StandsFor body (Err fault) = IsFault length_limit body fault
-
--- a running receiver that awaits a header reads the body of a block 0
-abbrev pub Means : Receiver → Heard → Result Zero HeaderFault → Type 0
-Means r h zero = (block : BlockParts) → r.state ≡ state.Running → r.stage ≡ AwaitHeader → h ≡ heard.Item (item.Block block) → block.number ≡ 0 → StandsFor block.body zero
 
 -- what the sink tells after a call
 abbrev pub called : Call → Kept → Kept
@@ -96,15 +85,6 @@ IsWithin (InFile file) kept = (header : HeaderParts) × (kept.opened ≡ Some he
 abbrev pub IsOpenFile : Stage → Kept → Type 0
 IsOpenFile AwaitHeader kept = kept.opened ≡ None
 IsOpenFile (InFile file) kept = (header : HeaderParts) × (kept.opened ≡ Some header) × (header.length ≡ file.length) × (kept.taken ≡ file.taken) × (file.taken ≤ file.length) × (file.length < 2 ^ 63)
-
--- a block adds a byte, or is dropped and counted
-abbrev pub BlocksFit : Stage → ℕ → Type 0
-BlocksFit AwaitHeader count = Unit {0}
-BlocksFit (InFile file) count = (file.taken < file.length → file.blocks ≤ file.taken) × (file.blocks ≤ file.taken + count + (if file.first_eot then 10 else 0)) × (file.first_eot ≡ true → file.length ≤ file.taken) × (file.taken ≤ 1024 * file.blocks)
-
-abbrev pub FilesFit : Stage → ℕ → Type 0
-FilesFit AwaitHeader files = files ≤ 65535
-FilesFit (InFile file) files = files < 65535
 
 pub record IsReceiver (parts : ReceiverParts) : Type 0 where
   pub open_file : IsOpenFile parts.receiver.stage parts.kept

@@ -2,12 +2,12 @@
 use Rattle.std.specs.Prelude.{◌≡◌, ◌≢◌, ℕ, Bool, true, List, [], take, Option, None, Some, Result, Ok, Err}
 use Rattle.ym_link.specs.Port.{Tape, after_write}
 use Rattle.ym_link.specs.Delivery.{Taken, taken}
-use Rattle.ym_link.specs.Reading.{controls_in}
-use Rattle.ym_link.specs.Standing.{is_settled}
+use Rattle.ym_core.specs.Reading.{controls_in}
+use Rattle.ym_core.specs.Standing.{is_settled}
 use Rattle.ym_link.specs.Sender.{SenderParts, IsSender, Hears, counts, spoken}
 use Rattle.ym_link.specs.declared.end_fault.EndFault.{EndFault}
 use Rattle.ym_link.specs.declared.end_fault.EndFault.TheVariants as fault
-use Rattle.ym_link.specs.declared.state.SendState.TheVariants.{Running}
+use Rattle.ym_core.specs.declared.state.SendState.TheVariants.{Running}
 
 -- ---- What is written and read
 

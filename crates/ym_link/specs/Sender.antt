@@ -3,17 +3,18 @@ use Rattle.std.specs.Prelude.{◌≡◌, ℕ, ◌<◌, length, Bool, true, false
 use Rattle.ym_file.specs.Counts.{Rose}
 use Rattle.ym_file.specs.declared.plan.Shape.{Shape}
 use Rattle.ym_link.specs.SourceFile.{FileParts, IsFile, file_at, counts_of}
-use Rattle.ym_link.specs.Place.{IsPlace, IsFrameAt}
-use Rattle.ym_link.specs.Reading.{controls_in}
-use Rattle.ym_link.specs.Standing.{hears, after_fill}
-use Rattle.ym_link.specs.declared.place.Place.{Place}
-use Rattle.ym_link.specs.declared.place.Place.TheVariants.{Block}
-use Rattle.ym_link.specs.declared.place.Mode.{Mode}
-use Rattle.ym_link.specs.declared.place.Mode.TheVariants.{Sent}
-use Rattle.ym_link.specs.declared.standing.Standing.{Standing}
-use Rattle.ym_link.specs.declared.standing.Step.{Step}
-use Rattle.ym_link.specs.declared.state.SendState.{SendState}
-use Rattle.ym_link.specs.declared.state.SendState.TheVariants.{Running, NoReply, SourceFailed}
+use Rattle.ym_core.specs.Place.{IsPlace}
+use Rattle.ym_link.specs.FrameAt.{IsFrameAt}
+use Rattle.ym_core.specs.Reading.{controls_in}
+use Rattle.ym_core.specs.Standing.{hears, after_fill}
+use Rattle.ym_core.specs.declared.place.Place.{Place}
+use Rattle.ym_core.specs.declared.place.Place.TheVariants.{Block}
+use Rattle.ym_core.specs.declared.place.Mode.{Mode}
+use Rattle.ym_core.specs.declared.place.Mode.TheVariants.{Sent}
+use Rattle.ym_core.specs.declared.standing.Standing.{Standing}
+use Rattle.ym_core.specs.declared.standing.SendStep.{SendStep as Step}
+use Rattle.ym_core.specs.declared.state.SendState.{SendState}
+use Rattle.ym_core.specs.declared.state.SendState.TheVariants.{Running, NoReply, SourceFailed}
 
 -- the source of a data block's file failed: its failure count rose, and nothing else of the batch changed
 pub record FailedAt (file : ℕ) (old new : List FileParts) : Type 0 where

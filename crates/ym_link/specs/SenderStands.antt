@@ -12,13 +12,13 @@ use Rattle.ym_machine.specs.Frames.{File, Frame, BlockZero, Piece, Eot as EotFra
 use Rattle.ym_machine.specs.State.{State, SenderEnd, Speech, Nothing, FrameAt, CanCan}
 use Rattle.ym_link.specs.SourceFile.{FileParts, blocks_of}
 use Rattle.ym_link.specs.Sender.{SenderParts}
-use Rattle.ym_link.specs.declared.place.Place.{Place}
-use Rattle.ym_link.specs.declared.place.Place.TheVariants.{Header, Block, Eot, End}
-use Rattle.ym_link.specs.declared.place.Mode.{Mode}
-use Rattle.ym_link.specs.declared.place.Mode.TheVariants.{Waiting, Sent}
-use Rattle.ym_link.specs.declared.standing.Standing.{Standing}
-use Rattle.ym_link.specs.declared.state.SendState.{SendState}
-use Rattle.ym_link.specs.declared.state.SendState.TheVariants as state
+use Rattle.ym_core.specs.declared.place.Place.{Place}
+use Rattle.ym_core.specs.declared.place.Place.TheVariants.{Header, Block, Eot, End}
+use Rattle.ym_core.specs.declared.place.Mode.{Mode}
+use Rattle.ym_core.specs.declared.place.Mode.TheVariants.{Waiting, Sent}
+use Rattle.ym_core.specs.declared.standing.Standing.{Standing}
+use Rattle.ym_core.specs.declared.state.SendState.{SendState}
+use Rattle.ym_core.specs.declared.state.SendState.TheVariants as state
 
 -- ---- The batch
 

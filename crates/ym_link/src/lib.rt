@@ -2,32 +2,24 @@
 #![tactic(auto)]
 
 mod clearing;
-mod delivery;
 mod end_fault;
 mod event;
 mod exchange;
-mod hearing;
 pub mod laws;
-mod place;
 mod port;
-mod reading;
 mod receive_engine;
 mod receiver;
 mod script_port;
 mod send_engine;
 mod sender;
+mod shaped_batch;
 mod source_file;
-mod stage;
-mod standing;
-mod state;
 mod sweep;
 
 pub use clearing::Clearing;
-pub use delivery::Heard;
 pub use end_fault::EndFault;
 pub use event::Event;
 pub use exchange::Role;
-pub use hearing::heard;
 pub use port::{Got, Port, PortFault, Wait};
 pub use receive_engine::receive_over;
 pub use receiver::{Receiver, ReceiverInto};
@@ -35,8 +27,7 @@ pub use script_port::ScriptPort;
 pub use send_engine::send_over;
 pub use sender::{BatchFault, Sender, SenderFrom};
 pub use source_file::{SendFile, SourceFile};
-pub use state::{RecvState, SendState};
-pub use ym_machine::Confirm;
+pub use ym_core::{Confirm, Heard, RecvState, SendState, heard};
 
 #[cfg(test)]
 mod tests;

@@ -7,12 +7,12 @@ ghost use Rattle.ym_frame.specs.declared.control.Reply.TheVariants.{Silence};
 ghost use Rattle.ym_file.specs.Counts.{Rose};
 ghost use Rattle.ym_link.specs.Port.{Tape, after_write};
 ghost use Rattle.ym_link.specs.ReceiveOver.{Receives, heard_at, behind};
-ghost use Rattle.ym_link.specs.declared.state.RecvState.TheVariants as state;
+ghost use Rattle.ym_core.specs.declared.state.RecvState.TheVariants as state;
 
-use crate::delivery::Heard;
 use crate::end_fault::EndFault;
 use crate::port::{DELIVERY_LIMIT, Got, Port, PortFault, Wait};
 use crate::receiver::ReceiverInto;
+use ym_core::Heard;
 use ym_file::Sink;
 use ym_frame::laws::any_pieces;
 use ym_frame::{FrameReader, Item, Reply};

@@ -1,34 +1,25 @@
 //! The receiver, into any sink.
 
-ghost use Rattle.std.specs.Prelude.{◌≡◌, ◌↔◌, IsTrue, Some, length, map, option_map};
-ghost use Rattle.ym_file.specs.Kept.{Told, IsNew};
+ghost use Rattle.std.specs.Prelude.{◌≡◌, ◌↔◌, IsTrue, Ok, Err, Some, length, map, option_map};
+ghost use Rattle.ym_file.specs.Kept.{Kept, Told, IsNew};
 ghost use Rattle.ym_file.specs.Received.{ReceivedParts};
+ghost use Rattle.ym_link.specs.Calls.{CallGives, MayAsk};
 
 #[cfg(test)]
 mod stand;
-mod steps;
 
-use crate::delivery::Heard;
-use crate::stage::Stage;
-use crate::state::RecvState;
-#[cfg(test)]
-pub(crate) use stand::Stand;
 use std::alloc::{AllocError, Global};
 use std::marker::Model;
-use ym_file::{MemSink, Received, Sink};
+use ym_core::{Ask, Confirm, Heard, HeardRef, ReceiverCore, RecvState, Step};
+use ym_file::{MemSink, Received, Sink, SinkFault};
 use ym_frame::Reply;
-use ym_machine::Confirm;
 
 /// A receiver that hands the files of a batch to a sink.
 #[derive(Drop)]
 pub struct ReceiverInto<K: Sink> {
     sink: K,
     alloc: Global,
-    confirm: Confirm,
-    stage: Stage,
-    files: usize,
-    count: u8,
-    state: RecvState,
+    core: ReceiverCore,
 }
 
 /// A receiver that keeps the files in memory.
@@ -39,9 +30,25 @@ impl<K: Sink> Model for ReceiverInto<K> {
 
     ghost Value = { ReceiverParts };
 
-    ghost view = { λ r. record { receiver = record { confirm = r.confirm; stage = r.stage; files = r.files; count = r.count; state = r.state }; kept = K.kept r.sink; failures = K.failures r.sink } };
+    ghost view = { λ r. record { receiver = r.core; kept = K.kept r.sink; failures = K.failures r.sink } };
 
-    ghost invariant = { λ r. IsReceiver (record { receiver = record { confirm = r.confirm; stage = r.stage; files = r.files; count = r.count; state = r.state }; kept = K.kept r.sink; failures = K.failures r.sink }) };
+    ghost invariant = { λ r. IsReceiver (record { receiver = r.core; kept = K.kept r.sink; failures = K.failures r.sink }) };
+}
+
+/// Has the sink do what a step asks. After a fault it holds what it held before.
+fn call<K: Sink>(sink: &mut K, alloc: Global, ask: Ask<'_>) -> Result<(), SinkFault>
+    requires { MayAsk (K.kept sink.old) ask }
+    ensures { CallGives ask.entry (K.kept sink.old) (K.failures sink.old) result (K.kept sink.new) (K.failures sink.new) }
+{
+    match ask {
+        Ask::Nothing => Ok(()),
+        Ask::Begin(header) => match header.to_header(alloc) {
+            Ok(header) => sink.begin(header),
+            Err(AllocError) => Err(SinkFault::Memory),
+        },
+        Ask::Add(bytes) => sink.add(bytes),
+        Ask::Commit => sink.commit(),
+    }
 }
 
 impl<K: Sink + Drop> ReceiverInto<K> {
@@ -56,7 +63,8 @@ impl<K: Sink + Drop> ReceiverInto<K> {
 }
 
 impl<K: Sink> ReceiverInto<K> {
-    ghost use Rattle.ym_link.specs.Receiver.{new_receiver};
+    ghost use Rattle.ym_core.specs.Receiver.{new_receiver};
+    ghost use Rattle.ym_core.specs.HeardRef.{owned_heard};
     ghost use Rattle.ym_link.specs.ReceiverInto.{IsReceiver, HearsGives, IsWithin};
 
     /// A receiver into a sink that has no file.
@@ -67,11 +75,7 @@ impl<K: Sink> ReceiverInto<K> {
         ReceiverInto {
             sink,
             alloc,
-            confirm,
-            stage: Stage::AwaitHeader,
-            files: 0,
-            count: 0,
-            state: RecvState::Running,
+            core: ReceiverCore::new(confirm),
         }
     }
 
@@ -80,14 +84,14 @@ impl<K: Sink> ReceiverInto<K> {
         ensures value { result ≡ self.now.receiver.files }
         ensures headers { result ≡ length self.now.kept.headers }
     {
-        self.files
+        self.core.files()
     }
 
     /// How it has ended, or that it still runs.
     pub fn state(&self) -> RecvState
         ensures { result ≡ self.now.receiver.state }
     {
-        self.state
+        self.core.state()
     }
 
     /// Whether it still runs.
@@ -96,9 +100,8 @@ impl<K: Sink> ReceiverInto<K> {
         ensures receiver { IsReceiver self.now }
     {
         // what always holds of a receiver is known once a field was read
-        let _ = &self.stage;
-        let ReceiverInto { state, .. } = self;
-        *state == RecvState::Running
+        let _ = &self.core;
+        self.state() == RecvState::Running
     }
 
     /// The sink.
@@ -115,10 +118,28 @@ impl<K: Sink> ReceiverInto<K> {
         ensures table { HearsGives self.old heard.now result self.new }
         ensures bounded { IsWithin self.new.receiver.stage self.new.kept }
     {
-        let answer = self.answer(heard);
+        let answer = self.answer(&HeardRef::of(heard));
         // what always holds of a receiver is known once a field was read
-        let _ = &self.stage;
+        let _ = &self.core;
         answer
+    }
+
+    /// Takes the step of the core, once the sink has done what it asks.
+    fn answer(&mut self, heard: &HeardRef<'_>) -> Result<Reply, AllocError>
+        ensures { HearsGives self.old (owned_heard heard.now) result self.new }
+    {
+        let Step { core, reply, ask } = self.core.hear(heard);
+        match call(&mut self.sink, self.alloc, ask) {
+            Ok(()) => {
+                self.core = core;
+                Ok(reply)
+            }
+            Err(SinkFault::Failed) => {
+                self.core = self.core.failed();
+                Ok(Reply::Cancel)
+            }
+            Err(SinkFault::Memory) => Err(AllocError),
+        }
     }
 }
 

@@ -6,12 +6,12 @@ ghost use Rattle.ym_link.specs.Port.{Tape, after_write};
 ghost use Rattle.ym_link.specs.Delivery.{taken};
 ghost use Rattle.ym_link.specs.SendOver.{Sends, written_for, settles, bytes_read};
 ghost use Rattle.ym_link.specs.Sender.{IsSender, spoken};
-ghost use Rattle.ym_link.specs.declared.state.SendState.TheVariants as state;
+ghost use Rattle.ym_core.specs.declared.state.SendState.TheVariants as state;
 
 use crate::end_fault::EndFault;
 use crate::port::{DELIVERY_LIMIT, Got, Port, PortFault, Wait};
 use crate::sender::SenderFrom;
-use crate::state::SendState;
+use ym_core::SendState;
 use ym_file::Source;
 
 /// Writes what is to be sent now, if there is anything.

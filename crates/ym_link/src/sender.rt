@@ -3,18 +3,17 @@
 ghost use Rattle.std.specs.Prelude.{◌≡◌, ◌↔◌, ◌≤◌, length, MatchOption, Some, None, IfOk, IfErr, IfSome, IsOk, OnOk, OnErr, All, take, true};
 ghost use Rattle.ym_frame.specs.Frame.{IsFrame};
 ghost use Rattle.ym_link.specs.SourceFile.{IsFile, counts_of};
-ghost use Rattle.ym_link.specs.Place.{IsPlace, IsFrameAt, done_at};
+ghost use Rattle.ym_core.specs.Place.{IsPlace, done_at};
+ghost use Rattle.ym_link.specs.FrameAt.{IsFrameAt};
 ghost use Rattle.ym_link.specs.Sender.{IsFilled};
 
 #[cfg(test)]
 mod stand;
 
-use crate::place::{Mode, Place, first_place};
-use crate::reading::read_delivery;
+use crate::shaped_batch::ShapedBatch;
 use crate::source_file::SourceFile;
-use crate::standing::Standing;
-use crate::state::SendState;
 use std::marker::Model;
+use ym_core::{Mode, Place, SendState, Standing, first_place};
 use ym_file::{MemSource, Shape, Source, SourceFault};
 use ym_frame::{Item, Reply, encode};
 use ym_header::{write, write_end};
@@ -108,8 +107,8 @@ fn frame_at<S: Source>(
 
 impl<S: Source> SenderFrom<S> {
     ghost use Rattle.ym_link.specs.Sender.{Hears, IsSender, spoken, counts};
-    ghost use Rattle.ym_link.specs.Reading.{controls_in};
-    ghost use Rattle.ym_link.specs.Standing.{is_settled, new_standing};
+    ghost use Rattle.ym_core.specs.Reading.{controls_in};
+    ghost use Rattle.ym_core.specs.Standing.{is_settled, new_standing};
 
     /// A sender of a batch of at most 65,535 files, waiting at its first frame.
     pub fn new(batch: Vec<SourceFile<S>>, shape: Shape) -> Result<SenderFrom<S>, BatchFault<S>>
@@ -123,7 +122,11 @@ impl<S: Source> SenderFrom<S> {
             return Err(BatchFault::TooMany(batch));
         }
         look_at(&batch);
-        let standing = Standing::new(first_place(&batch));
+        let first = first_place(&ShapedBatch {
+            files: &batch,
+            shape,
+        });
+        let standing = Standing::new(first);
         Ok(SenderFrom {
             batch,
             shape,
@@ -154,18 +157,11 @@ impl<S: Source> SenderFrom<S> {
     pub fn settled(&self, bytes: &[u8]) -> bool
         ensures { result ≡ is_settled (counts self.now) self.now.standing (controls_in bytes.now) }
     {
-        let Standing {
-            place,
-            mode,
-            state,
-            ..
-        } = self.standing;
-        if state != SendState::Running {
-            return true;
-        }
-        read_delivery(&self.batch, self.shape, place, mode, bytes)
-            .stop
-            .is_some()
+        let batch = ShapedBatch {
+            files: &self.batch,
+            shape: self.shape,
+        };
+        self.standing.settled(&batch, bytes)
     }
 
     /// Hears one delivery. A data block that is to be sent next is read from its source once: what
@@ -174,7 +170,11 @@ impl<S: Source> SenderFrom<S> {
     pub fn hear(&mut self, bytes: &[u8])
         ensures { Hears self.old bytes.now self.new }
     {
-        let step = self.standing.after(&self.batch, self.shape, bytes);
+        let batch = ShapedBatch {
+            files: &self.batch,
+            shape: self.shape,
+        };
+        let step = self.standing.after(&batch, bytes);
         self.standing = step.standing;
         if let Some(place) = step.fills {
             match frame_at(&mut self.batch, self.shape, place, &mut self.buffer) {
@@ -188,10 +188,7 @@ impl<S: Source> SenderFrom<S> {
     pub fn done(&self) -> usize
         ensures { result ≡ done_at (length self.now.files) self.now.standing.place }
     {
-        match self.standing.place {
-            Place::Header { file } | Place::Block { file, .. } | Place::Eot { file } => file,
-            Place::End => self.batch.len(),
-        }
+        self.standing.place.done(self.batch.len())
     }
 
     /// How it has ended.

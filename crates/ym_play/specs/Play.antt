@@ -2,13 +2,13 @@
 use Rattle.std.specs.Prelude.{◌≡◌, ◌≢◌, ℕ, List, [], Option, None, Result, Ok, Err, string_bytes}
 use Rattle.ym_file.specs.Counts.{new_tally}
 use Rattle.ym_file.specs.MemSink.{kept_of}
-use Rattle.ym_link.specs.Receiver.{new_receiver}
-use Rattle.ym_link.specs.Standing.{new_standing}
+use Rattle.ym_core.specs.Receiver.{new_receiver}
+use Rattle.ym_core.specs.Standing.{new_standing}
 use Rattle.ym_link.specs.SourceFile.{counts_of}
-use Rattle.ym_link.specs.declared.state.RecvState.{RecvState}
-use Rattle.ym_link.specs.declared.state.RecvState.TheVariants as recv
-use Rattle.ym_link.specs.declared.state.SendState.{SendState}
-use Rattle.ym_link.specs.declared.state.SendState.TheVariants as send
+use Rattle.ym_core.specs.declared.state.RecvState.{RecvState}
+use Rattle.ym_core.specs.declared.state.RecvState.TheVariants as recv
+use Rattle.ym_core.specs.declared.state.SendState.{SendState}
+use Rattle.ym_core.specs.declared.state.SendState.TheVariants as send
 use Rattle.ym_line.specs.Rounds.{Pair, IsTrace, StopsIn}
 use Rattle.ym_line.specs.Text.{trace_text}
 use Rattle.ym_line.specs.declared.delivery.Handed.{Handed}

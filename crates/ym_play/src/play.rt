@@ -3,7 +3,7 @@
 ghost use Rattle.std.specs.Prelude.{◌≡◌, ◌≤◌, None, [], IfOk};
 ghost use Rattle.ym_file.specs.Counts.{new_tally};
 ghost use Rattle.ym_file.specs.MemSink.{kept_of};
-ghost use Rattle.ym_link.specs.Receiver.{new_receiver};
+ghost use Rattle.ym_core.specs.Receiver.{new_receiver};
 ghost use Rattle.ym_play.specs.Play.{PlayGives, RunsAs, status_of};
 
 use crate::fault::PlayFault;

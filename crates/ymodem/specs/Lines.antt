@@ -1,8 +1,8 @@
 -- The lines of `send` and `receive`, without their ends, in the words of a trace.
 use Rattle.std.specs.Prelude.{ℕ, List, ◌++◌, codes, decimal}
 use Rattle.ym_line.specs.Text.{send_text, recv_text}
-use Rattle.ym_link.specs.declared.state.RecvState.{RecvState}
-use Rattle.ym_link.specs.declared.state.SendState.{SendState}
+use Rattle.ym_core.specs.declared.state.RecvState.{RecvState}
+use Rattle.ym_core.specs.declared.state.SendState.{SendState}
 
 abbrev pub sender_words : ℕ → SendState → List ℕ
 sender_words done state = codes "sender done " ++ (decimal done ++ (codes " " ++ send_text state))

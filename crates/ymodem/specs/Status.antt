@@ -7,10 +7,10 @@ use Rattle.ym_header.specs.declared.fault.HeaderFault.{HeaderFault}
 use Rattle.ym_header.specs.declared.fault.HeaderFault.TheVariants as header
 use Rattle.ym_link.specs.declared.end_fault.EndFault.{EndFault}
 use Rattle.ym_link.specs.declared.end_fault.EndFault.TheVariants as end
-use Rattle.ym_link.specs.declared.state.RecvState.{RecvState}
-use Rattle.ym_link.specs.declared.state.RecvState.TheVariants as recv
-use Rattle.ym_link.specs.declared.state.SendState.{SendState}
-use Rattle.ym_link.specs.declared.state.SendState.TheVariants as send
+use Rattle.ym_core.specs.declared.state.RecvState.{RecvState}
+use Rattle.ym_core.specs.declared.state.RecvState.TheVariants as recv
+use Rattle.ym_core.specs.declared.state.SendState.{SendState}
+use Rattle.ym_core.specs.declared.state.SendState.TheVariants as send
 use Rattle.ymodem.specs.declared.command_fault.CommandFault.{CommandFault}
 use Rattle.ymodem.specs.declared.command_fault.CommandFault.TheVariants as fault
 

@@ -4,7 +4,7 @@ ghost use Rattle.std.specs.Prelude.{◌≡◌, ◌≤◌, ◌+◌, ◌*◌, Bool
 ghost use Rattle.ym_link.specs.declared.event.Event.{Event};
 ghost use Rattle.ym_link.specs.Delivery.{taken, reads_in};
 ghost use Rattle.ym_link.specs.Port.{Tape};
-ghost use Rattle.ym_link.specs.Place.{first_of};
+ghost use Rattle.ym_core.specs.Place.{first_of};
 ghost use Rattle.ym_link.specs.Sender.{SenderParts, counts};
 ghost use Rattle.ym_link.specs.SendOver as sending;
 ghost use Rattle.ym_link.specs.Deliveries.{frames_in, frames_from};

@@ -3,9 +3,8 @@
 ghost use Rattle.std.specs.Prelude.{◌≡◌, ◌<◌};
 
 use super::SenderFrom;
-use crate::place::next_place;
-use crate::standing::Standing;
-use crate::state::SendState;
+use crate::shaped_batch::ShapedBatch;
+use ym_core::{SendState, Standing, next_place};
 use ym_file::Source;
 
 impl<S: Source> SenderFrom<S> {
@@ -19,6 +18,10 @@ impl<S: Source> SenderFrom<S> {
 
     /// Puts it at the next frame of the batch, as if it were new.
     pub(crate) fn skip(&mut self) {
-        self.standing = Standing::new(next_place(&self.batch, self.shape, self.standing.place));
+        let batch = ShapedBatch {
+            files: &self.batch,
+            shape: self.shape,
+        };
+        self.standing = Standing::new(next_place(&batch, self.standing.place));
     }
 }

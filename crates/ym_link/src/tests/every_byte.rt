@@ -3,10 +3,10 @@
 ghost use Rattle.std.specs.Prelude.{◌≤◌};
 
 use super::{receiver_table, sender_table};
-use crate::place::{Mode, Place};
 use crate::{Confirm, Heard, Receiver, ReceiverInto, SendFile, SendState, Sender, heard};
 use std::alloc::Global;
 use std::test::Fail;
+use ym_core::{Mode, Place};
 use ym_file::{MemSink, Shape};
 use ym_frame::{Block, FrameBuf, Item, Reply, control_of, encode};
 use ym_header::{Header, HeaderFault, Stamp, Zero, read, write, write_end};

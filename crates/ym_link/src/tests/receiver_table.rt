@@ -1,12 +1,9 @@
 //! The receiver's table written out.
 
 ghost use Rattle.std.specs.Prelude.{◌≡◌, ◌<◌, ◌≤◌, ◌^◌, ◌-◌, Ok, Err, length};
-ghost use Rattle.ym_link.specs.Receiver as table;
+ghost use Rattle.ym_core.specs.Receiver as table;
 
-use crate::delivery::Heard;
-use crate::receiver::Stand;
-use crate::stage::{OpenFile, Stage};
-use crate::state::RecvState;
+use ym_core::{Heard, OpenFile, RecvState, Stage, Stand};
 use ym_frame::{Block, Item, Reply};
 use ym_header::{HeaderFault, Zero};
 use ym_machine::Confirm;

@@ -2,14 +2,11 @@
 
 ghost use Rattle.std.specs.Prelude.{◌≡◌, ◌<◌, [], ◌∷◌};
 ghost use Rattle.std.specs.List.{cons_option};
-ghost use Rattle.ym_link.specs.Place as places;
-ghost use Rattle.ym_link.specs.Reading as reading;
-ghost use Rattle.ym_link.specs.Standing as table;
+ghost use Rattle.ym_core.specs.Place as places;
+ghost use Rattle.ym_core.specs.Reading as reading;
+ghost use Rattle.ym_core.specs.Standing as table;
 
-use crate::place::{Mode, Place};
-use crate::reading::{Reading, Stop};
-use crate::standing::{Standing, Step};
-use crate::state::SendState;
+use ym_core::{Mode, Place, Reading, SendState, SendStep as Step, Standing, Stop};
 use ym_frame::Control;
 
 /// The place behind a place, of a batch of files of so many data blocks.

@@ -7,7 +7,7 @@ use Rattle.ym_frame.specs.Reading.{partial, item_of}
 use Rattle.ym_link.specs.Port.{Tape, Data, End, Failed, Silence, seen_of}
 use Rattle.ym_link.specs.Delivery.{delivery_limit}
 use Rattle.ym_link.specs.ReceiveOver.{has_item, delivery_at}
-use Rattle.ym_link.specs.declared.delivery.Heard.TheVariants as heard
+use Rattle.ym_core.specs.declared.delivery.Heard.TheVariants as heard
 use Rattle.ym_link.specs.declared.end_fault.EndFault.TheVariants as fault
 use Rattle.ym_link.proofs.DeliveryHeard.{verdict-item, verdict-bad, heard-out}
 use Rattle.ym_link.proofs.Taking.{onward, onward-full, after-read}

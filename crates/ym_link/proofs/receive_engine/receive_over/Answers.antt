@@ -5,10 +5,10 @@ use Rattle.ym_frame.specs.Control.{reply_bytes}
 use Rattle.ym_link.specs.Port.{Tape, after_write}
 use Rattle.ym_link.specs.ReceiveOver.{Receives, ended, unread, unheard, unwritten, heard, heard_at, behind}
 use Rattle.ym_link.specs.ReceiverInto.{ReceiverParts, HearsGives}
-use Rattle.ym_link.specs.declared.delivery.Heard.{Heard}
+use Rattle.ym_core.specs.declared.delivery.Heard.{Heard}
 use Rattle.ym_link.specs.declared.end_fault.EndFault.{EndFault}
 use Rattle.ym_link.specs.declared.end_fault.EndFault.TheVariants as fault
-use Rattle.ym_link.specs.declared.state.RecvState.TheVariants as state
+use Rattle.ym_core.specs.declared.state.RecvState.TheVariants as state
 use Rattle.ym_link.proofs.ReceiverDeliveries.{step-fewer}
 use Rattle.ym_link.proofs.receive_engine.receive_over.Goals as goal
 

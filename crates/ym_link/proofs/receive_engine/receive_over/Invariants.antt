@@ -1,6 +1,6 @@
 -- However the call may end from here, it may end so from the start.
 use Rattle.std.proofs.Common.{◌≡◌, ◌≢◌}
-use Rattle.ym_link.specs.declared.state.RecvState.TheVariants as state
+use Rattle.ym_core.specs.declared.state.RecvState.TheVariants as state
 use Rattle.ym_link.specs.Port.{Tape}
 use Rattle.ym_link.specs.ReceiveOver.{Receives, Outcome}
 use Rattle.ym_link.specs.Deliveries.{receiver_deliveries}

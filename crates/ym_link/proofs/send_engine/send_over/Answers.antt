@@ -5,7 +5,7 @@ use Rattle.ym_link.specs.Sender.{SenderParts, IsSender, spoken}
 use Rattle.ym_link.specs.SendOver.{Sends, ended, unwritten, unread, heard, written_for, said, behind, delivery_to}
 use Rattle.ym_link.specs.declared.end_fault.EndFault.{EndFault}
 use Rattle.ym_link.specs.declared.end_fault.EndFault.TheVariants as fault
-use Rattle.ym_link.specs.declared.state.SendState.TheVariants.{Running}
+use Rattle.ym_core.specs.declared.state.SendState.TheVariants.{Running}
 use Rattle.ym_link.proofs.SenderDeliveries.{step-fewer}
 use Rattle.ym_link.proofs.send_engine.send_over.Goals as goal
 

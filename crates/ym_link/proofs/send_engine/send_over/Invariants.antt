@@ -1,6 +1,6 @@
 -- However the call may end from here, it may end so from the start.
 use Rattle.std.proofs.Common.{◌≡◌}
-use Rattle.ym_link.specs.declared.state.SendState.TheVariants.{Running}
+use Rattle.ym_core.specs.declared.state.SendState.TheVariants.{Running}
 use Rattle.ym_link.specs.Port.{Tape}
 use Rattle.ym_link.specs.SendOver.{Sends, Outcome}
 use Rattle.ym_link.specs.Deliveries.{sender_deliveries}

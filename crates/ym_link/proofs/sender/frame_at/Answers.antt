@@ -6,9 +6,9 @@ use Rattle.ym_frame.specs.declared.frame.Item.TheVariants as item
 use Rattle.ym_header.specs.Header.{HeaderParts}
 use Rattle.ym_header.specs.Text.{text}
 use Rattle.ym_link.specs.SourceFile.{FileParts, no_file, counts_of, blocks_of}
-use Rattle.ym_link.specs.Place.{IsPlace}
+use Rattle.ym_core.specs.Place.{IsPlace}
 use Rattle.ym_link.specs.Sender.{IsFilled}
-use Rattle.ym_link.specs.declared.place.Place.{Place}
+use Rattle.ym_core.specs.declared.place.Place.{Place}
 use Rattle.ym_link.proofs.Files.{failed_at}
 use Rattle.ym_link.proofs.Framed.{block_frame_at, header_item_at}
 use Rattle.ym_link.proofs.sender.frame_at.Goals as goal

@@ -1,5 +1,5 @@
 use Rattle.std.proofs.Common.{Some, take}
-use Rattle.ym_link.specs.Reading.{controls_in}
+use Rattle.ym_core.specs.Reading.{controls_in}
 use Rattle.ym_link.proofs.Kept.{failed_sender, unfilled_sender, filled_sender}
 use Rattle.ym_link.proofs.sender.SenderFrom.hear.Goals as goal
 

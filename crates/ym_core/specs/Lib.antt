@@ -1,0 +1,10 @@
+pub mod Hearing
+pub mod HeardRef
+pub mod Receiver
+pub mod Core
+pub mod Step
+pub mod Place
+pub mod Reading
+pub mod Standing
+pub mod ReceiverExamples
+pub mod SenderExamples

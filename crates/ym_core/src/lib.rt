@@ -1,0 +1,31 @@
+//! Both ends of a transfer as state machines: what a delivery makes of an end, what it replies, and
+//! what its host has to do. No function takes memory, a file or a port.
+#![tactic(auto)]
+
+mod ask;
+mod batch;
+mod delivery;
+mod hearing;
+mod place;
+mod reading;
+mod receiver;
+mod stage;
+mod stand;
+mod standing;
+mod state;
+
+pub use ask::{Ask, Step};
+pub use batch::Batch;
+pub use delivery::{Heard, HeardRef};
+pub use hearing::{heard, heard_in};
+pub use place::{Mode, Place, first_place, next_place};
+pub use reading::{Reading, Stop, read_delivery};
+pub use receiver::ReceiverCore;
+pub use stage::{OpenFile, Stage};
+pub use stand::Stand;
+pub use standing::{SendStep, Standing};
+pub use state::{RecvState, SendState};
+pub use ym_machine::Confirm;
+
+#[cfg(test)]
+mod tests;

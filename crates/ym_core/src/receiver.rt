@@ -1,0 +1,172 @@
+//! The receiver, apart from what its host does with the files.
+
+ghost use Rattle.std.specs.Prelude.{◌≡◌, ◌↔◌, IsTrue};
+ghost use Rattle.std.specs.Option.{SomeIff};
+ghost use Rattle.ym_core.specs.Receiver as table;
+ghost use Rattle.ym_core.specs.Core.{IsCore, LengthFits, BlocksFit, FilesFit};
+ghost use Rattle.ym_core.specs.HeardRef.{owned_heard};
+ghost use Rattle.ym_core.specs.Step.{Hears, Moves};
+
+mod steps;
+
+use crate::ask::Step;
+use crate::delivery::HeardRef;
+use crate::stage::{OpenFile, Stage};
+use crate::stand::Stand;
+use crate::state::RecvState;
+use std::marker::Model;
+use steps::{COUNT_LIMIT, FILES_LIMIT};
+use ym_machine::Confirm;
+
+/// A receiver apart from its files. Contracts see it as the table's.
+#[derive(Clone, Copy)]
+pub struct ReceiverCore {
+    confirm: Confirm,
+    stage: Stage,
+    files: usize,
+    count: u8,
+    state: RecvState,
+}
+
+impl Model for ReceiverCore {
+    ghost use Rattle.ym_core.specs.Receiver.{Receiver};
+    ghost use Rattle.ym_core.specs.Core.{IsCore};
+
+    ghost Value = { Receiver };
+
+    ghost view = { λ r. record { confirm = r.confirm; stage = r.stage; files = r.files; count = r.count; state = r.state } };
+
+    ghost inverse = { λ r. record { confirm = r.confirm; stage = r.stage; files = r.files; count = r.count; state = r.state } };
+
+    ghost invariant = { λ r. IsCore (record { confirm = r.confirm; stage = r.stage; files = r.files; count = r.count; state = r.state }) };
+}
+
+/// Whether what is known of a file fits, behind so many deliveries without progress.
+fn file_fits(file: OpenFile, count: u8) -> bool
+    ensures { IsTrue result ↔ (LengthFits (Stage.InFile file) × BlocksFit (Stage.InFile file) count) }
+{
+    let OpenFile {
+        length,
+        taken,
+        blocks,
+        first_eot,
+    } = file;
+    // no sum here is above 2^63 + 265
+    let drops = u64::from(count) + if first_eot { 10 } else { 0 };
+    taken <= length
+        && length < 0x8000_0000_0000_0000
+        && (taken == length || blocks <= taken)
+        && (!first_eot || taken == length)
+        && blocks <= taken + drops
+        && (blocks >= 0x40_0000_0000_0000 || taken <= blocks * 1024)
+}
+
+/// Whether a receiver may stand there.
+fn stage_fits(stage: Stage, files: usize, count: u8) -> bool
+    ensures { IsTrue result ↔ (LengthFits stage × BlocksFit stage count × FilesFit stage files) }
+{
+    match stage {
+        Stage::AwaitHeader => files <= FILES_LIMIT,
+        Stage::InFile(file) => files < FILES_LIMIT && file_fits(file, count),
+    }
+}
+
+impl ReceiverCore {
+    /// A receiver that awaits its first header.
+    pub fn new(confirm: Confirm) -> ReceiverCore
+        ensures { result ≡ table.new_receiver confirm }
+    {
+        ReceiverCore {
+            confirm,
+            stage: Stage::AwaitHeader,
+            files: 0,
+            count: 0,
+            state: RecvState::Running,
+        }
+    }
+
+    /// The receiver that stands there, or `None` where no receiver can come to stand.
+    pub fn at(stand: Stand) -> Option<ReceiverCore>
+        ensures { SomeIff result (IsCore stand) stand }
+    {
+        let Stand {
+            confirm,
+            stage,
+            files,
+            count,
+            state,
+        } = stand;
+        if !stage_fits(stage, files, count) || count > COUNT_LIMIT {
+            return None;
+        }
+        if state == RecvState::Running && count >= COUNT_LIMIT {
+            return None;
+        }
+        Some(ReceiverCore {
+            confirm,
+            stage,
+            files,
+            count,
+            state,
+        })
+    }
+
+    /// Where it stands.
+    pub fn stand(&self) -> Stand
+        ensures same { result ≡ self.now }
+        ensures core { IsCore self.now }
+    {
+        let ReceiverCore {
+            confirm,
+            stage,
+            files,
+            count,
+            state,
+        } = *self;
+        Stand {
+            confirm,
+            stage,
+            files,
+            count,
+            state,
+        }
+    }
+
+    /// How it has ended, or that it still runs.
+    pub fn state(&self) -> RecvState
+        ensures { result ≡ self.now.state }
+    {
+        self.state
+    }
+
+    /// How many files were committed.
+    pub fn files(&self) -> usize
+        ensures { result ≡ self.now.files }
+    {
+        self.files
+    }
+
+    /// The step of the table at one delivery: the receiver behind it, the reply, and what the host
+    /// has to do first.
+    pub fn hear<'a>(self, heard: &HeardRef<'a>) -> Step<'a>
+        ensures step { Hears self (owned_heard heard.entry.now) result }
+        ensures moves { Moves self result }
+        ensures core { IsCore result.core }
+    {
+        let step = self.answer(heard);
+        // what always holds of a receiver is known once a field was read
+        let _ = &step.core.stage;
+        step
+    }
+
+    /// The receiver where the host could not do what a step asked: it has ended. The reply is then
+    /// `Reply::Cancel`.
+    pub fn failed(self) -> ReceiverCore
+        ensures { result ≡ record self { state = RecvState.SinkFailed } }
+    {
+        ReceiverCore {
+            state: RecvState::SinkFailed,
+            ..self
+        }
+    }
+}

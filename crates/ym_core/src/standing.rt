@@ -1,0 +1,164 @@
+//! What a sender keeps beside its files and its frame, and what a delivery makes of it.
+
+ghost use Rattle.std.specs.Prelude.{◌≡◌, ◌<◌, true, false};
+ghost use Rattle.ym_core.specs.Place.{IsPlace};
+ghost use Rattle.ym_core.specs.Reading.{controls_in};
+ghost use Rattle.ym_core.specs.Standing as table;
+
+use crate::batch::Batch;
+use crate::place::{Mode, Place};
+use crate::reading::{Reading, Stop, read_delivery};
+use crate::state::SendState;
+
+/// Deliveries in a row without progress after which a sender gives up.
+const MOST_MISSES: u8 = 10;
+
+/// Where a sender stands.
+#[derive(Clone, Copy, Debug, PartialEq, Eq)]
+pub struct Standing {
+    /// The frame that is out or to go.
+    pub place: Place,
+    /// Whether that frame is out.
+    pub mode: Mode,
+    /// Deliveries in a row without progress.
+    pub misses: u8,
+    /// Whether it runs, or how it has ended.
+    pub state: SendState,
+    /// CAN CAN is still to go.
+    pub farewell: bool,
+}
+
+/// What a delivery leads to.
+#[derive(Clone, Copy, Debug, PartialEq, Eq)]
+pub struct SendStep {
+    /// Where the sender stands behind it.
+    pub standing: Standing,
+    /// The place whose frame becomes the sent one.
+    pub fills: Option<Place>,
+}
+
+impl Standing {
+    /// Waiting at the first frame of a batch.
+    pub fn new(first: Place) -> Standing
+        ensures { result ≡ record { place = first; mode = Mode.Waiting; misses = 0; state = SendState.Running; farewell = false } }
+    {
+        Standing {
+            place: first,
+            mode: Mode::Waiting,
+            misses: 0,
+            state: SendState::Running,
+            farewell: false,
+        }
+    }
+
+    /// After a delivery without progress.
+    fn missed(self) -> Standing
+        requires { self.misses < 10 }
+        ensures { result ≡ (table.missed self).standing }
+    {
+        let misses = self.misses + 1;
+        if misses < MOST_MISSES {
+            Standing { misses, ..self }
+        } else {
+            Standing {
+                misses,
+                state: SendState::NoReply,
+                farewell: true,
+                ..self
+            }
+        }
+    }
+
+    /// After progress to a place and a mode.
+    fn moved(self, place: Place, mode: Mode) -> Standing
+        ensures { result ≡ table.moved self place mode }
+    {
+        Standing {
+            place,
+            mode,
+            misses: 0,
+            ..self
+        }
+    }
+
+    /// After the source of the frame to be sent has failed.
+    pub fn source_failed(self) -> Standing
+        ensures { result ≡ record self { state = SendState.SourceFailed; farewell = true } }
+    {
+        Standing {
+            state: SendState::SourceFailed,
+            farewell: true,
+            ..self
+        }
+    }
+
+    /// After a delivery has been read.
+    fn after_reading(self, read: Reading) -> SendStep
+        requires { self.misses < 10 }
+        ensures { result ≡ table.after_reading self read.place read.mode read.stop }
+    {
+        let standing = match read.stop {
+            Some(Stop::Sends) => {
+                return SendStep {
+                    standing: self.moved(read.place, read.mode),
+                    fills: Some(read.place),
+                };
+            }
+            Some(Stop::Again) => self.missed(),
+            Some(Stop::Finishes) => Standing {
+                state: SendState::Finished,
+                ..self
+            },
+            Some(Stop::Cancels) => Standing {
+                place: read.place,
+                mode: read.mode,
+                state: SendState::Cancelled,
+                ..self
+            },
+            None => {
+                if self.mode == read.mode {
+                    self.missed()
+                } else {
+                    self.moved(read.place, read.mode)
+                }
+            }
+        };
+        SendStep {
+            standing,
+            fills: None,
+        }
+    }
+
+    /// After a delivery of these bytes.
+    pub fn after<B: Batch>(self, batch: &B, bytes: &[u8]) -> SendStep
+        requires place { IsPlace (B.counts batch.now) self.place }
+        requires misses { self.state ≡ SendState.Running → self.misses < 10 }
+        ensures step { result ≡ table.hears (B.counts batch.now) self (controls_in bytes.now) }
+        ensures within { IsPlace (B.counts batch.now) result.standing.place }
+    {
+        if self.state == SendState::Running {
+            self.after_reading(read_delivery(batch, self.place, self.mode, bytes))
+        } else {
+            SendStep {
+                standing: Standing {
+                    farewell: false,
+                    ..self
+                },
+                fills: None,
+            }
+        }
+    }
+
+    /// Whether more bytes cannot change what these make of it.
+    pub fn settled<B: Batch>(self, batch: &B, bytes: &[u8]) -> bool
+        requires { IsPlace (B.counts batch.now) self.place }
+        ensures { result ≡ table.is_settled (B.counts batch.now) self (controls_in bytes.now) }
+    {
+        if self.state != SendState::Running {
+            return true;
+        }
+        read_delivery(batch, self.place, self.mode, bytes)
+            .stop
+            .is_some()
+    }
+}

@@ -1,0 +1,158 @@
+//! What stands at the front of some bytes, without a copy: a block's body stays where it is.
+
+ghost use Rattle.std.specs.Prelude.{◌≡◌, ◌⊎◌, ◌↔◌, IsTrue, length as list_length};
+ghost use Rattle.ym_frame.specs.Block.{length_of};
+ghost use Rattle.ym_frame.specs.Frame.{verdict_of, block_verdict, IsOpen};
+ghost use Rattle.ym_frame.specs.ItemRef.{owned_item, owned_verdict};
+
+use crate::block::{Block, Size};
+use crate::check::check16;
+use crate::frame::{Broken, CAN, EOT, Item, SOH, STX, Why};
+use std::marker::Model;
+
+/// A block's number, and its body where it stands. Contracts see it as `Block`.
+#[derive(Drop)]
+pub struct BlockRef<'a> {
+    number: u8,
+    body: &'a [u8],
+}
+
+impl<'a> Model for BlockRef<'a> {
+    ghost use Rattle.std.specs.Prelude.{◌≡◌, ◌⊎◌, length};
+    ghost use Rattle.ym_frame.specs.Block.{BlockParts};
+
+    ghost Value = { BlockParts };
+
+    ghost view = { λ b. record { number = b.number; body = b.body.now } };
+
+    ghost invariant = { λ b. (length b.body.now ≡ 128) ⊎ (length b.body.now ≡ 1024) };
+}
+
+impl<'a> BlockRef<'a> {
+    /// The same block, its body where it stands in `block`.
+    pub fn of(block: &'a Block) -> BlockRef<'a>
+        ensures { result ≡ block.entry.now }
+    {
+        // the size tells how many bytes the body has
+        let _size = block.size();
+        BlockRef {
+            number: block.number(),
+            body: block.body(),
+        }
+    }
+
+    /// The number, which counts the blocks of a file modulo 256.
+    pub fn number(&self) -> u8
+        ensures { result ≡ self.now.number }
+    {
+        self.number
+    }
+
+    /// The data bytes, 128 or 1024 of them.
+    pub fn body(&self) -> &'a [u8]
+        ensures body { result.now ≡ self.now.body }
+        ensures sized { (list_length result.now ≡ 128) ⊎ (list_length result.now ≡ 1024) }
+    {
+        self.body
+    }
+}
+
+/// What a frame stands for, as `Item` has it, with a block's body where it stands.
+#[derive(Drop)]
+pub enum ItemRef<'a> {
+    /// A data block.
+    Block(BlockRef<'a>),
+    /// The end of a file's data.
+    Eot,
+    /// The end of the transfer.
+    Cancel,
+}
+
+impl<'a> ItemRef<'a> {
+    /// The same item, a block's body where it stands in `item`.
+    pub fn of(item: &'a Item) -> ItemRef<'a>
+        ensures { owned_item result ≡ item.entry.now }
+    {
+        match item {
+            Item::Block(block) => ItemRef::Block(BlockRef::of(block)),
+            Item::Eot => ItemRef::Eot,
+            Item::Cancel => ItemRef::Cancel,
+        }
+    }
+}
+
+/// The item of the prefix of `bytes` that is a frame, and the length of that prefix: `decode` without
+/// a copy.
+///
+/// # Errors
+///
+/// Where and why no prefix is a frame, as `decode` has it.
+#[tactic(auto, unfolding(crate::specs::Frame::verdict_of))]
+pub fn verdict(bytes: &[u8]) -> Result<(ItemRef<'_>, usize), Broken>
+    ensures { owned_verdict result ≡ verdict_of bytes.entry.now }
+{
+    match bytes {
+        [] => Err(Broken {
+            place: 0,
+            why: Why::Cut,
+        }),
+        [EOT, ..] => Ok((ItemRef::Eot, 1)),
+        [CAN] => Err(Broken {
+            place: 1,
+            why: Why::Cut,
+        }),
+        [CAN, CAN, ..] => Ok((ItemRef::Cancel, 2)),
+        [CAN, ..] => Err(Broken {
+            place: 1,
+            why: Why::SecondCan,
+        }),
+        [SOH, ..] => block_at(bytes, Size::Short),
+        [STX, ..] => block_at(bytes, Size::Long),
+        _ => Err(Broken {
+            place: 0,
+            why: Why::FirstByte,
+        }),
+    }
+}
+
+/// The verdict on bytes that begin as a block of this size.
+fn block_at(bytes: &[u8], size: Size) -> Result<(ItemRef<'_>, usize), Broken>
+    ensures { owned_verdict result ≡ block_verdict (length_of size) bytes.entry.now }
+{
+    let len = size.body_len();
+    if bytes.len() > 2 && bytes[2] != 255 - bytes[1] {
+        return Err(Broken {
+            place: 2,
+            why: Why::Complement,
+        });
+    }
+    if bytes.len() < len + 5 {
+        return Err(Broken {
+            place: bytes.len(),
+            why: Why::Cut,
+        });
+    }
+    let body = &bytes[3..][..len];
+    let field = u16::from_be_bytes([bytes[len + 3], bytes[len + 4]]);
+    if check16(body) != field {
+        return Err(Broken {
+            place: len + 3,
+            why: Why::Check,
+        });
+    }
+    let block = BlockRef {
+        number: bytes[1],
+        body,
+    };
+    Ok((ItemRef::Block(block), len + 5))
+}
+
+/// Whether these bytes may go on to a frame.
+pub fn may_go_on(bytes: &[u8]) -> bool
+    ensures { IsTrue result ↔ IsOpen (verdict_of bytes.now) }
+{
+    match verdict(bytes) {
+        Err(Broken { why: Why::Cut, .. }) => true,
+        _ => false,
+    }
+}
