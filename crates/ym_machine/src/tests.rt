@@ -15,6 +15,7 @@ impl Batch for Names {
 fn laws_hold_of_names() {
     laws::halves_keep_machine_states::<Names>();
     laws::halves_keep_the_other_end::<Names>();
+    laws::ends_stop_for_a_reason::<Names>();
     laws::ended_ends_stay::<Names>();
     laws::committed_is_reported_or_one_more::<Names>();
     laws::heard_is_next_or_last::<Names>();
