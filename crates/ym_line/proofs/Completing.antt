@@ -1,10 +1,9 @@
 -- Runs of new ends in which damage comes in short bursts, by the laws of the machine.
-use Rattle.std.proofs.Common.{◌≡◌, ◌≢◌, ◌∙◌, ◌≤◌, ◌<◌, ◌⊎◌, ℕ, ◌+◌, suc, zero, List, [], ◌∷◌, length, map, Option, None, Some, IfSome, IsSome, All, sum_by, refl, sym, ap, subst, inl, inr, arith}
+use Rattle.std.proofs.Common.{◌≡◌, ◌≢◌, ◌∙◌, ◌≤◌, ◌<◌, ◌⊎◌, ℕ, ◌+◌, suc, List, [], ◌∷◌, length, map, Option, None, Some, IfSome, IsSome, All, sum_by, refl, sym, ap, subst, inl, inr, arith}
 use Rattle.std.proofs.lemmas.List.{length-map}
 use Rattle.std.proofs.lemmas.List.Sums.{sum_by-cons}
 use Rattle.std.proofs.lemmas.Simd.{map-map}
 use Rattle.ym_header.specs.Header.{HeaderParts}
-use Rattle.ym_file.specs.Kept.{Told}
 use Rattle.ym_file.specs.Plan.{pieces_of, count_of}
 use Rattle.ym_file.specs.declared.plan.Shape.{Shape}
 use Rattle.ym_machine.specs.declared.confirm.Confirm.{Confirm}

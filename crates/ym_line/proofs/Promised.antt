@@ -1,5 +1,5 @@
 -- What a pair that stands has committed, in words of the two ends.
-use Rattle.std.proofs.Common.{◌≡◌, ◌∙◌, ◌≤◌, ◌⊎◌, ℕ, min, suc, zero, List, [], ◌∷◌, length, map, take, Option, None, Some, IfSome, IsSome, All, Bool, false, Result, Ok, Err, refl, sym, ap, subst, inl, inr, arith}
+use Rattle.std.proofs.Common.{◌≡◌, ◌∙◌, ◌≤◌, ◌⊎◌, ℕ, min, suc, List, [], ◌∷◌, length, map, take, Option, None, Some, IfSome, IsSome, All, false, Result, Ok, Err, refl, sym, ap, subst, inl, inr, arith}
 use Rattle.std.proofs.lemmas.List.{length-map, length-take, take-map}
 use Rattle.std.proofs.lemmas.Simd.{map-map}
 use Rattle.ym_header.specs.Header.{HeaderParts, IsHeader, length_limit}

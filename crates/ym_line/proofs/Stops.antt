@@ -6,11 +6,11 @@ use Rattle.ym_machine.specs.Frames.{frames_of}
 use Rattle.ym_machine.specs.Machine.{State, said, there}
 use Rattle.ym_machine.specs.Run.{after_turn}
 use Rattle.ym_link.specs.Hearing.{heard_of}
-use Rattle.ym_link.specs.ReceiverInto.{ReceiverParts, HearsGives}
+use Rattle.ym_link.specs.ReceiverInto.{HearsGives}
 use Rattle.ym_link.specs.ReceiverStands.{ReceiverStands, heard_there}
 use Rattle.ym_link.specs.ReceiverStands as receiver
 use Rattle.ym_link.specs.SenderStands.{Batch, SenderStands, AllTold, IsSaid}
-use Rattle.ym_link.specs.Sender.{SenderParts, IsSender, spoken}
+use Rattle.ym_link.specs.Sender.{SenderParts, spoken}
 use Rattle.ym_line.specs.declared.delivery.Delivery.{Delivery}
 use Rattle.ym_line.specs.declared.delivery.Round.{Round}
 use Rattle.ym_line.specs.declared.delivery.Way.TheVariants.{There}
@@ -19,7 +19,7 @@ use Rattle.ym_line.specs.declared.fault.LineFault.TheVariants.{NotDamage, TooLon
 use Rattle.ym_line.specs.Carried.{told_more}
 use Rattle.ym_line.specs.Damage.{arrives}
 use Rattle.ym_line.specs.Rounds.{Pair, handed, sent_by, GoesThere, Stops, StopsHalf, StopsIn}
-use Rattle.ym_line.specs.Turns.{IsHalfTurn, IsOfRound, PairStands, StopsAsMachine, StopsInTurn, bytes_said, is_whole}
+use Rattle.ym_line.specs.Turns.{IsHalfTurn, IsOfRound, PairStands, StopsAsMachine, StopsInTurn, is_whole}
 use Rattle.ym_line.proofs.Turns.{said-bytes, said-heard}
 use Rattle.ym_line.proofs.Halves.{Laws, sender-still, goes-turn}
 

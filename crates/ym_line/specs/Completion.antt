@@ -1,7 +1,7 @@
 -- Runs of new ends in which damage comes in short bursts: how they go on, and when they finish.
 --
 -- The bounds are this profile's choice; that an end gives up at its tenth error in a row is the reference's ("XMODEM Protocol Overview").
-use Rattle.std.specs.Prelude.{◌≡◌, ◌≢◌, ◌≤◌, ◌<◌, ◌⊎◌, ℕ, ◌+◌, ◌&&◌, max, Bool, true, if◌then◌else◌, List, [], ◌∷◌, length, map, Some}
+use Rattle.std.specs.Prelude.{◌≡◌, ◌≤◌, ◌<◌, ◌⊎◌, ℕ, ◌+◌, ◌&&◌, max, Bool, true, if◌then◌else◌, List, [], ◌∷◌, length, map, Some}
 use Rattle.ym_file.specs.Counts.{Rose}
 use Rattle.ym_file.specs.Kept.{Told}
 use Rattle.ym_link.specs.SourceFile.{FileParts, file_at}
