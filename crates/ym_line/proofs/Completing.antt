@@ -1,10 +1,9 @@
 -- Runs of new ends in which damage comes in short bursts, by the laws of the machine.
-use Rattle.std.proofs.Common.{◌≡◌, ◌≢◌, ◌∙◌, ◌≤◌, ◌<◌, ◌⊎◌, ℕ, ◌+◌, suc, zero, List, [], ◌∷◌, length, map, Option, None, Some, IfSome, IsSome, All, sum_by, refl, sym, ap, subst, inl, inr, arith}
+use Rattle.std.proofs.Common.{◌≡◌, ◌≢◌, ◌∙◌, ◌≤◌, ◌<◌, ◌⊎◌, ℕ, ◌+◌, suc, List, [], ◌∷◌, length, map, Option, None, Some, IfSome, IsSome, All, sum_by, refl, sym, ap, subst, inl, inr, arith}
 use Rattle.std.proofs.lemmas.List.{length-map}
 use Rattle.std.proofs.lemmas.List.Sums.{sum_by-cons}
 use Rattle.std.proofs.lemmas.Simd.{map-map}
 use Rattle.ym_header.specs.Header.{HeaderParts}
-use Rattle.ym_file.specs.Kept.{Told}
 use Rattle.ym_file.specs.Plan.{pieces_of, count_of}
 use Rattle.ym_file.specs.declared.plan.Shape.{Shape}
 use Rattle.ym_machine.specs.declared.confirm.Confirm.{Confirm}
@@ -17,6 +16,9 @@ use Rattle.ym_machine.specs.State.{SenderEnd, ReceiverEnd, State, start}
 use Rattle.ym_link.specs.ReceiverStands.{bytes_of}
 use Rattle.ym_link.specs.ReceiverStands as receiver
 use Rattle.ym_core.specs.Receiver.{Receiver}
+use Rattle.ym_link.specs.ReceiverInto.{ReceiverParts}
+use Rattle.ym_link.specs.Sender.{SenderParts}
+use Rattle.ym_core.specs.declared.standing.Standing.{Standing}
 use Rattle.ym_link.specs.SenderStands.{Batch, AllTold, batch_of, file_of, told_pieces}
 use Rattle.ym_link.specs.SenderStands as sender
 use Rattle.ym_link.specs.SourceFile.{FileParts, IsFile, blocks_of}
@@ -25,18 +27,21 @@ use Rattle.ym_core.specs.declared.state.SendState.TheVariants as send_state
 use Rattle.ym_core.specs.declared.state.RecvState.{RecvState}
 use Rattle.ym_core.specs.declared.state.RecvState.TheVariants as recv_state
 use Rattle.ym_line.specs.declared.delivery.Round.{Round}
+use Rattle.ym_line.specs.declared.trace.Seen.{Seen}
 use Rattle.ym_line.specs.declared.trace.Trace.{Trace}
-use Rattle.ym_line.specs.Completion.{NoneRose, AreGoing, HaveFinished, NeitherGivesUp, BothFinish, NotSooner, rounds_for, whole_rounds}
+use Rattle.ym_line.specs.Completion.{AllWhole, AreGoing, BringsShortBadRuns, HaveFinished, NoneRose, rounds_for, whole_rounds}
 use Rattle.ym_line.specs.Needed.{others_of}
 use Rattle.ym_line.specs.Promise.{AreNew}
 use Rattle.ym_line.specs.Rounds.{Pair, IsTrace}
-use Rattle.ym_line.specs.Turns.{RunsAsMachine, CommitsFirst}
-use Rattle.ym_line.proofs.Promised.{Laws, all-bytes, batch_to_send, confirm_of, known, run-of}
+use Rattle.ym_line.specs.Turns.{AreTurns, CommitsFirst, PairStands, Reports}
+use Rattle.ym_line.proofs.Promised.{Laws, SameEnds, all-bytes, batch_to_send, confirm_of, known, run-of, run-stands, trace-heard}
 use Rattle.ym_line.proofs.Truths.{SameTurns, same-turns, no-failure}
 
 -- ---- What the laws say
 
 pub record Completion : Type 0 where
+  pub damage : (confirm : Confirm) (files : Batch) (st : State) (rounds : List Round) (turns : List Turn) (old new : Pair) (all : List Seen) →
+      AreTurns confirm files st rounds turns old all new → IsDamage (frames_of files) confirm turns st
   pub count : (shape : Shape) (file : List ℕ) → length (pieces_of shape file) ≡ count_of shape (length file)
   pub going : (files : Batch) (confirm : Confirm) (turns : List Turn) → IsDamage (frames_of files) confirm turns start → NoFailure turns →
       machine.longest_bad_run 0 turns ≤ 4 → IsGoing (after_turns (frames_of files) confirm turns start)
@@ -78,8 +83,8 @@ needed-files laws confirm shape (source ∷ sources) files tells =
     ∙ (ap (λ n. blocks_and_others confirm shape source + n) others
     ∙ sym (sum_by-cons (blocks_and_others confirm shape) source sources)))
 
-needed-is : Completion → (pair : Pair) → AreNew pair → rounds_needed (confirm_of pair) (batch_to_send pair) ≡ rounds_for pair
-needed-is laws pair fresh = ap (λ n. 2 + n) (needed-files laws (confirm_of pair) pair.sender.shape pair.sender.files fresh.files fresh.tells)
+needed-is : Completion → (pair : Pair) → AreNew pair → All IsFile pair.sender.files → rounds_needed (confirm_of pair) (batch_to_send pair) ≡ rounds_for pair
+needed-is laws pair fresh files = ap (λ n. 2 + n) (needed-files laws (confirm_of pair) pair.sender.shape pair.sender.files files fresh.tells)
 
 -- ---- How the ends stand
 
@@ -123,73 +128,111 @@ receiver-runs ReceiverEnd.SinkFailed is = absurd (cc)
 abbrev after : (old : Pair) → List Turn → State
 after old turns = after_turns (frames_of (batch_to_send old)) (confirm_of old) turns start
 
--- a run of new ends as turns without a failure, with what is whole and bad in it, and what its ends have committed and report
+-- a run of new ends as turns without a failure, with what is whole and bad in it, where its ends stand, and what they have committed and report
 record Ran (rounds : List Round) (old : Pair) (trace : Trace) (new : Pair) : Type 0 where
-  runs : RunsAsMachine (confirm_of old) (batch_to_send old) start rounds old trace.rounds.items new
-  same : SameTurns rounds runs.turns
-  none : NoFailure runs.turns
-  commits : CommitsFirst (batch_to_send old) (after old runs.turns) new
-  send_is : trace.send ≡ sender.state_of (after old runs.turns).sender
-  recv_is : trace.recv ≡ receiver.state_of (after old runs.turns).receiver
+  turns : List Turn
+  damage : IsDamage (frames_of (batch_to_send old)) (confirm_of old) turns start
+  same : SameTurns rounds turns
+  none : NoFailure turns
+  stands : PairStands (confirm_of old) (batch_to_send old) (after old turns) new
+  commits : CommitsFirst (batch_to_send old) (after old turns) new
+  reports : Reports (batch_to_send old) (after old turns) trace
 
-ran : Laws → (rounds : List Round) (old new : Pair) (trace : Trace) → IsTrace rounds old trace new → AreNew old → NoneRose old new → Ran rounds old trace new
-ran laws rounds old new trace gives fresh none =
-    let runs = run-of laws rounds old new trace gives fresh in
-    let commits : CommitsFirst (batch_to_send old) (after old runs.turns) new = laws.first (confirm_of old) (batch_to_send old) (after old runs.turns) new runs.stands in
+ran : Laws → Completion → (rounds : List Round) (old new : Pair) (trace : Trace) → IsTrace rounds old trace new → AreNew old → All IsFile old.sender.files → NoneRose old new → Ran rounds old trace new
+ran laws completion rounds old new trace gives fresh files none =
+    let runs = run-of laws rounds old new trace gives fresh files in
+    let stands : PairStands (confirm_of old) (batch_to_send old) (after old runs.turns) new = run-stands laws rounds old new trace fresh files runs in
     record {
-      runs = runs;
+      turns = runs.turns;
+      damage = completion.damage (confirm_of old) (batch_to_send old) start rounds runs.turns old new trace.rounds.items runs.are_turns;
       same = same-turns (confirm_of old) (batch_to_send old) rounds runs.turns start old new trace.rounds.items runs.are_turns;
       none = no-failure (confirm_of old) (batch_to_send old) rounds runs.turns start old new trace.rounds.items runs.are_turns none;
-      commits = commits;
-      send_is = gives.send ∙ commits.send_is;
-      recv_is = gives.recv ∙ commits.recv_is;
+      stands = stands;
+      commits = laws.first (confirm_of old) (batch_to_send old) (after old runs.turns) new stands;
+      reports = runs.reports;
     }
 
-pub run-going : Laws → Completion → (rounds : List Round) (old new : Pair) (trace : Trace) → IsTrace rounds old trace new → NeitherGivesUp rounds old trace new
-run-going laws completion rounds old new trace gives fresh none short =
-    let ran_so : Ran rounds old trace new = ran laws rounds old new trace gives fresh none in
-    let turns : List Turn = ran_so.runs.turns in
-    let st : State = after old turns in
-    let brief : machine.longest_bad_run 0 turns ≤ 4 = subst (λ n. n ≤ 4) (sym (ran_so.same.longest 0)) short in
-    let goes : IsGoing st = completion.going (batch_to_send old) (confirm_of old) turns ran_so.runs.damage ran_so.none brief in
-    let counts : CountsWithin 9 st = completion.counts (batch_to_send old) (confirm_of old) turns ran_so.runs.damage ran_so.none brief in
+-- ---- Without a round
+
+-- new ends that are as they were run
+still-send : (rounds : List Round) (old new : Pair) (trace : Trace) → IsTrace rounds old trace new → AreNew old → SameEnds old new → trace.send ≡ send_state.Running
+still-send rounds old new trace gives fresh same = gives.send ∙ (ap (λ (p : SenderParts). p.standing.state) same.sender ∙ ap (λ (s : Standing). s.state) fresh.sender)
+
+still-going : (rounds : List Round) (old new : Pair) (trace : Trace) → IsTrace rounds old trace new → AreNew old → SameEnds old new → AreGoing trace new
+still-going rounds old new trace gives fresh same =
+    let misses : new.sender.standing.misses ≡ 0 = ap (λ (p : SenderParts). p.standing.misses) same.sender ∙ ap (λ (s : Standing). s.misses) fresh.sender in
+    let count : new.receiver.receiver.count ≡ 0 = ap (λ (p : ReceiverParts). p.receiver.count) same.receiver ∙ ap (λ (r : Receiver). r.count) fresh.receiver in
     record {
-      send = sender-going st.sender trace.send ran_so.send_is goes.0;
-      recv = receiver-going st.receiver trace.recv ran_so.recv_is goes.1;
-      sender_count = λ running.
-          let runs : st.sender ≡ SenderEnd.Running = sender-runs st.sender (sym ran_so.send_is ∙ running) in
-          subst (λ n. n ≤ 9) (sym (ran_so.runs.stands.sender.standing.misses runs)) (counts.sender_count runs);
-      receiver_count = λ running.
-          let runs : st.receiver ≡ ReceiverEnd.Running = receiver-runs st.receiver (sym ran_so.recv_is ∙ running) in
-          subst (λ n. n ≤ 9) (sym (ap (λ (r : Receiver). r.count) (ran_so.runs.stands.receiver.running runs))) (counts.receiver_count runs);
+      send = inl (still-send rounds old new trace gives fresh same);
+      recv = inl (gives.recv ∙ (ap (λ (p : ReceiverParts). p.receiver.state) same.receiver ∙ ap (λ (r : Receiver). r.state) fresh.receiver));
+      sender_count = λ _. omega (arith, misses);
+      receiver_count = λ _. omega (arith, count);
     }
 
-pub run-complete : Laws → Completion → (rounds : List Round) (old new : Pair) (trace : Trace) → IsTrace rounds old trace new → BothFinish rounds old trace new
-run-complete laws completion rounds old new trace gives fresh none short enough =
-    let ran_so : Ran rounds old trace new = ran laws rounds old new trace gives fresh none in
-    let turns : List Turn = ran_so.runs.turns in
-    let st : State = after old turns in
-    let shape : Shape = old.sender.shape in
-    let sources : List FileParts = old.sender.files in
-    let brief : machine.longest_bad_run 0 turns ≤ 4 = subst (λ n. n ≤ 4) (sym (ran_so.same.longest 0)) short in
-    let many : rounds_needed (confirm_of old) (batch_to_send old) ≤ machine.whole_turns turns =
-    subst (λ n. n ≤ machine.whole_turns turns) (sym (needed-is completion old fresh)) (subst (λ n. rounds_for old ≤ n) (sym ran_so.same.whole) enough) in
-    let complete : IsComplete (batch_to_send old) st = completion.complete (batch_to_send old) (confirm_of old) turns ran_so.runs.damage ran_so.none brief many in
-    record {
-      send = ran_so.send_is ∙ ap sender.state_of complete.sender;
-      recv = ran_so.recv_is ∙ ap receiver.state_of complete.receiver;
-      done = gives.done ∙ (ran_so.commits.done_is ∙ (ap length complete.reported ∙ length-map sources (file_of shape)));
-      files = gives.files ∙ (ran_so.commits.files_is ∙ (ap length complete.committed ∙ length-map sources (file_of shape)));
-      headers = ran_so.commits.headers ∙ (ap (map (λ (f : File HeaderParts). f.header)) complete.committed ∙ map-map (λ (f : File HeaderParts). f.header) (file_of shape) sources);
-      bytes = λ told told_is. ap (map known) (ran_so.commits.bytes told told_is ∙ ap (map bytes_of) complete.committed)
-          ∙ (ap (map known) (map-map bytes_of (file_of shape) sources) ∙ (map-map known (λ f. bytes_of (file_of shape f)) sources ∙ all-bytes laws shape sources fresh.files fresh.tells));
-    }
+-- and every batch needs some
+needs-some : (rounds : List Round) (old : Pair) → rounds ≡ [] → rounds_for old ≤ whole_rounds rounds → ⊥
+needs-some rounds old none enough =
+    let few : rounds_for old ≤ 0 = subst (λ l. rounds_for old ≤ whole_rounds l) none enough in
+    omega (arith, few)
 
-pub run-sooner : Laws → Completion → (rounds : List Round) (old new : Pair) (trace : Trace) → IsTrace rounds old trace new → NotSooner rounds old trace new
-run-sooner laws completion rounds old new trace gives fresh none whole fewer =
-    let ran_so : Ran rounds old trace new = ran laws rounds old new trace gives fresh none in
-    let turns : List Turn = ran_so.runs.turns in
-    let st : State = after old turns in
-    let few : length turns < rounds_needed (confirm_of old) (batch_to_send old) =
-    subst (λ n. length turns < n) (sym (needed-is completion old fresh)) (subst (λ n. n < rounds_for old) (sym ran_so.same.long) fewer) in
-    λ finished. completion.running (batch_to_send old) (confirm_of old) turns (ran_so.same.all_whole whole) ran_so.none few (sender-finished st.sender (sym ran_so.send_is ∙ finished))
+-- ---- What is promised
+
+pub run-going : Laws → Completion → (rounds : List Round) (old new : Pair) (trace : Trace) → IsTrace rounds old trace new → BringsShortBadRuns rounds old new → AreGoing trace new
+run-going laws completion rounds old new trace gives brings = elim (trace-heard rounds old new trace.rounds.items gives.goes_on) [
+  | inl same ↦ still-going rounds old new trace gives brings.fresh same.1
+  | inr files ↦
+      let ran_so : Ran rounds old trace new = ran laws completion rounds old new trace gives brings.fresh files brings.none in
+      let turns : List Turn = ran_so.turns in
+      let st : State = after old turns in
+      let brief : machine.longest_bad_run 0 turns ≤ 4 = subst (λ n. n ≤ 4) (sym (ran_so.same.longest 0)) brings.short in
+      let goes : IsGoing st = completion.going (batch_to_send old) (confirm_of old) turns ran_so.damage ran_so.none brief in
+      let counts : CountsWithin 9 st = completion.counts (batch_to_send old) (confirm_of old) turns ran_so.damage ran_so.none brief in
+      record {
+        send = sender-going st.sender trace.send ran_so.reports.send goes.0;
+        recv = receiver-going st.receiver trace.recv ran_so.reports.recv goes.1;
+        sender_count = λ running.
+            let runs : st.sender ≡ SenderEnd.Running = sender-runs st.sender (sym ran_so.reports.send ∙ running) in
+            subst (λ n. n ≤ 9) (sym (ran_so.stands.sender.standing.misses runs)) (counts.sender_count runs);
+        receiver_count = λ running.
+            let runs : st.receiver ≡ ReceiverEnd.Running = receiver-runs st.receiver (sym ran_so.reports.recv ∙ running) in
+            subst (λ n. n ≤ 9) (sym (ap (λ (r : Receiver). r.count) (ran_so.stands.receiver.running runs))) (counts.receiver_count runs);
+      }
+]
+
+pub run-complete : Laws → Completion → (rounds : List Round) (old new : Pair) (trace : Trace) → IsTrace rounds old trace new → BringsShortBadRuns rounds old new →
+    rounds_for old ≤ whole_rounds rounds → HaveFinished old.sender.files trace new
+run-complete laws completion rounds old new trace gives brings enough = elim (trace-heard rounds old new trace.rounds.items gives.goes_on) [
+  | inl same ↦ absurd (needs-some rounds old same.0 enough)
+  | inr files ↦
+      let ran_so : Ran rounds old trace new = ran laws completion rounds old new trace gives brings.fresh files brings.none in
+      let turns : List Turn = ran_so.turns in
+      let st : State = after old turns in
+      let shape : Shape = old.sender.shape in
+      let sources : List FileParts = old.sender.files in
+      let brief : machine.longest_bad_run 0 turns ≤ 4 = subst (λ n. n ≤ 4) (sym (ran_so.same.longest 0)) brings.short in
+      let many : rounds_needed (confirm_of old) (batch_to_send old) ≤ machine.whole_turns turns =
+      subst (λ n. n ≤ machine.whole_turns turns) (sym (needed-is completion old brings.fresh files)) (subst (λ n. rounds_for old ≤ n) (sym ran_so.same.whole) enough) in
+      let complete : IsComplete (batch_to_send old) st = completion.complete (batch_to_send old) (confirm_of old) turns ran_so.damage ran_so.none brief many in
+      record {
+        send = ran_so.reports.send ∙ ap sender.state_of complete.sender;
+        recv = ran_so.reports.recv ∙ ap receiver.state_of complete.receiver;
+        done = ran_so.reports.done ∙ (ap length complete.reported ∙ length-map sources (file_of shape));
+        files = ran_so.reports.files_is ∙ (ap length complete.committed ∙ length-map sources (file_of shape));
+        headers = ran_so.commits.headers ∙ (ap (map (λ (f : File HeaderParts). f.header)) complete.committed ∙ map-map (λ (f : File HeaderParts). f.header) (file_of shape) sources);
+        bytes = λ told told_is. ap (map known) (ran_so.commits.bytes told told_is ∙ ap (map bytes_of) complete.committed)
+            ∙ (ap (map known) (map-map bytes_of (file_of shape) sources) ∙ (map-map known (λ f. bytes_of (file_of shape f)) sources ∙ all-bytes laws shape sources files brings.fresh.tells));
+      }
+]
+
+pub run-sooner : Laws → Completion → (rounds : List Round) (old new : Pair) (trace : Trace) → IsTrace rounds old trace new → AreNew old → NoneRose old new →
+    AllWhole rounds → length rounds < rounds_for old → trace.send ≢ send_state.Finished
+run-sooner laws completion rounds old new trace gives fresh none whole fewer = elim (trace-heard rounds old new trace.rounds.items gives.goes_on) [
+  | inl same ↦ λ finished. let runs : trace.send ≡ send_state.Running = still-send rounds old new trace gives fresh same.1 in cc
+  | inr files ↦
+      let ran_so : Ran rounds old trace new = ran laws completion rounds old new trace gives fresh files none in
+      let turns : List Turn = ran_so.turns in
+      let st : State = after old turns in
+      let few : length turns < rounds_needed (confirm_of old) (batch_to_send old) =
+      subst (λ n. length turns < n) (sym (needed-is completion old fresh files)) (subst (λ n. n < rounds_for old) (sym ran_so.same.long) fewer) in
+      λ finished. completion.running (batch_to_send old) (confirm_of old) turns (ran_so.same.all_whole whole) ran_so.none few (sender-finished st.sender (sym ran_so.reports.send ∙ finished))
+]

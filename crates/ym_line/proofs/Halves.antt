@@ -1,16 +1,17 @@
 -- A round of a pair that stands is a turn of the machine.
-use Rattle.std.proofs.Common.{◌≡◌, ◌∙◌, ℕ, Bool, true, false, List, [], ◌∷◌, Option, None, Some, Ok, IsSome, refl, sym, ap, subst}
+use Rattle.std.proofs.Common.{◌≡◌, ◌∙◌, ℕ, Bool, true, false, List, [], ◌∷◌, length, Option, None, Some, Ok, IsSome, refl, sym, ap, subst}
 use Rattle.std.proofs.lemmas.List.Elements.{All-set}
 use Rattle.ym_frame.specs.Control.{reply_bytes}
 use Rattle.ym_frame.specs.declared.control.Control.{Control}
 use Rattle.ym_frame.specs.declared.control.Reply.{Reply}
 use Rattle.ym_machine.specs.declared.confirm.Confirm.{Confirm}
-use Rattle.ym_machine.specs.Frames.{File, Frame, frames_of}
+use Rattle.ym_machine.specs.Frames.{File, Frame, count_within, files_within, frames_of}
 use Rattle.ym_machine.specs.Halves as machine
 use Rattle.ym_machine.specs.Machine.{State, IsMachine, Answer, said, there, back, KeepsSender, KeepsReceiver}
-use Rattle.ym_machine.specs.Run.{Turn, came_back, after_turn}
+use Rattle.ym_machine.specs.Run.{Turn, IsDamage, came_back, after_turn, after_turns}
 use Rattle.ym_header.specs.Header.{HeaderParts}
 use Rattle.ym_core.specs.Hearing.{heard_of}
+use Rattle.ym_core.specs.Place.{done_at}
 use Rattle.ym_core.specs.Reading.{controls_in}
 use Rattle.ym_link.specs.ReceiverInto.{ReceiverParts, HearsGives, Tells}
 use Rattle.ym_core.specs.Receiver.{Receiver}
@@ -25,11 +26,13 @@ use Rattle.ym_core.specs.declared.place.Place.{Place}
 use Rattle.ym_core.specs.declared.place.Place.TheVariants.{Header, Block, Eot, End}
 use Rattle.ym_line.specs.declared.delivery.Round.{Round}
 use Rattle.ym_line.specs.declared.trace.Seen.{Seen}
+use Rattle.ym_line.specs.declared.trace.Trace.{Trace}
+use Rattle.ym_line.specs.declared.trace.What.{What}
 use Rattle.ym_line.specs.Carried.{told_more}
 use Rattle.ym_line.specs.declared.delivery.Way.TheVariants.{There, Back}
-use Rattle.ym_line.specs.Damage.{arrives}
-use Rattle.ym_line.specs.Rounds.{Pair, sent_by, Goes, GoOn}
-use Rattle.ym_line.specs.Turns.{PairStands, IsTurn, RunsAsMachine, IsSourceTruth, is_whole, came_of, turn_of}
+use Rattle.ym_line.specs.Damage.{arrives, how_of}
+use Rattle.ym_line.specs.Rounds.{Pair, sent_by, Goes, GoOn, IsTrace}
+use Rattle.ym_line.specs.Turns.{AreTurns, IsSourceTruth, IsTurn, PairStands, Reports, RunsAsMachine, came_of, is_whole, turn_of, what_said}
 use Rattle.ym_line.proofs.Turns.{FrameFound, WithinReply, said-heard, said-shown, said-bytes, came-within, controls-arrive}
 
 -- ---- What the laws below say
@@ -53,6 +56,8 @@ pub record Laws : Type 0 where
       IsMachine confirm (frames_of files) (back (frames_of files) source_failed came (there (frames_of files) confirm sink_failed whole old).0)
   pub keeps_sender : (files : List (File HeaderParts)) (confirm : Confirm) (sink_failed whole : Bool) (old : State) →
       KeepsSender old (there (frames_of files) confirm sink_failed whole old).0
+  pub done : (files : Batch) (st : State) (sender : SenderParts) → SenderStands files st sender → done_at (length sender.files) sender.standing.place ≡ count_within files st.acknowledged
+  pub counted : (files : Batch) (n : ℕ) → length (files_within files n) ≡ count_within files n
   pub keeps_receiver : (files : List (File HeaderParts)) (source_failed : Bool) (came : List Control) (old : State) →
       KeepsReceiver old (back (frames_of files) source_failed came old)
 
@@ -99,6 +104,10 @@ still-told true old new truth told =
 
 -- ---- A round
 
+-- what the trace shows of it
+abbrev showing : Round → What → Reply → Seen
+showing round what reply = record { what = what; there = how_of round.there; reply = reply; back = how_of round.back }
+
 pub goes-turn : Laws → (confirm : Confirm) (files : Batch) (st : State) (round : Round) (old new : Pair) (seen : Seen) →
     PairStands confirm files st old → Goes round old seen new → (turn : Turn) × IsTurn confirm files st round turn old seen new
 goes-turn laws confirm files st round old new seen stands goes =
@@ -137,9 +146,8 @@ goes-turn laws confirm files st round old new seen stands goes =
         turn_is = refl;
         sink = subst (λ (r : ReceiverParts). Tells sink_failed old.receiver.failures r.failures) (sym same_receiver) answers.1;
         source = source;
-        damage = within;
-        what_is = ap (λ (s : Seen). s.what) goes.seen_is ∙ said-shown files (said st) old.sender says;
-        reply_is = reply_is;
+        damage = goes.back.shows;
+        seen_is = goes.seen_is ∙ (ap (λ what. showing round what seen.reply) (said-shown files (said st) old.sender says) ∙ ap (showing round (what_said frames (said st))) reply_is);
         handed_on = ap (λ (p : Pair). p.told) goes.back.others ∙ ap (told_more Back bytes) (ap (λ (p : Pair). p.told) goes.there.others
             ∙ ap (λ b. told_more There (arrives round.there b) old.told) (said-bytes files (said st) old.sender says));
         stands = record {
@@ -154,22 +162,58 @@ goes-turn laws confirm files st round old new seen stands goes =
 
 -- ---- A run
 
-pub run-turns : Laws → (confirm : Confirm) (files : Batch) (rounds : List Round) (st : State) (old new : Pair) (all : List Seen) →
-    PairStands confirm files st old → GoOn rounds old all new → RunsAsMachine confirm files st rounds old all new
-run-turns laws confirm files [] st old new [] stands went = record {
-  turns = [];
-  are_turns = went;
-  damage = tt;
-  stands = rw went stands;
-}
-run-turns laws confirm files [] st old new (seen ∷ all) stands went = absurd went
-run-turns laws confirm files (round ∷ rounds) st old new [] stands went = absurd went
-run-turns laws confirm files (round ∷ rounds) st old new (seen ∷ all) stands went =
+-- its rounds are turns
+pub rounds-turns : Laws → (confirm : Confirm) (files : Batch) (rounds : List Round) (st : State) (old new : Pair) (all : List Seen) →
+    PairStands confirm files st old → GoOn rounds old all new → (turns : List Turn) × AreTurns confirm files st rounds turns old all new
+rounds-turns laws confirm files [] st old new [] stands went = ([], went)
+rounds-turns laws confirm files (round ∷ rounds) st old new (seen ∷ all) stands went =
     let first = goes-turn laws confirm files st round old went.0 seen stands went.1 in
-    let others = run-turns laws confirm files rounds (after_turn (frames_of files) confirm first.0 st) went.0 new all first.1.stands went.2 in
+    let others = rounds-turns laws confirm files rounds (after_turn (frames_of files) confirm first.0 st) went.0 new all first.1.stands went.2 in
+    (first.0 ∷ others.0, (went.0, first.1, others.1))
+rounds-turns laws confirm files _ st old new _ stands went = absurd went
+
+-- the pair stands behind them
+pub turns-stand : (confirm : Confirm) (files : Batch) (rounds : List Round) (turns : List Turn) (st : State) (old new : Pair) (all : List Seen) →
+    AreTurns confirm files st rounds turns old all new → PairStands confirm files st old → PairStands confirm files (after_turns (frames_of files) confirm turns st) new
+turns-stand confirm files [] [] st old new [] went stands = rw went stands
+turns-stand confirm files (round ∷ rounds) (turn ∷ turns) st old new (seen ∷ all) went stands =
+    turns-stand confirm files rounds turns (after_turn (frames_of files) confirm turn st) went.0 new all went.2 went.1.stands
+turns-stand confirm files _ _ st old new _ went stands = absurd went
+
+-- what came back was within the reply
+pub turns-damage : WithinReply → ((r : Reply) → machine.is_within (machine.controls r) (machine.controls r) ≡ true) →
+    (confirm : Confirm) (files : Batch) (rounds : List Round) (turns : List Turn) (st : State) (old new : Pair) (all : List Seen) →
+    AreTurns confirm files st rounds turns old all new → IsDamage (frames_of files) confirm turns st
+turns-damage within whole confirm files [] [] st old new [] went = tt
+turns-damage within whole confirm files (round ∷ rounds) (turn ∷ turns) st old new (seen ∷ all) went =
+    let first : IsTurn confirm files st round turn old seen went.0 = went.1 in
+    let answer : Answer = there (frames_of files) confirm turn.sink_failed turn.whole_there st in
+    let reply_is : seen.reply ≡ answer.1 = ap (λ (s : Seen). s.reply) first.seen_is in
+    let back_is : turn.back ≡ came_of round.back = ap (λ (t : Turn). t.back) first.turn_is in
+    let shown : machine.is_within (came_back (came_of round.back) answer.1) (machine.controls answer.1) ≡ true =
+    subst (λ r. machine.is_within (came_back (came_of round.back) r) (machine.controls r) ≡ true) reply_is (came-within within whole round.back seen.reply first.damage) in (
+      subst (λ back. machine.is_within (came_back back answer.1) (machine.controls answer.1) ≡ true) (sym back_is) shown,
+      turns-damage within whole confirm files rounds turns (after_turn (frames_of files) confirm turn st) went.0 new all went.2,
+    )
+turns-damage within whole confirm files _ _ st old new _ went = absurd went
+
+-- what the trace of a pair that stands reports
+pub stands-reports : Laws → (confirm : Confirm) (files : Batch) (st : State) (rounds : List Round) (old new : Pair) (trace : Trace) →
+    IsTrace rounds old trace new → PairStands confirm files st new → Reports files st trace
+stands-reports laws confirm files st rounds old new trace gives stands = record {
+  done = gives.done ∙ (laws.done files st new.sender stands.sender ∙ sym (laws.counted files st.acknowledged));
+  files_is = gives.files ∙ (stands.receiver.files_is ∙ sym (laws.counted files st.taken));
+  send = gives.send ∙ stands.sender.standing.state;
+  recv = gives.recv ∙ stands.receiver.state_is;
+}
+
+pub run-turns : Laws → (confirm : Confirm) (files : Batch) (st : State) (rounds : List Round) (old new : Pair) (trace : Trace) →
+    PairStands confirm files st old → IsTrace rounds old trace new → RunsAsMachine confirm files st rounds old trace new
+run-turns laws confirm files st rounds old new trace stands gives =
+    let run = rounds-turns laws confirm files rounds st old new trace.rounds.items stands gives.goes_on in
     record {
-      turns = first.0 ∷ others.turns;
-      are_turns = (went.0, first.1, others.are_turns);
-      damage = (first.1.damage, others.damage);
-      stands = others.stands;
+      turns = run.0;
+      are_turns = run.1;
+      reports = stands-reports laws confirm files (after_turns (frames_of files) confirm run.0 st) rounds old new trace gives
+          (turns-stand confirm files rounds run.0 st old new trace.rounds.items run.1 stands);
     }

@@ -1,16 +1,23 @@
 -- What a pair that stands has committed, in words of the two ends.
-use Rattle.std.proofs.Common.{◌≡◌, ◌∙◌, ◌≤◌, ◌⊎◌, ℕ, min, suc, zero, List, [], ◌∷◌, length, map, take, Option, None, Some, IfSome, IsSome, All, Bool, Result, Ok, Err, refl, sym, ap, subst, inl, inr, arith}
+use Rattle.std.proofs.Common.{◌≡◌, ◌∙◌, ◌≤◌, ◌⊎◌, ℕ, min, suc, List, [], ◌∷◌, length, map, take, Option, None, Some, IfSome, IsSome, All, false, Result, Ok, Err, refl, sym, ap, subst, inl, inr, arith}
 use Rattle.std.proofs.lemmas.List.{length-map, length-take, take-map}
 use Rattle.std.proofs.lemmas.Simd.{map-map}
 use Rattle.ym_header.specs.Header.{HeaderParts, IsHeader, length_limit}
-use Rattle.ym_file.specs.Kept.{Kept, Told, IsNew}
+use Rattle.ym_file.specs.Kept.{Kept, Told, IsNew, TellsNone}
 use Rattle.ym_file.specs.Plan.{IsPieces, pieces_of}
 use Rattle.ym_file.specs.declared.plan.Shape.{Shape}
 use Rattle.ym_machine.specs.declared.confirm.Confirm.{Confirm}
 use Rattle.ym_machine.specs.Frames.{File, frames_of, IsPrefix}
 use Rattle.ym_machine.specs.Machine.{State, start, committed, reported}
-use Rattle.ym_core.specs.Place.{done_at}
-use Rattle.ym_core.specs.Receiver.{new_receiver}
+use Rattle.ym_machine.specs.Run.{Turn, after_turns}
+use Rattle.ym_core.specs.Place.{done_at, first_of}
+use Rattle.ym_core.specs.Receiver.{Receiver, new_receiver}
+use Rattle.ym_link.specs.ReceiverInto.{ReceiverParts}
+use Rattle.ym_link.specs.Sender.{SenderParts}
+use Rattle.ym_core.specs.declared.place.Place.{Place}
+use Rattle.ym_core.specs.declared.place.Mode.TheVariants.{Waiting}
+use Rattle.ym_core.specs.declared.standing.Standing.{Standing}
+use Rattle.ym_core.specs.declared.state.SendState.TheVariants.{Running}
 use Rattle.ym_link.specs.ReceiverStands.{bytes_of}
 use Rattle.ym_link.specs.SenderStands.{Batch, AllTold, batch_of, file_of, told_pieces}
 use Rattle.ym_link.specs.SourceFile.{FileParts, IsFile, counts_of}
@@ -20,9 +27,10 @@ use Rattle.ym_line.specs.declared.delivery.Round.{Round}
 use Rattle.ym_line.specs.declared.fault.LineFault.{LineFault}
 use Rattle.ym_line.specs.declared.trace.Seen.{Seen}
 use Rattle.ym_line.specs.declared.trace.Trace.{Trace}
-use Rattle.ym_line.specs.Promise.{AreNew, CommitsAPrefix, ReportsCommitted}
+use Rattle.ym_line.specs.Promise.{AreNew, CommitsAPrefix, ReportsCommitted, first_place}
 use Rattle.ym_line.specs.Rounds.{Pair, GoOn, StopsIn, IsTrace, RunGives}
-use Rattle.ym_line.specs.Turns.{FollowsMachine, StopsWithMachine, StopsAsMachine, RunsAsMachine, PairStands, CommitsFirst}
+use Rattle.ym_line.specs.Turns.{AreTurns, CommitsFirst, FollowsMachine, PairStands, RunsAsMachine, StopsAsMachine, StopsInTurn, StopsWithMachine, told_there}
+use Rattle.ym_line.proofs.Stops.{Same, failures-stand, half-same}
 
 -- ---- What the laws say
 
@@ -43,12 +51,17 @@ NewStand = (confirm : Confirm) (shape : Shape) (sources : List FileParts) (frame
 pub record Laws : Type 0 where
   pub bytes : PlannedBytes
   pub pieces : (shape : Shape) (file : List ℕ) → IsPieces shape file (pieces_of shape file)
-  pub go_on : (rounds : List Round) (old new : Pair) (all : List Seen) → GoOn rounds old all new → FollowsMachine rounds old all new
-  pub stop : (n : ℕ) (rounds : List Round) (old new : Pair) (fault : LineFault) → StopsIn n rounds old fault new → StopsWithMachine rounds old new
+  pub go_on : (rounds : List Round) (old new : Pair) (trace : Trace) → IsTrace rounds old trace new → FollowsMachine rounds old trace new
+  pub stop : (n : ℕ) (rounds : List Round) (old new : Pair) (fault : LineFault) → StopsIn n rounds old fault new → StopsWithMachine n rounds old fault new
+  pub stand : (confirm : Confirm) (files : Batch) (st : State) (rounds : List Round) (turns : List Turn) (old new : Pair) (all : List Seen) →
+      AreTurns confirm files st rounds turns old all new → PairStands confirm files st old → PairStands confirm files (after_turns (frames_of files) confirm turns st) new
   pub first : (confirm : Confirm) (files : Batch) (st : State) (pair : Pair) → PairStands confirm files st pair → CommitsFirst files st pair
   pub new_stand : NewStand
 
 -- ---- New ends
+
+abbrev pub known : List ℕ → Option (List ℕ)
+known bytes = Some bytes
 
 abbrev pub batch_to_send : Pair → Batch
 batch_to_send pair = batch_of pair.sender.shape pair.sender.files
@@ -56,15 +69,24 @@ batch_to_send pair = batch_of pair.sender.shape pair.sender.files
 abbrev pub confirm_of : Pair → Confirm
 confirm_of pair = pair.receiver.receiver.confirm
 
-pub new-stands : NewStand → (pair : Pair) → AreNew pair → PairStands (confirm_of pair) (batch_to_send pair) start pair
-new-stands stand pair new =
-    let made = stand (confirm_of pair) pair.sender.shape pair.sender.files pair.sender.frame pair.receiver.kept pair.receiver.failures pair.told pair.failures new.files new.tells new.few new.sink in
+-- a batch begins at its first place
+first-is : (shape : Shape) (sources : List FileParts) → first_of (counts_of shape sources) ≡ first_place sources
+first-is shape [] = refl
+first-is shape (source ∷ sources) = refl
+
+abbrev waiting_at : Place → Standing
+waiting_at place = record { place = place; mode = Waiting; misses = 0; state = Running; farewell = false }
+
+pub new-stands : NewStand → (pair : Pair) → AreNew pair → All IsFile pair.sender.files → PairStands (confirm_of pair) (batch_to_send pair) start pair
+new-stands stand pair new files =
+    let made = stand (confirm_of pair) pair.sender.shape pair.sender.files pair.sender.frame pair.receiver.kept pair.receiver.failures pair.told pair.failures files new.tells new.few new.sink in
+    let standing : pair.sender.standing ≡ new_standing (counts_of pair.sender.shape pair.sender.files) = new.sender ∙ sym (ap waiting_at (first-is pair.sender.shape pair.sender.files)) in
     let with_sender = subst (λ s. PairStands (confirm_of pair) (batch_to_send pair) start (record {
       sender = record { standing = s; shape = pair.sender.shape; files = pair.sender.files; frame = pair.sender.frame };
       receiver = record { receiver = new_receiver (confirm_of pair); kept = pair.receiver.kept; failures = pair.receiver.failures };
       told = pair.told;
       failures = pair.failures;
-    })) (sym new.sender) made in
+    })) (sym standing) made in
     subst (λ r. PairStands (confirm_of pair) (batch_to_send pair) start (record {
       sender = pair.sender;
       receiver = record { receiver = r; kept = pair.receiver.kept; failures = pair.receiver.failures };
@@ -72,10 +94,57 @@ new-stands stand pair new =
       failures = pair.failures;
     })) (sym new.receiver) with_sender
 
--- ---- The bytes of a file as it is sent
+-- ---- A run that no end heard anything in
 
-abbrev pub known : List ℕ → Option (List ℕ)
-known bytes = Some bytes
+-- both ends are as they were
+pub record SameEnds (old new : Pair) : Type 0 where
+  pub sender : new.sender ≡ old.sender
+  pub receiver : new.receiver ≡ old.receiver
+
+same-ends : (old new : Pair) → Same old new → SameEnds old new
+same-ends old new same = record { sender = ap (λ (p : Pair). p.sender) same; receiver = ap (λ (p : Pair). p.receiver) same }
+
+equal-ends : (old new : Pair) → new ≡ old → SameEnds old new
+equal-ends old new same = record { sender = ap (λ (p : Pair). p.sender) same; receiver = ap (λ (p : Pair). p.receiver) same }
+
+-- each sender keeps files that are within their limits; a run without rounds tells nothing of it
+pub trace-heard : (rounds : List Round) (old new : Pair) (all : List Seen) → GoOn rounds old all new → ((rounds ≡ []) × SameEnds old new) ⊎ All IsFile old.sender.files
+trace-heard [] old new [] went = inl (refl, equal-ends old new went)
+trace-heard (round ∷ rounds) old new (seen ∷ all) went = inr went.1.there.keeps.files
+trace-heard _ old new _ went = absurd went
+
+fault-heard : (n : ℕ) (rounds : List Round) (old new : Pair) (fault : LineFault) → StopsIn n rounds old fault new → SameEnds old new ⊎ All IsFile old.sender.files
+fault-heard n [] old new fault stops = absurd stops
+fault-heard n (round ∷ rounds) old new fault (inl no_memory) = inl (equal-ends old new no_memory.1)
+fault-heard n (round ∷ rounds) old new fault (inr (inl (inl (inl stopped)))) = inl (same-ends old new (half-same n _ _ old fault new stopped))
+fault-heard n (round ∷ rounds) old new fault (inr (inl (inl (inr wanted)))) = inr wanted.3.files
+fault-heard n (round ∷ rounds) old new fault (inr (inl (inr stopped))) = inr stopped.2.keeps.files
+fault-heard n (round ∷ rounds) old new fault (inr (inr went)) = inr went.2.there.keeps.files
+
+-- new ends that are as they were have committed nothing, and report nothing
+none-done : (sources : List FileParts) → done_at (length sources) (first_place sources) ≡ 0
+none-done [] = refl
+none-done (source ∷ sources) = refl
+
+none-told : (told : Option Told) (t : Told) → TellsNone told → told ≡ Some t → t.files ≡ []
+none-told None t none is = absurd (cc)
+none-told (Some all) t none is = let same : all ≡ t = cc in subst (λ (x : Told). x.files ≡ []) same none.1
+
+same-commits : (old new : Pair) → AreNew old → SameEnds old new → CommitsAPrefix old.sender.files new
+same-commits old new fresh same =
+    let place : new.sender.standing.place ≡ first_place old.sender.files = ap (λ (s : SenderParts). s.standing.place) same.sender ∙ ap (λ (s : Standing). s.place) fresh.sender in
+    let long : length new.sender.files ≡ length old.sender.files = ap (λ (s : SenderParts). length s.files) same.sender in
+    let done : done_at (length new.sender.files) new.sender.standing.place ≡ 0 = rw (place, long) (none-done old.sender.files) in
+    record {
+      number = 0;
+      within = omega arith;
+      headers = ap (λ (r : ReceiverParts). r.kept.headers) same.receiver ∙ fresh.sink.headers;
+      bytes = λ told is. ap (map known) (none-told old.receiver.kept.told told fresh.sink.told (sym (ap (λ (r : ReceiverParts). r.kept.told) same.receiver) ∙ is));
+      files_is = ap (λ (r : ReceiverParts). r.receiver.files) same.receiver ∙ ap (λ (r : Receiver). r.files) fresh.receiver;
+      done = omega (arith, done);
+    }
+
+-- ---- The bytes of a file as it is sent
 
 source-bytes : Laws → (shape : Shape) (count : ℕ) (header : HeaderParts) (bytes : Option (List ℕ)) → IsHeader length_limit header →
     IfSome bytes (λ all. length all ≡ header.length) → IsSome bytes → known (bytes_of (record { header = header; pieces = told_pieces shape count bytes })) ≡ bytes
@@ -126,22 +195,50 @@ commits-prefix laws shape sources st pair files tells commits =
       done = subst (λ m. m ≤ n) (sym done_is) among;
     }
 
-pub run-of : Laws → (rounds : List Round) (old new : Pair) (trace : Trace) → IsTrace rounds old trace new → AreNew old →
-    RunsAsMachine (confirm_of old) (batch_to_send old) start rounds old trace.rounds.items new
-run-of laws rounds old new trace gives fresh = laws.go_on rounds old new trace.rounds.items gives.goes_on (confirm_of old) (batch_to_send old) start (new-stands laws.new_stand old fresh)
+pub run-of : Laws → (rounds : List Round) (old new : Pair) (trace : Trace) → IsTrace rounds old trace new → AreNew old → All IsFile old.sender.files →
+    RunsAsMachine (confirm_of old) (batch_to_send old) start rounds old trace new
+run-of laws rounds old new trace gives fresh files = laws.go_on rounds old new trace gives (confirm_of old) (batch_to_send old) start (new-stands laws.new_stand old fresh files)
 
-stopped-commits : Laws → (rounds : List Round) (old new : Pair) → AreNew old → StopsAsMachine (confirm_of old) (batch_to_send old) start rounds new → CommitsAPrefix old.sender.files new
-stopped-commits laws rounds old new fresh stops = elim stops.stands [
-  | inl stands ↦ commits-prefix laws old.sender.shape old.sender.files _ new fresh.files fresh.tells (laws.first (confirm_of old) (batch_to_send old) _ new stands)
-  | inr half ↦ commits-prefix laws old.sender.shape old.sender.files _ new fresh.files fresh.tells (laws.first (confirm_of old) (batch_to_send old) _ new half.2)
-]
+pub run-stands : Laws → (rounds : List Round) (old new : Pair) (trace : Trace) (fresh : AreNew old) (files : All IsFile old.sender.files) →
+    (runs : RunsAsMachine (confirm_of old) (batch_to_send old) start rounds old trace new) →
+    PairStands (confirm_of old) (batch_to_send old) (after_turns (frames_of (batch_to_send old)) (confirm_of old) runs.turns start) new
+run-stands laws rounds old new trace fresh files runs =
+    laws.stand (confirm_of old) (batch_to_send old) start rounds runs.turns old new trace.rounds.items runs.are_turns (new-stands laws.new_stand old fresh files)
+
+-- a pair that stands somewhere
+standing-commits : Laws → (old new : Pair) (st : State) → AreNew old → All IsFile old.sender.files → PairStands (confirm_of old) (batch_to_send old) st new → CommitsAPrefix old.sender.files new
+standing-commits laws old new st fresh files stands =
+    commits-prefix laws old.sender.shape old.sender.files st new files fresh.tells (laws.first (confirm_of old) (batch_to_send old) st new stands)
+
+-- where a fault left it
+stopped-stands : (confirm : Confirm) (files : Batch) (st : State) (round : Round) (old : Pair) (fault : LineFault) (new : Pair) →
+    PairStands confirm files st old → StopsInTurn confirm files st round old fault new → (last : State) × PairStands confirm files last new
+stopped-stands confirm files st round old fault new stands (StopsInTurn.nothing same) = (st, failures-stand confirm files st old new same stands)
+stopped-stands confirm files st round old fault new stands (StopsInTurn.unheard memory handed) =
+    let told : PairStands confirm files st (record old { told = told_there files st round.there old.told }) =
+    record { machine = stands.machine; batch = stands.batch; told = stands.told; sender = stands.sender; receiver = stands.receiver } in
+    (st, subst (PairStands confirm files st) (sym handed) told)
+stopped-stands confirm files st round old fault new stands (StopsInTurn.half half) = (_, half.stands)
+
+fault-commits : Laws → (rounds : List Round) (old new : Pair) (fault : LineFault) → StopsIn 1 rounds old fault new → AreNew old → All IsFile old.sender.files → CommitsAPrefix old.sender.files new
+fault-commits laws rounds old new fault gives fresh files =
+    let begins = new-stands laws.new_stand old fresh files in
+    let stops : StopsAsMachine (confirm_of old) (batch_to_send old) start 1 rounds old fault new = laws.stop 1 rounds old new fault gives (confirm_of old) (batch_to_send old) start begins in
+    let between = laws.stand (confirm_of old) (batch_to_send old) start stops.before stops.turns old stops.between stops.all stops.are_turns begins in
+    let last = stopped-stands (confirm_of old) (batch_to_send old) _ stops.round stops.between fault new between stops.stops in
+    standing-commits laws old new last.0 fresh files last.1
 
 pub run-commits : Laws → (rounds : List Round) (old new : Pair) (result : Result Trace LineFault) → RunGives rounds old result new → AreNew old → CommitsAPrefix old.sender.files new
-run-commits laws rounds old new (Ok trace) gives fresh =
-    let runs = run-of laws rounds old new trace gives fresh in
-    commits-prefix laws old.sender.shape old.sender.files _ new fresh.files fresh.tells (laws.first (confirm_of old) (batch_to_send old) _ new runs.stands)
-run-commits laws rounds old new (Err fault) gives fresh =
-    stopped-commits laws rounds old new fresh (laws.stop 1 rounds old new fault gives (confirm_of old) (batch_to_send old) start (new-stands laws.new_stand old fresh))
+run-commits laws rounds old new (Ok trace) gives fresh = elim (trace-heard rounds old new trace.rounds.items gives.goes_on) [
+  | inl same ↦ same-commits old new fresh same.1
+  | inr files ↦
+      let runs = run-of laws rounds old new trace gives fresh files in
+      standing-commits laws old new _ fresh files (run-stands laws rounds old new trace fresh files runs)
+]
+run-commits laws rounds old new (Err fault) gives fresh = elim (fault-heard 1 rounds old new fault gives) [
+  | inl same ↦ same-commits old new fresh same
+  | inr files ↦ fault-commits laws rounds old new fault gives fresh files
+]
 
 pub run-reports : Laws → (rounds : List Round) (old new : Pair) (trace : Trace) → IsTrace rounds old trace new → AreNew old → ReportsCommitted trace new
 run-reports laws rounds old new trace gives fresh =

@@ -1,5 +1,5 @@
 -- What is seen of a round, and runs one round more.
-use Rattle.std.proofs.Common.{◌≡◌, ℕ, ◌+◌, ◌<◌, suc, zero, List, [], ◌∷◌, ◌++◌, length, take, get_or, Result, Ok, Err, IfOk, refl, subst, inl, inr, ◌⊎◌, arith}
+use Rattle.std.proofs.Common.{◌≡◌, ℕ, ◌+◌, ◌<◌, suc, zero, List, [], ◌∷◌, ◌++◌, length, take, get_or, Result, Ok, Err, IfOk, IfErr, refl, subst, inl, inr, ◌⊎◌, arith}
 use Rattle.ym_frame.specs.declared.control.Reply.{Reply}
 use Rattle.ym_link.specs.Sender.{SenderParts}
 use Rattle.ym_line.specs.declared.delivery.Round.{Round}
@@ -11,7 +11,7 @@ use Rattle.ym_line.specs.declared.trace.What.{What}
 use Rattle.ym_line.specs.Damage.{how_of}
 use Rattle.ym_line.specs.What.{what_of}
 use Rattle.ym_line.specs.declared.trace.Trace.{Trace}
-use Rattle.ym_line.specs.Rounds.{Pair, Goes, GoOn, IsTrace, RunGives, Stops, StopsIn, sent_by, seen_of}
+use Rattle.ym_line.specs.Rounds.{Pair, Goes, GoOn, IsTrace, RoundGives, RunGives, Stops, StopsIn, sent_by, seen_of}
 
 -- what is seen, part by part
 pub seen-parts : (round : Round) (sender : SenderParts) (reply : Reply) (what : What) (there back : How) (sent : List ℕ) →
@@ -53,3 +53,20 @@ pub trace-gives : (rounds : List Round) (old new : Pair) (result : Result Trace 
     RunGives rounds old result new → ((trace : Trace) → IsTrace rounds old trace new → P trace) → IfOk result P
 trace-gives rounds old new (Ok trace) P gives each = each trace gives
 trace-gives rounds old new (Err fault) P gives each = tt
+
+-- and of each fault of the fault that it answers
+pub fault-gives : (rounds : List Round) (old new : Pair) (result : Result Trace LineFault) (P : LineFault → Type 0) →
+    RunGives rounds old result new → ((fault : LineFault) → StopsIn 1 rounds old fault new → P fault) → IfErr result P
+fault-gives rounds old new (Ok trace) P gives each = tt
+fault-gives rounds old new (Err fault) P gives each = each fault gives
+
+-- so with one round
+pub round-gives : (round : Round) (old new : Pair) (result : Result Seen LineFault) (P : Seen → Type 0) →
+    RoundGives 1 round old result new → ((seen : Seen) → Goes round old seen new → P seen) → IfOk result P
+round-gives round old new (Ok seen) P gives each = each seen gives
+round-gives round old new (Err fault) P gives each = tt
+
+pub round-stops-in : (round : Round) (old new : Pair) (result : Result Seen LineFault) (P : LineFault → Type 0) →
+    RoundGives 1 round old result new → ((fault : LineFault) → StopsIn 1 (round ∷ []) old fault new → P fault) → IfErr result P
+round-stops-in round old new (Ok seen) P gives each = tt
+round-stops-in round old new (Err fault) P gives each = each fault (inr (inl gives))

@@ -1,6 +1,6 @@
 -- Where no failure count rose over a run, none of its turns has a sink or a source that failed; and what is whole or bad in a list of rounds
 -- is so in its turns.
-use Rattle.std.proofs.Common.{◌≡◌, ◌∙◌, ◌≤◌, ◌<◌, ◌⊎◌, ◌&&◌, ℕ, ◌+◌, ◌^◌, ◌-◌, zero, suc, max, Bool, true, false, List, [], ◌∷◌, length, if◌then◌else◌, is_none, refl, sym, ap, subst, inl, inr, arith}
+use Rattle.std.proofs.Common.{◌≡◌, ◌∙◌, ◌≤◌, ◌<◌, ◌&&◌, ℕ, ◌+◌, Bool, true, false, List, [], ◌∷◌, length, is_none, refl, sym, ap, subst, inl, inr, arith}
 use Rattle.std.proofs.Math.Nat.{eq-or-lt_of_le}
 use Rattle.std.proofs.lemmas.Bool.{cases_eq}
 use Rattle.std.proofs.lemmas.List.{length-set, get_or-set_same, get_or-set_other}

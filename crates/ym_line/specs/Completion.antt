@@ -1,7 +1,7 @@
 -- Runs of new ends in which damage comes in short bursts: how they go on, and when they finish.
 --
 -- The bounds are this profile's choice; that an end gives up at its tenth error in a row is the reference's ("XMODEM Protocol Overview").
-use Rattle.std.specs.Prelude.{◌≡◌, ◌≢◌, ◌≤◌, ◌<◌, ◌⊎◌, ℕ, ◌+◌, ◌&&◌, max, Bool, true, if◌then◌else◌, List, [], ◌∷◌, length, map, Some}
+use Rattle.std.specs.Prelude.{◌≡◌, ◌≤◌, ◌<◌, ◌⊎◌, ℕ, ◌+◌, ◌&&◌, max, Bool, true, if◌then◌else◌, List, [], ◌∷◌, length, map, Some}
 use Rattle.ym_file.specs.Counts.{Rose}
 use Rattle.ym_file.specs.Kept.{Told}
 use Rattle.ym_link.specs.SourceFile.{FileParts, file_at}
@@ -62,14 +62,8 @@ pub record HaveFinished (batch : List FileParts) (trace : Trace) (pair : Pair) :
   pub headers : pair.receiver.kept.headers ≡ map (λ (f : FileParts). f.header) batch
   pub bytes : (told : Told) → pair.receiver.kept.told ≡ Some told → map (λ (bytes : List ℕ). Some bytes) told.files ≡ map (λ (f : FileParts). f.bytes) batch
 
--- where no bad run is longer than four rounds, neither end gives up
-abbrev pub NeitherGivesUp : List Round → Pair → Trace → Pair → Type 0
-NeitherGivesUp rounds old trace new = AreNew old → NoneRose old new → longest_bad_run 0 rounds ≤ 4 → AreGoing trace new
-
--- where the list also holds as many whole rounds as the batch needs, in any places, both ends finish
-abbrev pub BothFinish : List Round → Pair → Trace → Pair → Type 0
-BothFinish rounds old trace new = AreNew old → NoneRose old new → longest_bad_run 0 rounds ≤ 4 → rounds_for old ≤ whole_rounds rounds → HaveFinished old.sender.files trace new
-
--- with whole rounds alone, and fewer than the batch needs, the sender has not finished
-abbrev pub NotSooner : List Round → Pair → Trace → Pair → Type 0
-NotSooner rounds old trace new = AreNew old → NoneRose old new → AllWhole rounds → length rounds < rounds_for old → trace.send ≢ sender.Finished
+-- new ends over whose rounds no failure count rose, and no bad run is longer than four rounds
+pub record BringsShortBadRuns (rounds : List Round) (old new : Pair) : Type 0 where
+  pub fresh : AreNew old
+  pub none : NoneRose old new
+  pub short : longest_bad_run 0 rounds ≤ 4

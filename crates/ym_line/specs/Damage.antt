@@ -27,35 +27,27 @@ how_of (Damaged bytes) = how.Damaged
 
 -- what is damaged on its way to the receiver begins with no frame
 abbrev pub ShowsThere : Delivery → Type 0
-ShowsThere Whole = Unit {0}
-ShowsThere Lost = Unit {0}
-ShowsThere (Damaged bytes) = HasFrame bytes → ⊥
+ShowsThere (Damaged bytes) = ¬ HasFrame bytes
+ShowsThere _ = Unit {0}
 
 -- so it is heard as bad
 abbrev pub IsHeardBad : Delivery → Type 0
-IsHeardBad Whole = Unit {0}
-IsHeardBad Lost = Unit {0}
 IsHeardBad (Damaged bytes) = heard_of bytes ≡ Bad
+IsHeardBad _ = Unit {0}
 
 -- what is damaged on its way to the sender has some of the reply's control bytes, in order, and no other
 abbrev pub ShowsBack : Reply → Delivery → Type 0
-ShowsBack reply Whole = Unit {0}
-ShowsBack reply Lost = Unit {0}
 ShowsBack reply (Damaged bytes) = IsSubsequence (controls bytes) (controls (reply_bytes reply))
+ShowsBack reply _ = Unit {0}
 
 -- what is damaged is no longer than a delivery may be
 abbrev pub IsShort : Delivery → Type 0
-IsShort Whole = Unit {0}
-IsShort Lost = Unit {0}
 IsShort (Damaged bytes) = length bytes ≤ 2048
+IsShort _ = Unit {0}
 
--- the check of a delivery of round n refuses it by this fault
-abbrev pub IsRefusal : ℕ → Type 0 → Type 0 → LineFault → Type 0
-IsRefusal n shows short (fault.NotDamage number) = (number ≡ n) × (shows → ⊥)
-IsRefusal n shows short (fault.TooLong number) = (number ≡ n) × shows × (short → ⊥)
-IsRefusal n shows short fault.Carrier = ⊥
-IsRefusal n shows short fault.Memory = ⊥
-
+-- The check of a delivery of round n: the damage has to show and to be short enough, and the first that fails is told.
 abbrev pub IsChecked : ℕ → Type 0 → Type 0 → Result (Unit {0}) LineFault → Type 0
 IsChecked n shows short (Ok _) = shows × short
-IsChecked n shows short (Err fault) = IsRefusal n shows short fault
+IsChecked n shows short (Err (fault.NotDamage number)) = (number ≡ n) × ¬ shows
+IsChecked n shows short (Err (fault.TooLong number)) = (number ≡ n) × shows × ¬ short
+IsChecked n shows short (Err _) = ⊥

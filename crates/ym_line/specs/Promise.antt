@@ -1,20 +1,27 @@
 -- What a run of new ends promises, in words of the two ends alone: which files were committed, and which are reported.
 --
 -- That this is promised is this profile's choice.
-use Rattle.std.specs.Prelude.{◌≡◌, ◌≤◌, ℕ, List, length, map, take, All, Some, IsSome}
+use Rattle.std.specs.Prelude.{◌≡◌, ◌≤◌, ℕ, false, List, [], ◌∷◌, length, map, take, All, Some, IsSome}
 use Rattle.ym_file.specs.Kept.{Told, IsNew}
 use Rattle.ym_core.specs.Place.{done_at}
 use Rattle.ym_core.specs.Receiver.{new_receiver}
-use Rattle.ym_link.specs.SourceFile.{FileParts, IsFile, counts_of}
-use Rattle.ym_core.specs.Standing.{new_standing}
+use Rattle.ym_link.specs.SourceFile.{FileParts}
+use Rattle.ym_core.specs.declared.place.Place.{Place}
+use Rattle.ym_core.specs.declared.place.Place.TheVariants.{Header, End}
+use Rattle.ym_core.specs.declared.place.Mode.TheVariants.{Waiting}
+use Rattle.ym_core.specs.declared.state.SendState.TheVariants.{Running}
 use Rattle.ym_line.specs.Rounds.{Pair}
 use Rattle.ym_line.specs.declared.trace.Trace.{Trace}
+
+-- the place of the first frame
+abbrev pub first_place : List FileParts → Place
+first_place [] = End
+first_place (file ∷ files) = Header 0
 
 -- New ends: a sender that waits at the first frame of a batch of at most 65,535 files whose sources tell their bytes, and a receiver that
 -- awaits its first header, into a sink that has no file.
 pub record AreNew (pair : Pair) : Type 0 where
-  pub sender : pair.sender.standing ≡ new_standing (counts_of pair.sender.shape pair.sender.files)
-  pub files : All IsFile pair.sender.files
+  pub sender : pair.sender.standing ≡ record { place = first_place pair.sender.files; mode = Waiting; misses = 0; state = Running; farewell = false }
   pub tells : All (λ (f : FileParts). IsSome f.bytes) pair.sender.files
   pub few : length pair.sender.files ≤ 65535
   pub receiver : pair.receiver.receiver ≡ new_receiver pair.receiver.receiver.confirm

@@ -13,7 +13,7 @@ use Rattle.ym_core.specs.Place.{done_at}
 use Rattle.ym_link.specs.Sender.{SenderParts, IsSender, spoken}
 use Rattle.ym_link.specs.Sender as sender
 use Rattle.ym_line.specs.Carried.{told_more}
-use Rattle.ym_line.specs.Damage.{arrives, how_of, ShowsThere, ShowsBack, IsShort, IsHeardBad, IsRefusal}
+use Rattle.ym_line.specs.Damage.{arrives, how_of, ShowsThere, ShowsBack, IsShort, IsHeardBad, IsChecked}
 use Rattle.ym_line.specs.What.{what_of}
 use Rattle.ym_line.specs.declared.delivery.Delivery.{Delivery}
 use Rattle.ym_line.specs.declared.delivery.Handed.{Handed}
@@ -21,7 +21,7 @@ use Rattle.ym_line.specs.declared.delivery.Round.{Round}
 use Rattle.ym_line.specs.declared.delivery.Way.{Way}
 use Rattle.ym_line.specs.declared.delivery.Way.TheVariants.{There, Back}
 use Rattle.ym_line.specs.declared.fault.LineFault.{LineFault}
-use Rattle.ym_line.specs.declared.fault.LineFault.TheVariants.{NotDamage, TooLong, Carrier, Memory}
+use Rattle.ym_line.specs.declared.fault.LineFault.TheVariants.{Carrier, Memory}
 use Rattle.ym_line.specs.declared.trace.Seen.{Seen}
 use Rattle.ym_line.specs.declared.trace.Trace.{Trace}
 
@@ -35,10 +35,6 @@ pub record Pair : Type 0 where
 -- with one delivery more handed on
 abbrev pub handed : Way → List ℕ → Pair → Pair
 handed way bytes pair = record pair { told = told_more way bytes pair.told }
-
--- with the line's failures counted on
-abbrev pub line_failed : ℕ → Pair → Pair
-line_failed failures pair = record pair { failures = failures }
 
 -- what the sender has to send: its frame, CAN CAN, or nothing
 abbrev pub sent_by : SenderParts → List ℕ
@@ -55,13 +51,17 @@ pub record GoesThere (delivery : Delivery) (old : Pair) (reply : Reply) (new : P
   pub hears : receiver.HearsGives old.receiver (heard_of (arrives delivery (sent_by old.sender))) (Ok reply) new.receiver
   pub others : new ≡ record (handed There (arrives delivery (sent_by old.sender)) old) { receiver = new.receiver }
 
--- what a fault leaves, by the first step that failed in round n: the check, the carry, or a growth. Where the receiver wanted memory for
--- what arrived, the delivery was handed on.
+-- What a fault of a half of round n leaves where no end has heard: by the check that failed, the carry, or a growth.
+abbrev pub StopsHalf : ℕ → Type 0 → Type 0 → Pair → LineFault → Pair → Type 0
+StopsHalf n shows short old Carrier new = shows × short × Rose old.failures new.failures × (new ≡ record old { failures = new.failures })
+StopsHalf n shows short old Memory new = shows × short × (new ≡ old)
+StopsHalf n shows short old refused new = IsChecked n shows short (Err refused) × (new ≡ old)
+
+-- in the half there a delivery may have been handed on for which the receiver then wanted memory
 abbrev pub StopsThere : ℕ → Delivery → Pair → LineFault → Pair → Type 0
-StopsThere n delivery old (NotDamage number) new = IsRefusal n (ShowsThere delivery) (IsShort delivery) (NotDamage number) × (new ≡ old)
-StopsThere n delivery old (TooLong number) new = IsRefusal n (ShowsThere delivery) (IsShort delivery) (TooLong number) × (new ≡ old)
-StopsThere n delivery old Carrier new = ShowsThere delivery × IsShort delivery × Rose old.failures new.failures × (new ≡ line_failed new.failures old)
-StopsThere n delivery old Memory new = ShowsThere delivery × IsShort delivery × ((new ≡ old) ⊎ (new ≡ handed There (arrives delivery (sent_by old.sender)) old))
+StopsThere n delivery old fault new =
+    StopsHalf n (ShowsThere delivery) (IsShort delivery) old fault new
+    ⊎ (fault ≡ Memory) × ShowsThere delivery × IsShort delivery × IsSender old.sender × (new ≡ handed There (arrives delivery (sent_by old.sender)) old)
 
 abbrev pub ThereGives : ℕ → Delivery → Pair → Result Reply LineFault → Pair → Type 0
 ThereGives n delivery old (Ok reply) new = GoesThere delivery old reply new
@@ -76,15 +76,9 @@ pub record GoesBack (delivery : Delivery) (reply : Reply) (old new : Pair) : Typ
   pub hears : sender.Hears old.sender (arrives delivery (reply_bytes reply)) new.sender
   pub others : new ≡ record (handed Back (arrives delivery (reply_bytes reply)) old) { sender = new.sender }
 
-abbrev pub StopsBack : ℕ → Delivery → Reply → Pair → LineFault → Pair → Type 0
-StopsBack n delivery reply old (NotDamage number) new = IsRefusal n (ShowsBack reply delivery) (IsShort delivery) (NotDamage number) × (new ≡ old)
-StopsBack n delivery reply old (TooLong number) new = IsRefusal n (ShowsBack reply delivery) (IsShort delivery) (TooLong number) × (new ≡ old)
-StopsBack n delivery reply old Carrier new = ShowsBack reply delivery × IsShort delivery × Rose old.failures new.failures × (new ≡ line_failed new.failures old)
-StopsBack n delivery reply old Memory new = ShowsBack reply delivery × IsShort delivery × (new ≡ old)
-
 abbrev pub BackGives : ℕ → Delivery → Reply → Pair → Result (Unit {0}) LineFault → Pair → Type 0
 BackGives n delivery reply old (Ok _) new = GoesBack delivery reply old new
-BackGives n delivery reply old (Err fault) new = StopsBack n delivery reply old fault new
+BackGives n delivery reply old (Err fault) new = StopsHalf n (ShowsBack reply delivery) (IsShort delivery) old fault new
 
 -- ---- Rounds
 
@@ -103,7 +97,7 @@ pub record Goes (round : Round) (old : Pair) (seen : Seen) (new : Pair) : Type 0
 abbrev pub Stops : ℕ → Round → Pair → LineFault → Pair → Type 0
 Stops n round old fault new =
     StopsThere n round.there old fault new
-    ⊎ ((between : Pair) × (reply : Reply) × GoesThere round.there old reply between × StopsBack n round.back reply between fault new)
+    ⊎ ((between : Pair) × (reply : Reply) × GoesThere round.there old reply between × StopsHalf n (ShowsBack reply round.back) (IsShort round.back) between fault new)
 
 abbrev pub RoundGives : ℕ → Round → Pair → Result Seen LineFault → Pair → Type 0
 RoundGives n round old (Ok seen) new = Goes round old seen new
@@ -114,9 +108,8 @@ RoundGives n round old (Err fault) new = Stops n round old fault new
 -- round after round, with what was seen of each
 abbrev pub GoOn : List Round → Pair → List Seen → Pair → Type 0
 GoOn [] old [] new = new ≡ old
-GoOn [] old (seen ∷ more) new = ⊥
-GoOn (round ∷ rounds) old [] new = ⊥
 GoOn (round ∷ rounds) old (seen ∷ more) new = (between : Pair) × Goes round old seen between × GoOn rounds between more new
+GoOn _ old _ new = ⊥
 
 -- round after round, of which the first is number n, up to one that met a fault, or for whose entry in the trace there was no memory
 abbrev pub StopsIn : ℕ → List Round → Pair → LineFault → Pair → Type 0

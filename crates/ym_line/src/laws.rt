@@ -1,11 +1,14 @@
 //! Laws over the definitions alone: each is the promise of a function that does nothing.
 
-ghost use Rattle.std.specs.Prelude.{◌≤◌, List, ℕ, Option, Result, All, length};
+ghost use Rattle.std.specs.Prelude.{◌≢◌, ◌≤◌, ◌<◌, List, ℕ, Option, Result, All, length};
 ghost use Rattle.ym_machine.specs.declared.confirm.Confirm.{Confirm};
+ghost use Rattle.ym_machine.specs.Frames.{frames_of};
 ghost use Rattle.ym_machine.specs.Machine.{State, start};
+ghost use Rattle.ym_machine.specs.Run.{Turn, IsDamage, after_turns};
 ghost use Rattle.ym_file.specs.Kept.{Kept, IsNew};
 ghost use Rattle.ym_file.specs.declared.plan.Shape.{Shape};
 ghost use Rattle.ym_core.specs.Receiver.{new_receiver};
+ghost use Rattle.ym_core.specs.declared.state.SendState.TheVariants as SendState;
 ghost use Rattle.ym_link.specs.SourceFile.{FileParts, IsFile, counts_of};
 ghost use Rattle.ym_core.specs.Standing.{new_standing};
 ghost use Rattle.ym_link.specs.SenderStands.{Batch, AllTold, batch_of};
@@ -14,10 +17,10 @@ ghost use Rattle.ym_line.specs.declared.delivery.Round.{Round};
 ghost use Rattle.ym_line.specs.declared.fault.LineFault.{LineFault};
 ghost use Rattle.ym_line.specs.declared.trace.Seen.{Seen};
 ghost use Rattle.ym_line.specs.declared.trace.Trace.{Trace};
-ghost use Rattle.ym_line.specs.Completion.{NeitherGivesUp, BothFinish, NotSooner};
+ghost use Rattle.ym_line.specs.Completion.{AllWhole, AreGoing, BringsShortBadRuns, HaveFinished, NoneRose, rounds_for, whole_rounds};
 ghost use Rattle.ym_line.specs.Promise.{AreNew, CommitsAPrefix, ReportsCommitted};
-ghost use Rattle.ym_line.specs.Rounds.{Pair, GoOn, StopsIn, IsTrace, RunGives};
-ghost use Rattle.ym_line.specs.Turns.{FollowsMachine, StopsWithMachine, PairStands, CommitsFirst};
+ghost use Rattle.ym_line.specs.Rounds.{Pair, Goes, StopsIn, IsTrace, RunGives};
+ghost use Rattle.ym_line.specs.Turns.{AreTurns, CommitsFirst, FollowsMachine, PairStands, StopsWithMachine, TakesATurn};
 
 use ym_file::laws::one_pieces;
 use ym_frame::laws::frame_found;
@@ -31,18 +34,30 @@ use ym_machine::laws::{
 };
 
 /// Rounds of two ends that stand at a state of the machine of two counters are turns of that machine, whatever is lost or damaged in them: the
-/// ends stand where the turns lead, and what is seen of each round is what the machine says and replies. Where a round meets a fault, they stand
-/// behind the rounds before, or behind the half of that round that the receiver has heard.
+/// ends stand where the turns lead, and the trace reports that state. Where a round meets a fault, those before it are turns, and the ends stand
+/// behind them, or behind the half there of that round.
 pub fn rounds_are_turns()
-    ensures go_on { (rounds : List Round) (old new : Pair) (all : List Seen) → GoOn rounds old all new → FollowsMachine rounds old all new }
-    ensures stop { (n : ℕ) (rounds : List Round) (old new : Pair) (fault : LineFault) → StopsIn n rounds old fault new → StopsWithMachine rounds old new }
+    ensures go { (round : Round) (old new : Pair) (seen : Seen) → Goes round old seen new → TakesATurn round old seen new }
+    ensures go_on { (rounds : List Round) (old new : Pair) (trace : Trace) → IsTrace rounds old trace new → FollowsMachine rounds old trace new }
+    ensures stop { (n : ℕ) (rounds : List Round) (old new : Pair) (fault : LineFault) → StopsIn n rounds old fault new → StopsWithMachine n rounds old fault new }
 {
     frame_found();
     what_comes_back();
     halves_keep_machine_states::<Headers>();
     halves_keep_the_other_end::<Headers>();
+    committed_is_reported_or_one_more::<Headers>();
     a_sender_follows_the_machine();
     a_standing_receiver_follows_the_machine();
+}
+
+/// Turns of a pair that stands lead to where it stands behind them, and their damage is that of a run of the machine.
+pub fn turns_of_a_standing_pair()
+    ensures stand { (confirm : Confirm) (files : Batch) (st : State) (rounds : List Round) (turns : List Turn) (old new : Pair) (all : List Seen) →
+        AreTurns confirm files st rounds turns old all new → PairStands confirm files st old → PairStands confirm files (after_turns (frames_of files) confirm turns st) new }
+    ensures damage { (confirm : Confirm) (files : Batch) (st : State) (rounds : List Round) (turns : List Turn) (old new : Pair) (all : List Seen) →
+        AreTurns confirm files st rounds turns old all new → IsDamage (frames_of files) confirm turns st }
+{
+    what_comes_back();
 }
 
 /// Where a pair stands, the committed files are the first ones of the batch, each with its header and its bytes, and what the sender reports is
@@ -82,6 +97,7 @@ pub fn new_ends_commit_a_prefix()
     one_pieces();
     a_planned_file_is_sent();
     rounds_are_turns();
+    turns_of_a_standing_pair();
     a_standing_pair_commits_the_first_files();
     new_ends_stand();
 }
@@ -89,13 +105,16 @@ pub fn new_ends_commit_a_prefix()
 /// Where damage comes in short bursts, and no failure count rose, a run of new ends goes on, finishes with as many whole rounds as the batch needs, and
 /// not sooner.
 pub fn short_bad_runs_complete()
-    ensures going { (rounds : List Round) (old new : Pair) (trace : Trace) → IsTrace rounds old trace new → NeitherGivesUp rounds old trace new }
-    ensures complete { (rounds : List Round) (old new : Pair) (trace : Trace) → IsTrace rounds old trace new → BothFinish rounds old trace new }
-    ensures sooner { (rounds : List Round) (old new : Pair) (trace : Trace) → IsTrace rounds old trace new → NotSooner rounds old trace new }
+    ensures going { (rounds : List Round) (old new : Pair) (trace : Trace) → IsTrace rounds old trace new → BringsShortBadRuns rounds old new → AreGoing trace new }
+    ensures complete { (rounds : List Round) (old new : Pair) (trace : Trace) → IsTrace rounds old trace new → BringsShortBadRuns rounds old new →
+        rounds_for old ≤ whole_rounds rounds → HaveFinished old.sender.files trace new }
+    ensures sooner { (rounds : List Round) (old new : Pair) (trace : Trace) → IsTrace rounds old trace new → AreNew old → NoneRose old new →
+        AllWhole rounds → length rounds < rounds_for old → trace.send ≢ SendState.Finished }
 {
     one_pieces();
     a_planned_file_is_sent();
     rounds_are_turns();
+    turns_of_a_standing_pair();
     a_standing_pair_commits_the_first_files();
     new_ends_stand();
     neither_end_gives_up::<Headers>();

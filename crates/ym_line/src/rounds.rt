@@ -1,15 +1,16 @@
 //! Rounds of two deliveries between a sender and a receiver, and runs of them.
 
-ghost use Rattle.std.specs.Prelude.{◌≡◌, ◌≢◌, ◌⊎◌, Ok, Err, OnOk, OnErr, IfOk, ◌∷◌, []};
+ghost use Rattle.std.specs.Prelude.{◌≡◌, ◌≢◌, ◌≤◌, ◌<◌, Err, OnOk, OnErr, IfOk, IfErr, ◌∷◌, [], length};
 ghost use Rattle.ym_file.specs.Counts.{Rose};
 ghost use Rattle.ym_link.specs.ReceiverInto.{ReceiverParts};
-ghost use Rattle.ym_link.specs.Sender.{IsSender, spoken};
+ghost use Rattle.ym_link.specs.Sender.{IsSender};
+ghost use Rattle.ym_core.specs.declared.state.SendState.TheVariants as SendState;
 ghost use Rattle.ym_line.specs.Carried.{told_more};
-ghost use Rattle.ym_line.specs.Completion.{NeitherGivesUp, BothFinish, NotSooner};
+ghost use Rattle.ym_line.specs.Completion.{AllWhole, AreGoing, BringsShortBadRuns, HaveFinished, NoneRose, rounds_for, whole_rounds};
 ghost use Rattle.ym_line.specs.Damage.{arrives};
 ghost use Rattle.ym_line.specs.Promise.{AreNew, CommitsAPrefix, ReportsCommitted};
-ghost use Rattle.ym_line.specs.Turns.{FollowsMachine, StopsWithMachine};
-ghost use Rattle.ym_line.specs.Rounds.{Pair, sent_by, GoesThere, StopsThere, ThereGives, BackGives, RoundGives, RunGives};
+ghost use Rattle.ym_line.specs.Rounds.{Pair, sent_by, ThereGives, BackGives, RoundGives, RunGives};
+ghost use Rattle.ym_line.specs.Turns.{FollowsMachine, StopsWithMachine, TakesATurn};
 
 use crate::carrier::{Carrier, CarryFault};
 use crate::check::{check_back, check_there};
@@ -60,10 +61,9 @@ fn go_there<S: Source, K: Sink, C: Carrier>(
     carrier: &mut C,
     arrived: &mut Vec<u8>,
 ) -> Result<Reply, LineFault>
-    ensures { ThereGives n delivery.now
-        (record { sender = sender.now; receiver = receiver.old; told = C.told carrier.old; failures = C.failures carrier.old })
-        result
-        (record { sender = sender.now; receiver = receiver.new; told = C.told carrier.new; failures = C.failures carrier.new }) }
+    ensures { let old : Pair = record { sender = sender.now; receiver = receiver.old; told = C.told carrier.old; failures = C.failures carrier.old } in
+        let new : Pair = record { sender = sender.now; receiver = receiver.new; told = C.told carrier.new; failures = C.failures carrier.new } in
+        ThereGives n delivery.now old result new }
 {
     check_there(delivery, n)?;
     carry(carrier, Way::There, delivery, sent_by(sender), arrived)?;
@@ -79,10 +79,10 @@ fn go_back<S: Source, C: Carrier>(
     carrier: &mut C,
     arrived: &mut Vec<u8>,
 ) -> Result<(), LineFault>
-    ensures { (receiver : ReceiverParts) → BackGives n delivery.now reply
-        (record { sender = sender.old; receiver = receiver; told = C.told carrier.old; failures = C.failures carrier.old })
-        result
-        (record { sender = sender.new; receiver = receiver; told = C.told carrier.new; failures = C.failures carrier.new }) }
+    ensures { (receiver : ReceiverParts) →
+        let old : Pair = record { sender = sender.old; receiver = receiver; told = C.told carrier.old; failures = C.failures carrier.old } in
+        let new : Pair = record { sender = sender.new; receiver = receiver; told = C.told carrier.new; failures = C.failures carrier.new } in
+        BackGives n delivery.now reply old result new }
 {
     check_back(delivery, reply, n)?;
     carry(carrier, Way::Back, delivery, reply.as_bytes(), arrived)?;
@@ -99,10 +99,9 @@ fn go_round<S: Source, K: Sink, C: Carrier>(
     carrier: &mut C,
     arrived: &mut Vec<u8>,
 ) -> Result<Seen, LineFault>
-    ensures { RoundGives n round.now
-        (record { sender = sender.old; receiver = receiver.old; told = C.told carrier.old; failures = C.failures carrier.old })
-        result
-        (record { sender = sender.new; receiver = receiver.new; told = C.told carrier.new; failures = C.failures carrier.new }) }
+    ensures { let old : Pair = record { sender = sender.old; receiver = receiver.old; told = C.told carrier.old; failures = C.failures carrier.old } in
+        let new : Pair = record { sender = sender.new; receiver = receiver.new; told = C.told carrier.new; failures = C.failures carrier.new } in
+        RoundGives n round.now old result new }
 {
     let what = What::of_frame(sent_by(sender));
     let reply = go_there(n, sender, receiver, &round.there, carrier, arrived)?;
@@ -123,10 +122,9 @@ fn go_all<S: Source, K: Sink, C: Carrier>(
     rounds: &[Round],
     carrier: &mut C,
 ) -> Result<Trace, LineFault>
-    ensures { RunGives rounds.now
-        (record { sender = sender.old; receiver = receiver.old; told = C.told carrier.old; failures = C.failures carrier.old })
-        result
-        (record { sender = sender.new; receiver = receiver.new; told = C.told carrier.new; failures = C.failures carrier.new }) }
+    ensures { let old : Pair = record { sender = sender.old; receiver = receiver.old; told = C.told carrier.old; failures = C.failures carrier.old } in
+        let new : Pair = record { sender = sender.new; receiver = receiver.new; told = C.told carrier.new; failures = C.failures carrier.new } in
+        RunGives rounds.now old result new }
 {
     let mut seen = Vec::new(alloc);
     let mut arrived = Vec::new(alloc);
@@ -145,6 +143,9 @@ fn go_all<S: Source, K: Sink, C: Carrier>(
 
 /// One round: the receiver hears what arrives of the sender's frame, and the sender what arrives of the reply. A damaged delivery is checked
 /// before it is carried. A fault leaves what the steps before it did, and no later step is taken. The round's number is 1.
+///
+/// Where both ends stand at a state of the machine of two counters, the round is a turn of that machine (`machine`), and a fault leaves them there,
+/// or behind the half there of that turn (`stopped`).
 pub fn round<S: Source, K: Sink, C: Carrier>(
     alloc: Global,
     sender: &mut SenderFrom<S>,
@@ -152,14 +153,13 @@ pub fn round<S: Source, K: Sink, C: Carrier>(
     round: &Round,
     carrier: &mut C,
 ) -> Result<Seen, LineFault>
-    ensures gives { RoundGives 1 round.now
-        (record { sender = sender.old; receiver = receiver.old; told = C.told carrier.old; failures = C.failures carrier.old })
-        result
-        (record { sender = sender.new; receiver = receiver.new; told = C.told carrier.new; failures = C.failures carrier.new }) }
-    ensures machine { IfOk result (λ seen. FollowsMachine (round.now ∷ [])
-        (record { sender = sender.old; receiver = receiver.old; told = C.told carrier.old; failures = C.failures carrier.old })
-        (seen ∷ [])
-        (record { sender = sender.new; receiver = receiver.new; told = C.told carrier.new; failures = C.failures carrier.new })) }
+    ensures { let old : Pair = record { sender = sender.old; receiver = receiver.old; told = C.told carrier.old; failures = C.failures carrier.old } in
+        let new : Pair = record { sender = sender.new; receiver = receiver.new; told = C.told carrier.new; failures = C.failures carrier.new } in
+        record {
+          gives : RoundGives 1 round.now old result new;
+          machine : IfOk result (λ seen. TakesATurn round.now old seen new);
+          stopped : IfErr result (λ fault. StopsWithMachine 1 (round.now ∷ []) old fault new);
+        } }
 {
     rounds_are_turns();
     go_round(1, sender, receiver, round, carrier, &mut Vec::new(alloc))
@@ -168,11 +168,16 @@ pub fn round<S: Source, K: Sink, C: Carrier>(
 /// All rounds of a list, in order, also those after both ends have ended. A fault leaves what the rounds before it did, and what the steps
 /// before it did in its own round; rounds are numbered from 1.
 ///
-/// From new ends, whatever is lost or damaged, the committed files are the first ones of the batch, each exact, and what the sender reports is among them
-/// (`commits`, `reports`), and damage in short bursts cannot stop the batch (`neither_gives_up`, `both_finish`, `not_sooner`). From any ends that stand at a
-/// state of the machine of two counters, the rounds are turns of that machine (`machine`, `stopped`). All this rests on these premises: damage shows, and
-/// other damage is refused here by `NotDamage` and `TooLong`; the sources tell their bytes, and source, sink and carrier keep the contracts of their traits;
-/// and, outside this program, a delivery belongs to its round.
+/// - What the two ends do is what their tables say, round after round (`gives`).
+/// - From any ends that stand at a state of the machine of two counters, the rounds are turns of that machine, and the trace reports the state that
+///   they lead to (`machine`). Where a round meets a fault, those before it are turns, and of its own at most the half there was taken (`stopped`).
+/// - From new ends, whatever is lost or damaged and also where it met a fault, the files committed are the first ones of the batch, each exact, and
+///   what the sender reports is among them (`commits`, `reports`).
+/// - From new ends, where no failure count rose and no bad run is longer than four rounds, neither end gives up; with as many whole rounds as the
+///   batch needs, both finish; and with whole rounds alone, they do not finish sooner (`neither_gives_up`, `both_finish`, `not_sooner`).
+///
+/// All this rests on these premises: damage shows, and other damage is refused here by `NotDamage` and `TooLong`; the sources tell their bytes, and
+/// source, sink and carrier keep the contracts of their traits; and, outside this program, a delivery belongs to its round.
 pub fn run<S: Source, K: Sink, C: Carrier>(
     alloc: Global,
     sender: &mut SenderFrom<S>,
@@ -180,37 +185,18 @@ pub fn run<S: Source, K: Sink, C: Carrier>(
     rounds: &[Round],
     carrier: &mut C,
 ) -> Result<Trace, LineFault>
-    ensures gives { RunGives rounds.now
-        (record { sender = sender.old; receiver = receiver.old; told = C.told carrier.old; failures = C.failures carrier.old })
-        result
-        (record { sender = sender.new; receiver = receiver.new; told = C.told carrier.new; failures = C.failures carrier.new }) }
-    ensures machine { IfOk result (λ trace. FollowsMachine rounds.now
-        (record { sender = sender.old; receiver = receiver.old; told = C.told carrier.old; failures = C.failures carrier.old })
-        trace.rounds.items
-        (record { sender = sender.new; receiver = receiver.new; told = C.told carrier.new; failures = C.failures carrier.new })) }
-    ensures stopped { OnErr result (StopsWithMachine rounds.now
-        (record { sender = sender.old; receiver = receiver.old; told = C.told carrier.old; failures = C.failures carrier.old })
-        (record { sender = sender.new; receiver = receiver.new; told = C.told carrier.new; failures = C.failures carrier.new })) }
-    ensures commits { AreNew
-        (record { sender = sender.old; receiver = receiver.old; told = C.told carrier.old; failures = C.failures carrier.old }) →
-        CommitsAPrefix sender.old.files
-        (record { sender = sender.new; receiver = receiver.new; told = C.told carrier.new; failures = C.failures carrier.new }) }
-    ensures reports { IfOk result (λ trace. AreNew
-        (record { sender = sender.old; receiver = receiver.old; told = C.told carrier.old; failures = C.failures carrier.old }) →
-        ReportsCommitted trace
-        (record { sender = sender.new; receiver = receiver.new; told = C.told carrier.new; failures = C.failures carrier.new })) }
-    ensures neither_gives_up { IfOk result (λ trace. NeitherGivesUp rounds.now
-        (record { sender = sender.old; receiver = receiver.old; told = C.told carrier.old; failures = C.failures carrier.old })
-        trace
-        (record { sender = sender.new; receiver = receiver.new; told = C.told carrier.new; failures = C.failures carrier.new })) }
-    ensures both_finish { IfOk result (λ trace. BothFinish rounds.now
-        (record { sender = sender.old; receiver = receiver.old; told = C.told carrier.old; failures = C.failures carrier.old })
-        trace
-        (record { sender = sender.new; receiver = receiver.new; told = C.told carrier.new; failures = C.failures carrier.new })) }
-    ensures not_sooner { IfOk result (λ trace. NotSooner rounds.now
-        (record { sender = sender.old; receiver = receiver.old; told = C.told carrier.old; failures = C.failures carrier.old })
-        trace
-        (record { sender = sender.new; receiver = receiver.new; told = C.told carrier.new; failures = C.failures carrier.new })) }
+    ensures { let old : Pair = record { sender = sender.old; receiver = receiver.old; told = C.told carrier.old; failures = C.failures carrier.old } in
+        let new : Pair = record { sender = sender.new; receiver = receiver.new; told = C.told carrier.new; failures = C.failures carrier.new } in
+        record {
+          gives : RunGives rounds.now old result new;
+          machine : IfOk result (λ trace. FollowsMachine rounds.now old trace new);
+          stopped : IfErr result (λ fault. StopsWithMachine 1 rounds.now old fault new);
+          commits : AreNew old → CommitsAPrefix old.sender.files new;
+          reports : AreNew old → IfOk result (λ trace. ReportsCommitted trace new);
+          neither_gives_up : BringsShortBadRuns rounds.now old new → IfOk result (λ trace. AreGoing trace new);
+          both_finish : BringsShortBadRuns rounds.now old new → rounds_for old ≤ whole_rounds rounds.now → IfOk result (λ trace. HaveFinished old.sender.files trace new);
+          not_sooner : AreNew old → NoneRose old new → AllWhole rounds.now → length rounds.now < rounds_for old → IfOk result (λ trace. trace.send ≢ SendState.Finished);
+        } }
 {
     rounds_are_turns();
     new_ends_commit_a_prefix();

@@ -6,7 +6,7 @@ use Rattle.ym_frame.specs.declared.control.Reply.{Reply}
 use Rattle.ym_frame.specs.declared.control.Reply.TheVariants.{Silence, Start, Ack, AckStart, Nak, Cancel}
 use Rattle.ym_machine.specs.declared.confirm.Confirm.{Confirm}
 use Rattle.ym_machine.specs.declared.confirm.Confirm.TheVariants.{Twice, Once}
-use Rattle.ym_machine.proofs.Halves.{on_cond, there-answers, turn-machine}
+use Rattle.ym_machine.proofs.Halves.{on_cond, start-machine, there-answers, turn-machine}
 use Rattle.ym_machine.proofs.WholeTurns.{not-below}
 use Rattle.ym_machine.proofs.AnyTurns.{cancel-honest}
 use Rattle.ym_machine.proofs.Keeps.{there-keeps, back-keeps}
@@ -149,7 +149,6 @@ there-endings {H} frames confirm failed whole st m ends = record { endings = beh
       no_reply = λ e. keeps.sender_count ∙ ends.no_reply (sym keeps.sender ∙ e);
       source_failed = λ e. let x = ends.source_failed (sym keeps.sender ∙ e) in (keeps.sent ∙ x.0, subst (λ i. IsPiece (frame_at frames i)) (sym keeps.acknowledged) x.1);
       sender_cancelled = λ e. by-sender moves (ends.sender_cancelled (sym keeps.sender ∙ e));
-      farewell = λ e. still (ends.farewell (sym keeps.farewell ∙ e));
       too_many_errors = by-tenth moves;
       receiver_cancelled = λ e. still (by-receiver moves e);
     }
@@ -198,7 +197,6 @@ module _ {H : Type 0} (frames : List (Frame H)) (failed : Bool) (reply : Reply) 
     no_reply = λ e. by-tenth moves e;
     source_failed = λ e. by-source moves e;
     sender_cancelled = λ e. subst ReceiverBroke (sym keeps.receiver) (cancels (by-cancel moves e));
-    farewell = λ e. by-farewell moves e;
     too_many_errors = λ e. keeps.receiver_count ∙ ends.too_many_errors (sym keeps.receiver ∙ e);
     receiver_cancelled = λ e. absurd (subst SenderBroke running (ends.receiver_cancelled (sym keeps.receiver ∙ e)));
   }
@@ -224,19 +222,23 @@ module _ {H : Type 0} (frames : List (Frame H)) (failed : Bool) (reply : Reply) 
       by-cancel (SenderMoves.gives_up e c) w = absurd (let x : SenderEnd.NoReply ≡ SenderEnd.Cancelled = sym e ∙ w in cc)
       by-cancel (SenderMoves.breaks e s p) w = absurd (let x : SenderEnd.SourceFailed ≡ SenderEnd.Cancelled = sym e ∙ w in cc)
 
+  -- a sender that runs has no CAN CAN to go, and one that stops has it only where it broke
+  running-farewell : (new : State) → (st.farewell ≡ true → SenderBroke st.sender) → Moves new → new.farewell ≡ true → SenderBroke new.sender
+  running-farewell new broke moves = by moves
+    where
       none : new.farewell ≡ st.farewell → new.farewell ≡ true → SenderBroke new.sender
-      none f w = absurd (subst SenderBroke running (ends.farewell (sym f ∙ w)))
+      none f w = absurd (subst SenderBroke running (broke (sym f ∙ w)))
 
-      by-farewell : Moves new → new.farewell ≡ true → SenderBroke new.sender
-      by-farewell (SenderMoves.goes e f) w = none f w
-      by-farewell (SenderMoves.finishes e f) w = none f w
-      by-farewell (SenderMoves.is_cancelled e f r) w = none f w
-      by-farewell (SenderMoves.gives_up e c) w = subst SenderBroke (sym e) tt
-      by-farewell (SenderMoves.breaks e s p) w = subst SenderBroke (sym e) tt
+      by : Moves new → new.farewell ≡ true → SenderBroke new.sender
+      by (SenderMoves.goes e f) w = none f w
+      by (SenderMoves.finishes e f) w = none f w
+      by (SenderMoves.is_cancelled e f r) w = none f w
+      by (SenderMoves.gives_up e c) w = subst SenderBroke (sym e) tt
+      by (SenderMoves.breaks e s p) w = subst SenderBroke (sym e) tt
 
--- CAN CAN goes once
+-- that CAN CAN has gone changes nothing else
 said-farewell : {H : Type 0} (frames : List (Frame H)) (st : State) → EndingsAgree frames st → EndingsAgree frames (record st { farewell = false })
-said-farewell frames st ends = record { no_reply = ends.no_reply; source_failed = ends.source_failed; sender_cancelled = ends.sender_cancelled; farewell = λ e. cc; too_many_errors = ends.too_many_errors; receiver_cancelled = ends.receiver_cancelled }
+said-farewell frames st ends = record { no_reply = ends.no_reply; source_failed = ends.source_failed; sender_cancelled = ends.sender_cancelled; too_many_errors = ends.too_many_errors; receiver_cancelled = ends.receiver_cancelled }
 
 pub back-endings : {H : Type 0} (confirm : Confirm) (frames : List (Frame H)) (failed : Bool) (came : List Control) (reply : Reply) (st : State) → CountersAgree confirm frames st → EndingsAgree frames st → (reply ≡ Cancel → ReceiverBroke st.receiver)
     → is_within came (controls reply) ≡ true → EndingsAgree frames (back frames failed came st)
@@ -251,25 +253,58 @@ back-endings {H} confirm frames failed came reply st m ends cancels within = go 
     go SenderEnd.SourceFailed e = said-farewell frames st ends
 
 pub start-endings : {H : Type 0} (frames : List (Frame H)) → EndingsAgree frames start
-start-endings frames = record { no_reply = λ e. cc; source_failed = λ e. cc; sender_cancelled = λ e. cc; farewell = λ e. cc; too_many_errors = λ e. cc; receiver_cancelled = λ e. cc }
+start-endings frames = record { no_reply = λ e. cc; source_failed = λ e. cc; sender_cancelled = λ e. cc; too_many_errors = λ e. cc; receiver_cancelled = λ e. cc }
 
--- machine states, whole
+-- ---- Machine states
+
+pub back-farewell : {H : Type 0} (confirm : Confirm) (frames : List (Frame H)) (failed : Bool) (came : List Control) (reply : Reply) (st : State) → CountersAgree confirm frames st → (st.farewell ≡ true → SenderBroke st.sender)
+    → is_within came (controls reply) ≡ true → (let new = back frames failed came st in new.farewell ≡ true → SenderBroke new.sender)
+back-farewell {H} confirm frames failed came reply st m broke within = go st.sender refl
+  where
+    go : (sender : SenderEnd) → st.sender ≡ sender → (let new = gets frames failed came sender st in new.farewell ≡ true → SenderBroke new.sender)
+    go SenderEnd.Running e = running-farewell frames failed reply st e (m.sender_count e) (running_gets frames failed st.sent came st) broke (running_gets-moves frames failed reply st e (m.sender_count e) came within st.sent)
+    go SenderEnd.Finished e = broke
+    go SenderEnd.Cancelled e = broke
+    go SenderEnd.NoReply e = λ w. cc
+    go SenderEnd.SourceFailed e = λ w. cc
+
 pub there-state : {H : Type 0} (frames : List (Frame H)) (confirm : Confirm) (failed whole : Bool) (st : State) → EndsOnce frames → IsMachine confirm frames st → IsMachine confirm frames (there frames confirm failed whole st).0
-there-state frames confirm failed whole st once m = record {
-  counters = (there-answers frames confirm failed whole st once m.counters).machine;
-  endings = (there-endings frames confirm failed whole st m.counters m.endings).endings;
-}
+there-state frames confirm failed whole st once m =
+    let keeps : KeepsSender st (there frames confirm failed whole st).0 = there-keeps frames confirm failed whole st in
+    record {
+      counters = (there-answers frames confirm failed whole st once m.counters).machine;
+      farewell = λ e. subst SenderBroke (sym keeps.sender) (m.farewell (sym keeps.farewell ∙ e));
+    }
 
 pub turn-state : {H : Type 0} (frames : List (Frame H)) (confirm : Confirm) (turn : Turn) (st : State) → EndsOnce frames → IsMachine confirm frames st → IsTurnDamage frames confirm turn st → IsMachine confirm frames (after_turn frames confirm turn st)
 turn-state frames confirm turn st once m damage =
     let answer = there frames confirm turn.sink_failed turn.whole_there st in
-    let mid = there-answers frames confirm turn.sink_failed turn.whole_there st once m.counters in
-    let end = there-endings frames confirm turn.sink_failed turn.whole_there st m.counters m.endings in
+    let mid : IsMachine confirm frames answer.0 = there-state frames confirm turn.sink_failed turn.whole_there st once m in
     record {
       counters = turn-machine frames confirm turn st once m.counters damage;
-      endings = back-endings confirm frames turn.source_failed (came_back turn.back answer.1) answer.1 answer.0 mid.machine end.endings end.cancels damage;
+      farewell = back-farewell confirm frames turn.source_failed (came_back turn.back answer.1) answer.1 answer.0 mid.counters mid.farewell damage;
     }
 
 pub turns-state : {H : Type 0} (frames : List (Frame H)) (confirm : Confirm) (turns : List Turn) (st : State) → EndsOnce frames → IsMachine confirm frames st → IsDamage frames confirm turns st → IsMachine confirm frames (after_turns frames confirm turns st)
 turns-state frames confirm [] st once m damage = m
 turns-state frames confirm (turn ∷ turns) st once m damage = turns-state frames confirm turns (after_turn frames confirm turn st) once (turn-state frames confirm turn st once m damage.0) damage.1
+
+-- a new machine
+pub start-state : {H : Type 0} (confirm : Confirm) (frames : List (Frame H)) → EndsOnce frames → IsMachine confirm frames start
+start-state confirm frames once = record { counters = start-machine confirm frames once; farewell = λ e. cc }
+
+-- ---- How they stop
+
+pub turn-endings : {H : Type 0} (frames : List (Frame H)) (confirm : Confirm) (turn : Turn) (st : State) → EndsOnce frames → IsMachine confirm frames st → EndingsAgree frames st → IsTurnDamage frames confirm turn st
+    → EndingsAgree frames (after_turn frames confirm turn st)
+turn-endings frames confirm turn st once m ends damage =
+    let answer = there frames confirm turn.sink_failed turn.whole_there st in
+    let mid = there-answers frames confirm turn.sink_failed turn.whole_there st once m.counters in
+    let end = there-endings frames confirm turn.sink_failed turn.whole_there st m.counters ends in
+    back-endings confirm frames turn.source_failed (came_back turn.back answer.1) answer.1 answer.0 mid.machine end.endings end.cancels damage
+
+pub turns-endings : {H : Type 0} (frames : List (Frame H)) (confirm : Confirm) (turns : List Turn) (st : State) → EndsOnce frames → IsMachine confirm frames st → EndingsAgree frames st → IsDamage frames confirm turns st
+    → EndingsAgree frames (after_turns frames confirm turns st)
+turns-endings frames confirm [] st once m ends damage = ends
+turns-endings frames confirm (turn ∷ turns) st once m ends damage =
+    turns-endings frames confirm turns (after_turn frames confirm turn st) once (turn-state frames confirm turn st once m damage.0) (turn-endings frames confirm turn st once m ends damage.0) damage.1

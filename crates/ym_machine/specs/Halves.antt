@@ -9,7 +9,7 @@ use Rattle.ym_frame.specs.declared.control.Reply.TheVariants.{Silence, Start, Ac
 use Rattle.ym_machine.specs.declared.confirm.Confirm.{Confirm}
 use Rattle.ym_machine.specs.declared.confirm.Confirm.TheVariants.{Twice, Once}
 use Rattle.ym_machine.specs.Frames.{Frame, BlockZero, Piece, Eot, EndBlock, frame_at, frame_before}
-use Rattle.ym_machine.specs.State.{SenderEnd, ReceiverEnd, State, Speech, Nothing, FrameAt, CanCan, said}
+use Rattle.ym_machine.specs.State.{SenderEnd, ReceiverEnd, State, Speech, FrameAt, CanCan, said}
 
 -- what the receiver hears
 pub data Sound : Type 0 where
@@ -19,10 +19,9 @@ pub data Sound : Type 0 where
 
 -- of what the sender said, where the delivery is whole or not
 abbrev pub heard : Bool → Speech → Sound
-heard false speech = Bad
-heard true Nothing = Bad
 heard true (FrameAt place) = At place
 heard true CanCan = Can
+heard _ _ = Bad
 
 -- the state after the half there, and the reply
 abbrev pub Answer : Type 0
@@ -41,58 +40,63 @@ abbrev pub takes : State → Reply → Bool → Answer
 takes st reply false = (record st { taken = st.taken + 1; first_eot = false; receiver_count = 0 }, reply)
 takes st reply true = (record st { receiver = ReceiverEnd.SinkFailed }, Cancel)
 
--- a Running receiver hears F[r]
--- (reference: a data block is answered with ACK, "XMODEM Protocol Overview"; a block 0 with ACK and then C, and the end block
--- with ACK, "YMODEM Batch File Transmission"; that Twice wants an EOT two times, and a C behind its ACK, is this profile's)
-abbrev pub hears_next : {H : Type 0} → Confirm → Bool → Frame H → State → Answer
-hears_next confirm sink_failed (BlockZero header) st = takes st AckStart sink_failed
-hears_next confirm sink_failed (Piece number body) st = takes st Ack sink_failed
-hears_next Twice sink_failed Eot st =
-    if st.first_eot then takes st AckStart sink_failed
-    else (record st { first_eot = true; receiver_count = 0 }, Nak)
-hears_next Once sink_failed Eot st = takes st AckStart sink_failed
-hears_next confirm sink_failed EndBlock st = (record st { taken = st.taken + 1; receiver = ReceiverEnd.Finished }, Ack)
-
--- a Running receiver hears F[r-1] once more, never the end block, at which it finished
--- (reference, "XMODEM Protocol Overview": a repeated block is acknowledged and dropped)
-abbrev pub hears_last : {H : Type 0} → Frame H → State → Answer
-hears_last (BlockZero header) st = nothing_taken st AckStart
-hears_last (Piece number body) st = nothing_taken st Ack
-hears_last Eot st = nothing_taken st AckStart
-hears_last EndBlock st = nothing_taken st Start
-
 -- what a Running receiver answers to no frame, by F[r-1]: NAK behind a data block, else C; before F[0] stands the end block
 abbrev pub asks_again : {H : Type 0} → Frame H → Reply
-asks_again (BlockZero header) = Start
 asks_again (Piece number body) = Nak
-asks_again Eot = Start
-asks_again EndBlock = Start
+asks_again _ = Start
 
--- a Running receiver: in a machine state a frame that is not F[r] is F[r-1]
-abbrev pub running_hears : {H : Type 0} → List (Frame H) → Confirm → Bool → Sound → State → Answer
-running_hears frames confirm sink_failed (At i) st =
-    if i == st.taken then hears_next confirm sink_failed (frame_at frames i) st
-    else hears_last (frame_at frames i) st
-running_hears frames confirm sink_failed Can st = (record st { receiver = ReceiverEnd.Cancelled }, Silence)
-running_hears frames confirm sink_failed Bad st = nothing_taken st (asks_again (frame_before frames st.taken))
+-- what a Running receiver meets in a half there
+pub record Meeting : Type 0 where
+  pub state : State  -- before it
+  pub confirm : Confirm
+  pub sink_failed : Bool  -- the truth whether the sink fails, where the receiver calls it
+
+-- what a Running receiver hears, by its own count of frames
+pub data Cue (H : Type 0) : Type 0 where
+  Next : Frame H → Cue H  -- F[r]
+  Last : Frame H → Cue H  -- F[r-1] once more
+  CallOff : Cue H  -- CAN CAN
+  NoFrame : Frame H → Cue H  -- no frame, behind F[r-1]
+
+-- The table of a Running receiver: how it confirms, and what it hears; then what changes, and the reply.
+-- (reference: a data block is answered with ACK, and a repeated one too, "XMODEM Protocol Overview"; a block 0 with ACK and then C, and the end block
+-- with ACK, "YMODEM Batch File Transmission"; that Twice wants an EOT two times, and a C behind its ACK, is this profile's)
+abbrev pub row : {H : Type 0} → Meeting → Confirm → Cue H → Answer
+row at _ (Next (BlockZero header)) = takes at.state AckStart at.sink_failed
+row at _ (Next (Piece number body)) = takes at.state Ack at.sink_failed
+row at Twice (Next Eot) =
+    if at.state.first_eot then takes at.state AckStart at.sink_failed
+    else (record at.state { first_eot = true; receiver_count = 0 }, Nak)
+row at Once (Next Eot) = takes at.state AckStart at.sink_failed
+row at _ (Next EndBlock) = (record at.state { taken = at.state.taken + 1; receiver = ReceiverEnd.Finished }, Ack)
+row at _ (Last (BlockZero header)) = nothing_taken at.state AckStart
+row at _ (Last (Piece number body)) = nothing_taken at.state Ack
+row at _ (Last Eot) = nothing_taken at.state AckStart
+row at _ (Last EndBlock) = nothing_taken at.state Start  -- never: it finished at the end block
+row at _ CallOff = (record at.state { receiver = ReceiverEnd.Cancelled }, Silence)
+row at _ (NoFrame last) = nothing_taken at.state (asks_again last)
+
+-- its row: in a machine state a frame that is not F[r] is F[r-1]
+abbrev pub running : {H : Type 0} → List (Frame H) → Sound → Meeting → Answer
+running frames (At i) at = if i == at.state.taken then row at at.confirm (Next (frame_at frames i)) else row at at.confirm (Last (frame_at frames i))
+running {H} frames Can at = row {H = H} at at.confirm CallOff
+running frames Bad at = row at at.confirm (NoFrame (frame_before frames at.state.taken))
 
 -- a Finished receiver answers its last frame, and nothing else
 abbrev pub finished_hears : Sound → State → Answer
 finished_hears (At i) st = (st, if i + 1 == st.taken then Ack else Silence)
-finished_hears Can st = (st, Silence)
-finished_hears Bad st = (st, Silence)
+finished_hears _ st = (st, Silence)
 
 -- every other ended receiver is silent
-abbrev pub hears : {H : Type 0} → List (Frame H) → Confirm → Bool → Sound → ReceiverEnd → State → Answer
-hears frames confirm sink_failed sound ReceiverEnd.Running st = running_hears frames confirm sink_failed sound st
-hears frames confirm sink_failed sound ReceiverEnd.Finished st = finished_hears sound st
-hears frames confirm sink_failed sound ReceiverEnd.Cancelled st = (st, Silence)
-hears frames confirm sink_failed sound ReceiverEnd.TooManyErrors st = (st, Silence)
-hears frames confirm sink_failed sound ReceiverEnd.SinkFailed st = (st, Silence)
+abbrev pub answers : {H : Type 0} → List (Frame H) → Sound → ReceiverEnd → Meeting → Answer
+answers frames sound ReceiverEnd.Running at = running frames sound at
+answers frames sound ReceiverEnd.Finished at = finished_hears sound at.state
+answers frames sound _ at = (at.state, Silence)
 
 -- the half there: with the truth whether the sink failed, and whether the delivery is whole
 abbrev pub there : {H : Type 0} → List (Frame H) → Confirm → Bool → Bool → State → Answer
-there frames confirm sink_failed whole st = hears frames confirm sink_failed (heard whole (said st)) st.receiver st
+there frames confirm sink_failed whole st =
+    answers frames (heard whole (said st)) st.receiver (record { state = st; confirm = confirm; sink_failed = sink_failed })
 
 -- the control bytes of a reply
 abbrev pub controls : Reply → List Control
@@ -114,8 +118,7 @@ nothing_gained st =
 abbrev pub sends : {H : Type 0} → Bool → Frame H → ℕ → State → State
 sends true (Piece number body) place st =
     record st { acknowledged = place; sent = true; sender_count = 0; sender = SenderEnd.SourceFailed; farewell = true }
-sends true _ place st = record st { acknowledged = place; sent = true; sender_count = 0 }
-sends false _ place st = record st { acknowledged = place; sent = true; sender_count = 0 }
+sends _ _ place st = record st { acknowledged = place; sent = true; sender_count = 0 }
 
 -- F[s] is acknowledged: behind a data block the next frame is sent at once, behind a block 0 or an EOT where a C follows
 abbrev pub acknowledged_at : {H : Type 0} → List (Frame H) → Bool → Bool → Frame H → State → State
@@ -147,10 +150,9 @@ running_gets frames source_failed false came st =
 -- CAN CAN goes once, and every other ended sender stays
 abbrev pub gets : {H : Type 0} → List (Frame H) → Bool → List Control → SenderEnd → State → State
 gets frames source_failed came SenderEnd.Running st = running_gets frames source_failed st.sent came st
-gets frames source_failed came SenderEnd.Finished st = st
-gets frames source_failed came SenderEnd.Cancelled st = st
 gets frames source_failed came SenderEnd.NoReply st = record st { farewell = false }
 gets frames source_failed came SenderEnd.SourceFailed st = record st { farewell = false }
+gets frames source_failed came _ st = st
 
 -- the half back: with the truth whether the source failed, and the control bytes that came
 abbrev pub back : {H : Type 0} → List (Frame H) → Bool → List Control → State → State
@@ -203,3 +205,20 @@ pub record KeepsReceiver (old new : State) : Type 0 where
   pub taken : new.taken ≡ old.taken
   pub first_eot : new.first_eot ≡ old.first_eot
   pub receiver_count : new.receiver_count ≡ old.receiver_count
+
+-- ---- The table by its parts, for proofs that take it apart
+
+-- a Running receiver hears F[r]
+abbrev pub hears_next : {H : Type 0} → Confirm → Bool → Frame H → State → Answer
+hears_next confirm sink_failed frame st = row (record { state = st; confirm = confirm; sink_failed = sink_failed }) confirm (Next frame)
+
+-- F[r-1] once more, where neither its confirmation nor its sink plays a part
+abbrev pub hears_last : {H : Type 0} → Frame H → State → Answer
+hears_last frame st = row (record { state = st; confirm = Once; sink_failed = false }) Once (Last frame)
+
+abbrev pub running_hears : {H : Type 0} → List (Frame H) → Confirm → Bool → Sound → State → Answer
+running_hears frames confirm sink_failed sound st = running frames sound (record { state = st; confirm = confirm; sink_failed = sink_failed })
+
+-- a receiver that stands so
+abbrev pub hears : {H : Type 0} → List (Frame H) → Confirm → Bool → Sound → ReceiverEnd → State → Answer
+hears frames confirm sink_failed sound end st = answers frames sound end (record { state = st; confirm = confirm; sink_failed = sink_failed })

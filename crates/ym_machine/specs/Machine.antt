@@ -41,17 +41,17 @@ ReceiverBroke ReceiverEnd.TooManyErrors = Unit {0}
 ReceiverBroke ReceiverEnd.SinkFailed = Unit {0}
 ReceiverBroke _ = ⊥
 
--- the ends that have stopped: an end gave up at its tenth delivery without progress, a source failed at a data block, and
--- an end is cancelled only where the other one broke
+-- A machine state: the counters agree, and CAN CAN is to go only of a sender that gave up or whose source failed. How the ends have stopped is
+-- else left open: one may be cancelled while the other runs.
+pub record IsMachine {H : Type 0} (confirm : Confirm) (frames : List (Frame H)) (st : State) : Type 0 where
+  pub counters : CountersAgree confirm frames st
+  pub farewell : st.farewell ≡ true → SenderBroke st.sender
+
+-- How ends that were new have stopped: an end gave up at its tenth delivery without progress, a source failed at a data block, and
+-- an end is cancelled only where the other one broke.
 pub record EndingsAgree {H : Type 0} (frames : List (Frame H)) (st : State) : Type 0 where
   pub no_reply : st.sender ≡ SenderEnd.NoReply → st.sender_count ≡ 10
   pub source_failed : st.sender ≡ SenderEnd.SourceFailed → (st.sent ≡ true) × IsPiece (frame_at frames st.acknowledged)
   pub sender_cancelled : st.sender ≡ SenderEnd.Cancelled → ReceiverBroke st.receiver
-  pub farewell : st.farewell ≡ true → SenderBroke st.sender
   pub too_many_errors : st.receiver ≡ ReceiverEnd.TooManyErrors → st.receiver_count ≡ 10
   pub receiver_cancelled : st.receiver ≡ ReceiverEnd.Cancelled → SenderBroke st.sender
-
--- a machine state
-pub record IsMachine {H : Type 0} (confirm : Confirm) (frames : List (Frame H)) (st : State) : Type 0 where
-  pub counters : CountersAgree confirm frames st
-  pub endings : EndingsAgree frames st

@@ -51,13 +51,9 @@ pub data Speech : Type 0 where
 -- the frame where it stands, once it has sent it; CAN CAN after it gave up or its source failed, once
 abbrev pub said_by : SenderEnd → Bool → Bool → ℕ → Speech
 said_by SenderEnd.Running true farewell place = FrameAt place
-said_by SenderEnd.Running false farewell place = Nothing
-said_by SenderEnd.Finished sent farewell place = Nothing
-said_by SenderEnd.Cancelled sent farewell place = Nothing
 said_by SenderEnd.NoReply sent true place = CanCan
-said_by SenderEnd.NoReply sent false place = Nothing
 said_by SenderEnd.SourceFailed sent true place = CanCan
-said_by SenderEnd.SourceFailed sent false place = Nothing
+said_by _ _ _ _ = Nothing
 
 abbrev pub said : State → Speech
 said st = said_by st.sender st.sent st.farewell st.acknowledged

@@ -7,14 +7,15 @@ ghost use Rattle.std.specs.Prelude.{◌≡◌, ◌≢◌, ◌⊎◌, ◌+◌, �
 ghost use Rattle.ym_frame.specs.declared.control.Control.{Control};
 ghost use Rattle.ym_frame.specs.declared.control.Control.TheVariants as control;
 ghost use Rattle.ym_frame.specs.declared.control.Reply.{Reply};
+ghost use Rattle.ym_frame.specs.declared.control.Reply.TheVariants.{Silence};
 ghost use Rattle.ym_frame.specs.Control.{reply_bytes, IsSubsequence};
 ghost use Rattle.ym_machine.specs.declared.confirm.Confirm.{Confirm};
 ghost use Rattle.ym_machine.specs.Frames.{File, Frame, BlockZero, Piece, Eot, EndBlock, frames_of, frame_at, frame_before, body_at, count_within, files_within, IsPrefix, EndsOnce};
 ghost use Rattle.ym_machine.specs.State.{SenderEnd, ReceiverEnd, State, start, FrameAt, said, committed, reported};
-ghost use Rattle.ym_machine.specs.Halves.{there, back, controls, is_within, IsRemnant, control_byte, KeepsSender, KeepsReceiver, SenderStays};
+ghost use Rattle.ym_machine.specs.Halves.{there, back, controls, holds_start, is_within, IsRemnant, control_byte, KeepsSender, KeepsReceiver, SenderStays};
 ghost use Rattle.ym_machine.specs.Run.{Turn, after_turn, after_turns, entries_of, IsTurnDamage, IsDamage, NoFailure, AllWhole, is_whole, whole_turns, longest_bad_run, five_and_five};
 ghost use Rattle.ym_machine.specs.Left.{left, rounds_needed, IsGoing, CountsWithin, IsComplete};
-ghost use Rattle.ym_machine.specs.Machine.{IsMachine};
+ghost use Rattle.ym_machine.specs.Machine.{CallsForStart, IsMachine, EndingsAgree};
 
 use crate::Batch;
 
@@ -40,6 +41,21 @@ pub fn halves_keep_the_other_end<B: Batch>()
         KeepsSender old (there frames confirm sink_failed whole old).0 }
     ensures back_keeps { (frames : List (Frame B.Header)) (source_failed : Bool) (came : List Control) (old : State) →
         KeepsReceiver old (back frames source_failed came old) }
+{}
+
+/// The ends of a run that began new have stopped for a reason: an end gave up at its tenth delivery without progress, a source failed at a
+/// data block, and an end is cancelled only where the other one gave up, or its sink or source failed. Other machine states need not be so:
+/// one of them has a sender that was cancelled while the receiver runs.
+pub fn ends_stop_for_a_reason<B: Batch>()
+    ensures run { (files : List (File B.Header)) (confirm : Confirm) (turns : List Turn) →
+        IsDamage (frames_of files) confirm turns start → EndingsAgree (frames_of files) (after_turns (frames_of files) confirm turns start) }
+    ensures half_there { (files : List (File B.Header)) (confirm : Confirm) (sink_failed whole : Bool) (old : State) →
+        IsMachine confirm (frames_of files) old → EndingsAgree (frames_of files) old → EndingsAgree (frames_of files) (there (frames_of files) confirm sink_failed whole old).0 }
+    ensures half_back { (files : List (File B.Header)) (confirm : Confirm) (sink_failed whole source_failed : Bool) (came : List Control) (old : State) →
+        IsMachine confirm (frames_of files) old → EndingsAgree (frames_of files) old →
+        is_within came (controls (there (frames_of files) confirm sink_failed whole old).1) ≡ true →
+        EndingsAgree (frames_of files) (back (frames_of files) source_failed came (there (frames_of files) confirm sink_failed whole old).0) }
+    ensures no_premise { (files : List (File B.Header)) (confirm : Confirm) → IsMachine confirm (frames_of files) (record start { sender = SenderEnd.Cancelled }) }
 {}
 
 /// An end that has ended stays as it is; only CAN CAN may still go.
@@ -83,6 +99,16 @@ pub fn acknowledged_is_taken<B: Batch>()
         (there (frames_of files) confirm sink_failed whole old).0.sender ≡ SenderEnd.Running →
         ((there (frames_of files) confirm sink_failed whole old).0.sent ≡ true) ×
         ((there (frames_of files) confirm sink_failed whole old).0.taken ≡ (there (frames_of files) confirm sink_failed whole old).0.acknowledged + 1) }
+{}
+
+/// A receiver asks for C only where a sender may wait for one: at the start, or right behind a block 0 or an EOT. Behind a data block it asks
+/// otherwise, and it is silent in no round in which it goes on running.
+pub fn a_receiver_asks_for_what_it_awaits<B: Batch>()
+    ensures start { (files : List (File B.Header)) (confirm : Confirm) (sink_failed whole : Bool) (old : State) → IsMachine confirm (frames_of files) old →
+        holds_start (controls (there (frames_of files) confirm sink_failed whole old).1) ≡ true →
+        CallsForStart (frame_before (frames_of files) (there (frames_of files) confirm sink_failed whole old).0.taken) }
+    ensures speaks { (frames : List (Frame B.Header)) (confirm : Confirm) (sink_failed whole : Bool) (old : State) → old.receiver ≡ ReceiverEnd.Running →
+        (there frames confirm sink_failed whole old).0.receiver ≡ ReceiverEnd.Running → (there frames confirm sink_failed whole old).1 ≢ Silence }
 {}
 
 /// A run of some turns and then of others is one run.

@@ -15,10 +15,12 @@ impl Batch for Names {
 fn laws_hold_of_names() {
     laws::halves_keep_machine_states::<Names>();
     laws::halves_keep_the_other_end::<Names>();
+    laws::ends_stop_for_a_reason::<Names>();
     laws::ended_ends_stay::<Names>();
     laws::committed_is_reported_or_one_more::<Names>();
     laws::heard_is_next_or_last::<Names>();
     laws::acknowledged_is_taken::<Names>();
+    laws::a_receiver_asks_for_what_it_awaits::<Names>();
     laws::a_run_goes_on::<Names>();
     laws::places_of_a_batch::<Names>();
     laws::files_within_a_batch::<Names>();

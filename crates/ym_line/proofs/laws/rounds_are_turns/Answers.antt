@@ -1,5 +1,5 @@
 use Rattle.ym_machine.specs.Frames.{frames_of}
-use Rattle.ym_line.proofs.Halves.{Laws, run-turns}
+use Rattle.ym_line.proofs.Halves.{Laws, goes-turn, run-turns}
 use Rattle.ym_line.proofs.Stops.{run-stops}
 use Rattle.ym_line.proofs.laws.rounds_are_turns.Goals as goal
 
@@ -16,9 +16,12 @@ returns c =
       machine_there = c.halves_keep_machine_states.ensures.half_there;
       machine_back = c.halves_keep_machine_states.ensures.half_back;
       keeps_sender = λ files confirm sink_failed whole old. c.halves_keep_the_other_end.ensures.there_keeps (frames_of files) confirm sink_failed whole old;
+      done = c.a_sender_follows_the_machine.ensures.done;
+      counted = c.committed_is_reported_or_one_more.ensures.counted;
       keeps_receiver = λ files source_failed came old. c.halves_keep_the_other_end.ensures.back_keeps (frames_of files) source_failed came old;
     } in
     record {
-      go_on = λ rounds old new all went confirm files st stands. run-turns laws confirm files rounds st old new all stands went;
+      go = λ round old new seen goes confirm files st stands. goes-turn laws confirm files st round old new seen stands goes;
+      go_on = λ rounds old new trace gives confirm files st stands. run-turns laws confirm files st rounds old new trace stands gives;
       stop = λ n rounds old new fault stops confirm files st stands. run-stops laws confirm files rounds n st old new fault stands stops;
     }

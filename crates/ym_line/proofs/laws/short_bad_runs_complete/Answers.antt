@@ -9,10 +9,12 @@ returns c =
       pieces = c.one_pieces.ensures.computed;
       go_on = c.rounds_are_turns.ensures.go_on;
       stop = c.rounds_are_turns.ensures.stop;
+      stand = c.turns_of_a_standing_pair.ensures.stand;
       first = c.a_standing_pair_commits_the_first_files.ensures;
       new_stand = c.new_ends_stand.ensures;
     } in
     let completion : Completion = record {
+      damage = c.turns_of_a_standing_pair.ensures.damage;
       count = c.one_pieces.ensures.count;
       going = c.neither_end_gives_up.ensures.going;
       counts = c.neither_end_gives_up.ensures.counts;
