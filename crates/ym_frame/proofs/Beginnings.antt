@@ -1,9 +1,13 @@
 -- The beginning of a frame: what one byte more makes of it, and how long it is at most.
-use Rattle.std.specs.Prelude.{◌≡◌, ℕ, ◌+◌, ◌*◌, ◌<◌, ◌≤◌, Bool, true, false, nat_lt, ◌==◌, cond, List, [], ◌∷◌, ◌++◌, length, slice_index, Result, Ok, Err, refl}
-use Rattle.std.proofs.Common.{sym, ◌∙◌, ap, arith, subst, length-append}
+use Rattle.std.specs.Prelude.{◌≡◌, ℕ, ◌+◌, ◌-◌, take, drop, ◌*◌, ◌<◌, ◌≤◌, Bool, true, false, nat_lt, ◌==◌, cond, List, [], ◌∷◌, ◌++◌, length, slice_index, Result, Ok, Err, refl}
+use Rattle.std.proofs.Common.{sym, ◌∙◌, ap, arith, subst, length-append, length-take}
 use Rattle.std.proofs.Math.ListN.{get_or-append}
 use Rattle.std.proofs.Math.Seq.{get_or-append_seam}
 use Rattle.std.proofs.lemmas.Bool.{le-ltb, eqb-true, eq-eqb}
+use Rattle.std.proofs.lemmas.List.{take-take, drop-take}
+use Rattle.ym_frame.specs.Block.{length_of}
+use Rattle.ym_frame.specs.declared.block.Size.{Size}
+use Rattle.ym_frame.specs.declared.block.Size.TheVariants.{Short, Long}
 use Rattle.ym_frame.specs.Check.{check_of}
 use Rattle.ym_frame.specs.Frame.{IsOpen, verdict_of, block_verdict, cancel_verdict, body_of, check_field, fault_at}
 use Rattle.ym_frame.specs.declared.frame.Item.{Item}
@@ -121,3 +125,25 @@ short_at bytes (other first more e a b c d) h =
 
 pub open_short : (bytes : List ℕ) → IsOpen (verdict_of bytes) → length bytes < 1029
 open_short bytes h = short_at bytes (first_case bytes) h
+
+-- the body of a block whose frame is held, among the bytes of a buffer
+long_enough : (size : Size) → length_of size ≤ 1024
+long_enough Short = omega arith
+long_enough Long = omega arith
+
+pub body_held : (size : Size) (len : ℕ) (bytes held rest chunk : List ℕ) → take len bytes ≡ held → rest ≡ take 1026 (drop 3 bytes) → chunk ≡ take 1024 rest →
+    length_of size + 3 ≤ length held → take (length_of size) chunk ≡ body_of (length_of size) held
+body_held size len bytes held rest chunk is all first h =
+    let n = length_of size in
+    let within : length held ≤ len = omega (arith, ap length is, length-take len bytes) in
+    let split : 3 + (len - 3) ≡ len = omega arith in
+    let body = drop 3 bytes in
+    ap (take n) (first ∙ ap (take 1024) all) ∙
+    take-take n 1024 (take 1026 body) (long_enough size) ∙
+    take-take n 1026 body (omega (arith, long_enough size)) ∙
+    sym (take-take n (len - 3) body (omega arith)) ∙
+    ap (take n) (sym (drop-take 3 (len - 3) bytes) ∙ ap (λ k. drop 3 (take k bytes)) split) ∙
+    ap (body_of n) is
+
+pub first_within : (len : ℕ) (bytes held : List ℕ) (i : ℕ) → take len bytes ≡ held → i < length held → i < len
+first_within len bytes held i is h = omega (arith, ap length is, length-take len bytes)

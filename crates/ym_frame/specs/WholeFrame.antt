@@ -24,9 +24,9 @@ item_in whole.Cancel frame = Cancel
 abbrev pub IsAllBut : List ℕ → Whole → Type 0
 IsAllBut held whole = length_in whole ≡ length held + 1
 
--- of the frame at most the last byte is not there
+-- all of the frame is there
 abbrev pub IsThere : Whole → List ℕ → Type 0
-IsThere whole frame = length_in whole ≤ length frame + 1
+IsThere whole frame = length_in whole ≤ length frame
 
 -- the verdict, with the item that stands in these bytes
 abbrev pub verdict_with : Result Whole Broken → List ℕ → Result (Item × ℕ) Broken
