@@ -1,6 +1,7 @@
 pub mod Check
 pub mod Block
 pub mod Frame
+pub mod WholeFrame
 pub mod Reading
 pub mod Reader
 pub mod Control

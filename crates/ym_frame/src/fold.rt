@@ -1,0 +1,97 @@
+//! The check of sixteen bytes at a time.
+//!
+//! Modulo x^16 + x^12 + x^5 + 1, x^128 is x^96 + x^40 + 1: sixteen bytes in front of sixteen others are added to these in three
+//! places. So a message is folded from the front into its last sixteen bytes, which have the same check, and these are folded into
+//! their last eight, four and two in the same way.
+
+ghost use Rattle.std.specs.Prelude.{◌≡◌, ◌%◌, List, ℕ, ◌++◌, length, replicate, false};
+ghost use Rattle.ym_frame.specs.Check.{bits, body_bits, number_of, remainder, check_of};
+
+/// Sixteen bytes folded down: with as many zeros behind them they have the check of the sixteen bytes of the result.
+///
+/// They are added in three places, at x^96, x^40 and 1. What would stay in front of the sixteen bytes behind is added in the same
+/// way: the three sums of that, with what was there, are `above`.
+fn folded_128(word: u128) -> u128
+    ensures { remainder (bits 128 word ++ replicate 128 false) ≡ remainder (bits 128 result) }
+{
+    let first = word ^ (word >> 32);
+    let above = first ^ (first >> 64) ^ (word >> 88);
+    above ^ (above << 40) ^ (above << 96)
+}
+
+/// The same for eight bytes: x^64 is x^48 + x^20 + 1.
+fn folded_64(word: u64) -> u64
+    ensures { remainder (bits 64 word ++ replicate 64 false) ≡ remainder (bits 64 result) }
+{
+    let first = word ^ (word >> 16);
+    let above = first ^ (first >> 32) ^ (word >> 44);
+    above ^ (above << 20) ^ (above << 48)
+}
+
+/// The same for four bytes: x^32 is x^24 + x^10 + 1.
+fn folded_32(word: u32) -> u32
+    ensures { remainder (bits 32 word ++ replicate 32 false) ≡ remainder (bits 32 result) }
+{
+    let first = word ^ (word >> 8);
+    let above = first ^ (first >> 16) ^ (word >> 22);
+    above ^ (above << 10) ^ (above << 24)
+}
+
+/// The check of two bytes.
+fn check_of_16(word: u16) -> u16
+    ensures { result ≡ number_of (remainder (bits 16 word)) }
+{
+    let first = word ^ (word >> 4);
+    let above = first ^ (first >> 8) ^ (word >> 11);
+    above ^ (above << 5) ^ (above << 12)
+}
+
+/// The check of four bytes.
+fn check_of_32(word: u32) -> u16
+    ensures { result ≡ number_of (remainder (bits 32 word)) }
+{
+    let high = check_of_16((word >> 16) as u16);
+    check_of_16(high ^ ((word % 0x1_0000) as u16))
+}
+
+/// The check of eight bytes.
+fn check_of_64(word: u64) -> u16
+    ensures { result ≡ number_of (remainder (bits 64 word)) }
+{
+    let high = folded_32((word >> 32) as u32);
+    check_of_32(high ^ ((word % 0x1_0000_0000) as u32))
+}
+
+/// The check of sixteen bytes.
+fn check_of_128(word: u128) -> u16
+    ensures { result ≡ number_of (remainder (bits 128 word)) }
+{
+    let high = folded_64((word >> 64) as u64);
+    check_of_64(high ^ ((word % 0x1_0000_0000_0000_0000) as u64))
+}
+
+/// Sixteen bytes as a number, the first byte highest.
+fn word_of(bytes: &[u8]) -> u128
+    requires { length bytes.now ≡ 16 }
+    ensures { bits 128 result ≡ body_bits bytes.now }
+{
+    let mut block = [0; 16];
+    block.copy_from_slice(bytes);
+    u128::from_be_bytes(block)
+}
+
+/// The check of some bytes and of these behind them, sixteen bytes at a time, where the check of the first ones is known.
+pub(crate) fn with_words(check: u16, bytes: &[u8]) -> u16
+    requires { length bytes.now % 16 ≡ 0 }
+    ensures { (before : List ℕ) → check ≡ check_of before → result ≡ check_of (before ++ bytes.now) }
+{
+    let count = bytes.len() / 16;
+    if count == 0 {
+        return check;
+    }
+    let mut word = word_of(&bytes[..16]) ^ (u128::from(check) << 112);
+    for i in 1..count {
+        word = folded_128(word) ^ word_of(&bytes[16 * i..16 * i + 16]);
+    }
+    check_of_128(word)
+}
