@@ -27,44 +27,6 @@ def few_files():
     return [(name, chance.randbytes(size)) for name, size in (("first", 3000), ("second", 5000), ("third", 1))]
 
 
-class Told:
-    """What a transfer has to come to."""
-
-    def __init__(self, send=(0, "finished"), receive=(0, "finished"), done=None, files=None, err=("", "")):
-        self.send, self.receive, self.done, self.files, self.err = send, receive, done, files, err
-
-
-FINISHED = Told()
-
-
-def transfer(files, line, flags=(), told=FINISHED, limit=60, there_is=()):
-    """Sends files through a line. What is committed is a front of the batch, each file exact, and nothing else stands in the folder but what
-    was there."""
-    send_flags = [it for it in flags if it == "--short"]
-    receive_flags = [it for it in flags if it == "--single"]
-    with folders() as (here, there):
-        paths = write_files(here, files)
-        write_files(there, there_is)
-        port = free_port()
-        relay = Relay(line, port)
-        relay.start()
-        with (
-            running("receive", "--port", port, *receive_flags, there, limit=limit) as receive,
-            running("send", "--port", relay.port, *send_flags, *paths, limit=limit) as send,
-        ):
-            received, sent = receive.ended(), send.ended()
-        relay.join(10)
-        if relay.fault:
-            raise AssertionError("the relay: %r" % relay.fault)
-        count = len(files) if told.files is None else told.files
-        done = len(files) if told.done is None else told.done
-        sent.wants(told.send[0], "sender done %d %s\n" % (done, told.send[1]), told.err[0])
-        out = file_lines(files[:count]) + "receiver files %d %s\n" % (count, told.receive[1])
-        received.wants(told.receive[0], out, told.err[1])
-        wants_stored(there, [*files[:count], *there_is])
-    return sent, received
-
-
 # Runs that finish
 
 
