@@ -123,17 +123,19 @@ def tell(end, data, is_apart):
 
 
 class Pause:
-    """Stands still once, before the frame of this number or the answer to it, for so many seconds. The clock runs from the first copy of that frame."""
+    """Stands still once, before the frame of this number or the answer to it, for so many seconds, and writes something before or behind that."""
 
-    def __init__(self, at, seconds):
-        self.at, self.seconds = at, seconds
+    def __init__(self, at, seconds, before=b"", behind=b""):
+        self.at, self.seconds, self.before, self.behind = at, seconds, before, behind
 
-    def stand(self, at):
-        if at == self.at:
-            self.at = None
-            time.sleep(self.seconds)
-            return True
-        return False
+    def stand(self, at, end):
+        if at != self.at:
+            return False
+        self.at = None
+        end.sendall(self.before)
+        time.sleep(self.seconds)
+        end.sendall(self.behind)
+        return True
 
 
 def receive_plainly(end, receiver, pause=None, copies=0, is_apart=True, stale=None, leaves_at=None):
@@ -154,7 +156,7 @@ def receive_plainly(end, receiver, pause=None, copies=0, is_apart=True, stale=No
                 # long enough for a program that waits a second for more of a reply to have heard it
                 time.sleep(3)
                 return
-        if pause and pause.stand(at):
+        if pause and pause.stand(at, end):
             wait_for(end, copies * len(frame))
         try:
             tell(end, receiver.answer(frame), is_apart)
@@ -186,7 +188,7 @@ class PlainSender:
         self.wait_for_start(end)
         for at, frame in enumerate(self.frames):
             if self.pause:
-                self.pause.stand(at)
+                self.pause.stand(at, end)
             self.send(end, frame)
             if frame[0] == EOT:
                 self.done += 1
