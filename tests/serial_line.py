@@ -4,6 +4,7 @@ It carries ten bits for each byte. At low speeds each byte goes out by itself, a
 frame or a reply, and then hands on what it held at its pace; and it can carry noise.
 """
 
+import contextlib
 import random
 import socket
 import threading
@@ -52,21 +53,23 @@ class Way(threading.Thread):
         try:
             for piece in self.pieces:
                 self.carry(self.made(piece))
-            self.target.shutdown(socket.SHUT_WR)
         except OSError:
-            pass  # the end has gone; its report tells why
+            pass  # the end has gone, and its report tells why; or the line is cut
         except Exception as fault:  # told by the check
             self.fault = fault
+        finally:
+            with contextlib.suppress(OSError):
+                self.target.shutdown(socket.SHUT_WR)
 
     def carry(self, data):
-        """Hands bytes on, each when the line has carried it."""
-        step = max(1, int(self.rate * SLICE))
-        self.free = max(self.free, time.monotonic())
-        for at in range(0, len(data), step):
-            slice_of = data[at : at + step]
-            self.free += len(slice_of) / self.rate
-            time.sleep(max(self.free - time.monotonic(), 0))
-            hand(self.target, slice_of)
+        """Hands bytes on, each when the line has carried it. On a machine that is late with that they come together, and the line keeps its pace."""
+        begun, handed = max(self.free, time.monotonic()), 0
+        while handed < len(data):
+            time.sleep(max(begun + (handed + 1) / self.rate - time.monotonic(), SLICE))
+            due = max(handed + 1, int((time.monotonic() - begun) * self.rate))
+            hand(self.target, data[handed:due])
+            handed = due
+        self.free = begun + len(data) / self.rate
 
 
 class SerialLine(Relay):
@@ -141,6 +144,37 @@ class Standing(Counted):
     def back(self, reply):
         super().back(reply)
         self.stand(True)
+        return reply
+
+
+class Crossing(Counted):
+    """A line that stands still before a frame for so long that the receiver asks for it, and then before the reply until the sender has written its copy:
+    the reply and the copy cross. At another frame the line is cut."""
+
+    def __init__(self, at, seconds, cut_at):
+        super().__init__()
+        self.cross_at, self.seconds, self.cut_at = at, seconds, cut_at
+        self.copied = threading.Event()
+        self.is_held = False
+
+    def there(self, frame):
+        is_copy = frame == self.frame
+        super().there(frame)
+        if self.at == self.cross_at:
+            if is_copy:
+                self.copied.set()
+            else:
+                time.sleep(self.seconds)
+                self.is_held = True
+        if self.at == self.cut_at:
+            time.sleep(3)
+            raise ConnectionAbortedError
+        return frame
+
+    def back(self, reply):
+        if self.is_held and not self.copied.is_set():
+            self.copied.wait(LIMIT)
+            # the copy goes there at once, and the reply is on its way
         return reply
 
 

@@ -40,8 +40,9 @@ def answers_late(where, seconds, is_single, flags, cut, leaves_at=None):
 
 
 def asks_meanwhile(is_single, flags, cut):
-    """A receiver whose answer to the last block of a file is late by more than its wait for a frame, and which leaves at the EOT of the next file."""
-    return lambda: of_send(is_single, flags, False, stale=eot_of(0, cut) - 1, leaves_at=eot_of(1, cut))
+    """A receiver whose answer to the last block of a file comes 4 s late. It has asked after 3 s, and leaves at the EOT of the next file."""
+    last = eot_of(0, cut) - 1
+    return lambda: of_send(is_single, flags, False, pause=Pause(last, 4), stale=last, leaves_at=eot_of(1, cut))
 
 
 def asks_before_answering(is_single, flags, cut):
