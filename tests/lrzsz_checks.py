@@ -8,9 +8,10 @@ import subprocess
 import threading
 import time
 
-from program import connected, folders, free_port, running, wants_stored, write_files
-
-LIMIT = 90
+from claims import Claim, claim_of_receive, claim_of_send, wants_true
+from late_checks import ASKED, BATCHES, EMPTY_FIRST, SINGLE
+from program import LIMIT, connected, folders, free_port, running, stored, wants_stored, write_files
+from serial_line import Apart, Counted, SerialLine
 
 
 def is_installed():
@@ -51,17 +52,18 @@ def beside_lrzsz(words, folder, end, program):
     threading.Thread(target=pumped, args=(child, end), daemon=True).start()
     try:
         ended = program.ended()
-        status = child.wait(20)
+        return ended, child.wait(LIMIT)
     finally:
         child.kill()
         child.wait()
+
+
+def wants_status_0(who, status, ended):
     if status:
-        raise AssertionError("%s ended with status %d, the program with %d: %r" % (words[0], status, ended.status, ended.err))
-    return ended
+        raise AssertionError("%s ended with status %d, the program with %d: %r" % (who, status, ended.status, ended.err))
 
 
-def from_sb(*flags, receive_flags=(), late=0):
-    """`sb` starts so many seconds late, and then finds each C in its input that the receiver has sent meanwhile."""
+def from_sb(*flags, receive_flags=()):
 
     def check():
         with folders() as (here, there):
@@ -71,9 +73,9 @@ def from_sb(*flags, receive_flags=(), late=0):
                 os.utime(os.path.join(here, name), (1234567890, 1234567890))
                 os.chmod(os.path.join(here, name), 0o644)
             port = free_port()
-            with running("receive", "--port", port, *receive_flags, there, limit=LIMIT) as receive, connected(port) as end:
-                time.sleep(late)
-                ended = beside_lrzsz(["sb", *flags, *(name for name, _ in batch)], here, end, receive)
+            with running("receive", "--port", port, *receive_flags, there) as receive, connected(port) as end:
+                ended, status = beside_lrzsz(["sb", *flags, *(name for name, _ in batch)], here, end, receive)
+            wants_status_0("sb", status, ended)
             lines = "".join("file %s %d %o 100644\n" % (name, len(data), 1234567890) for name, data in batch)
             ended.wants(0, lines + "receiver files %d finished\n" % len(batch))
             wants_stored(there, batch)
@@ -87,21 +89,73 @@ def to_rb(*flags):
             batch = files()
             paths = write_files(here, batch)
             listener.settimeout(LIMIT)
-            with running("send", "--port", listener.getsockname()[1], *flags, *paths, limit=LIMIT) as send:
+            with running("send", "--port", listener.getsockname()[1], *flags, *paths) as send:
                 end, _ = listener.accept()
                 with end:
-                    ended = beside_lrzsz(["rb"], there, end, send)
+                    ended, status = beside_lrzsz(["rb"], there, end, send)
+            wants_status_0("rb", status, ended)
             ended.wants(0, "sender done %d finished\n" % len(batch))
             wants_stored(there, batch)
 
     return check
 
 
+def from_late_sb(batch, line, baud, asked, receive_flags):
+    """`sb` on a serial line, started when the receiver has asked so many times: it answers each C that waits in its input by a block 0."""
+
+    def check():
+        with folders() as (here, there):
+            write_files(here, batch)
+            port = free_port()
+            relay = SerialLine(line(), port, baud, asked)
+            relay.start()
+            with running("receive", "--port", port, *receive_flags, there) as receive:
+                relay.due.wait()
+                with connected(relay.port) as end:
+                    ended, status = beside_lrzsz(["sb", *(name for name, _ in batch)], here, end, receive)
+            claims = [claim_of_receive(ended, batch), Claim("sb", status == 0)]
+            wants_true(batch, stored(there), claims, wants_finished=True)
+
+    return check
+
+
+def to_late_rb(batch, seconds, flags):
+    """`rb` that starts so late, when `send` is waiting for it."""
+
+    def check():
+        with folders() as (here, there), socket.create_server(("127.0.0.1", 0)) as listener:
+            paths = write_files(here, batch)
+            listener.settimeout(LIMIT)
+            with running("send", "--port", listener.getsockname()[1], *flags, *paths) as send:
+                end, _ = listener.accept()
+                with end:
+                    time.sleep(seconds)
+                    ended, status = beside_lrzsz(["rb"], there, end, send)
+            wants_true(batch, stored(there), [claim_of_send(ended), Claim("rb", status == 0)], wants_finished=True)
+
+    return check
+
+
+def late_checks():
+    checks = []
+    for baud in (9600, 19_200, 115_200):
+        for asked in (2, 3):
+            for how, flags in SINGLE:
+                name = "no file is lost where sb was asked %d times, each block 0 in a read of its own, %d baud%s" % (asked, baud, how)
+                checks.append((name, from_late_sb(EMPTY_FIRST, Apart, baud, asked, flags)))
+    for asked in ASKED:
+        for (which, batch), baud in zip(BATCHES, (9600, 19_200, 115_200)):
+            checks.append(("files from sb that was asked %d times, %d baud, %s" % (asked, baud, which), from_late_sb(batch, Counted, baud, asked, [])))
+    for seconds in (4, 12, 29):
+        checks.append(("files to rb that starts %d s late" % seconds, to_late_rb(BATCHES[0][1], seconds, [])))
+    return checks
+
+
 CHECKS = [
     ("files from sb", from_sb()),
     ("files from sb -k", from_sb("-k")),
     ("files from sb, --single", from_sb(receive_flags=["--single"])),
-    ("files from sb that starts late", from_sb(late=10)),
     ("files to rb", to_rb()),
     ("files to rb, --short", to_rb("--short")),
+    *late_checks(),
 ]

@@ -3,22 +3,12 @@
 import contextlib
 import socket
 import struct
-import threading
-import time
 
-from program import connected, folders, free_port, run, running, wants_stored, write_files
-from relay import ACK, CAN, DELIVERY, EOT, NAK, START, block
+from frames import ACK, CAN, CANCEL, DELIVERY, END, EOT, NAK, START, block, header, mixed, short
+from peers import receive_from, send_to
+from program import folders, free_port, run, wants_stored, write_files
 
-CANCEL = bytes((CAN, CAN))
 JUNK = bytes(DELIVERY)
-
-
-def header(name, rest=b"0"):
-    body = name + b"\x00" + rest
-    return block(0, body + bytes((128 if len(body) < 128 else 1024) - len(body)))
-
-
-END = block(0, bytes(128))
 
 
 def take(end, count):
@@ -51,17 +41,12 @@ def reset(end):
     end.close()
 
 
-def from_sender(peer, status, out, err="", there=(), least=0, limit=20, flags=()):
-    """`receive`, called by this peer, ends so, and has stored this, in no less and no more than so many seconds."""
+def from_sender(peer, status, out, err="", there=(), least=0, flags=()):
+    """`receive`, called by this peer, ends so, and has stored this, in no less than so many seconds."""
 
     def check():
         with folders() as (_, folder):
-            port = free_port()
-            with running("receive", "--port", port, *flags, folder, limit=limit) as receive:
-                with connected(port) as end:
-                    end.settimeout(limit)
-                    peer(end)
-                    ended = receive.ended()
+            ended = receive_from(peer, folder, flags)
             ended.wants(status, out, err)
             wants_stored(folder, there)
             if ended.seconds < least:
@@ -70,34 +55,14 @@ def from_sender(peer, status, out, err="", there=(), least=0, limit=20, flags=()
     return check
 
 
-def to_receiver(peer, status, out, err="", least=0, limit=20, flags=()):
+def to_receiver(peer, status, out, err="", least=0, flags=()):
     """`send`, called to this peer, ends so."""
 
     def check():
-        faults = []
-
-        def answer(listener):
-            try:
-                listener.settimeout(limit)
-                end, _ = listener.accept()
-                with end:
-                    end.settimeout(limit)
-                    peer(end)
-            except Exception as fault:  # told by the check below
-                faults.append(fault)
-
-        with folders() as (here, _), socket.create_server(("127.0.0.1", 0)) as listener:
-            paths = write_files(here, [("a", b"x" * 3000), ("b", b"")])
-            thread = threading.Thread(target=answer, args=(listener,), daemon=True)
-            thread.start()
-            with running("send", "--port", listener.getsockname()[1], *flags, *paths, limit=limit) as send:
-                ended = send.ended()
-            thread.join(limit)
-            ended.wants(status, out, err)
-            if faults:
-                raise faults[0]
-            if ended.seconds < least:
-                raise AssertionError("it ended after %.1f s already" % ended.seconds)
+        ended = send_to(peer, [("a", b"x" * 3000), ("b", b"")], flags)
+        ended.wants(status, out, err)
+        if ended.seconds < least:
+            raise AssertionError("it ended after %.1f s already" % ended.seconds)
 
     return check
 
@@ -198,8 +163,6 @@ OF_RECEIVE = [
 
 
 def calls_and_resets(end):
-    # Not before the program has seen that it is connected.
-    time.sleep(0.3)
     end.sendall(bytes((START,)))
     reset(end)
 
@@ -239,16 +202,6 @@ def cancels_behind_block_0(end):
     expect_no_more(end)
 
 
-def mixed(data):
-    """The data blocks of a file: long ones while they are full, then short ones."""
-    long = len(data) // 1024 * 1024
-    return [data[at : at + 1024] for at in range(0, long, 1024)] + short(data[long:])
-
-
-def short(data):
-    return [data[at : at + 128].ljust(128, b"\x1a") for at in range(0, len(data), 128)]
-
-
 def takes_all(cut, lead=b""):
     """Takes both files, in the blocks that they are cut into, and sends this before each reply."""
     call = lead + bytes((ACK, START))
@@ -275,7 +228,7 @@ CLOSED = ("fault: closed\n", "fault: device\n")
 OF_SEND = [
     ("closes at once", to_receiver(lambda end: end.close(), 3, "sender done 0 running\n", "fault: closed\n")),
     ("resets the connection", to_receiver(reset, 3, ("sender done 0 running\n", ""), CLOSED)),
-    ("calls and resets", to_receiver(calls_and_resets, 3, "sender done 0 running\n", CLOSED)),
+    ("calls and resets", to_receiver(calls_and_resets, 3, ("sender done 0 running\n", ""), CLOSED)),
     ("closes behind block 0", to_receiver(closes_in_block_0, 3, "sender done 0 running\n", "fault: closed\n")),
     ("refuses block 0 for ever", to_receiver(always_naks, 1, "sender done 0 no-reply\n")),
     ("sends junk ten times", to_receiver(junk_for_replies, 1, "sender done 0 no-reply\n")),
@@ -293,14 +246,14 @@ OF_SEND = [
 def nobody_listens():
     with folders() as (here, _):
         paths = write_files(here, [("a", b"abc")])
-        run("send", "--port", free_port(), *paths, limit=15).wants(3, "", "fault: device\n")
+        run("send", "--port", free_port(), *paths).wants(3, "", "fault: device\n")
 
 
 def port_in_use():
     with socket.create_server(("127.0.0.1", 0)) as taken, folders() as (_, there):
         port = taken.getsockname()[1]
-        run("receive", "--port", port, there, limit=10).wants(3, "", "fault: device\n")
-        run("loop", "--port", port, given=b"ok 2\n", limit=10).wants(3, "", "fault: device\n")
+        run("receive", "--port", port, there).wants(3, "", "fault: device\n")
+        run("loop", "--port", port, given=b"ok 2\n").wants(3, "", "fault: device\n")
 
 
 def no_port():
@@ -308,13 +261,13 @@ def no_port():
         paths = write_files(here, [("a", b"abc")])
         for port in ("0", "65536", "x", "-1", "1 ", ""):
             for words in (["send", "--port=" + port, *paths], ["receive", "--port=" + port, there], ["loop", "--port=" + port]):
-                run(*words, limit=10, given=b"ok 2\n").wants(2, "", "fault: port\n")
+                run(*words, given=b"ok 2\n").wants(2, "", "fault: port\n")
 
 
 def refused_words():
     for words in (["send"], ["send", "--port", "9"], ["receive", "--port", "9"], ["receive", "--port", "9", "a", "b"], ["send", "a"], ["swim"],
                   ["play", "more"], ["loop"], ["--help"], ["send", "--long", "--port", "9", "a"]):
-        ended = run(*words, limit=10)
+        ended = run(*words)
         ended.wants(2, "", ended.err)
         if not ended.err.strip():
             raise AssertionError("no text for the words " + " ".join(words))
@@ -348,8 +301,8 @@ OF_WORDS = [
 
 # These wait for as long as the program does, and come first, since the others run beside them.
 SLOW = [
-    ("send: the peer stays quiet", to_receiver(quiet_receiver, 1, "sender done 0 no-reply\n", least=95, limit=130)),
-    ("receive: the peer stays quiet", from_sender(quiet_sender, 1, "receiver files 0 too-many-errors\n", least=28, limit=60)),
+    ("send: the peer stays quiet", to_receiver(quiet_receiver, 1, "sender done 0 no-reply\n", least=95)),
+    ("receive: the peer stays quiet", from_sender(quiet_sender, 1, "receiver files 0 too-many-errors\n", least=28)),
 ]
 
 CHECKS = (

@@ -5,46 +5,18 @@ frame, and what the receiver writes reply by reply, and hands on what its line m
 ask of one: a damaged frame never begins with a whole frame, and the control bytes of a damaged reply are a part of that reply, in
 its order.
 
-Both ends read at most 2048 bytes as one delivery, and wait for a quiet second before that. So damage that is filled up to 2048
-bytes is heard at once, and a run with much damage takes no longer than a clean one.
+Each bad delivery costs both ends seconds, in which they let the line clear: so a line that damages at random does it a stated number of times at most.
 """
 
-import binascii
 import random
 import select
 import socket
 import threading
 
-from program import connected
+from frames import ACK, CONTROLS, DELIVERY, EOT, START, controls_of, has_frame, split
+from program import LIMIT, connected
 
-SOH, STX, EOT, ACK, NAK, CAN, START = 0x01, 0x02, 0x04, 0x06, 0x15, 0x18, 0x43
-CONTROLS = bytes((ACK, NAK, CAN, START))
-DELIVERY = 2048
-FRAME_LENGTHS = {SOH: 133, STX: 1029, EOT: 1, CAN: 2}
 NOISE = bytes(set(range(256)) - set(CONTROLS))
-
-
-def has_frame(data):
-    """Whether these bytes begin with a whole frame."""
-    length = FRAME_LENGTHS.get(data[0]) if data else None
-    if length is None or len(data) < length:
-        return False
-    if data[0] == EOT:
-        return True
-    if data[0] == CAN:
-        return data[1] == CAN
-    check = data[length - 2] << 8 | data[length - 1]
-    return data[1] + data[2] == 255 and binascii.crc_hqx(data[3 : length - 2], 0) == check
-
-
-def block(number, body):
-    """The frame of a block."""
-    first = SOH if len(body) == 128 else STX
-    return bytes((first, number, 255 - number)) + body + binascii.crc_hqx(body, 0).to_bytes(2, "big")
-
-
-def controls_of(data):
-    return bytes(byte for byte in data if byte in CONTROLS)
 
 
 class Clean:
@@ -122,8 +94,8 @@ class Damage:
     def filled(self, data):
         return data + self.random.randbytes(DELIVERY - len(data))
 
-    def frame(self, frame, is_filled=True):
-        """A frame with bytes flipped, dropped or inserted, or other bytes in its place."""
+    def frame(self, frame):
+        """A frame with bytes flipped, dropped or inserted, or other bytes in its place, and sometimes as much behind it as one delivery takes."""
         while True:
             data = bytearray(frame)
             way = self.random.choice(("flip", "drop", "insert", "cut", "other"))
@@ -139,7 +111,7 @@ class Damage:
                 del data[at:]
             else:
                 data = bytearray(self.random.randbytes(self.random.randint(1, 1100)))
-            made = self.filled(bytes(data)) if is_filled else bytes(data)
+            made = self.filled(bytes(data)) if self.random.random() < 0.5 else bytes(data)
             if made and not has_frame(made):
                 return made
 
@@ -161,20 +133,24 @@ class Damage:
 
 
 class Seeded(Watch):
-    """A line that damages deliveries of both ways at random, at most `longest` rounds in a row. The last reply comes through, since nobody
-    would repeat it."""
+    """A line that damages deliveries of both ways at random, in at most `longest` rounds in a row and `most` in all. The last reply comes
+    through, since nobody would repeat it."""
 
-    def __init__(self, seed, share, longest=4):
+    def __init__(self, seed, share, most, longest=4):
         super().__init__()
         self.damage = Damage(seed)
         self.share = share
         self.longest = longest
+        self.most = most
         self.in_a_row = 0
         self.is_bad = False
         self.bad_frames = self.bad_replies = self.most_in_a_row = 0
 
+    def may_damage(self, spare=0):
+        return self.in_a_row + spare < self.longest and self.bad_frames + self.bad_replies < self.most
+
     def chosen(self, spare=0):
-        return (self.is_bad or self.in_a_row + spare < self.longest) and self.damage.random.random() < self.share
+        return (self.is_bad or self.may_damage(spare)) and self.damage.random.random() < self.share
 
     def damaged_frame(self, frame):
         self.is_bad = False
@@ -198,7 +174,7 @@ class Seeded(Watch):
         return made
 
     def between(self):
-        if not self.is_waiting or self.in_a_row >= self.longest:
+        if not self.is_waiting or not self.may_damage():
             return b""
         self.is_bad = True
         self.bad_frames += 1
@@ -206,7 +182,7 @@ class Seeded(Watch):
 
 
 class Relay(threading.Thread):
-    """Carries the deliveries of one sender to one receiver and back, until both have closed."""
+    """Carries the deliveries of one sender to one receiver and back, until both have closed. `due` tells when the sender is to start."""
 
     def __init__(self, line, receiver_port):
         super().__init__(daemon=True)
@@ -215,11 +191,13 @@ class Relay(threading.Thread):
         self.listener = socket.create_server(("127.0.0.1", 0))
         self.port = self.listener.getsockname()[1]
         self.fault = None
+        self.due = threading.Event()
+        self.due.set()
 
     def run(self):
         try:
             with self.listener:
-                self.listener.settimeout(30)
+                self.listener.settimeout(LIMIT)
                 sender, _ = self.listener.accept()
             with sender, connected(self.receiver_port) as receiver:
                 self.carry(sender, receiver)
@@ -227,36 +205,41 @@ class Relay(threading.Thread):
             self.fault = fault
 
     def carry(self, sender, receiver):
-        for it in (sender, receiver):
-            it.setsockopt(socket.IPPROTO_TCP, socket.TCP_NODELAY, 1)
-            it.settimeout(60)
+        at_once(sender, receiver)
         held = b""
         hand(receiver, self.line.between())
-        open_ends = {sender, receiver}
-        while receiver in open_ends:
-            ready, _, _ = select.select(list(open_ends), [], [], 150)
-            if not ready:
+        ready = select.poll()
+        for it in (sender, receiver):
+            ready.register(it, select.POLLIN)
+        while True:
+            came_from = {number for number, _ in ready.poll(LIMIT * 1000)}
+            if not came_from:
                 raise TimeoutError("neither end wrote anything")
             # A reply first, since the frame that is written behind it may answer it.
-            if receiver in ready:
+            if receiver.fileno() in came_from:
                 reply = read(receiver)
                 if not reply:
                     return
                 hand(sender, self.line.back(reply))
                 hand(receiver, self.line.between())
-            elif sender in ready:
-                came = read(sender)
-                if not came:
-                    open_ends.discard(sender)
-                    receiver.shutdown(socket.SHUT_WR)
-                    continue
-                held += came
-                while held and len(held) >= FRAME_LENGTHS[held[0]]:
-                    length = FRAME_LENGTHS[held[0]]
-                    frame, held = held[:length], held[length:]
-                    if not has_frame(frame):
-                        raise ValueError("the sender wrote what is no frame: " + frame[:8].hex())
-                    hand(receiver, self.line.there(frame))
+                continue
+            came = read(sender)
+            if not came:
+                ready.unregister(sender)
+                receiver.shutdown(socket.SHUT_WR)
+                continue
+            frames, held = split(held + came)
+            for frame in frames:
+                if not has_frame(frame):
+                    raise ValueError("the sender wrote what is no frame: " + frame[:8].hex())
+                hand(receiver, self.line.there(frame))
+
+
+def at_once(*ends):
+    """Hands on what is written at once, and waits for more of it for a long time."""
+    for end in ends:
+        end.setsockopt(socket.IPPROTO_TCP, socket.TCP_NODELAY, 1)
+        end.settimeout(LIMIT)
 
 
 def read(end):

@@ -18,12 +18,16 @@ from concurrent.futures import ThreadPoolExecutor
 sys.dont_write_bytecode = True
 sys.path.insert(0, os.path.dirname(os.path.abspath(__file__)))
 
+import late_checks
+import line_checks
 import lrzsz_checks
 import peer_checks
+import stall_checks
 import transfer_checks
 from program import PROGRAM
 
-AT_ONCE = 8
+# Most checks wait most of the time.
+AT_ONCE = 500
 
 
 def outcome(check):
@@ -51,7 +55,7 @@ def main(words):
             return 1
         slow, checks = [], lrzsz_checks.CHECKS
     else:
-        slow, checks = peer_checks.SLOW, transfer_checks.CHECKS + peer_checks.CHECKS
+        slow, checks = peer_checks.SLOW, transfer_checks.CHECKS + peer_checks.CHECKS + late_checks.CHECKS + stall_checks.CHECKS + line_checks.CHECKS
         if lrzsz_checks.is_installed():
             checks = checks + lrzsz_checks.CHECKS
         else:

@@ -3,8 +3,10 @@
 import os
 import random
 
-from program import file_lines, folders, free_port, run, running, wants_stored, write_files
-from relay import EOT, START, Clean, Damage, Relay, Seeded, Watch
+from frames import EOT, START
+from program import folders, free_port, run, running, wants_stored, write_files
+from relay import Clean, Damage, Relay, Seeded, Watch
+from transfers import Told, transfer
 
 SIZES = (0, 1, 2, 127, 128, 129, 255, 256, 257, 895, 896, 1023, 1024, 1025, 1151, 1152, 1153, 2047, 2048, 2049)
 ODD_SIZES = (3000, 3001, 9999, 32767, 32768, 33333, 70001)
@@ -27,44 +29,6 @@ def few_files():
     return [(name, chance.randbytes(size)) for name, size in (("first", 3000), ("second", 5000), ("third", 1))]
 
 
-class Told:
-    """What a transfer has to come to."""
-
-    def __init__(self, send=(0, "finished"), receive=(0, "finished"), done=None, files=None, err=("", "")):
-        self.send, self.receive, self.done, self.files, self.err = send, receive, done, files, err
-
-
-FINISHED = Told()
-
-
-def transfer(files, line, flags=(), told=FINISHED, limit=60, there_is=()):
-    """Sends files through a line. What is committed is a front of the batch, each file exact, and nothing else stands in the folder but what
-    was there."""
-    send_flags = [it for it in flags if it == "--short"]
-    receive_flags = [it for it in flags if it == "--single"]
-    with folders() as (here, there):
-        paths = write_files(here, files)
-        write_files(there, there_is)
-        port = free_port()
-        relay = Relay(line, port)
-        relay.start()
-        with (
-            running("receive", "--port", port, *receive_flags, there, limit=limit) as receive,
-            running("send", "--port", relay.port, *send_flags, *paths, limit=limit) as send,
-        ):
-            received, sent = receive.ended(), send.ended()
-        relay.join(10)
-        if relay.fault:
-            raise AssertionError("the relay: %r" % relay.fault)
-        count = len(files) if told.files is None else told.files
-        done = len(files) if told.done is None else told.done
-        sent.wants(told.send[0], "sender done %d %s\n" % (done, told.send[1]), told.err[0])
-        out = file_lines(files[:count]) + "receiver files %d %s\n" % (count, told.receive[1])
-        received.wants(told.receive[0], out, told.err[1])
-        wants_stored(there, [*files[:count], *there_is])
-    return sent, received
-
-
 # Runs that finish
 
 
@@ -72,12 +36,14 @@ def clean(flags):
     return lambda: transfer(thirty_files(), Clean(), flags)
 
 
-def damaged(seed, share, flags, files=thirty_files):
+def damaged(seed, share, flags, files, longest=4):
+    """A line that damages so many of its deliveries, and in both ways; in runs of `longest` bad rounds, no more and no less."""
+
     def check():
-        line = Seeded(seed, share)
-        transfer(files(), line, flags)
-        if not line.bad_frames or not line.bad_replies or line.most_in_a_row > line.longest:
-            raise AssertionError("the relay did not damage what it was to damage")
+        line = Seeded(seed, share, most=20)
+        transfer(files, line, flags)
+        if not line.bad_frames or not line.bad_replies or line.most_in_a_row > line.longest or line.most_in_a_row < longest:
+            raise AssertionError("the relay damaged %d frames, %d replies, %d in a row" % (line.bad_frames, line.bad_replies, line.most_in_a_row))
 
     return check
 
@@ -125,7 +91,7 @@ class Unfilled(Watch):
 
 def unfilled():
     line = Unfilled()
-    transfer([("long", random.Random(3).randbytes(7000)), ("short", b"abc")], line, limit=90)
+    transfer([("long", random.Random(3).randbytes(7000)), ("short", b"abc")], line)
     if line.left:
         raise AssertionError("not done: " + ", ".join(sorted(line.left)))
 
@@ -284,7 +250,7 @@ def cannot_be_sent(make, status, err):
     def check():
         with folders() as (here, _):
             good = write_files(here, [("good", b"abc")])
-            run("send", "--port", free_port(), *good, make(here), limit=10).wants(status, "", err)
+            run("send", "--port", free_port(), *good, make(here)).wants(status, "", err)
 
     return check
 
@@ -307,12 +273,12 @@ CHECKS = [
     ("30 files, clean, --short", clean(["--short"])),
     ("30 files, clean, --single", clean(["--single"])),
     ("30 files, clean, --short --single", clean(["--short", "--single"])),
-    ("30 files, one delivery in 20 damaged", damaged(1, 0.05, [])),
-    ("30 files, one delivery in 20 damaged, --short", damaged(2, 0.05, ["--short"])),
-    ("30 files, one delivery in 20 damaged, --single", damaged(3, 0.05, ["--single"])),
-    ("30 files, every third delivery damaged", damaged(4, 0.33, [])),
-    ("30 files, every third delivery damaged, --short --single", damaged(5, 0.33, ["--short", "--single"])),
-    *[("3 files, most deliveries damaged, seed %d" % seed, damaged(seed, 0.7, flags, few_files))
+    ("30 files, one delivery in 20 damaged", damaged(1, 0.05, [], thirty_files(), 1)),
+    ("30 files, one delivery in 20 damaged, --short", damaged(2, 0.05, ["--short"], thirty_files(), 1)),
+    ("30 files, one delivery in 20 damaged, --single", damaged(3, 0.05, ["--single"], thirty_files(), 1)),
+    *[("5 files, every third delivery damaged, seed %d" % (seed + 20), damaged(seed + 20, 0.33, flags, thirty_files()[seed * 5 : seed * 5 + 5], 1))
+      for seed, flags in enumerate(([], ["--short"], ["--single"], ["--short", "--single"], []))],
+    *[("3 files, most deliveries damaged, seed %d" % seed, damaged(seed, 0.7, flags, few_files()))
       for seed, flags in ((6, []), (7, ["--short"]), (8, ["--single"]), (9, []), (10, ["--short", "--single"]))],
     ("damage that the ends have to wait out", unfilled),
     ("each ACK C behind a block 0 cut to a C", cut_replies),

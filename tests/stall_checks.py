@@ -1,0 +1,118 @@
+"""Peers that stall before one frame or one answer, and take up where they stood: what they have to answer meanwhile waits in the line."""
+
+from claims import Claim, claim_of_receive, claim_of_send, wants_true
+from frames import EOT, NAK, PLACES, frames_of, mixed, place, short
+from peers import Pause, PlainReceiver, PlainSender, receive_from, receive_plainly, send_to
+from program import folders, stored
+
+SECONDS = (1, 9, 11, 12, 21, 35)
+FILES = [("first", b"x" * 3000), ("second", bytes(range(100)))]
+SHAPES = (("", [], mixed), (", --short", ["--short"], short))
+CONFIRMATIONS = ((", two EOTs", False), (", one EOT", True))
+
+NOISE_FILES = [("a", b"x" * 700), ("b", b""), ("c", b"y" * 2304), ("d", b"")]
+
+# How long `send` waits for a reply before it writes its frame again.
+SEND_WAITS = 10
+
+
+def eot_of(file, cut):
+    """Which frame of the batch is the EOT of its first file, or of its second one."""
+    return [at for at, frame in enumerate(frames_of(FILES, cut)) if frame[0] == EOT][file]
+
+
+def of_send(is_single, flags, wants_finished=True, **how):
+    """`send` to a plain receiver that stalls: what both claim at the end is so."""
+    receiver = PlainReceiver(is_single)
+    ended = send_to(lambda end: receive_plainly(end, receiver, **how), FILES, flags)
+    claims = [claim_of_send(ended), Claim("the receiver", receiver.is_finished)]
+    wants_true(FILES, receiver.kept, claims, wants_finished)
+
+
+def answers_late(where, seconds, is_single, flags, cut, leaves_at=None):
+    """A receiver that answers a frame so late, and then each copy that has come meanwhile: after some waits all at once, after others one by one."""
+
+    def check():
+        pause = Pause(place(where, FILES, cut), seconds)
+        of_send(is_single, flags, leaves_at is None, pause=pause, copies=seconds // SEND_WAITS, is_apart=seconds in (12, 35), leaves_at=leaves_at)
+
+    return check
+
+
+def asks_meanwhile(is_single, flags, cut):
+    """A receiver whose answer to the last block of a file comes 4 s late. It has asked after 3 s, and leaves at the EOT of the next file."""
+    last = eot_of(0, cut) - 1
+    return lambda: of_send(is_single, flags, False, pause=Pause(last, 4), stale=last, leaves_at=eot_of(1, cut))
+
+
+def asks_before_answering(is_single, flags, cut):
+    """A receiver that a frame does not reach for 3 seconds, so that it asks by NAK; then the frame and its copy come, and it answers both. It leaves at the EOT."""
+
+    def check():
+        pause = Pause(place("the first block", FILES, cut), 3, behind=bytes((NAK,)))
+        of_send(is_single, flags, False, pause=pause, copies=1, leaves_at=eot_of(0, cut))
+
+    return check
+
+
+def noise_meanwhile(at, flags):
+    """A plain sender that takes 2.5 seconds over a frame, in which ten bytes of noise reach the receiver."""
+
+    def check():
+        sender = PlainSender(NOISE_FILES, Pause(at, 2.5, before=b"\x55" * 10))
+        with folders() as (_, there):
+            ended = receive_from(sender.run, there, flags)
+            claims = [claim_of_receive(ended, NOISE_FILES), Claim("the sender", sender.is_finished, sender.done)]
+            wants_true(NOISE_FILES, stored(there), claims, True)
+
+    return check
+
+
+def sends_late(where, seconds, flags, cut):
+    """A plain sender that writes a frame so late, and then answers each byte that asked for it meanwhile."""
+
+    def check():
+        sender = PlainSender(FILES, Pause(place(where, FILES, cut), seconds), cut=cut)
+        with folders() as (_, there):
+            ended = receive_from(sender.run, there, flags)
+            claims = [claim_of_receive(ended, FILES), Claim("the sender", sender.is_finished, sender.done)]
+            wants_true(FILES, stored(there), claims, seconds <= 21)
+
+    return check
+
+
+def send_checks():
+    checks = []
+    for shape, flags, cut in SHAPES:
+        for confirmation, is_single in CONFIRMATIONS:
+            how = confirmation + shape
+            for where in PLACES:
+                for seconds in SECONDS:
+                    checks.append(("send: %s answered %d s late%s" % (where, seconds, how), answers_late(where, seconds, is_single, flags, cut)))
+            for where in PLACES[1:3]:
+                leaves = answers_late(where, 12, is_single, flags, cut, leaves_at=eot_of(0, cut))
+                checks.append(("send: %s answered 12 s late, and nobody at the EOT%s" % (where, how), leaves))
+            checks.append(("send: a NAK behind the answer to the last block%s" % how, asks_meanwhile(is_single, flags, cut)))
+            checks.append(("send: a NAK before the answers to a block and its copy%s" % how, asks_before_answering(is_single, flags, cut)))
+    return checks
+
+
+def receive_checks():
+    return [
+        ("receive: %s %d s late%s%s" % (where, seconds, how, shape), sends_late(where, seconds, flags, cut))
+        for how, flags in (("", []), (", --single", ["--single"]))
+        for shape, _, cut in (("", [], mixed), (", blocks of 128", [], short))
+        for where in PLACES
+        for seconds in SECONDS
+    ]
+
+
+def noise_checks():
+    return [
+        ("receive: noise before frame %d, which comes 2.5 s late%s" % (at, how), noise_meanwhile(at, flags))
+        for how, flags in (("", []), (", --single", ["--single"]))
+        for at in range(len(frames_of(NOISE_FILES)))
+    ]
+
+
+CHECKS = send_checks() + receive_checks() + noise_checks()
