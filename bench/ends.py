@@ -17,7 +17,7 @@ import time
 
 HERE = os.path.dirname(os.path.abspath(__file__))
 ROOT = os.path.dirname(HERE)
-LIBRARIES = ["ym_frame", "ym_header", "ym_file", "ym_machine", "ym_link"]
+LIBRARIES = ["ym_frame", "ym_header", "ym_file", "ym_machine", "ym_core", "ym_link"]
 SIZES = {"short": 128, "long": 1024}
 WORK = {
     "send": "sender: plan, fill, frame; `hear` of an ACK",
@@ -40,7 +40,7 @@ def build(folder):
     shutil.copy(os.path.join(ROOT, "HANDLES"), folder)
     with open(os.path.join(ROOT, "crates.txt")) as listed, open(os.path.join(folder, "crates.txt"), "w") as copy:
         copy.writelines(line for line in listed if line.split(":")[0].strip() in LIBRARIES)
-        copy.write("measure: ym_frame ym_header ym_file ym_machine ym_link\n")
+        copy.write("measure: ym_frame ym_header ym_file ym_machine ym_core ym_link\n")
     built = subprocess.run(["rt", "run", "--", "send", "short", "1"], cwd=crate, stdout=subprocess.PIPE, stderr=subprocess.STDOUT, check=False)
     program = os.path.join(crate, "out", "measure")
     if not os.path.exists(program):

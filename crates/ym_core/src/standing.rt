@@ -54,7 +54,8 @@ impl Standing {
     /// After a delivery without progress.
     fn missed(self) -> Standing
         requires { self.misses < 10 }
-        ensures { result ≡ (table.missed self).standing }
+        ensures step { result ≡ (table.missed self).standing }
+        ensures misses { result.state ≡ SendState.Running → result.misses < 10 }
     {
         let misses = self.misses + 1;
         if misses < MOST_MISSES {
@@ -95,7 +96,8 @@ impl Standing {
     /// After a delivery has been read.
     fn after_reading(self, read: Reading) -> SendStep
         requires { self.misses < 10 }
-        ensures { result ≡ table.after_reading self read.place read.mode read.stop }
+        ensures step { result ≡ table.after_reading self read.place read.mode read.stop }
+        ensures misses { result.standing.state ≡ SendState.Running → result.standing.misses < 10 }
     {
         let standing = match read.stop {
             Some(Stop::Sends) => {
@@ -129,12 +131,14 @@ impl Standing {
         }
     }
 
-    /// After a delivery of these bytes.
+    /// After a delivery of these bytes. Where a place is filled, the host sends its frame, and keeps
+    /// it to send it again; where it cannot make that frame, it keeps `source_failed`.
     pub fn after<B: Batch>(self, batch: &B, bytes: &[u8]) -> SendStep
         requires place { IsPlace (B.counts batch.now) self.place }
         requires misses { self.state ≡ SendState.Running → self.misses < 10 }
         ensures step { result ≡ table.hears (B.counts batch.now) self (controls_in bytes.now) }
         ensures within { IsPlace (B.counts batch.now) result.standing.place }
+        ensures runs { result.standing.state ≡ SendState.Running → result.standing.misses < 10 }
     {
         if self.state == SendState::Running {
             self.after_reading(read_delivery(batch, self.place, self.mode, bytes))
