@@ -5,8 +5,8 @@ Times are the best of three, from the moment at which the receiver has made NAME
 calls only after it has waited three seconds. They are to be read as ratios to bench/pingpong.c, a stop and wait with nothing else in it
 that is run in turns with the program: with its check byte by byte, with slicing by eight, and with no check, which is the floor. Where `sb`
 and `rb` of lrzsz are installed, they send the same file to each other over two pipes, from the moment at which `rb` has made the file to
-the one at which it has all its bytes; about a second of that is waits of their own. Instructions (callgrind) and system calls (strace) are differences between two sizes, so that
-what does not grow with the file is left out. Figures, not promises.
+the one at which it has all its bytes; about a second of that is waits of their own. Instructions (callgrind) and system calls (strace) are
+differences between two sizes, so that what does not grow with the file is left out. Figures, not promises.
 
 usage: bench/sockets.py [PROGRAM]     (default: the environment variable YMODEM, else crates/ymodem/out/ymodem)
 """
