@@ -24,6 +24,7 @@ WORK = {
     "whole": "receiver: `heard` of a delivery, `hear`",
     "fed": "receiver: `feed`, `hear`",
     "feed": "`feed` alone",
+    "check": "`check16` alone",
 }
 
 

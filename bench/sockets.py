@@ -3,8 +3,10 @@
 
 Times are the best of three, from the moment at which the receiver has made NAME.part to the one at which NAME is there, since a receiver
 calls only after it has waited three seconds. They are to be read as ratios to bench/pingpong.c, a stop and wait with nothing else in it
-that is run in turns with the program. Instructions (callgrind) and system calls (strace) are differences between two sizes, so that
-what does not grow with the file is left out. Figures, not promises.
+that is run in turns with the program: with its check byte by byte, with slicing by eight, and with no check, which is the floor. Where `sb`
+and `rb` of lrzsz are installed, they send the same file to each other over two pipes, from the moment at which `rb` has made the file to
+the one at which it has all its bytes; about a second of that is waits of their own. Instructions (callgrind) and system calls (strace) are
+differences between two sizes, so that what does not grow with the file is left out. Figures, not promises.
 
 usage: bench/sockets.py [PROGRAM]     (default: the environment variable YMODEM, else crates/ymodem/out/ymodem)
 """
@@ -27,6 +29,7 @@ PROGRAM = sys.argv[1] if len(sys.argv) > 1 else DEFAULT
 MIB = 1 << 20
 BLOCKS_PER_MIB = 1024
 SIZES = (1, 16, 64)
+CHECKS = {"bytes": "C, by bytes", "slices": "C, by slices", "none": "C, no check"}
 TURNS = 3
 PORTS = iter(random.Random(os.getpid()).sample(range(20000, 32000), 500))
 NAME = "file"
@@ -119,21 +122,52 @@ def compiled(folder):
     return made
 
 
+def lrzsz(path, folder):
+    """The seconds that `sb` to `rb` take over two pipes, or None."""
+    if not (shutil.which("sb") and shutil.which("rb")):
+        return None
+    there, back = os.pipe(), os.pipe()
+    watch = Folder(folder)
+    receiver = subprocess.Popen(["rb", "-q", "-y"], cwd=folder, stdin=there[0], stdout=back[1], stderr=subprocess.DEVNULL)
+    sender = subprocess.Popen(["sb", "-q", "-k", path], stdin=back[0], stdout=there[1], stderr=subprocess.DEVNULL)
+    for end in there + back:
+        os.close(end)
+    stored = os.path.join(folder, NAME)
+    while receiver.poll() is None and not (os.path.exists(stored) and os.path.getsize(stored) >= os.path.getsize(path)):
+        time.sleep(0.001)
+    ended = time.monotonic()
+    failed = sender.wait() or receiver.wait()
+    if failed or os.path.getsize(stored) != os.path.getsize(path):
+        return None
+    os.remove(stored)
+    return ended - watch.seen[NAME]
+
+
+def turn(path, there, pingpong):
+    """One turn of everything: the seconds of each by name, and the peaks of the program's ends."""
+    seconds, peaks, _ = transfer(path, there)
+    took = {"program": seconds}
+    if pingpong:
+        for word, name in CHECKS.items():
+            took[name] = float(subprocess.check_output([pingpong, word, path, os.path.join(there, "other")]))
+    other = lrzsz(path, there)
+    if other is not None:
+        took["sb to rb"] = other
+    return took, peaks
+
+
 def times(here, there, pingpong):
-    print("%-8s %18s %20s %7s %14s %17s" % ("size", "send to receive", "stop and wait in C", "ratio", "peak of send", "peak of receive"))
     for mib in SIZES:
         path = make_file(here, mib)
-        ours, theirs, peaks = [], [], []
-        for _ in range(TURNS):
-            seconds, found, _ = transfer(path, there)
-            ours.append(seconds)
-            peaks.append(found)
-            if pingpong:
-                theirs.append(float(subprocess.check_output([pingpong, path, os.path.join(there, "other")])))
-        best = min(ours) / mib
-        other, ratio = ("%.4f s/MiB" % (min(theirs) / mib), "%.2f" % (min(ours) / min(theirs))) if theirs else ("no cc", "-")
-        peak = ["%.1f MiB" % (max(it) / 1024) for it in zip(*peaks)]
-        print("%4d MiB %12.4f s/MiB %20s %7s %14s %17s" % (mib, best, other, ratio, *peak))
+        turns = [turn(path, there, pingpong) for _ in range(TURNS)]
+        best = {name: min(took[name] for took, _ in turns if name in took) for took, _ in turns for name in took}
+        peak = ["%.1f MiB" % (max(it) / 1024) for it in zip(*(peaks for _, peaks in turns))]
+        print("%d MiB: send to receive %.4f s/MiB; peak of send %s, of receive %s" % (mib, best["program"] / mib, *peak))
+        for name, seconds in best.items():
+            if name != "program":
+                print("    %-12s %.4f s/MiB, ratio of the program to it %.2f" % (name, seconds / mib, best["program"] / seconds))
+        if not pingpong:
+            print("    no cc: not compared")
 
 
 def instructions(here, there):

@@ -1,5 +1,5 @@
 -- A block as contracts see it.
-use Rattle.std.specs.Prelude.{◌≡◌, ℕ, List, length}
+use Rattle.std.specs.Prelude.{◌≡◌, ℕ, List}
 use Rattle.ym_frame.specs.declared.block.Size.{Size}
 use Rattle.ym_frame.specs.declared.block.Size.TheVariants.{Short, Long}
 

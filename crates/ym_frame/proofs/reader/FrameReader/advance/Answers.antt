@@ -1,4 +1,4 @@
-use Rattle.std.proofs.Common.{arith, refl, sym, ap, subst, ◌≡◌, ◌∙◌, ◌+◌, ◌-◌, get_or, length, length-drop, take, drop, Some, None}
+use Rattle.std.proofs.Common.{arith, refl, sym, ap, subst, ◌≡◌, ◌∙◌, ◌+◌, ◌-◌, get_or, length, length-drop, take, drop, None}
 use Rattle.std.proofs.lemmas.List.{take_all}
 use Rattle.ym_frame.specs.Reading.{Reading, reading_after, item_of}
 use Rattle.ym_frame.specs.Reader.{held_by, IsHeld, CompletesIn}
