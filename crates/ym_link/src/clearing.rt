@@ -51,7 +51,7 @@ impl Talk {
     {
         Talk {
             role: self.role,
-            exchange: self.exchange.wrote(Front::of(bytes)),
+            exchange: self.exchange.wrote(self.role, Front::of(bytes)),
             held,
         }
     }
@@ -89,7 +89,7 @@ pub struct Clearing<P: Port + Drop> {
 }
 
 impl<P: Port + Drop> Clearing<P> {
-    ghost use Rattle.ym_link.specs.Clearing.{new_talk, read_by};
+    ghost use Rattle.ym_link.specs.Clearing.{new_talk, IsRead, once, patient, read_by};
 
     /// The port as this end has it.
     pub fn new(port: P, role: Role) -> Clearing<P>
@@ -102,23 +102,50 @@ impl<P: Port + Drop> Clearing<P> {
         }
     }
 
+    /// Reads what is there, or waits.
+    fn read_once(&mut self, wait: Wait, buf: &mut [u8]) -> Result<Got, PortFault>
+        requires { 0 < length buf.old }
+        ensures count { (n : ℕ) → result ≡ Ok (Got.Bytes n) → (0 < n) × (n ≤ length buf.old) }
+        ensures exact { (u : Tape) → P.tells self.new.port u → (t : Tape) × P.tells self.old.port t
+            × IsRead (once (length buf.old) self.old.talk t.coming) (seen_of result buf.new) self.new.talk t u }
+        ensures ok { OnOk result (P.failures self.new.port ≡ P.failures self.old.port) }
+        ensures failed { OnErr result (Rose (P.failures self.old.port) (P.failures self.new.port)) }
+    {
+        let got = self.port.read(wait, buf);
+        self.talk.exchange = self.talk.exchange.after(&got);
+        got
+    }
+
+    /// The same, where a long wait begins with a short one.
+    fn read_patiently(&mut self, wait: Wait, buf: &mut [u8]) -> Result<Got, PortFault>
+        requires { 0 < length buf.old }
+        ensures count { (n : ℕ) → result ≡ Ok (Got.Bytes n) → (0 < n) × (n ≤ length buf.old) }
+        ensures exact { (u : Tape) → P.tells self.new.port u → (t : Tape) × P.tells self.old.port t
+            × IsRead (patient wait (length buf.old) (once (length buf.old) self.old.talk t.coming)) (seen_of result buf.new) self.new.talk t u }
+        ensures ok { OnOk result (P.failures self.new.port ≡ P.failures self.old.port) }
+        ensures failed { OnErr result (Rose (P.failures self.old.port) (P.failures self.new.port)) }
+    {
+        match wait {
+            Wait::Within => self.read_once(Wait::Within, buf),
+            Wait::Reply => match self.read_once(Wait::Within, buf) {
+                Ok(Got::Quiet) => self.read_once(Wait::Reply, buf),
+                Ok(got) => Ok(got),
+                Err(fault) => Err(fault),
+            },
+        }
+    }
+
     /// Reads what is to be heard yet, or what is there.
     fn read_next(&mut self, wait: Wait, buf: &mut [u8]) -> Result<Got, PortFault>
         requires { 0 < length buf.old }
         ensures count { (n : ℕ) → result ≡ Ok (Got.Bytes n) → (0 < n) × (n ≤ length buf.old) }
         ensures exact { (u : Tape) → P.tells self.new.port u → (t : Tape) × P.tells self.old.port t
-            × (seen_of result buf.new ≡ (read_by (length buf.old) self.old.talk t.coming).seen)
-            × (self.new.talk ≡ (read_by (length buf.old) self.old.talk t.coming).talk)
-            × (u ≡ record t { coming = (read_by (length buf.old) self.old.talk t.coming).rest }) }
+            × IsRead (read_by wait (length buf.old) self.old.talk t.coming) (seen_of result buf.new) self.new.talk t u }
         ensures ok { OnOk result (P.failures self.new.port ≡ P.failures self.old.port) }
         ensures failed { OnErr result (Rose (P.failures self.old.port) (P.failures self.new.port)) }
     {
         match self.talk.held {
-            Held::Nothing => {
-                let got = self.port.read(wait, buf);
-                self.talk.exchange = self.talk.exchange.after(&got);
-                got
-            }
+            Held::Nothing => self.read_patiently(wait, buf),
             Held::Closed => {
                 self.talk.held = Held::Nothing;
                 Ok(Got::Closed)
@@ -150,7 +177,7 @@ impl<P: Port + Drop> Clearing<P> {
 }
 
 impl<P: Port + Drop> Port for Clearing<P> {
-    ghost use Rattle.ym_link.specs.Clearing.{Passes, read_by, cleared, Writes};
+    ghost use Rattle.ym_link.specs.Clearing.{Passes, IsRead, read_by, cleared, Writes};
 
     ghost tells = { λ c u. (t : Tape) × P.tells c.port t × (u.written ≡ t.written) × Passes c.talk t.coming u.coming };
 
@@ -160,9 +187,7 @@ impl<P: Port + Drop> Port for Clearing<P> {
         requires { 0 < length buf.old }
         ensures count { (n : ℕ) → result ≡ Ok (Got.Bytes n) → (0 < n) × (n ≤ length buf.old) }
         ensures exact { (u : Tape) → P.tells self.new.port u → (t : Tape) × P.tells self.old.port t
-            × (seen_of result buf.new ≡ (read_by (length buf.old) self.old.talk t.coming).seen)
-            × (self.new.talk ≡ (read_by (length buf.old) self.old.talk t.coming).talk)
-            × (u ≡ record t { coming = (read_by (length buf.old) self.old.talk t.coming).rest }) }
+            × IsRead (read_by wait (length buf.old) self.old.talk t.coming) (seen_of result buf.new) self.new.talk t u }
         ensures told { (u : Tape) → ((t : Tape) × P.tells self.new.port t × (u.written ≡ t.written) × Passes self.new.talk t.coming u.coming)
             → (x : Tape) × ((t : Tape) × P.tells self.old.port t × (x.written ≡ t.written) × Passes self.old.talk t.coming x.coming)
             × (seen_of result buf.new ≡ read_gives (length buf.old) x.coming)
