@@ -1,10 +1,11 @@
 -- Over a line that answers each copy, an end hears for each call nothing as often as it waited in vain, and then the answer.
-use Rattle.std.proofs.Common.{◌≡◌, Bool, ◌<◌, ◌≤◌, ◌+◌, ℕ, zero, suc, true, false, nat_lt, nat_le, nat_eq, min, List, [], ◌∷◌, ◌++◌, length, Ok, refl, ◌∙◌, ap, arith}
+use Rattle.std.proofs.Common.{◌≡◌, Bool, ◌<◌, ◌≤◌, ◌+◌, ℕ, zero, suc, true, false, nat_lt, nat_le, nat_eq, min, List, [], ◌∷◌, ◌++◌, length, Ok, refl, sym, ◌∙◌, ◌&&◌, ap, arith, lit<}
 use Rattle.std.proofs.lemmas.Bool.{ne_eqb, lt-ltb, lt-leb, eq-eqb}
-use Rattle.ym_link.specs.Clearing.{cleared, said, new_talk}
-use Rattle.ym_link.specs.Exchange.{front_of, new_exchange, is_same, is_taken, wrote}
+use Rattle.ym_link.specs.Clearing.{cleared, said, new_talk, once, fresh}
+use Rattle.ym_link.specs.Exchange.{front_of, new_exchange, is_same, is_taken, wrote, all_ask, is_opening, is_stale}
 use Rattle.ym_link.specs.LateAnswers.{AreLate, late_and_quiet, waits, Act, Writes, Reads, gives, Call, acts_of, hears, behind, comes, all_acts, all_comes, all_hears, AreCalls, one}
-use Rattle.ym_link.specs.Port.{Seen, Data, Silence}
+use Rattle.ym_link.specs.Port.{Seen, Data, Silence, read_gives}
+use Rattle.ym_link.specs.Sweep.{most_reads}
 use Rattle.ym_link.specs.declared.clearing.Talk.{Talk}
 use Rattle.ym_link.specs.declared.event.Event.{Event}
 use Rattle.ym_link.specs.declared.event.Event.TheVariants as event
@@ -14,6 +15,7 @@ use Rattle.ym_link.specs.declared.exchange.Role.{Role}
 use Rattle.ym_link.specs.declared.exchange.Role.TheVariants.{Sender, Receiver}
 use Rattle.ym_link.specs.declared.sweep.Held.TheVariants as held
 use Rattle.ym_link.specs.declared.sweep.Heed.TheVariants as heed
+use Rattle.ym_link.proofs.Fresh.{fresh-over}
 use Rattle.ym_link.proofs.LateAnswersDropped.{whole-piece, late-answers-dropped}
 
 -- what an end has said and heard, where nothing of it is held
@@ -37,16 +39,35 @@ same-as-itself f =
 
 -- ---- One act
 
+and-false : (b : Bool) → b && false ≡ false
+and-false true = refl
+and-false false = refl
+
+-- an answer is no question that a sender passes over
+not-stale : (role : Role) (x : Exchange) (answer : List ℕ) → all_ask answer ≡ false → is_stale role x (Data answer) ≡ false
+not-stale role x answer answers = rw answers (and-false (is_opening role x))
+
+read-fresh : (talk : Talk) (events : List Event) (seen : Seen) → seen ≡ read_gives 2048 events → is_stale talk.role talk.exchange seen ≡ false
+    → fresh most_reads 2048 talk events ≡ once 2048 talk events
+read-fresh talk events seen gives new = fresh-over most_reads 0 2048 talk events seen (lit< tt) gives new
+
 read-answer : (acts : List Act) (role : Role) (owed : ℕ) (prompt repeat : Bool) (front : Front) (answer : List ℕ) (rest : List Event) → 0 < length answer → length answer < 2048
-    → gives (Reads ∷ acts) (talk_of role (said_of owed 0 prompt front repeat)) (event.Piece answer ∷ rest)
+    → all_ask answer ≡ false → gives (Reads ∷ acts) (talk_of role (said_of owed 0 prompt front repeat)) (event.Piece answer ∷ rest)
     ≡ Data answer ∷ gives acts (talk_of role (said_of owed (min 2048 (0 + length answer)) prompt front repeat)) rest
 unfolding gives
-read-answer acts role owed prompt repeat front answer rest some short = let read = whole-piece answer rest some (omega arith) in rw (read.0, read.1) refl
+read-answer acts role owed prompt repeat front answer rest some short answers =
+    let x = said_of owed 0 prompt front repeat in
+    let read = whole-piece answer rest some (omega arith) in
+    let first = read-fresh (talk_of role x) (event.Piece answer ∷ rest) (Data answer) (sym read.0) (not-stale role x answer answers) in
+    rw (first, read.0, read.1) refl
 
 read-quiet : (acts : List Act) (role : Role) (owed : ℕ) (prompt repeat : Bool) (front : Front) (rest : List Event)
     → gives (Reads ∷ acts) (talk_of role (said_of owed 0 prompt front repeat)) (event.Quiet ∷ event.Quiet ∷ rest) ≡ Silence ∷ gives acts (talk_of role (waiting owed prompt front repeat)) rest
 unfolding gives
-read-quiet acts role owed prompt repeat front rest = refl
+read-quiet acts role owed prompt repeat front rest =
+    let x = said_of owed 0 prompt front repeat in
+    let first = read-fresh (talk_of role x) (event.Quiet ∷ event.Quiet ∷ rest) Silence refl refl in
+    rw first refl
 
 -- a write, by what it drops and how it leaves the port
 write-by : (acts : List Act) (talk new : Talk) (written : List ℕ) (events rest : List Event)
@@ -120,9 +141,11 @@ Begun role x events written more acts = (prompt : Bool) × (repeat : Bool)
 begin-taken : (role : Role) (x : Exchange) (events : List Event) (written : List ℕ) (more : List Event) (acts : List Act)
     → cleared (talk_of role x) written events ≡ record { answer = Ok held.Nothing; rest = more } → is_taken role x (front_of written) ≡ true
     → Begun role x events written more acts
-begin-taken role x events written more acts drops took =
-    ((wrote role x (front_of written)).was_prompt, is_same x.last (front_of written),
-      write-by acts _ _ written events more drops (ap (talk_of role) (first-wrote role x (front_of written) took)))
+begin-taken role x events written more acts drops took = (
+  (wrote role x (front_of written)).was_prompt,
+  is_same x.last (front_of written),
+  write-by acts _ _ written events more drops (ap (talk_of role) (first-wrote role x (front_of written) took)),
+)
 
 begin-new : (role : Role) (written : List ℕ) (more : List Event) (acts : List Act) → Begun role new_exchange more written more acts
 begin-new Sender written more acts = (_, _, write-by acts _ _ written more more refl refl)
@@ -161,16 +184,16 @@ settled : (again : ℕ) → (owed_by again 2 ≡ 2) × (repeat_by again true ≡
 settled zero = (refl, refl)
 settled (suc again) = (refl, refl)
 
-one-call : (role : Role) (written answer : List ℕ) (again owed : ℕ) (prompt repeat : Bool) (acts : List Act) (rest : List Event) → 0 < owed → 0 < length answer → length answer < 2048
+one-call : (role : Role) (written answer : List ℕ) (again owed : ℕ) (prompt repeat : Bool) (acts : List Act) (rest : List Event) → 0 < owed → 0 < length answer → length answer < 2048 → all_ask answer ≡ false
     → gives (rest_of written again ++ acts) (talk_of role (said_of owed 0 prompt (front_of written) repeat)) (waits again ++ (event.Piece answer ∷ rest))
     ≡ hears again answer ++ gives acts (talk_of role (said_of (owed_by again owed) (min 2048 (0 + length answer)) prompt (front_of written) (repeat_by again repeat))) rest
-one-call role written answer zero owed prompt repeat acts rest more some short = read-answer acts role owed prompt repeat (front_of written) answer rest some short
-one-call role written answer (suc again) owed prompt repeat acts rest more some short =
+one-call role written answer zero owed prompt repeat acts rest more some short answers = read-answer acts role owed prompt repeat (front_of written) answer rest some short answers
+one-call role written answer (suc again) owed prompt repeat acts rest more some short answers =
     let tail = waits again ++ (event.Piece answer ∷ rest) in
     let again_is : gives (acts_of written again ++ acts) (talk_of role (waiting owed prompt (front_of written) repeat)) tail
     ≡ gives (rest_of written again ++ acts) (talk_of role (said_of 2 0 prompt (front_of written) true)) tail
     = rw (acts-rest written again) (write-again (rest_of written again ++ acts) role owed prompt repeat written tail more) in
-    let on = one-call role written answer again 2 prompt true acts rest (omega arith) some short in
+    let on = one-call role written answer again 2 prompt true acts rest (omega arith) some short answers in
     let both = settled again in
     read-quiet (acts_of written again ++ acts) role owed prompt repeat (front_of written) tail
     ∙ ap (λ (xs : List Seen). Silence ∷ xs) (again_is ∙ rw (both.0, both.1) at on)
@@ -194,7 +217,7 @@ calls-heard role before (call ∷ calls) x events more (one _ _ _ is other are) 
     let rest = all_comes role calls more in
     let begun = begin role before call.written x events (comes role call rest) (rest_of call.written call.again ++ acts) found other in
     let left = found-behind role call.written call.answer call.late rest call.again begun.0 begun.1 is.some is.short is.late is.few in
-    let heard = one-call role call.written call.answer call.again 1 begun.0 begun.1 acts _ (omega arith) is.some is.short in
+    let heard = one-call role call.written call.answer call.again 1 begun.0 begun.1 acts _ (omega arith) is.some is.short is.answers in
     let on = calls-heard role call.written calls _ _ more are left in
     rw (acts-rest call.written call.again) (begun.2 ∙ (heard ∙ ap (λ (xs : List Seen). hears call.again call.answer ++ xs) on))
 

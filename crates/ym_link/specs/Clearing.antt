@@ -1,6 +1,6 @@
 -- A port that lets the line clear: which events it drops, and when (this profile).
-use Rattle.std.specs.Prelude.{◌≡◌, ℕ, nat_lt, ◌&&◌, Bool, true, false, List, [], ◌∷◌, ◌++◌, length, Result, Ok, Err, is_ok, if◌then◌else◌}
-use Rattle.ym_link.specs.Exchange.{new_exchange, front_of, heard, after_seen, must_clear, wrote}
+use Rattle.std.specs.Prelude.{◌≡◌, ℕ, zero, suc, nat_lt, ◌&&◌, Bool, true, false, List, [], ◌∷◌, ◌++◌, length, Result, Ok, Err, is_ok, if◌then◌else◌}
+use Rattle.ym_link.specs.Exchange.{new_exchange, front_of, heard, after_seen, is_stale, must_clear, wrote}
 use Rattle.ym_link.specs.Port.{Tape, Seen, Data, Silence, End, Failed, read_gives, read_leaves, after_write}
 use Rattle.ym_link.specs.Sweep.{Swept, swept, most_reads, new_sweep}
 use Rattle.ym_link.specs.declared.clearing.Talk.{Talk}
@@ -69,18 +69,24 @@ once room talk events = record {
   rest = read_leaves room events;
 }
 
--- A long wait is a short one and the rest of it, so that the port knows whether an answer came at once.
+-- A read for a reply passes over what asks for the block 0 that was just written.
+unfoldable pub fresh : ℕ → ℕ → Talk → List Event → Read
+fresh zero room talk events = once room talk events
+fresh (suc reads) room talk events =
+    if is_stale talk.role talk.exchange (read_gives room events) then fresh reads room talk (read_leaves room events) else once room talk events
+
+-- It is a short wait and the rest of it, so that the port knows whether an answer came at once.
 abbrev pub rest_of : Seen → ℕ → Read → Read
 rest_of Silence room r = once room r.talk r.rest
 rest_of _ room r = r
 
-abbrev pub patient : Wait → ℕ → Read → Read
-patient Within room r = r
-patient Reply room r = rest_of r.seen room r
+abbrev pub patient : Wait → ℕ → Talk → List Event → Read
+patient Within room talk events = once room talk events
+patient Reply room talk events = let r = fresh most_reads room talk events in rest_of r.seen room r
 
 -- What is to be heard yet is heard first.
 abbrev pub read_in : Held → Wait → ℕ → Talk → List Event → Read
-read_in held.Nothing wait room talk events = patient wait room (once room talk events)
+read_in held.Nothing wait room talk events = patient wait room talk events
 read_in held.Closed wait room talk events = record { seen = End; talk = record talk { held = held.Nothing }; rest = events }
 read_in held.Can wait room talk events = given (24 ∷ []) held.Nothing talk events
 read_in held.CanCan wait room talk events = if nat_lt 1 room then given (24 ∷ 24 ∷ []) held.Nothing talk events else given (24 ∷ []) held.Can talk events

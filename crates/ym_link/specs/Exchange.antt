@@ -3,6 +3,7 @@
 -- Each write may be answered once. Where an end has written more than once before an answer comes, as many answers may come as it has
 -- written, and only one of them is for what it writes next: so the line has to clear first.
 use Rattle.std.specs.Prelude.{ℕ, ◌+◌, nat_lt, nat_le, nat_eq, ◌&&◌, ◌||◌, not, Bool, true, false, List, length, slice_index, if◌then◌else◌, min}
+use Rattle.std.specs.List.{list_all}
 use Rattle.ym_link.specs.Port.{Seen, Data, Silence}
 use Rattle.ym_link.specs.declared.exchange.Exchange.{Exchange}
 use Rattle.ym_link.specs.declared.exchange.Front.{Front}
@@ -18,8 +19,13 @@ is_same a b = nat_eq a.length b.length && nat_eq a.first b.first && nat_eq a.sec
 
 abbrev pub new_exchange : Exchange
 new_exchange = record {
-  owed = 0; came = 0; is_quiet = false; waited = false; was_prompt = false;
-  last = record { length = 0; first = 0; second = 0 }; is_repeat = false;
+  owed = 0;
+  came = 0;
+  is_quiet = false;
+  waited = false;
+  was_prompt = false;
+  last = record { length = 0; first = 0; second = 0 };
+  is_repeat = false;
 }
 
 -- so many bytes came
@@ -69,3 +75,15 @@ wrote role x next = record {
   last = next;
   is_repeat = is_same x.last next;
 }
+
+-- A sender has just written block 0, in answer to a C. Other C that its receiver sent before, and nothing but C, ask for what it has.
+abbrev pub is_opening : Role → Exchange → Bool
+is_opening Sender x = nat_eq x.came 0 && not x.waited && not x.is_repeat && (nat_lt 3 x.last.length && nat_eq x.last.second 0)
+is_opening Receiver x = false
+
+abbrev pub all_ask : List ℕ → Bool
+all_ask bytes = list_all (λ b. nat_eq b 67) bytes
+
+abbrev pub is_stale : Role → Exchange → Seen → Bool
+is_stale role x (Data bytes) = is_opening role x && all_ask bytes
+is_stale role x _ = false

@@ -2,7 +2,7 @@
 -- line clear (this profile).
 use Rattle.std.specs.Prelude.{◌≡◌, ℕ, zero, suc, ◌<◌, ◌≤◌, false, List, [], ◌∷◌, ◌++◌, length, Result, Ok, Err}
 use Rattle.ym_link.specs.Clearing.{cleared, said, read_by}
-use Rattle.ym_link.specs.Exchange.{front_of, is_same}
+use Rattle.ym_link.specs.Exchange.{front_of, is_same, all_ask}
 use Rattle.ym_link.specs.Port.{Seen, Data, Silence}
 use Rattle.ym_link.specs.Sweep.{heeds_all, is_cancel, quiet_waits}
 use Rattle.ym_link.specs.declared.clearing.Talk.{Talk}
@@ -87,10 +87,11 @@ abbrev pub hears : ℕ → List ℕ → List Seen
 hears zero answer = Data answer ∷ []
 hears (suc again) answer = Silence ∷ hears again answer
 
--- an answer is short of a full delivery, and what comes late is late
+-- an answer is short of a full delivery and more than a question, and what comes late is late
 pub record IsCall (role : Role) (call : Call) : Type 0 where
   pub some : 0 < length call.answer
   pub short : length call.answer < 2048
+  pub answers : all_ask call.answer ≡ false
   pub late : AreLate role heed.Open 9 call.late
   pub few : length call.late ≤ 65000
 

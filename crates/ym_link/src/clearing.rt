@@ -7,7 +7,7 @@ ghost use Rattle.ym_link.specs.Port.{Tape, seen_of, read_gives, read_leaves, aft
 
 use crate::exchange::{Exchange, Front, Role};
 use crate::port::{Got, Port, PortFault, Wait};
-use crate::sweep::{CAN, Held, Sweep, let_clear};
+use crate::sweep::{CAN, Held, MOST_READS, Sweep, let_clear};
 
 /// What an end and its line have said of late.
 #[derive(Clone, Copy)]
@@ -89,7 +89,8 @@ pub struct Clearing<P: Port + Drop> {
 }
 
 impl<P: Port + Drop> Clearing<P> {
-    ghost use Rattle.ym_link.specs.Clearing.{new_talk, IsRead, once, patient, read_by};
+    ghost use Rattle.ym_link.specs.Clearing.{new_talk, IsRead, once, fresh, patient, read_by};
+    ghost use Rattle.ym_link.specs.Sweep.{most_reads};
 
     /// The port as this end has it.
     pub fn new(port: P, role: Role) -> Clearing<P>
@@ -116,18 +117,37 @@ impl<P: Port + Drop> Clearing<P> {
         got
     }
 
-    /// The same, where a long wait begins with a short one.
+    /// The same, for a short time, and past what asks for the block 0 that was just written.
+    fn read_fresh(&mut self, buf: &mut [u8]) -> Result<Got, PortFault>
+        requires { 0 < length buf.old }
+        ensures count { (n : ℕ) → result ≡ Ok (Got.Bytes n) → (0 < n) × (n ≤ length buf.old) }
+        ensures exact { (u : Tape) → P.tells self.new.port u → (t : Tape) × P.tells self.old.port t
+            × IsRead (fresh most_reads (length buf.old) self.old.talk t.coming) (seen_of result buf.new) self.new.talk t u }
+        ensures ok { OnOk result (P.failures self.new.port ≡ P.failures self.old.port) }
+        ensures failed { OnErr result (Rose (P.failures self.old.port) (P.failures self.new.port)) }
+    {
+        for _done in 0..MOST_READS {
+            let got = self.port.read(Wait::Within, buf);
+            if !self.talk.exchange.is_stale(self.talk.role, &got, buf) {
+                self.talk.exchange = self.talk.exchange.after(&got);
+                return got;
+            }
+        }
+        self.read_once(Wait::Within, buf)
+    }
+
+    /// Reads what is there, or waits: for a reply a short time first, and then the rest of it.
     fn read_patiently(&mut self, wait: Wait, buf: &mut [u8]) -> Result<Got, PortFault>
         requires { 0 < length buf.old }
         ensures count { (n : ℕ) → result ≡ Ok (Got.Bytes n) → (0 < n) × (n ≤ length buf.old) }
         ensures exact { (u : Tape) → P.tells self.new.port u → (t : Tape) × P.tells self.old.port t
-            × IsRead (patient wait (length buf.old) (once (length buf.old) self.old.talk t.coming)) (seen_of result buf.new) self.new.talk t u }
+            × IsRead (patient wait (length buf.old) self.old.talk t.coming) (seen_of result buf.new) self.new.talk t u }
         ensures ok { OnOk result (P.failures self.new.port ≡ P.failures self.old.port) }
         ensures failed { OnErr result (Rose (P.failures self.old.port) (P.failures self.new.port)) }
     {
         match wait {
             Wait::Within => self.read_once(Wait::Within, buf),
-            Wait::Reply => match self.read_once(Wait::Within, buf) {
+            Wait::Reply => match self.read_fresh(buf) {
                 Ok(Got::Quiet) => self.read_once(Wait::Reply, buf),
                 Ok(got) => Ok(got),
                 Err(fault) => Err(fault),

@@ -65,6 +65,13 @@ impl Front {
     }
 }
 
+/// Whether these bytes are C alone.
+fn all_ask(bytes: &[u8]) -> bool
+    ensures { result ≡ table.all_ask bytes.now }
+{
+    bytes.iter().all(|byte| *byte == b'C')
+}
+
 impl Exchange {
     /// Nothing was said or heard.
     pub fn new() -> Exchange
@@ -90,11 +97,37 @@ impl Exchange {
         ensures { result ≡ table.heard count self }
     {
         let room = DELIVERY_LIMIT.saturating_sub(self.came);
-        let came = if count < room { self.came + count } else { DELIVERY_LIMIT };
+        let came = if count < room {
+            self.came + count
+        } else {
+            DELIVERY_LIMIT
+        };
         Exchange {
             came,
             is_quiet: false,
             ..self
+        }
+    }
+
+    /// Whether a sender has just written block 0.
+    fn is_opening(self, role: Role) -> bool
+        ensures { result ≡ table.is_opening role self }
+    {
+        let is_fresh = self.came == 0 && !self.waited && !self.is_repeat;
+        match role {
+            Role::Sender => is_fresh && 3 < self.last.length && self.last.second == 0,
+            Role::Receiver => false,
+        }
+    }
+
+    /// Whether what was read asks for the block 0 that a sender has just written.
+    pub fn is_stale(self, role: Role, got: &Result<Got, PortFault>, buf: &[u8]) -> bool
+        requires { (n : ℕ) → got.now ≡ Ok (Got.Bytes n) → n ≤ length buf.now }
+        ensures { result ≡ table.is_stale role self (seen_of got.now buf.now) }
+    {
+        match got {
+            Ok(Got::Bytes(n)) => self.is_opening(role) && all_ask(&buf[..*n]),
+            _ => false,
         }
     }
 
