@@ -1,10 +1,11 @@
 -- Over a line that answers each copy, an end hears for each call nothing as often as it waited in vain, and then the answer.
-use Rattle.std.proofs.Common.{◌≡◌, ◌<◌, ◌≤◌, ◌+◌, ℕ, zero, suc, true, false, nat_lt, nat_le, nat_eq, min, List, [], ◌∷◌, ◌++◌, length, Ok, refl, ◌∙◌, ap, arith}
-use Rattle.std.proofs.lemmas.Bool.{ne_eqb, lt-ltb, lt-leb}
-use Rattle.ym_link.specs.Clearing.{cleared, said, new_talk}
-use Rattle.ym_link.specs.Exchange.{front_of, is_same, asking, wrote}
-use Rattle.ym_link.specs.LateAnswers.{AreLate, late_and_quiet, quiets, Act, Writes, Reads, gives, Call, acts_of, hears, behind, comes, all_acts, all_comes, all_hears, AreCalls, one}
-use Rattle.ym_link.specs.Port.{Seen, Data, Silence}
+use Rattle.std.proofs.Common.{◌≡◌, Bool, ◌<◌, ◌≤◌, ◌+◌, ℕ, zero, suc, true, false, nat_lt, nat_le, nat_eq, min, List, [], ◌∷◌, ◌++◌, length, Ok, refl, sym, ◌∙◌, ◌&&◌, ap, arith, lit<}
+use Rattle.std.proofs.lemmas.Bool.{ne_eqb, lt-ltb, lt-leb, eq-eqb}
+use Rattle.ym_link.specs.Clearing.{cleared, said, new_talk, once, fresh}
+use Rattle.ym_link.specs.Exchange.{front_of, new_exchange, is_same, is_taken, wrote, all_ask, is_opening, is_stale}
+use Rattle.ym_link.specs.LateAnswers.{AreLate, late_and_quiet, waits, Act, Writes, Reads, gives, Call, acts_of, hears, behind, comes, all_acts, all_comes, all_hears, AreCalls, one}
+use Rattle.ym_link.specs.Port.{Seen, Data, Silence, read_gives}
+use Rattle.ym_link.specs.Sweep.{most_reads}
 use Rattle.ym_link.specs.declared.clearing.Talk.{Talk}
 use Rattle.ym_link.specs.declared.event.Event.{Event}
 use Rattle.ym_link.specs.declared.event.Event.TheVariants as event
@@ -14,40 +15,59 @@ use Rattle.ym_link.specs.declared.exchange.Role.{Role}
 use Rattle.ym_link.specs.declared.exchange.Role.TheVariants.{Sender, Receiver}
 use Rattle.ym_link.specs.declared.sweep.Held.TheVariants as held
 use Rattle.ym_link.specs.declared.sweep.Heed.TheVariants as heed
+use Rattle.ym_link.proofs.Fresh.{fresh-over}
 use Rattle.ym_link.proofs.LateAnswersDropped.{whole-piece, late-answers-dropped}
 
--- after so many writes that nothing answered, and so many bytes since the last one
-abbrev state : Role → ℕ → ℕ → Front → Talk
-state role owed came front = record { role = role; exchange = record { owed = owed; came = came; is_quiet = false; last = front; is_repeat = false }; held = held.Nothing }
+-- what an end has said and heard, where nothing of it is held
+abbrev talk_of : Role → Exchange → Talk
+talk_of role x = record { role = role; exchange = x; held = held.Nothing }
 
--- the same, where the line was quiet
-abbrev waiting : Role → ℕ → Front → Talk
-waiting role owed front = record { role = role; exchange = record { owed = owed; came = 0; is_quiet = true; last = front; is_repeat = false }; held = held.Nothing }
+-- after so many writes that nothing answered, and so many bytes since the last one
+abbrev said_of : ℕ → ℕ → Bool → Front → Bool → Exchange
+said_of owed came prompt front repeat = record { owed = owed; came = came; is_quiet = false; waited = false; was_prompt = prompt; last = front; is_repeat = repeat }
+
+-- the same, after a wait in vain
+abbrev waiting : ℕ → Bool → Front → Bool → Exchange
+waiting owed prompt front repeat = record { owed = owed; came = 0; is_quiet = true; waited = true; was_prompt = prompt; last = front; is_repeat = repeat }
+
+same-as-itself : (f : Front) → is_same f f ≡ true
+same-as-itself f =
+    let a : nat_eq f.length f.length ≡ true = eq-eqb f.length f.length refl in
+    let b : nat_eq f.first f.first ≡ true = eq-eqb f.first f.first refl in
+    let d : nat_eq f.second f.second ≡ true = eq-eqb f.second f.second refl in
+    rw (a, b, d) refl
 
 -- ---- One act
 
-read-answer : (acts : List Act) (role : Role) (owed : ℕ) (front : Front) (answer : List ℕ) (rest : List Event) → 0 < length answer → length answer < 2048
-    → gives (Reads ∷ acts) (state role owed 0 front) (event.Piece answer ∷ rest) ≡ Data answer ∷ gives acts (state role owed (min 2048 (0 + length answer)) front) rest
-unfolding gives
-read-answer acts role owed front answer rest some short = let read = whole-piece answer rest some (omega arith) in rw (read.0, read.1) refl
+and-false : (b : Bool) → b && false ≡ false
+and-false true = refl
+and-false false = refl
 
-read-quiet : (acts : List Act) (role : Role) (owed : ℕ) (front : Front) (rest : List Event)
-    → gives (Reads ∷ acts) (state role owed 0 front) (event.Quiet ∷ rest) ≡ Silence ∷ gives acts (waiting role owed front) rest
-unfolding gives
-read-quiet acts role owed front rest = refl
+-- an answer is no question that a sender passes over
+not-stale : (role : Role) (x : Exchange) (answer : List ℕ) → all_ask answer ≡ false → is_stale role x (Data answer) ≡ false
+not-stale role x answer answers = rw answers (and-false (is_opening role x))
 
-write-again : (acts : List Act) (role : Role) (owed : ℕ) (written : List ℕ) (events : List Event) → 0 < owed
-    → gives (Writes written ∷ acts) (waiting role owed (front_of written)) events ≡ gives acts (state role 2 0 (front_of written)) events
-unfolding gives
-write-again acts Sender owed written events some = let more : nat_eq owed 0 ≡ false = ne_eqb owed 0 (omega arith) in rw more refl
-write-again acts Receiver owed written events some = let more : nat_eq owed 0 ≡ false = ne_eqb owed 0 (omega arith) in rw more refl
+read-fresh : (talk : Talk) (events : List Event) (seen : Seen) → seen ≡ read_gives 2048 events → is_stale talk.role talk.exchange seen ≡ false
+    → fresh most_reads 2048 talk events ≡ once 2048 talk events
+read-fresh talk events seen gives new = fresh-over most_reads 0 2048 talk events seen (lit< tt) gives new
 
--- the first write of all
-write-first : (acts : List Act) (role : Role) (written : List ℕ) (events : List Event)
-    → gives (Writes written ∷ acts) (state role 0 0 (front_of [])) events ≡ gives acts (state role 1 0 (front_of written)) events
+read-answer : (acts : List Act) (role : Role) (owed : ℕ) (prompt repeat : Bool) (front : Front) (answer : List ℕ) (rest : List Event) → 0 < length answer → length answer < 2048
+    → all_ask answer ≡ false → gives (Reads ∷ acts) (talk_of role (said_of owed 0 prompt front repeat)) (event.Piece answer ∷ rest)
+    ≡ Data answer ∷ gives acts (talk_of role (said_of owed (min 2048 (0 + length answer)) prompt front repeat)) rest
 unfolding gives
-write-first acts Sender written events = refl
-write-first acts Receiver written events = refl
+read-answer acts role owed prompt repeat front answer rest some short answers =
+    let x = said_of owed 0 prompt front repeat in
+    let read = whole-piece answer rest some (omega arith) in
+    let first = read-fresh (talk_of role x) (event.Piece answer ∷ rest) (Data answer) (sym read.0) (not-stale role x answer answers) in
+    rw (first, read.0, read.1) refl
+
+read-quiet : (acts : List Act) (role : Role) (owed : ℕ) (prompt repeat : Bool) (front : Front) (rest : List Event)
+    → gives (Reads ∷ acts) (talk_of role (said_of owed 0 prompt front repeat)) (event.Quiet ∷ event.Quiet ∷ rest) ≡ Silence ∷ gives acts (talk_of role (waiting owed prompt front repeat)) rest
+unfolding gives
+read-quiet acts role owed prompt repeat front rest =
+    let x = said_of owed 0 prompt front repeat in
+    let first = read-fresh (talk_of role x) (event.Quiet ∷ event.Quiet ∷ rest) Silence refl refl in
+    rw first refl
 
 -- a write, by what it drops and how it leaves the port
 write-by : (acts : List Act) (talk new : Talk) (written : List ℕ) (events rest : List Event)
@@ -56,31 +76,90 @@ write-by : (acts : List Act) (talk new : Talk) (written : List ℕ) (events rest
 unfolding gives
 write-by acts talk new written events rest drops leaves = rw drops (ap (λ (t : Talk). gives acts t rest) leaves)
 
-wrote-next : (owed came : ℕ) (front next : Front) → 0 < came → is_same front next ≡ false → is_same next asking ≡ false
-    → wrote (record { owed = owed; came = came; is_quiet = false; last = front; is_repeat = false }) next
-    ≡ record { owed = 1; came = 0; is_quiet = false; last = next; is_repeat = false }
-wrote-next owed came front next some other says = let any : nat_lt 0 came ≡ true = lt-ltb 0 came some in rw (any, other, says) refl
+-- after a wait in vain nothing was taken, so nothing is dropped
+again-cleared : (role : Role) (owed : ℕ) (prompt repeat : Bool) (written : List ℕ) (events : List Event)
+    → cleared (talk_of role (waiting owed prompt (front_of written) repeat)) written events ≡ record { answer = Ok held.Nothing; rest = events }
+again-cleared Sender owed prompt repeat written events = refl
+again-cleared Receiver owed prompt repeat written events = refl
 
-said-next : (role : Role) (owed came : ℕ) (before written : List ℕ) → 0 < came → is_same (front_of before) (front_of written) ≡ false → is_same (front_of written) asking ≡ false
-    → said written held.Nothing (state role owed came (front_of before)) ≡ state role 1 0 (front_of written)
-said-next role owed came before written some other says =
-    ap (λ (x : Exchange). let t : Talk = record { role = role; exchange = x; held = held.Nothing } in t) (wrote-next owed came (front_of before) (front_of written) some other says)
+again-wrote : (role : Role) (owed : ℕ) (prompt repeat : Bool) (f : Front) → 0 < owed → wrote role (waiting owed prompt f repeat) f ≡ said_of 2 0 prompt f true
+again-wrote Sender owed prompt repeat f some =
+    let more : nat_eq owed 0 ≡ false = ne_eqb owed 0 (omega arith) in
+    let same = same-as-itself f in rw (more, same) refl
+again-wrote Receiver owed prompt repeat f some =
+    let more : nat_eq owed 0 ≡ false = ne_eqb owed 0 (omega arith) in
+    let same = same-as-itself f in rw (more, same) refl
 
--- behind an answer to the one write before nothing is dropped
-nothing-dropped : (role : Role) (came : ℕ) (before written : List ℕ) (events : List Event) → 0 < came → came < 2048
-    → is_same (front_of before) (front_of written) ≡ false → is_same (front_of written) asking ≡ false
-    → cleared (state role 1 came (front_of before)) written events ≡ record { answer = Ok held.Nothing; rest = events }
-nothing-dropped Sender came before written events some short other says =
-    let any : nat_lt 0 came ≡ true = lt-ltb 0 came some in let room : nat_le 2048 came ≡ false = lt-leb 2048 came short in rw (any, room, other, says) refl
-nothing-dropped Receiver came before written events some short other says =
-    let any : nat_lt 0 came ≡ true = lt-ltb 0 came some in let room : nat_le 2048 came ≡ false = lt-leb 2048 came short in rw (any, room, says) refl
+write-again : (acts : List Act) (role : Role) (owed : ℕ) (prompt repeat : Bool) (written : List ℕ) (events : List Event) → 0 < owed
+    → gives (Writes written ∷ acts) (talk_of role (waiting owed prompt (front_of written) repeat)) events ≡ gives acts (talk_of role (said_of 2 0 prompt (front_of written) true)) events
+write-again acts role owed prompt repeat written events some =
+    write-by acts _ _ written events events (again-cleared role owed prompt repeat written events)
+    (ap (talk_of role) (again-wrote role owed prompt repeat (front_of written) some))
 
--- behind an answer to one of several the others are
-others-dropped : (role : Role) (came : ℕ) (before written : List ℕ) (late more : List Event) → 0 < came → is_same (front_of written) asking ≡ false
-    → AreLate role heed.Open 9 late → length late ≤ 65000
-    → cleared (state role 2 came (front_of before)) written (late_and_quiet role late more) ≡ record { answer = Ok held.Nothing; rest = more }
-others-dropped role came before written late more some says are few =
-    let any : nat_lt 0 came ≡ true = lt-ltb 0 came some in rw (any, says) (late-answers-dropped role late more are few)
+-- ---- The first write of a call
+
+-- what came is what the end waited for
+taken : (role : Role) (owed came : ℕ) (prompt repeat : Bool) (before next : Front) → 0 < came → came < 2048 → (role ≡ Sender → is_same before next ≡ false)
+    → is_taken role (said_of owed came prompt before repeat) next ≡ true
+taken Sender owed came prompt repeat before next some short other =
+    let any : nat_lt 0 came ≡ true = lt-ltb 0 came some in rw (any, other refl) refl
+taken Receiver owed came prompt repeat before next some short other =
+    let any : nat_lt 0 came ≡ true = lt-ltb 0 came some in let room : nat_lt came 2048 ≡ true = lt-ltb came 2048 short in rw (any, room) refl
+
+-- behind an answer to the one write before nothing is dropped, and behind one of several the answers to the others are
+nothing-dropped : (role : Role) (came : ℕ) (prompt repeat : Bool) (before written : List ℕ) (events : List Event) → 0 < came → came < 2048
+    → (role ≡ Sender → is_same (front_of before) (front_of written) ≡ false)
+    → cleared (talk_of role (said_of 1 came prompt (front_of before) repeat)) written events ≡ record { answer = Ok held.Nothing; rest = events }
+nothing-dropped role came prompt repeat before written events some short other =
+    let room : nat_le 2048 came ≡ false = lt-leb 2048 came short in
+    rw (room, taken role 1 came prompt repeat (front_of before) (front_of written) some short other) refl
+
+others-dropped : (role : Role) (came : ℕ) (prompt repeat : Bool) (before written : List ℕ) (late more : List Event) → 0 < came → came < 2048
+    → (role ≡ Sender → is_same (front_of before) (front_of written) ≡ false) → AreLate role heed.Open 9 late → length late ≤ 65000
+    → cleared (talk_of role (said_of 2 came prompt (front_of before) repeat)) written (late_and_quiet role late more) ≡ record { answer = Ok held.Nothing; rest = more }
+others-dropped role came prompt repeat before written late more some short other are few =
+    let room : nat_le 2048 came ≡ false = lt-leb 2048 came short in
+    rw (room, taken role 2 came prompt repeat (front_of before) (front_of written) some short other) (late-answers-dropped role late more are few)
+
+-- how it leaves the port: one answer is owed
+first-wrote : (role : Role) (x : Exchange) (next : Front) → is_taken role x next ≡ true → wrote role x next ≡ said_of 1 0 (wrote role x next).was_prompt next (is_same x.last next)
+first-wrote role x next took = rw took refl
+
+-- how a call finds the port: new, behind one write that was answered, or behind several
+data Found (role : Role) : List ℕ → Exchange → List Event → List Event → Type 0 where
+  new : (more : List Event) → Found role [] new_exchange more more
+  answered : (before : List ℕ) (came : ℕ) (prompt repeat : Bool) (more : List Event) → 0 < came → came < 2048
+      → Found role before (said_of 1 came prompt (front_of before) repeat) more more
+  copied : (before : List ℕ) (came : ℕ) (prompt repeat : Bool) (late more : List Event) → 0 < came → came < 2048 → AreLate role heed.Open 9 late → length late ≤ 65000
+      → Found role before (said_of 2 came prompt (front_of before) repeat) (late_and_quiet role late more) more
+
+-- how its first write leaves it
+abbrev Begun : Role → Exchange → List Event → List ℕ → List Event → List Act → Type 0
+Begun role x events written more acts = (prompt : Bool) × (repeat : Bool)
+    × (gives (Writes written ∷ acts) (talk_of role x) events ≡ gives acts (talk_of role (said_of 1 0 prompt (front_of written) repeat)) more)
+
+begin-taken : (role : Role) (x : Exchange) (events : List Event) (written : List ℕ) (more : List Event) (acts : List Act)
+    → cleared (talk_of role x) written events ≡ record { answer = Ok held.Nothing; rest = more } → is_taken role x (front_of written) ≡ true
+    → Begun role x events written more acts
+begin-taken role x events written more acts drops took = (
+  (wrote role x (front_of written)).was_prompt,
+  is_same x.last (front_of written),
+  write-by acts _ _ written events more drops (ap (talk_of role) (first-wrote role x (front_of written) took)),
+)
+
+begin-new : (role : Role) (written : List ℕ) (more : List Event) (acts : List Act) → Begun role new_exchange more written more acts
+begin-new Sender written more acts = (_, _, write-by acts _ _ written more more refl refl)
+begin-new Receiver written more acts = (_, _, write-by acts _ _ written more more refl refl)
+
+begin : (role : Role) (before written : List ℕ) (x : Exchange) (events more : List Event) (acts : List Act) → Found role before x events more
+    → (role ≡ Sender → is_same (front_of before) (front_of written) ≡ false) → Begun role x events written more acts
+begin role _ written _ _ more acts (new _) other = begin-new role written more acts
+begin role before written _ _ more acts (answered _ came prompt repeat _ some short) other =
+    begin-taken role _ more written more acts (nothing-dropped role came prompt repeat before written more some short other)
+    (taken role 1 came prompt repeat (front_of before) (front_of written) some short other)
+begin role before written _ _ more acts (copied _ came prompt repeat late _ some short are few) other =
+    begin-taken role _ _ written more acts (others-dropped role came prompt repeat before written late more some short other are few)
+    (taken role 2 came prompt repeat (front_of before) (front_of written) some short other)
 
 -- ---- One call
 
@@ -92,65 +171,56 @@ acts-rest : (written : List ℕ) (again : ℕ) → acts_of written again ≡ Wri
 acts-rest written zero = refl
 acts-rest written (suc again) = refl
 
--- how many writes nothing answered, behind the last one
+-- how many writes nothing answered, behind the last one, and whether that was a repeat
 abbrev owed_by : ℕ → ℕ → ℕ
 owed_by zero owed = owed
 owed_by (suc again) owed = 2
 
-owed-two : (again : ℕ) → owed_by again 2 ≡ 2
-owed-two zero = refl
-owed-two (suc again) = refl
+abbrev repeat_by : ℕ → Bool → Bool
+repeat_by zero repeat = repeat
+repeat_by (suc again) repeat = true
 
-one-call : (role : Role) (written answer : List ℕ) (again owed : ℕ) (acts : List Act) (rest : List Event) → 0 < owed → 0 < length answer → length answer < 2048
-    → gives (rest_of written again ++ acts) (state role owed 0 (front_of written)) (quiets again ++ (event.Piece answer ∷ rest))
-    ≡ hears again answer ++ gives acts (state role (owed_by again owed) (min 2048 (0 + length answer)) (front_of written)) rest
-one-call role written answer zero owed acts rest more some short = read-answer acts role owed (front_of written) answer rest some short
-one-call role written answer (suc again) owed acts rest more some short =
-    let tail = quiets again ++ (event.Piece answer ∷ rest) in
-    let again_is : gives (acts_of written again ++ acts) (waiting role owed (front_of written)) tail
-    ≡ gives (rest_of written again ++ acts) (state role 2 0 (front_of written)) tail
-    = rw (acts-rest written again) (write-again (rest_of written again ++ acts) role owed written tail more) in
-    let on = one-call role written answer again 2 acts rest (omega arith) some short in
-    read-quiet (acts_of written again ++ acts) role owed (front_of written) tail
-    ∙ ap (λ (xs : List Seen). Silence ∷ xs) (again_is ∙ rw owed-two at on)
+settled : (again : ℕ) → (owed_by again 2 ≡ 2) × (repeat_by again true ≡ true)
+settled zero = (refl, refl)
+settled (suc again) = (refl, refl)
+
+one-call : (role : Role) (written answer : List ℕ) (again owed : ℕ) (prompt repeat : Bool) (acts : List Act) (rest : List Event) → 0 < owed → 0 < length answer → length answer < 2048 → all_ask answer ≡ false
+    → gives (rest_of written again ++ acts) (talk_of role (said_of owed 0 prompt (front_of written) repeat)) (waits again ++ (event.Piece answer ∷ rest))
+    ≡ hears again answer ++ gives acts (talk_of role (said_of (owed_by again owed) (min 2048 (0 + length answer)) prompt (front_of written) (repeat_by again repeat))) rest
+one-call role written answer zero owed prompt repeat acts rest more some short answers = read-answer acts role owed prompt repeat (front_of written) answer rest some short answers
+one-call role written answer (suc again) owed prompt repeat acts rest more some short answers =
+    let tail = waits again ++ (event.Piece answer ∷ rest) in
+    let again_is : gives (acts_of written again ++ acts) (talk_of role (waiting owed prompt (front_of written) repeat)) tail
+    ≡ gives (rest_of written again ++ acts) (talk_of role (said_of 2 0 prompt (front_of written) true)) tail
+    = rw (acts-rest written again) (write-again (rest_of written again ++ acts) role owed prompt repeat written tail more) in
+    let on = one-call role written answer again 2 prompt true acts rest (omega arith) some short answers in
+    let both = settled again in
+    read-quiet (acts_of written again ++ acts) role owed prompt repeat (front_of written) tail
+    ∙ ap (λ (xs : List Seen). Silence ∷ xs) (again_is ∙ rw (both.0, both.1) at on)
 
 -- ---- Call after call
 
--- how a call finds the port: new, behind one answered write, or behind several
-data Found (role : Role) : List ℕ → Talk → List Event → List Event → Type 0 where
-  new : (more : List Event) → Found role [] (state role 0 0 (front_of [])) more more
-  answered : (before : List ℕ) (came : ℕ) (more : List Event) → 0 < came → came < 2048 → Found role before (state role 1 came (front_of before)) more more
-  copied : (before : List ℕ) (came : ℕ) (late more : List Event) → 0 < came → AreLate role heed.Open 9 late → length late ≤ 65000
-      → Found role before (state role 2 came (front_of before)) (late_and_quiet role late more) more
-
-write-found : (role : Role) (before written : List ℕ) (talk : Talk) (events more : List Event) (acts : List Act) → Found role before talk events more
-    → is_same (front_of before) (front_of written) ≡ false → is_same (front_of written) asking ≡ false
-    → gives (Writes written ∷ acts) talk events ≡ gives acts (state role 1 0 (front_of written)) more
-write-found role _ written _ _ more acts (new _) other says = write-first acts role written more
-write-found role before written _ _ more acts (answered _ came _ some short) other says =
-    write-by acts _ _ written more more (nothing-dropped role came before written more some short other says) (said-next role 1 came before written some other says)
-write-found role before written _ _ more acts (copied _ came late _ some are few) other says =
-    write-by acts _ _ written _ more (others-dropped role came before written late more some says are few) (said-next role 2 came before written some other says)
-
 -- how it leaves the port
-found-behind : (role : Role) (written answer : List ℕ) (late more : List Event) (again : ℕ) → 0 < length answer → length answer < 2048 → AreLate role heed.Open 9 late → length late ≤ 65000
-    → Found role written (state role (owed_by again 1) (min 2048 (0 + length answer)) (front_of written)) (behind role again late more) more
-found-behind role written answer late more zero some short are few = answered written (min 2048 (0 + length answer)) more (omega arith) (omega arith)
-found-behind role written answer late more (suc again) some short are few = copied written (min 2048 (0 + length answer)) late more (omega arith) are few
+found-behind : (role : Role) (written answer : List ℕ) (late more : List Event) (again : ℕ) (prompt repeat : Bool) → 0 < length answer → length answer < 2048
+    → AreLate role heed.Open 9 late → length late ≤ 65000
+    → Found role written (said_of (owed_by again 1) (min 2048 (0 + length answer)) prompt (front_of written) (repeat_by again repeat)) (behind role again late more) more
+found-behind role written answer late more zero prompt repeat some short are few = answered written (min 2048 (0 + length answer)) prompt repeat more (omega arith) (omega arith)
+found-behind role written answer late more (suc again) prompt repeat some short are few =
+    copied written (min 2048 (0 + length answer)) prompt true late more (omega arith) (omega arith) are few
 
-calls-heard : (role : Role) (before : List ℕ) (calls : List Call) (talk : Talk) (events more : List Event) → AreCalls role before calls
-    → Found role before talk events (all_comes role calls more) → gives (all_acts calls) talk events ≡ all_hears calls
+calls-heard : (role : Role) (before : List ℕ) (calls : List Call) (x : Exchange) (events more : List Event) → AreCalls role before calls
+    → Found role before x events (all_comes role calls more) → gives (all_acts calls) (talk_of role x) events ≡ all_hears calls
 unfolding gives
-calls-heard role before [] talk events more are found = refl
-calls-heard role before (call ∷ calls) talk events more (one _ _ _ is other are) found =
+calls-heard role before [] x events more are found = refl
+calls-heard role before (call ∷ calls) x events more (one _ _ _ is other are) found =
     let acts = all_acts calls in
     let rest = all_comes role calls more in
-    let left = found-behind role call.written call.answer call.late rest call.again is.some is.short is.late is.few in
-    let wrote = write-found role before call.written talk events (comes role call rest) (rest_of call.written call.again ++ acts) found other is.says in
-    let heard = one-call role call.written call.answer call.again 1 acts _ (omega arith) is.some is.short in
+    let begun = begin role before call.written x events (comes role call rest) (rest_of call.written call.again ++ acts) found other in
+    let left = found-behind role call.written call.answer call.late rest call.again begun.0 begun.1 is.some is.short is.late is.few in
+    let heard = one-call role call.written call.answer call.again 1 begun.0 begun.1 acts _ (omega arith) is.some is.short is.answers in
     let on = calls-heard role call.written calls _ _ more are left in
-    rw (acts-rest call.written call.again) (wrote ∙ (heard ∙ ap (λ (xs : List Seen). hears call.again call.answer ++ xs) on))
+    rw (acts-rest call.written call.again) (begun.2 ∙ (heard ∙ ap (λ (xs : List Seen). hears call.again call.answer ++ xs) on))
 
 pub answered-calls : (role : Role) (calls : List Call) (more : List Event) → AreCalls role [] calls
     → gives (all_acts calls) (new_talk role) (all_comes role calls more) ≡ all_hears calls
-answered-calls role calls more are = calls-heard role [] calls (new_talk role) _ more are (new (all_comes role calls more))
+answered-calls role calls more are = calls-heard role [] calls new_exchange _ more are (new (all_comes role calls more))

@@ -1,6 +1,7 @@
 pub mod AnsweredCalls
 pub mod Follows
 pub mod Framed
+pub mod Fresh
 pub mod Keeping
 pub mod LateAnswersDropped
 pub mod OneStep

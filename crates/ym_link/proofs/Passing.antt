@@ -2,13 +2,14 @@
 use Rattle.std.proofs.Common.{◌≡◌, ◌<◌, ◌≤◌, ℕ, Bool, true, false, nat_lt, List, [], ◌∷◌, length, take, Result, Ok, Err, refl, sym, ◌∙◌, ap, arith}
 use Rattle.std.proofs.lemmas.Bool.{le-ltb}
 use Rattle.std.proofs.lemmas.List.{length-take-le}
-use Rattle.ym_link.specs.Clearing.{Passes, reads, writes, fails, read_by, cleared, said, event_of}
+use Rattle.ym_link.specs.Clearing.{Passes, reads, writes, fails, IsRead, read_by, cleared, said, event_of}
 use Rattle.ym_link.specs.Port.{Tape, Seen, Data, Silence, End, Failed, read_gives, read_leaves, after_write, seen_of}
 use Rattle.ym_link.specs.declared.clearing.Talk.{Talk}
 use Rattle.ym_link.specs.declared.event.Event.{Event}
 use Rattle.ym_link.specs.declared.port.Got.{Got}
 use Rattle.ym_link.specs.declared.port.Got.TheVariants as got
 use Rattle.ym_link.specs.declared.port.PortFault.{PortFault}
+use Rattle.ym_link.specs.declared.port.Wait.{Wait}
 use Rattle.ym_link.specs.declared.sweep.Held.{Held}
 
 -- a read gives some bytes, and no more than it has room for
@@ -43,15 +44,15 @@ fits-seen room (Ok got.Closed) buf size count = tt
 fits-seen room (Err e) buf size count = tt
 
 -- a read
-pub read-passes : (room : ℕ) (talk new : Talk) (seen : Seen) (u p t : Tape) → FitsIn room seen
-    → seen ≡ (read_by room talk t.coming).seen → new ≡ (read_by room talk t.coming).talk → p ≡ record t { coming = (read_by room talk t.coming).rest }
+pub read-passes : (wait : Wait) (room : ℕ) (talk new : Talk) (seen : Seen) (u p t : Tape) → FitsIn room seen
+    → IsRead (read_by wait room talk t.coming) seen new t p
     → u.written ≡ p.written → Passes new p.coming u.coming
     → (u.written ≡ t.written) × Passes talk t.coming (event_of seen ∷ u.coming)
     × (seen ≡ read_gives room (event_of seen ∷ u.coming)) × (u ≡ tape_of (read_leaves room (event_of seen ∷ u.coming)) u.written)
-read-passes room talk new seen u p t fits is_seen is_new is_rest wrote passes =
+read-passes wait room talk new seen u p t fits is wrote passes =
     let one = gives-event room seen u.coming fits in (
-      wrote ∙ ap (λ (x : Tape). x.written) is_rest,
-      rw is_seen (reads talk t.coming u.coming room (rw (is_new, is_rest) at passes)),
+      wrote ∙ ap (λ (x : Tape). x.written) is.2,
+      rw is.0 (reads talk t.coming u.coming wait room (rw (is.1, is.2) at passes)),
       sym one.0,
       same-tape u _ u.written (sym one.1) refl,
     )

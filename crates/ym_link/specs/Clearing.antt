@@ -1,6 +1,6 @@
 -- A port that lets the line clear: which events it drops, and when (this profile).
-use Rattle.std.specs.Prelude.{◌≡◌, ℕ, nat_lt, ◌&&◌, Bool, true, false, List, [], ◌∷◌, ◌++◌, length, Result, Ok, Err, is_ok, if◌then◌else◌}
-use Rattle.ym_link.specs.Exchange.{new_exchange, front_of, heard, after_seen, must_clear, wrote}
+use Rattle.std.specs.Prelude.{◌≡◌, ℕ, zero, suc, nat_lt, ◌&&◌, Bool, true, false, List, [], ◌∷◌, ◌++◌, length, Result, Ok, Err, is_ok, if◌then◌else◌}
+use Rattle.ym_link.specs.Exchange.{new_exchange, front_of, heard, after_seen, is_stale, must_clear, wrote}
 use Rattle.ym_link.specs.Port.{Tape, Seen, Data, Silence, End, Failed, read_gives, read_leaves, after_write}
 use Rattle.ym_link.specs.Sweep.{Swept, swept, most_reads, new_sweep}
 use Rattle.ym_link.specs.declared.clearing.Talk.{Talk}
@@ -8,6 +8,8 @@ use Rattle.ym_link.specs.declared.event.Event.{Event}
 use Rattle.ym_link.specs.declared.event.Event.TheVariants as event
 use Rattle.ym_link.specs.declared.exchange.Role.{Role}
 use Rattle.ym_link.specs.declared.port.PortFault.{PortFault}
+use Rattle.ym_link.specs.declared.port.Wait.{Wait}
+use Rattle.ym_link.specs.declared.port.Wait.TheVariants.{Within, Reply}
 use Rattle.ym_link.specs.declared.sweep.Held.{Held}
 use Rattle.ym_link.specs.declared.sweep.Held.TheVariants as held
 
@@ -30,7 +32,7 @@ cleared talk bytes events =
 
 -- and then the bytes are written
 abbrev pub said : List ℕ → Held → Talk → Talk
-said bytes held talk = record talk { exchange = wrote talk.exchange (front_of bytes); held = held }
+said bytes held talk = record talk { exchange = wrote talk.role talk.exchange (front_of bytes); held = held }
 
 -- What a write comes to: where the port fails while the line clears, nothing is written and nothing else changes.
 abbrev pub Writes : Talk → List ℕ → Swept → Result Unit PortFault → Talk → Tape → Tape → Type 0
@@ -48,6 +50,10 @@ pub record Read : Type 0 where
   pub talk : Talk
   pub rest : List Event
 
+-- a call of the port was this read
+abbrev pub IsRead : Read → Seen → Talk → Tape → Tape → Type 0
+IsRead r seen new t u = (seen ≡ r.seen) × (new ≡ r.talk) × (u ≡ record t { coming = r.rest })
+
 -- so many bytes that were held are heard
 abbrev pub gave : ℕ → Held → Talk → Talk
 gave count left talk = record talk { exchange = heard count talk.exchange; held = left }
@@ -55,15 +61,38 @@ gave count left talk = record talk { exchange = heard count talk.exchange; held 
 abbrev pub given : List ℕ → Held → Talk → List Event → Read
 given bytes left talk events = record { seen = Data bytes; talk = gave (length bytes) left talk; rest = events }
 
--- What is to be heard yet is heard first.
-abbrev pub read_in : Held → ℕ → Talk → List Event → Read
-read_in held.Nothing room talk events = record { seen = read_gives room events; talk = record talk { exchange = after_seen (read_gives room events) talk.exchange }; rest = read_leaves room events }
-read_in held.Closed room talk events = record { seen = End; talk = record talk { held = held.Nothing }; rest = events }
-read_in held.Can room talk events = given (24 ∷ []) held.Nothing talk events
-read_in held.CanCan room talk events = if nat_lt 1 room then given (24 ∷ 24 ∷ []) held.Nothing talk events else given (24 ∷ []) held.Can talk events
+-- one read of the port below
+abbrev pub once : ℕ → Talk → List Event → Read
+once room talk events = record {
+  seen = read_gives room events;
+  talk = record talk { exchange = after_seen (read_gives room events) talk.exchange };
+  rest = read_leaves room events;
+}
 
-abbrev pub read_by : ℕ → Talk → List Event → Read
-read_by room talk events = read_in talk.held room talk events
+-- A read for a reply passes over what asks for the block 0 that was just written.
+unfoldable pub fresh : ℕ → ℕ → Talk → List Event → Read
+fresh zero room talk events = once room talk events
+fresh (suc reads) room talk events =
+    if is_stale talk.role talk.exchange (read_gives room events) then fresh reads room talk (read_leaves room events) else once room talk events
+
+-- It is a short wait and the rest of it, so that the port knows whether an answer came at once.
+abbrev pub rest_of : Seen → ℕ → Read → Read
+rest_of Silence room r = once room r.talk r.rest
+rest_of _ room r = r
+
+abbrev pub patient : Wait → ℕ → Talk → List Event → Read
+patient Within room talk events = once room talk events
+patient Reply room talk events = let r = fresh most_reads room talk events in rest_of r.seen room r
+
+-- What is to be heard yet is heard first.
+abbrev pub read_in : Held → Wait → ℕ → Talk → List Event → Read
+read_in held.Nothing wait room talk events = patient wait room talk events
+read_in held.Closed wait room talk events = record { seen = End; talk = record talk { held = held.Nothing }; rest = events }
+read_in held.Can wait room talk events = given (24 ∷ []) held.Nothing talk events
+read_in held.CanCan wait room talk events = if nat_lt 1 room then given (24 ∷ 24 ∷ []) held.Nothing talk events else given (24 ∷ []) held.Can talk events
+
+abbrev pub read_by : Wait → ℕ → Talk → List Event → Read
+read_by wait room talk events = read_in talk.held wait room talk events
 
 -- ---- What passes
 
@@ -85,8 +114,8 @@ event_of Failed = event.Fault
 -- what `cleared` drops; and where nothing more is written, all that is left passes.
 pub data Passes : Talk → List Event → List Event → Type 0 where
   left : (talk : Talk) (events : List Event) → Passes talk events (held_events talk.held ++ events)
-  reads : (talk : Talk) (events heard : List Event) (room : ℕ) → Passes (read_by room talk events).talk (read_by room talk events).rest heard
-      → Passes talk events (event_of (read_by room talk events).seen ∷ heard)
+  reads : (talk : Talk) (events heard : List Event) (wait : Wait) (room : ℕ) → Passes (read_by wait room talk events).talk (read_by wait room talk events).rest heard
+      → Passes talk events (event_of (read_by wait room talk events).seen ∷ heard)
   writes : (talk : Talk) (events heard : List Event) (bytes : List ℕ) (h : Held) → (cleared talk bytes events).answer ≡ Ok h
       → Passes (said bytes h talk) (cleared talk bytes events).rest heard → Passes talk events heard
   fails : (talk : Talk) (events heard : List Event) (bytes : List ℕ) (e : PortFault) → (cleared talk bytes events).answer ≡ Err e

@@ -3,6 +3,7 @@
 -- Each write may be answered once. Where an end has written more than once before an answer comes, as many answers may come as it has
 -- written, and only one of them is for what it writes next: so the line has to clear first.
 use Rattle.std.specs.Prelude.{ℕ, ◌+◌, nat_lt, nat_le, nat_eq, ◌&&◌, ◌||◌, not, Bool, true, false, List, length, slice_index, if◌then◌else◌, min}
+use Rattle.std.specs.List.{list_all}
 use Rattle.ym_link.specs.Port.{Seen, Data, Silence}
 use Rattle.ym_link.specs.declared.exchange.Exchange.{Exchange}
 use Rattle.ym_link.specs.declared.exchange.Front.{Front}
@@ -16,12 +17,16 @@ front_of bytes = record { length = length bytes; first = slice_index bytes 0; se
 abbrev pub is_same : Front → Front → Bool
 is_same a b = nat_eq a.length b.length && nat_eq a.first b.first && nat_eq a.second b.second
 
--- the lone C of a receiver that waits for a first frame
-abbrev pub asking : Front
-asking = record { length = 1; first = 67; second = 0 }
-
 abbrev pub new_exchange : Exchange
-new_exchange = record { owed = 0; came = 0; is_quiet = false; last = record { length = 0; first = 0; second = 0 }; is_repeat = false }
+new_exchange = record {
+  owed = 0;
+  came = 0;
+  is_quiet = false;
+  waited = false;
+  was_prompt = false;
+  last = record { length = 0; first = 0; second = 0 };
+  is_repeat = false;
+}
 
 -- so many bytes came
 abbrev pub heard : ℕ → Exchange → Exchange
@@ -29,7 +34,7 @@ heard count x = record x { came = min 2048 (x.came + count); is_quiet = false }
 
 -- a read found the line quiet
 abbrev pub quieted : Exchange → Exchange
-quieted x = record x { is_quiet = true }
+quieted x = record x { is_quiet = true; waited = true }
 
 -- what a read brings
 abbrev pub after_seen : Seen → Exchange → Exchange
@@ -37,36 +42,48 @@ after_seen (Data bytes) x = heard (length bytes) x
 after_seen Silence x = quieted x
 after_seen _ x = x
 
--- Something came since the last write, and it answers that: a receiver that asks for its first frame once more has had no answer, but an
--- echo of its C, or what a boot loader prints.
-abbrev pub is_answered : Exchange → Front → Bool
-is_answered x next = nat_lt 0 x.came && not (is_same next asking)
+-- what came filled a delivery, and the line was not quiet behind it: more of the same noise is under way
+abbrev pub is_full : Exchange → Bool
+is_full x = nat_le 2048 x.came && not x.is_quiet
 
--- something came, and what was said last is said again
-abbrev pub is_again : Exchange → Front → Bool
-is_again x next = nat_lt 0 x.came && is_same x.last next
+-- What came was what the end waited for, as its next write shows. A sender goes on to another frame. A receiver heard a frame, which ends
+-- a delivery as soon as it is whole; a delivery that is none ends where the line is quiet, or full.
+abbrev pub is_taken : Role → Exchange → Front → Bool
+is_taken Sender x next = nat_lt 0 x.came && not (is_same x.last next)
+is_taken Receiver x next = nat_lt 0 x.came && (nat_lt x.came 2048 && not x.is_quiet)
 
-abbrev pub is_sender : Role → Bool
-is_sender Sender = true
-is_sender Receiver = false
+-- A sender writes its EOT for the second time, as a receiver that confirms twice asks after each file: it was asked at once, and the
+-- frame before was answered at once, so that no receiver has asked because it waited.
+abbrev pub is_confirming : Role → Exchange → Front → Bool
+is_confirming Sender x next =
+    nat_lt 0 x.came && not x.waited && x.was_prompt && (nat_eq next.length 1 && is_same x.last next && not x.is_repeat)
+is_confirming Receiver x next = false
 
--- The line has to clear before a write
---   where an answer came to one of several writes: the answers to the others may be under way;
---   where what came filled a delivery: more of the same noise is under way;
---   where a sender repeats a frame in answer to what came: an answer to the frame itself may be under way. Only the first repeat of an
---   EOT goes out at once, since a receiver asks for it after every file.
+-- The line has to clear before a write where an answer came to one of several writes, for the answers to the others may be under way; and
+-- where what came filled a delivery.
 abbrev pub must_clear : Role → Exchange → Front → Bool
-must_clear role x next =
-    (is_answered x next && nat_lt 1 x.owed)
-    || (nat_le 2048 x.came && not x.is_quiet)
-    || (is_sender role && (is_again x next && (nat_lt 1 next.length || x.is_repeat)))
+must_clear role x next = is_full x || (is_taken role x next && nat_lt 1 x.owed)
 
 -- something was written
-abbrev pub wrote : Exchange → Front → Exchange
-wrote x next = record {
-  owed = if is_answered x next then 1 else (if nat_eq x.owed 0 then 1 else 2);
+abbrev pub wrote : Role → Exchange → Front → Exchange
+wrote role x next = record {
+  owed = if is_taken role x next then 1 else (if is_confirming role x next then x.owed else (if nat_eq x.owed 0 then 1 else 2));
   came = 0;
   is_quiet = false;
+  waited = false;
+  was_prompt = if is_same x.last next then x.was_prompt else (not x.waited && not (must_clear role x next));
   last = next;
-  is_repeat = is_again x next || (x.is_repeat && is_same x.last next);
+  is_repeat = is_same x.last next;
 }
+
+-- A sender has just written block 0, in answer to a C. Other C that its receiver sent before, and nothing but C, ask for what it has.
+abbrev pub is_opening : Role → Exchange → Bool
+is_opening Sender x = nat_eq x.came 0 && not x.waited && not x.is_repeat && (nat_lt 3 x.last.length && nat_eq x.last.second 0)
+is_opening Receiver x = false
+
+abbrev pub all_ask : List ℕ → Bool
+all_ask bytes = list_all (λ b. nat_eq b 67) bytes
+
+abbrev pub is_stale : Role → Exchange → Seen → Bool
+is_stale role x (Data bytes) = is_opening role x && all_ask bytes
+is_stale role x _ = false

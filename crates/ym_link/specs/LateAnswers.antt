@@ -2,7 +2,7 @@
 -- line clear (this profile).
 use Rattle.std.specs.Prelude.{◌≡◌, ℕ, zero, suc, ◌<◌, ◌≤◌, false, List, [], ◌∷◌, ◌++◌, length, Result, Ok, Err}
 use Rattle.ym_link.specs.Clearing.{cleared, said, read_by}
-use Rattle.ym_link.specs.Exchange.{front_of, is_same, asking}
+use Rattle.ym_link.specs.Exchange.{front_of, is_same, all_ask}
 use Rattle.ym_link.specs.Port.{Seen, Data, Silence}
 use Rattle.ym_link.specs.Sweep.{heeds_all, is_cancel, quiet_waits}
 use Rattle.ym_link.specs.declared.clearing.Talk.{Talk}
@@ -11,6 +11,7 @@ use Rattle.ym_link.specs.declared.event.Event.TheVariants as event
 use Rattle.ym_link.specs.declared.exchange.Role.{Role}
 use Rattle.ym_link.specs.declared.exchange.Role.TheVariants.{Sender}
 use Rattle.ym_link.specs.declared.port.PortFault.{PortFault}
+use Rattle.ym_link.specs.declared.port.Wait.TheVariants.{Reply}
 use Rattle.ym_link.specs.declared.sweep.Held.{Held}
 use Rattle.ym_link.specs.declared.sweep.Heed.{Heed}
 use Rattle.ym_link.specs.declared.sweep.Heed.TheVariants as heed
@@ -47,11 +48,11 @@ abbrev pub goes_on : (Talk → List Event → List Seen) → Talk → List ℕ �
 goes_on on talk bytes (Ok h) rest = on (said bytes h talk) rest
 goes_on on talk bytes (Err e) rest = on talk rest
 
--- what its reads give, in order, each with room for a whole delivery
+-- what its reads give, in order, each as long as one for a reply, and with room for a whole delivery
 unfoldable pub gives : List Act → Talk → List Event → List Seen
 gives [] talk events = []
 gives (Writes bytes ∷ acts) talk events = goes_on (gives acts) talk bytes (cleared talk bytes events).answer (cleared talk bytes events).rest
-gives (Reads ∷ acts) talk events = (read_by 2048 talk events).seen ∷ gives acts (read_by 2048 talk events).talk (read_by 2048 talk events).rest
+gives (Reads ∷ acts) talk events = (read_by Reply 2048 talk events).seen ∷ gives acts (read_by Reply 2048 talk events).talk (read_by Reply 2048 talk events).rest
 
 -- ---- One call and its answers
 
@@ -72,22 +73,27 @@ abbrev pub behind : Role → ℕ → List Event → List Event → List Event
 behind role zero late more = more
 behind role (suc again) late more = late_and_quiet role late more
 
+-- a wait in vain is a short one and the rest of it
+abbrev pub waits : ℕ → List Event
+waits zero = []
+waits (suc n) = event.Quiet ∷ event.Quiet ∷ waits n
+
 -- what comes: nothing so often, an answer, and what is late
 abbrev pub comes : Role → Call → List Event → List Event
-comes role call more = quiets call.again ++ (event.Piece call.answer ∷ behind role call.again call.late more)
+comes role call more = waits call.again ++ (event.Piece call.answer ∷ behind role call.again call.late more)
 
 -- what is heard: nothing so often, and then the answer; that is, rounds whose reply is lost, and one whose reply is whole
 abbrev pub hears : ℕ → List ℕ → List Seen
 hears zero answer = Data answer ∷ []
 hears (suc again) answer = Silence ∷ hears again answer
 
--- an answer is short of a full delivery, what comes late is late, and a first frame is not what is asked for
+-- an answer is short of a full delivery and more than a question, and what comes late is late
 pub record IsCall (role : Role) (call : Call) : Type 0 where
   pub some : 0 < length call.answer
   pub short : length call.answer < 2048
+  pub answers : all_ask call.answer ≡ false
   pub late : AreLate role heed.Open 9 call.late
   pub few : length call.late ≤ 65000
-  pub says : is_same (front_of call.written) asking ≡ false
 
 -- ---- Call after call
 
@@ -103,8 +109,8 @@ abbrev pub all_hears : List Call → List Seen
 all_hears [] = []
 all_hears (call ∷ calls) = hears call.again call.answer ++ all_hears calls
 
--- each call is one, and what it says is not what was said before it: its answers led on
+-- each call is one, and what a sender writes is not what it wrote before: the answer led on
 pub data AreCalls (role : Role) : List ℕ → List Call → Type 0 where
   none : (before : List ℕ) → AreCalls role before []
-  one : (before : List ℕ) (call : Call) (calls : List Call) → IsCall role call → is_same (front_of before) (front_of call.written) ≡ false
+  one : (before : List ℕ) (call : Call) (calls : List Call) → IsCall role call → (role ≡ Sender → is_same (front_of before) (front_of call.written) ≡ false)
       → AreCalls role call.written calls → AreCalls role before (call ∷ calls)

@@ -1,6 +1,6 @@
 -- What an end hears through a port that lets the line clear, computed. A frame is shortened to the bytes that tell it from the next one.
 use Rattle.std.specs.Prelude.{◌≡◌, ℕ, List, [], ◌∷◌, refl}
-use Rattle.ym_link.specs.Clearing.{new_talk}
+use Rattle.ym_link.specs.Clearing.{new_talk, fresh}
 use Rattle.ym_link.specs.LateAnswers.{Writes, Reads, gives}
 use Rattle.ym_link.specs.Port.{Data, Silence, End}
 use Rattle.ym_link.specs.Sweep.{swept}
@@ -8,7 +8,7 @@ use Rattle.ym_link.specs.declared.event.Event.TheVariants.{Piece, Quiet, Closed}
 use Rattle.ym_link.specs.declared.exchange.Role.TheVariants.{Sender, Receiver}
 
 abbrev opening : List ℕ
-opening = 0x01 ∷ 0x00 ∷ 0xFF ∷ []
+opening = 0x01 ∷ 0x00 ∷ 0xFF ∷ 0x61 ∷ []
 
 abbrev block : List ℕ
 block = 0x01 ∷ 0x01 ∷ 0xFE ∷ []
@@ -35,53 +35,67 @@ cancel = 0x18 ∷ 0x18 ∷ []
 each_answered : gives (Reads ∷ Writes opening ∷ Reads ∷ Writes eot ∷ Reads ∷ Writes eot ∷ Reads ∷ []) (new_talk Sender)
     (Piece start ∷ Piece ack_start ∷ Piece nak ∷ Piece ack_start ∷ [])
     ≡ Data start ∷ Data ack_start ∷ Data nak ∷ Data ack_start ∷ []
-unfolding gives swept
+unfolding gives swept fresh
 each_answered = refl
 
--- The other end stalls, and answers both copies of a frame: the second answer is dropped.
+-- The other end stalls, and answers both copies of a frame: the second answer is dropped. A wait in vain is a short one and the rest of it.
 stalled_peer : gives (Writes opening ∷ Reads ∷ Writes opening ∷ Reads ∷ Writes block ∷ Reads ∷ []) (new_talk Sender)
-    (Quiet ∷ Piece ack_start ∷ Piece ack_start ∷ Quiet ∷ Quiet ∷ Piece ack ∷ [])
+    (Quiet ∷ Quiet ∷ Piece ack_start ∷ Piece ack_start ∷ Quiet ∷ Quiet ∷ Piece ack ∷ [])
     ≡ Silence ∷ Data ack_start ∷ Data ack ∷ []
-unfolding gives swept
+unfolding gives swept fresh
 stalled_peer = refl
 
 -- A receiver asks three times before its peer starts, which answers each C, byte by byte: one frame is heard.
 late_peer : gives (Reads ∷ Writes start ∷ Reads ∷ Writes start ∷ Reads ∷ Writes ack_start ∷ Reads ∷ []) (new_talk Receiver)
-    (Quiet ∷ Quiet ∷ Piece opening ∷ Piece (0x01 ∷ []) ∷ Piece (0x00 ∷ 0xFF ∷ []) ∷ Quiet ∷ Piece block ∷ [])
+    (Quiet ∷ Quiet ∷ Quiet ∷ Quiet ∷ Piece opening ∷ Piece (0x01 ∷ []) ∷ Piece (0x00 ∷ 0xFF ∷ []) ∷ Quiet ∷ Piece block ∷ [])
     ≡ Silence ∷ Silence ∷ Data opening ∷ Data block ∷ []
-unfolding gives swept
+unfolding gives swept fresh
 late_peer = refl
 
 -- The same behind the echo of a C, which answers nothing.
 late_peer_and_echo : gives (Reads ∷ Writes start ∷ Reads ∷ Reads ∷ Writes start ∷ Reads ∷ Writes ack_start ∷ Reads ∷ []) (new_talk Receiver)
-    (Quiet ∷ Piece start ∷ Quiet ∷ Piece opening ∷ Piece opening ∷ Quiet ∷ Piece block ∷ [])
+    (Quiet ∷ Quiet ∷ Piece start ∷ Quiet ∷ Quiet ∷ Piece opening ∷ Piece opening ∷ Quiet ∷ Piece block ∷ [])
     ≡ Silence ∷ Data start ∷ Silence ∷ Data opening ∷ Data block ∷ []
-unfolding gives swept
+unfolding gives swept fresh
 late_peer_and_echo = refl
 
--- A frame is repeated on a clear line: its own answer, which crossed the NAK, is dropped.
-crossed_nak : gives (Writes block ∷ Reads ∷ Writes block ∷ Reads ∷ []) (new_talk Sender)
-    (Piece nak ∷ Quiet ∷ Piece ack ∷ Quiet ∷ Quiet ∷ Piece ack ∷ [])
-    ≡ Data nak ∷ Data ack ∷ []
-unfolding gives swept
+-- A sender starts late: the other C that its receiver has sent before are passed over.
+late_sender : gives (Reads ∷ Writes opening ∷ Reads ∷ []) (new_talk Sender)
+    (Piece start ∷ Piece start ∷ Piece start ∷ Piece ack_start ∷ [])
+    ≡ Data start ∷ Data ack_start ∷ []
+unfolding gives swept fresh
+late_sender = refl
+
+-- A receiver asks while a frame is under way, and answers it and its copy: the second answer is dropped before the next frame.
+crossed_nak : gives (Writes block ∷ Reads ∷ Writes block ∷ Reads ∷ Writes eot ∷ Reads ∷ []) (new_talk Sender)
+    (Piece nak ∷ Piece ack ∷ Piece ack ∷ Quiet ∷ Quiet ∷ Piece nak ∷ [])
+    ≡ Data nak ∷ Data ack ∷ Data nak ∷ []
+unfolding gives swept fresh
 crossed_nak = refl
+
+-- A receiver's answer to the last block comes late, and a NAK behind it; the receiver confirms once, and answers both EOTs.
+late_nak_at_an_eot : gives (Writes block ∷ Reads ∷ Writes eot ∷ Reads ∷ Writes eot ∷ Reads ∷ Writes opening ∷ Reads ∷ []) (new_talk Sender)
+    (Quiet ∷ Piece ack ∷ Piece nak ∷ Piece ack_start ∷ Piece ack_start ∷ Quiet ∷ Quiet ∷ Piece ack_start ∷ [])
+    ≡ Data ack ∷ Data nak ∷ Data ack_start ∷ Data ack_start ∷ []
+unfolding gives swept fresh
+late_nak_at_an_eot = refl
 
 -- CAN CAN among what is dropped is heard at the next read, and so is the end of the line.
 cancel_is_heard : gives (Writes block ∷ Reads ∷ Writes block ∷ Reads ∷ Writes eot ∷ Reads ∷ []) (new_talk Sender)
-    (Quiet ∷ Piece ack ∷ Piece ack ∷ Piece cancel ∷ [])
+    (Quiet ∷ Quiet ∷ Piece ack ∷ Piece ack ∷ Piece cancel ∷ [])
     ≡ Silence ∷ Data ack ∷ Data cancel ∷ []
-unfolding gives swept
+unfolding gives swept fresh
 cancel_is_heard = refl
 
 close_is_heard : gives (Writes block ∷ Reads ∷ Writes block ∷ Reads ∷ Writes eot ∷ Reads ∷ []) (new_talk Sender)
-    (Quiet ∷ Piece ack ∷ Closed ∷ Piece ack ∷ [])
+    (Quiet ∷ Quiet ∷ Piece ack ∷ Closed ∷ Piece ack ∷ [])
     ≡ Silence ∷ Data ack ∷ End ∷ []
-unfolding gives swept
+unfolding gives swept fresh
 close_is_heard = refl
 
 -- To a receiver CAN CAN inside of a copy is data.
 data_is_no_cancel : gives (Writes start ∷ Reads ∷ Writes start ∷ Reads ∷ Writes ack ∷ Reads ∷ []) (new_talk Receiver)
-    (Quiet ∷ Piece block ∷ Piece (0x01 ∷ 0x18 ∷ 0x18 ∷ []) ∷ Quiet ∷ Piece eot ∷ [])
+    (Quiet ∷ Quiet ∷ Piece block ∷ Piece (0x01 ∷ 0x18 ∷ 0x18 ∷ []) ∷ Quiet ∷ Piece eot ∷ [])
     ≡ Silence ∷ Data block ∷ Data eot ∷ []
-unfolding gives swept
+unfolding gives swept fresh
 data_is_no_cancel = refl

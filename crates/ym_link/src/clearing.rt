@@ -7,7 +7,7 @@ ghost use Rattle.ym_link.specs.Port.{Tape, seen_of, read_gives, read_leaves, aft
 
 use crate::exchange::{Exchange, Front, Role};
 use crate::port::{Got, Port, PortFault, Wait};
-use crate::sweep::{CAN, Held, Sweep, let_clear};
+use crate::sweep::{CAN, Held, MOST_READS, Sweep, let_clear};
 
 /// What an end and its line have said of late.
 #[derive(Clone, Copy)]
@@ -51,7 +51,7 @@ impl Talk {
     {
         Talk {
             role: self.role,
-            exchange: self.exchange.wrote(Front::of(bytes)),
+            exchange: self.exchange.wrote(self.role, Front::of(bytes)),
             held,
         }
     }
@@ -89,7 +89,8 @@ pub struct Clearing<P: Port + Drop> {
 }
 
 impl<P: Port + Drop> Clearing<P> {
-    ghost use Rattle.ym_link.specs.Clearing.{new_talk, read_by};
+    ghost use Rattle.ym_link.specs.Clearing.{new_talk, IsRead, once, fresh, patient, read_by};
+    ghost use Rattle.ym_link.specs.Sweep.{most_reads};
 
     /// The port as this end has it.
     pub fn new(port: P, role: Role) -> Clearing<P>
@@ -102,23 +103,69 @@ impl<P: Port + Drop> Clearing<P> {
         }
     }
 
+    /// Reads what is there, or waits.
+    fn read_once(&mut self, wait: Wait, buf: &mut [u8]) -> Result<Got, PortFault>
+        requires { 0 < length buf.old }
+        ensures count { (n : ℕ) → result ≡ Ok (Got.Bytes n) → (0 < n) × (n ≤ length buf.old) }
+        ensures exact { (u : Tape) → P.tells self.new.port u → (t : Tape) × P.tells self.old.port t
+            × IsRead (once (length buf.old) self.old.talk t.coming) (seen_of result buf.new) self.new.talk t u }
+        ensures ok { OnOk result (P.failures self.new.port ≡ P.failures self.old.port) }
+        ensures failed { OnErr result (Rose (P.failures self.old.port) (P.failures self.new.port)) }
+    {
+        let got = self.port.read(wait, buf);
+        self.talk.exchange = self.talk.exchange.after(&got);
+        got
+    }
+
+    /// The same, for a short time, and past what asks for the block 0 that was just written.
+    fn read_fresh(&mut self, buf: &mut [u8]) -> Result<Got, PortFault>
+        requires { 0 < length buf.old }
+        ensures count { (n : ℕ) → result ≡ Ok (Got.Bytes n) → (0 < n) × (n ≤ length buf.old) }
+        ensures exact { (u : Tape) → P.tells self.new.port u → (t : Tape) × P.tells self.old.port t
+            × IsRead (fresh most_reads (length buf.old) self.old.talk t.coming) (seen_of result buf.new) self.new.talk t u }
+        ensures ok { OnOk result (P.failures self.new.port ≡ P.failures self.old.port) }
+        ensures failed { OnErr result (Rose (P.failures self.old.port) (P.failures self.new.port)) }
+    {
+        for _done in 0..MOST_READS {
+            let got = self.port.read(Wait::Within, buf);
+            if !self.talk.exchange.is_stale(self.talk.role, &got, buf) {
+                self.talk.exchange = self.talk.exchange.after(&got);
+                return got;
+            }
+        }
+        self.read_once(Wait::Within, buf)
+    }
+
+    /// Reads what is there, or waits: for a reply a short time first, and then the rest of it.
+    fn read_patiently(&mut self, wait: Wait, buf: &mut [u8]) -> Result<Got, PortFault>
+        requires { 0 < length buf.old }
+        ensures count { (n : ℕ) → result ≡ Ok (Got.Bytes n) → (0 < n) × (n ≤ length buf.old) }
+        ensures exact { (u : Tape) → P.tells self.new.port u → (t : Tape) × P.tells self.old.port t
+            × IsRead (patient wait (length buf.old) self.old.talk t.coming) (seen_of result buf.new) self.new.talk t u }
+        ensures ok { OnOk result (P.failures self.new.port ≡ P.failures self.old.port) }
+        ensures failed { OnErr result (Rose (P.failures self.old.port) (P.failures self.new.port)) }
+    {
+        match wait {
+            Wait::Within => self.read_once(Wait::Within, buf),
+            Wait::Reply => match self.read_fresh(buf) {
+                Ok(Got::Quiet) => self.read_once(Wait::Reply, buf),
+                Ok(got) => Ok(got),
+                Err(fault) => Err(fault),
+            },
+        }
+    }
+
     /// Reads what is to be heard yet, or what is there.
     fn read_next(&mut self, wait: Wait, buf: &mut [u8]) -> Result<Got, PortFault>
         requires { 0 < length buf.old }
         ensures count { (n : ℕ) → result ≡ Ok (Got.Bytes n) → (0 < n) × (n ≤ length buf.old) }
         ensures exact { (u : Tape) → P.tells self.new.port u → (t : Tape) × P.tells self.old.port t
-            × (seen_of result buf.new ≡ (read_by (length buf.old) self.old.talk t.coming).seen)
-            × (self.new.talk ≡ (read_by (length buf.old) self.old.talk t.coming).talk)
-            × (u ≡ record t { coming = (read_by (length buf.old) self.old.talk t.coming).rest }) }
+            × IsRead (read_by wait (length buf.old) self.old.talk t.coming) (seen_of result buf.new) self.new.talk t u }
         ensures ok { OnOk result (P.failures self.new.port ≡ P.failures self.old.port) }
         ensures failed { OnErr result (Rose (P.failures self.old.port) (P.failures self.new.port)) }
     {
         match self.talk.held {
-            Held::Nothing => {
-                let got = self.port.read(wait, buf);
-                self.talk.exchange = self.talk.exchange.after(&got);
-                got
-            }
+            Held::Nothing => self.read_patiently(wait, buf),
             Held::Closed => {
                 self.talk.held = Held::Nothing;
                 Ok(Got::Closed)
@@ -150,7 +197,7 @@ impl<P: Port + Drop> Clearing<P> {
 }
 
 impl<P: Port + Drop> Port for Clearing<P> {
-    ghost use Rattle.ym_link.specs.Clearing.{Passes, read_by, cleared, Writes};
+    ghost use Rattle.ym_link.specs.Clearing.{Passes, IsRead, read_by, cleared, Writes};
 
     ghost tells = { λ c u. (t : Tape) × P.tells c.port t × (u.written ≡ t.written) × Passes c.talk t.coming u.coming };
 
@@ -160,9 +207,7 @@ impl<P: Port + Drop> Port for Clearing<P> {
         requires { 0 < length buf.old }
         ensures count { (n : ℕ) → result ≡ Ok (Got.Bytes n) → (0 < n) × (n ≤ length buf.old) }
         ensures exact { (u : Tape) → P.tells self.new.port u → (t : Tape) × P.tells self.old.port t
-            × (seen_of result buf.new ≡ (read_by (length buf.old) self.old.talk t.coming).seen)
-            × (self.new.talk ≡ (read_by (length buf.old) self.old.talk t.coming).talk)
-            × (u ≡ record t { coming = (read_by (length buf.old) self.old.talk t.coming).rest }) }
+            × IsRead (read_by wait (length buf.old) self.old.talk t.coming) (seen_of result buf.new) self.new.talk t u }
         ensures told { (u : Tape) → ((t : Tape) × P.tells self.new.port t × (u.written ≡ t.written) × Passes self.new.talk t.coming u.coming)
             → (x : Tape) × ((t : Tape) × P.tells self.old.port t × (x.written ≡ t.written) × Passes self.old.talk t.coming x.coming)
             × (seen_of result buf.new ≡ read_gives (length buf.old) x.coming)

@@ -26,25 +26,22 @@ pub struct Front {
     pub second: u8,
 }
 
-/// The lone C, by which a receiver asks for a first frame.
-const ASKING: Front = Front {
-    length: 1,
-    first: b'C',
-    second: 0,
-};
-
 /// What an end has said and heard of late.
 #[derive(Clone, Copy)]
 pub struct Exchange {
-    /// How many answers may be under way: one for each write that nothing answered. Two stands for more.
+    /// How many answers may be under way: one for each write whose answer did not come. Two stands for more.
     pub owed: u8,
     /// How many bytes came since the last write; 2048 stands for more.
     pub came: usize,
     /// Whether the last read found the line quiet.
     pub is_quiet: bool,
+    /// Whether any read since the last write did.
+    pub waited: bool,
+    /// Whether what was written before the last frame was answered at once.
+    pub was_prompt: bool,
     /// What was written last.
     pub last: Front,
-    /// Whether it was written again already, in answer to what came.
+    /// Whether that was the one before, written again.
     pub is_repeat: bool,
 }
 
@@ -68,6 +65,13 @@ impl Front {
     }
 }
 
+/// Whether these bytes are C alone.
+fn all_ask(bytes: &[u8]) -> bool
+    ensures { result ≡ table.all_ask bytes.now }
+{
+    bytes.iter().all(|byte| *byte == b'C')
+}
+
 impl Exchange {
     /// Nothing was said or heard.
     pub fn new() -> Exchange
@@ -77,6 +81,8 @@ impl Exchange {
             owed: 0,
             came: 0,
             is_quiet: false,
+            waited: false,
+            was_prompt: false,
             last: Front {
                 length: 0,
                 first: 0,
@@ -103,6 +109,28 @@ impl Exchange {
         }
     }
 
+    /// Whether a sender has just written block 0.
+    fn is_opening(self, role: Role) -> bool
+        ensures { result ≡ table.is_opening role self }
+    {
+        let is_fresh = self.came == 0 && !self.waited && !self.is_repeat;
+        match role {
+            Role::Sender => is_fresh && 3 < self.last.length && self.last.second == 0,
+            Role::Receiver => false,
+        }
+    }
+
+    /// Whether what was read asks for the block 0 that a sender has just written.
+    pub fn is_stale(self, role: Role, got: &Result<Got, PortFault>, buf: &[u8]) -> bool
+        requires { (n : ℕ) → got.now ≡ Ok (Got.Bytes n) → n ≤ length buf.now }
+        ensures { result ≡ table.is_stale role self (seen_of got.now buf.now) }
+    {
+        match got {
+            Ok(Got::Bytes(n)) => self.is_opening(role) && all_ask(&buf[..*n]),
+            _ => false,
+        }
+    }
+
     /// After what a read got.
     pub fn after(self, got: &Result<Got, PortFault>) -> Exchange
         ensures { (buf : List ℕ) → ((n : ℕ) → got.now ≡ Ok (Got.Bytes n) → n ≤ length buf) → result ≡ table.after_seen (seen_of got.now buf) self }
@@ -120,43 +148,55 @@ impl Exchange {
     {
         Exchange {
             is_quiet: true,
+            waited: true,
             ..self
         }
     }
 
-    /// Whether what came answers what was written last, as the next write shows.
-    fn is_answered(self, next: Front) -> bool
-        ensures { result ≡ table.is_answered self next }
+    /// Whether what came filled a delivery, and more may be coming.
+    fn is_full(self) -> bool
+        ensures { result ≡ table.is_full self }
     {
-        0 < self.came && !next.is(ASKING)
+        DELIVERY_LIMIT <= self.came && !self.is_quiet
     }
 
-    /// Whether the next write says the last one again, in answer to what came.
-    fn is_again(self, next: Front) -> bool
-        ensures { result ≡ table.is_again self next }
+    /// Whether what came was what this end waited for, as its next write shows.
+    fn is_taken(self, role: Role, next: Front) -> bool
+        ensures { result ≡ table.is_taken role self next }
     {
-        0 < self.came && self.last.is(next)
+        match role {
+            Role::Sender => 0 < self.came && !self.last.is(next),
+            Role::Receiver => 0 < self.came && self.came < DELIVERY_LIMIT && !self.is_quiet,
+        }
+    }
+
+    /// Whether the next write is the EOT that a receiver asks for after each file.
+    fn is_confirming(self, role: Role, next: Front) -> bool
+        ensures { result ≡ table.is_confirming role self next }
+    {
+        let is_prompt = 0 < self.came && !self.waited && self.was_prompt;
+        match role {
+            Role::Sender => next.length == 1 && self.last.is(next) && !self.is_repeat && is_prompt,
+            Role::Receiver => false,
+        }
     }
 
     /// Whether the line has to clear before the next write.
     pub fn must_clear(self, role: Role, next: Front) -> bool
         ensures { result ≡ table.must_clear role self next }
     {
-        let is_late = self.is_answered(next) && 1 < self.owed;
-        let is_full = DELIVERY_LIMIT <= self.came && !self.is_quiet;
-        let is_again = self.is_again(next) && (1 < next.length || self.is_repeat);
-        match role {
-            Role::Sender => is_late || is_full || is_again,
-            Role::Receiver => is_late || is_full,
-        }
+        self.is_full() || (self.is_taken(role, next) && 1 < self.owed)
     }
 
     /// After a write.
-    pub fn wrote(self, next: Front) -> Exchange
-        ensures { result ≡ table.wrote self next }
+    pub fn wrote(self, role: Role, next: Front) -> Exchange
+        ensures { result ≡ table.wrote role self next }
     {
-        let owed = if self.is_answered(next) {
+        let is_same = self.last.is(next);
+        let owed = if self.is_taken(role, next) {
             1
+        } else if self.is_confirming(role, next) {
+            self.owed
         } else if self.owed == 0 {
             1
         } else {
@@ -166,8 +206,14 @@ impl Exchange {
             owed,
             came: 0,
             is_quiet: false,
+            waited: false,
+            was_prompt: if is_same {
+                self.was_prompt
+            } else {
+                !self.waited && !self.must_clear(role, next)
+            },
             last: next,
-            is_repeat: self.is_again(next) || (self.is_repeat && self.last.is(next)),
+            is_repeat: is_same,
         }
     }
 }

@@ -9,7 +9,7 @@ use crate::exchange::Role;
 use crate::port::{DELIVERY_LIMIT, Got, Port, PortFault, Wait};
 
 /// How many reads it takes at most: a line hands on a byte in a read of its own.
-const MOST_READS: u32 = 65_536;
+pub const MOST_READS: u32 = 65_536;
 
 /// The byte CAN.
 pub const CAN: u8 = 0x18;

@@ -67,7 +67,7 @@ where
 {
     let sink = DirSink::new(rt, alloc, dir)?;
     let mut receiver = ReceiverInto::with_sink(alloc, sink, confirm);
-    let port = SocketPort::new(accept_one(rt, port)?, REPLY_MS, WITHIN_MS);
+    let port = SocketPort::new(accept_one(rt, port)?, REPLY_MS - WITHIN_MS, WITHIN_MS);
     let mut port = Clearing::new(port, Role::Receiver);
     let ended = receive_over(&mut port, &mut receiver);
     let line = ReceiverLine {

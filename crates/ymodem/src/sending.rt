@@ -92,7 +92,7 @@ where
     let Ok(mut sender) = SenderFrom::new(batch, shape) else {
         return Err(CommandFault::TooManyFiles);
     };
-    let port = SocketPort::new(connect(rt, port)?, REPLY_MS, WITHIN_MS);
+    let port = SocketPort::new(connect(rt, port)?, REPLY_MS - WITHIN_MS, WITHIN_MS);
     let mut port = Clearing::new(port, Role::Sender);
     let ended = send_over(&mut port, &mut sender);
     let line = SenderLine {

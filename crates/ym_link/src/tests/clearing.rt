@@ -34,16 +34,17 @@ fn send(
 
 #[test]
 fn a_peer_that_stalls_before_an_eot(rt: HostRuntime) -> Result<(), Fail> {
-    // The answers to both copies of the EOT come: NAK, and then ACK C for the second. That one is dropped, and asked for again.
+    // The answers to both copies of the EOT come late: NAK, for which it is written a third time, and ACK C. The answer to the third is dropped.
     let coming = [
         Coming::Piece(START),
         Coming::Piece(ACK_START),
         Coming::Quiet,
+        Coming::Quiet,
         Coming::Piece(NAK),
         Coming::Piece(ACK_START),
-        Coming::Quiet,
-        Coming::Quiet,
         Coming::Piece(ACK_START),
+        Coming::Quiet,
+        Coming::Quiet,
         Coming::Piece(ACK),
     ];
     let alloc = rt.alloc();
@@ -58,6 +59,7 @@ fn a_peer_that_stalls_before_an_eot(rt: HostRuntime) -> Result<(), Fail> {
 fn a_cancel_while_the_line_clears(rt: HostRuntime) -> Result<(), Fail> {
     let coming = [
         Coming::Piece(START),
+        Coming::Quiet,
         Coming::Quiet,
         Coming::Piece(ACK_START),
         Coming::Piece(ACK_START),
@@ -77,6 +79,7 @@ fn a_port_that_fails_while_the_line_clears(rt: HostRuntime) -> Result<(), Fail> 
     let coming = [
         Coming::Piece(START),
         Coming::Quiet,
+        Coming::Quiet,
         Coming::Piece(ACK_START),
         Coming::Fault,
     ];
@@ -94,6 +97,9 @@ fn a_peer_that_starts_late(rt: HostRuntime) -> Result<(), Fail> {
     let alloc = rt.alloc();
     let end = end_block();
     let coming = [
+        Coming::Quiet,
+        Coming::Quiet,
+        Coming::Quiet,
         Coming::Quiet,
         Coming::Quiet,
         Coming::Quiet,

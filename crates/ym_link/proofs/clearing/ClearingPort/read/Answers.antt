@@ -9,6 +9,6 @@ pub returns-clause-told : goal.returns-clause-told
 returns-clause-told g c u p =
     let got = c.read_next.ensures.exact p.0 p.1 in
     let size : length c.args.buf.now ≡ length c.read_next.new.buf = search rules in
-    let out = read-passes (length c.args.buf.now) c.args.self.now.talk c.read_next.new.self.talk (seen_of c.read_next.result c.read_next.new.buf) u p.0 got.0
-    (fits-seen (length c.args.buf.now) c.read_next.result c.read_next.new.buf size c.read_next.ensures.count) got.2 got.3 got.4 p.2 p.3 in
+    let out = read-passes c.args.wait (length c.args.buf.now) c.args.self.now.talk c.read_next.new.self.talk (seen_of c.read_next.result c.read_next.new.buf) u p.0 got.0
+    (fits-seen (length c.args.buf.now) c.read_next.result c.read_next.new.buf size c.read_next.ensures.count) got.2 p.2 p.3 in
     (tape_of (event_of (seen_of c.read_next.result c.read_next.new.buf) ∷ u.coming) u.written, (got.0, got.1, out.0, out.1), out.2, out.3)

@@ -1,0 +1,57 @@
+-- Each way out of the loop is what the definition says there.
+use Rattle.std.proofs.Common.{◌≡◌, ◌-◌, ◌+◌, true, false, length, rules, sym, ◌∙◌, ap}
+use Rattle.ym_link.specs.Clearing.{fresh}
+use Rattle.ym_link.specs.Exchange.{is_stale, after_seen}
+use Rattle.ym_link.specs.Port.{Tape, seen_of, read_gives}
+use Rattle.ym_link.proofs.Fresh.{fresh-on, fresh-over, fresh-out, read-of, stale-calm, talk-after}
+use Rattle.ym_link.proofs.clearing.Clearing.read_fresh.Goals as goal
+
+pub loop-done-preserved : goal.loop-done-preserved
+loop-done-preserved g c =
+    let same = c.loop-done.invariant.talk in
+    let sized : length c.loop-done.buf ≡ length c.args.buf.now = c.loop-done.invariant.sized in
+    let stale_here : is_stale c.loop-done.self.talk.role c.loop-done.self.talk.exchange (seen_of c.read-got.result c.read-got.new.buf) ≡ true = sym c.is_stale.ensures ∙ c.if-not-is_stale.false in
+    let stale : is_stale c.args.self.now.talk.role c.args.self.now.talk.exchange (seen_of c.read-got.result c.read-got.new.buf) ≡ true = rw same at stale_here in
+    record {
+      some = search rules;
+      sized = search rules;
+      talk = same;
+      told = λ u e.
+          let got = c.read-got.ensures.told u e in
+          let inv = c.loop-done.invariant.told got.0 got.1 in
+          let seen : seen_of c.read-got.result c.read-got.new.buf ≡ read_gives (length c.args.buf.now) got.0.coming = rw sized at got.2 in
+          let left = rw sized at got.3 in (
+            inv.0,
+            inv.1,
+            ap (λ (x : Tape). x.written) got.3 ∙ inv.2,
+            inv.3 ∙ (fresh-on 65536 c.loop-done._done (length c.args.buf.now) c.args.self.now.talk got.0.coming _ c.loop-done-test.true seen stale
+                ∙ ap (λ (x : Tape). fresh (65536 - (c.loop-done._done + 1)) (length c.args.buf.now) c.args.self.now.talk x.coming) (sym left)),
+          );
+      calm = stale-calm c.args.self.now.talk.role c.args.self.now.talk.exchange c.read-got.result c.read-got.new.buf _ stale c.read-got.ensures.ok ∙ c.loop-done.invariant.calm;
+    }
+
+pub returns-then-not-is_stale-clause-exact : goal.returns-then-not-is_stale-clause-exact
+returns-then-not-is_stale-clause-exact g c u e =
+    let same = c.loop-done.invariant.talk in
+    let sized : length c.loop-done.buf ≡ length c.args.buf.now = c.loop-done.invariant.sized in
+    let new_here : is_stale c.loop-done.self.talk.role c.loop-done.self.talk.exchange (seen_of c.read-got.result c.read-got.new.buf) ≡ false = sym c.is_stale.ensures ∙ c.if-not-is_stale.true in
+    let new : is_stale c.args.self.now.talk.role c.args.self.now.talk.exchange (seen_of c.read-got.result c.read-got.new.buf) ≡ false = rw same at new_here in
+    let got = c.read-got.ensures.told u e in
+    let inv = c.loop-done.invariant.told got.0 got.1 in
+    let seen : seen_of c.read-got.result c.read-got.new.buf ≡ read_gives (length c.args.buf.now) got.0.coming = rw sized at got.2 in
+    let left = rw sized at got.3 in
+    let whole = inv.3 ∙ fresh-over 65536 c.loop-done._done (length c.args.buf.now) c.args.self.now.talk got.0.coming _ c.loop-done-test.true seen new in
+    let after : c.after-self.result ≡ after_seen (seen_of c.read-got.result c.read-got.new.buf) c.loop-done.self.talk.exchange = search rules in
+    let read = read-of _ (length c.args.buf.now) c.args.self.now.talk (record c.loop-done.self.talk { exchange = c.after-self.result }) (seen_of c.read-got.result c.read-got.new.buf) u got.0 inv.0 whole inv.2
+    (seen, talk-after c.loop-done.self.talk c.args.self.now.talk c.after-self.result _ _ same after seen, left) in
+    (inv.0, inv.1, read)
+
+pub returns-clause-exact : goal.returns-clause-exact
+returns-clause-exact g c u e =
+    let same = c.loop-done.invariant.talk in
+    let sized : length c.loop-done.buf ≡ length c.args.buf.now = c.loop-done.invariant.sized in
+    let got = c.read_once.ensures.exact u e in
+    let inv = c.loop-done.invariant.told got.0 got.1 in
+    let whole = inv.3 ∙ fresh-out 65536 c.loop-done._done (length c.args.buf.now) c.args.self.now.talk got.0.coming c.loop-done-test.false in
+    let read = rw (sized, same) at got.2 in
+    (inv.0, inv.1, read-of _ (length c.args.buf.now) c.args.self.now.talk c.read_once.new.self.talk _ u got.0 inv.0 whole inv.2 read)
