@@ -1,8 +1,9 @@
 #!/usr/bin/env python3
-"""Tries the program on real sockets and files: transfers over a line that is damaged, peers that misbehave, and lrzsz where it is installed.
+"""Tries the program on real sockets and files: transfers over a line that is damaged, lines with the pace of a serial one, peers that start
+late, stall or misbehave, and lrzsz where it is installed.
 
 Prints a line for each check, and ends with the line 'N passed, M failed'; the status is 1 where a check failed. It needs Python alone,
-uses ports of 127.0.0.1, and takes about two minutes, most of which the program waits for a peer that stays quiet.
+uses ports of 127.0.0.1, and takes about two minutes, most of which is spent in waiting.
 
 usage: transfer.py [--interop] [WORD..]
   --interop   only the checks with lrzsz, which has to be installed
