@@ -27,8 +27,8 @@ pub use script_port::ScriptPort;
 pub use send_engine::send_over;
 pub use sender::{BatchFault, Sender, SenderFrom};
 pub use source_file::{SendFile, SourceFile};
-pub use ym_file::Received;
 pub use ym_core::{Confirm, Heard, RecvState, SendState, heard};
+pub use ym_file::Received;
 
 #[cfg(test)]
 mod tests;

@@ -5,5 +5,6 @@ mod engines;
 mod every_byte;
 mod receiver;
 mod receiver_table;
+mod scripted;
 mod sender;
 mod sender_table;

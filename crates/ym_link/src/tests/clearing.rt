@@ -1,7 +1,7 @@
 //! Both ends over a port that lets the line clear.
 
-use super::engines::{
-    ACK, ACK_START, Coming, EOT, Failing, START, end_block, header_of, port_of, repeated,
+use super::scripted::{
+    ACK, ACK_START, CANCEL, Coming, EOT, Failing, START, end_block, header_of, port_of, repeated,
 };
 use crate::{
     Clearing, EndFault, Receiver, RecvState, Role, SendFile, SendState, Sender, receive_over,
@@ -13,8 +13,6 @@ use ym_file::Shape;
 use ym_header::Stamp;
 
 const NAK: &[u8] = &[0x15];
-
-const CANCEL: &[u8] = &[0x18, 0x18];
 
 /// Sends one file `a` of no bytes, and tells how it ended: what the engine answered, the state, the files done, and whether these bytes
 /// were written.
