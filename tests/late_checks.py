@@ -16,6 +16,11 @@ from waits import wait_for
 
 ASKED = (0, 1, 2, 4, 6, 9)
 GAPS = (0.0, 0.1, 0.3, 0.7)
+
+# Copies have to come within a second of one another; what is left of it is for the way.
+LONGEST_GAP = 0.9
+TRIES = 5
+
 CHANCE = random.Random(10)
 SINGLE = (("", []), (", --single", ["--single"]))
 
@@ -39,11 +44,15 @@ def plain_sender(files, asked, gap, flags, cut):
         sender.run(end)
 
     def check():
-        sender = PlainSender(files, gap=gap, cut=cut)
-        with folders() as (_, there):
-            ended = receive_from(lambda end: late(sender, end), there, flags)
-            claims = [claim_of_receive(ended, files), Claim("the sender", sender.is_finished, sender.done)]
-            wants_true(files, stored(there), claims, wants_finished=True)
+        # A busy machine can stretch a gap beyond the second within which copies have to come: such a transfer shows nothing, and another one is made.
+        for _ in range(TRIES):
+            sender = PlainSender(files, gap=gap, cut=cut)
+            with folders() as (_, there):
+                ended = receive_from(lambda end: late(sender, end), there, flags)
+                if sender.longest_gap < LONGEST_GAP:
+                    claims = [claim_of_receive(ended, files), Claim("the sender", sender.is_finished, sender.done)]
+                    return wants_true(files, stored(there), claims, wants_finished=True)
+        raise AssertionError("this machine stretched a gap of %d ms beyond %d ms, each of %d times" % (gap * 1000, LONGEST_GAP * 1000, TRIES))
 
     return check
 

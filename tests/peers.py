@@ -175,6 +175,8 @@ class PlainSender:
         self.frames = frames_of(files, cut)
         self.pause = pause
         self.gap = gap
+        # How long it took at most from one copy of a frame to the next one, in seconds.
+        self.longest_gap = 0.0
         self.done = 0
         self.is_finished = False
 
@@ -213,6 +215,10 @@ class PlainSender:
     def send(self, end, frame):
         """Writes a frame until it is acknowledged."""
         end.sendall(frame)
+        asked = None
         while self.reply(end) != ACK:
+            begun = asked or time.monotonic()
             time.sleep(self.gap)
             end.sendall(frame)
+            asked = time.monotonic()
+            self.longest_gap = max(self.longest_gap, asked - begun)
