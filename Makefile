@@ -1,33 +1,54 @@
-# make play              builds the program and plays the example session
-# make test              everything that is checked before a change lands: the program on sockets and files, and then the gate, whose last line
-#                        is 'N passed, M failed'
+# make play              plays the example session: by the program where it is built, else by a build without proofs (about a minute)
+# make build             proves and builds the program
+# make check             while you write: proves what changed, and tries the tests of the crates that changed since the last green run
+# make test              everything that is checked before a change lands: the program on sockets and files, what is shipped beside it,
+#                        want of memory, and then the gate, whose last line is 'N passed, M failed'
+# make memory            each growth of memory refused in turn, alone
 # make interop           the program against lrzsz, which has to be installed
-# make install           puts the program into $(DESTDIR)$(PREFIX)/bin
+# make install           puts the program, ymodem-tty, the manual pages and the completion below $(DESTDIR)$(PREFIX)
+# make deb, make dist    the same as a Debian package, and as a tar file, in out/
+# make charts            draws the charts of docs/pictures from the traces that the program prints
 # make bench             measures the program
-# All need the toolchain: `rt` on the path. The checks on sockets and the measurements also need Python 3.
+# All need the toolchain: `rt` on the path, and Python 3.
 
 PREFIX ?= /usr/local
 PROGRAM = crates/ymodem/out/ymodem
 
-.PHONY: build play test interop install bench clean
+.PHONY: play build check test memory interop install deb dist charts bench clean
 
-# `rt run` proves what changed, builds the program, and runs it on the stored session. What it says is shown where it fails.
+play:
+	@tools/prove.py play
+
+# `rt run` proves what changed, and builds. It goes on where an interrupted run was.
 build:
-	@echo "proving and building (minutes the first time)"
-	@cd crates/ymodem && { said=$$(rt run < stdin 2>&1) || { printf '%s\n' "$$said"; exit 1; }; }
+	@tools/prove.py
 
-play: build
-	@$(PROGRAM) play < crates/ymodem/stdin
+check:
+	@tools/prove.py check
 
 test: build
 	tests/transfer.py
+	tests/shipped.py
+	tests/memory.py
 	rt ci
+
+memory:
+	tests/memory.py
 
 interop: build
 	tests/transfer.py --interop
 
 install: build
-	install -D -m 755 $(PROGRAM) $(DESTDIR)$(PREFIX)/bin/ymodem
+	tools/install.sh $(PROGRAM) "$(DESTDIR)$(PREFIX)"
+
+deb: build
+	packaging/package.py deb $(PROGRAM) out
+
+dist: build
+	packaging/package.py dist $(PROGRAM) out
+
+charts: build
+	docs/pictures/draw.py $(PROGRAM)
 
 bench: build
 	bench/play.py
@@ -36,3 +57,32 @@ bench: build
 
 clean:
 	rm -rf crates/*/out out
+
+# ---- The library for C
+
+# make lib               proves and builds it: out/lib/TARGET/libymodem.a for each of TARGETS
+# make test-lib          the checks of the library, which `make test` runs too
+# make install-lib       puts the archive of TARGET, the header and the file for pkg-config below $(DESTDIR)$(PREFIX)
+
+TARGETS = x86_64-unknown-linux-gnu aarch64-unknown-linux-gnu wasm64-unknown-unknown
+TARGET = x86_64-unknown-linux-gnu
+
+.PHONY: lib test-lib install-lib
+
+lib:
+	@for target in $(TARGETS); do \
+	    (cd crates/ym_c && rt lib --target $$target) > out-lib.log 2>&1 || { cat out-lib.log; rm -f out-lib.log; exit 1; }; \
+	    install -D -m 644 crates/ym_c/out/libym_c.a out/lib/$$target/libymodem.a || exit 1; \
+	done; rm -f out-lib.log
+
+test: test-lib
+
+test-lib: build
+	@$(MAKE) --no-print-directory lib TARGETS=$(TARGET)
+	tests/library.py
+
+install-lib: lib
+	install -D -m 644 out/lib/$(TARGET)/libymodem.a $(DESTDIR)$(PREFIX)/lib/libymodem.a
+	install -D -m 644 include/ymodem.h $(DESTDIR)$(PREFIX)/include/ymodem.h
+	install -d $(DESTDIR)$(PREFIX)/lib/pkgconfig
+	sed 's|@PREFIX@|$(PREFIX)|' include/ymodem.pc.in > $(DESTDIR)$(PREFIX)/lib/pkgconfig/ymodem.pc

@@ -10,26 +10,38 @@ from program import LIMIT, connected, folders, free_port, running, write_files
 from waits import wait_for, waiting
 
 
-def send_to(peer, files, flags=()):
-    """Runs `send` against whoever answers its call so, and answers how it has ended."""
+def called(listener):
+    """The connection of whoever calls, or nothing where nobody listens any more."""
+    listener.settimeout(LIMIT)
+    try:
+        end, _ = listener.accept()
+    except OSError:
+        return None
+    end.settimeout(LIMIT)
+    return end
+
+
+def send_to(peer, files, flags=(), before=(), paths=None):
+    """Runs `send` against whoever answers its call so, and answers how it has ended. It sends these files, or those at these paths."""
     faults = []
 
     def answer(listener):
         try:
-            listener.settimeout(LIMIT)
-            end, _ = listener.accept()
-            with end:
-                end.settimeout(LIMIT)
-                peer(end)
+            end = called(listener)
+            if end:
+                with end:
+                    peer(end)
         except Exception as fault:  # told below
             faults.append(fault)
 
     with folders() as (here, _), socket.create_server(("127.0.0.1", 0)) as listener:
-        paths = write_files(here, files)
+        paths = paths or write_files(here, files)
         thread = threading.Thread(target=answer, args=(listener,), daemon=True)
         thread.start()
-        with running("send", "--port", listener.getsockname()[1], *flags, *paths) as send:
+        with running("send", "--port", listener.getsockname()[1], *flags, *paths, before=before) as send:
             ended = send.ended()
+        # Where it has ended without a call, nobody waits for one any more.
+        listener.shutdown(socket.SHUT_RDWR)
         thread.join(LIMIT)
     if faults:
         raise AssertionError("%r, where send told %r %r" % (faults[0], ended.out, ended.err))

@@ -8,6 +8,8 @@ import subprocess
 import tempfile
 import time
 
+from skipping import Skipped
+
 ROOT = os.path.dirname(os.path.dirname(os.path.abspath(__file__)))
 PROGRAM = os.path.abspath(os.environ.get("YMODEM", os.path.join(ROOT, "crates", "ymodem", "out", "ymodem")))
 
@@ -86,13 +88,15 @@ def run(*words, **how):
         return child.ended()
 
 
-def connected(port):
-    """A connection to whoever listens at this port, now or soon."""
+def connected(port, child=None):
+    """A connection to whoever listens at this port, now or soon; it is this child, if one is named."""
     until = time.monotonic() + LIMIT / 3
     while True:
         try:
             return socket.create_connection(("127.0.0.1", port), timeout=LIMIT)
         except ConnectionRefusedError:
+            if child and child.child.poll() is not None:
+                raise AssertionError("it has ended before it listened: %r" % child.ended().err) from None
             if time.monotonic() > until:
                 raise AssertionError("nobody listens at the port of receive") from None
             time.sleep(0.02)

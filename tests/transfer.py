@@ -1,12 +1,15 @@
 #!/usr/bin/env python3
 """Tries the program on real sockets and files: transfers over a line that is damaged, lines with the pace of a serial one, peers that start
-late, stall or misbehave, and lrzsz where it is installed.
+late, stall or misbehave, and lrzsz where it is installed; ends that are killed, folders, files and calls of the system that fail, a disk that loses
+power, and who can reach the sockets.
 
-Prints a line for each check, and ends with the line 'N passed, M failed'; the status is 1 where a check failed. It needs Python alone,
-uses ports of 127.0.0.1, and takes about two minutes, most of which is spent in waiting.
+Prints a line for each check, and ends with the line 'N passed, M failed, K skipped'; the status is 1 where a check failed. It needs Python alone,
+uses ports of 127.0.0.1, and takes about two minutes, most of which is spent in waiting. What needs strace, or a file system or a network of its own
+(by unshare), is skipped where that cannot be had, and says so.
 
-usage: transfer.py [--interop] [WORD..]
+usage: transfer.py [--interop | --long] [WORD..]
   --interop   only the checks with lrzsz, which has to be installed
+  --long      only the checks that take minutes
   WORD        only the checks whose names have one of these words
 The program is the one that the environment variable YMODEM names, else crates/ymodem/out/ymodem.
 """
@@ -19,61 +22,97 @@ from concurrent.futures import ThreadPoolExecutor
 sys.dont_write_bytecode = True
 sys.path.insert(0, os.path.dirname(os.path.abspath(__file__)))
 
+import kill_checks
 import late_checks
 import line_checks
 import lrzsz_checks
 import peer_checks
+import power_cut_checks
+import refused_call_checks
+import small_disk_checks
+import socket_checks
 import stall_checks
+import storage_checks
 import transfer_checks
-from program import PROGRAM
+from program import PROGRAM, Skipped
+from pulse import Pulse
+from storing import steadily
 
-# Most checks wait most of the time.
-AT_ONCE = 500
+# What depends on how soon this process answers comes first, and by itself: most of these checks wait most of the time. The others have work to do.
+TIMED = (transfer_checks, peer_checks, late_checks, stall_checks, line_checks)
+TIMED_AT_ONCE = 500
+OTHERS = (kill_checks, refused_call_checks, power_cut_checks, storage_checks, small_disk_checks, socket_checks)
+OTHERS_AT_ONCE = 60
+
+# How often a check is made on a machine that does not keep time.
+TRIES = 4
 
 
-def outcome(check):
-    """What is wrong, or nothing, and the seconds that it took."""
-    began = time.monotonic()
-    try:
-        check()
-        wrong = None
-    except Exception as fault:  # a fault of a check is a failed check
-        wrong = str(fault) if isinstance(fault, AssertionError) else repr(fault)
-    return wrong, time.monotonic() - began
+def outcome(check, pulse):
+    """How a check came out, why, the seconds that it took, and whether it was made again, as a check is that failed while this machine did not keep time: it
+    shows nothing then."""
+    for made in range(TRIES):
+        began = time.monotonic()
+        try:
+            check()
+            came, why = "ok", ""
+        except Skipped as fault:
+            came, why = "skipped", str(fault)
+        except Exception as fault:  # a fault of a check is a failed check
+            came, why = "FAILED", str(fault) if isinstance(fault, AssertionError) else repr(fault)
+        if came != "FAILED" or not pulse.was_late(began):
+            break
+    return came, why, time.monotonic() - began, made > 0
+
+
+def told(named, pool, pulse, counts):
+    """Makes these checks, tells each of them, and counts how they came out."""
+    begun = [(name, pool.submit(outcome, check, pulse)) for name, check in named]
+    for name, future in begun:
+        came, why, seconds, is_again = future.result()
+        counts[came] += 1
+        counts["again"] += is_again
+        print("%-7s %s (%.1f s)%s" % (came, name, seconds, why and ": " + why), flush=True)
+
+
+def checks_of(books):
+    return [check for book in books for check in book.CHECKS]
+
+
+def chosen(words):
+    """The checks that these words name, first those that depend on how soon this process answers; and what is left out."""
+    if "--interop" in words:
+        return lrzsz_checks.CHECKS, [], []
+    if "--long" in words:
+        return [], small_disk_checks.LONG, []
+    notes = [] if lrzsz_checks.is_installed() else ["left out: lrzsz is not installed"]
+    # The slowest start first.
+    timed = peer_checks.SLOW + socket_checks.SLOW + checks_of(TIMED) + ([] if notes else lrzsz_checks.CHECKS)
+    return timed, [(name, steadily(check)) for name, check in checks_of(OTHERS)], notes
 
 
 def main(words):
-    notes = []
     if not os.access(PROGRAM, os.X_OK):
         print("there is no program at %s" % PROGRAM)
-        print("0 passed, 1 failed")
+        print("0 passed, 1 failed, 0 skipped")
         return 1
-    if "--interop" in words:
-        words.remove("--interop")
-        if not lrzsz_checks.is_installed():
-            print("lrzsz is not installed")
-            print("0 passed, 1 failed")
-            return 1
-        slow, checks = [], lrzsz_checks.CHECKS
-    else:
-        slow, checks = peer_checks.SLOW, transfer_checks.CHECKS + peer_checks.CHECKS + late_checks.CHECKS + stall_checks.CHECKS + line_checks.CHECKS
-        if lrzsz_checks.is_installed():
-            checks = checks + lrzsz_checks.CHECKS
-        else:
-            notes.append("left out: lrzsz is not installed")
-    chosen = [[it for it in some if not words or any(word in it[0] for word in words)] for some in (slow, checks)]
-    failed = 0
-    with ThreadPoolExecutor(AT_ONCE) as pool:
-        # The slow ones start first and are told last.
-        begun = [[(name, pool.submit(outcome, check)) for name, check in some] for some in chosen]
-        for name, future in begun[1] + begun[0]:
-            wrong, seconds = future.result()
-            failed += wrong is not None
-            print("%-6s  %s (%.1f s)%s" % ("ok" if wrong is None else "FAILED", name, seconds, "" if wrong is None else ": " + wrong), flush=True)
+    if "--interop" in words and not lrzsz_checks.is_installed():
+        print("lrzsz is not installed")
+        print("0 passed, 1 failed, 0 skipped")
+        return 1
+    *both, notes = chosen(words)
+    wanted = [word for word in words if not word.startswith("--")]
+    counts = {"ok": 0, "FAILED": 0, "skipped": 0, "again": 0}
+    pulse = Pulse()
+    for checks, at_once in zip(both, (TIMED_AT_ONCE, OTHERS_AT_ONCE)):
+        with ThreadPoolExecutor(at_once) as pool:
+            told([it for it in checks if not wanted or any(word in it[0] for word in wanted)], pool, pulse, counts)
+    if counts["again"]:
+        notes.append("made again: %d checks, since this machine was up to %.1f s late with what was due" % (counts["again"], pulse.worst))
     for note in notes:
         print(note)
-    print("%d passed, %d failed" % (sum(map(len, chosen)) - failed, failed))
-    return 1 if failed else 0
+    print("%d passed, %d failed, %d skipped" % (counts["ok"], counts["FAILED"], counts["skipped"]))
+    return 1 if counts["FAILED"] else 0
 
 
 sys.exit(main(sys.argv[1:]))

@@ -190,12 +190,12 @@ def same_name_twice():
         wants_stored(there, [("same", b"one")])
 
 
-def into(dir_of, before=(), name="first", size=9000):
+def into(dir_of, before=()):
     """A folder that cannot take the file."""
 
     def check():
         with folders() as (here, there):
-            paths = write_files(here, [(name, b"x" * size)])
+            paths = write_files(here, [("first", b"x" * 9000)])
             port = free_port()
             relay = Relay(Clean(), port)
             relay.start()
@@ -293,12 +293,13 @@ CHECKS = [
     ("a NAME that is there, of the second file", sink_refuses([("second", b"old")], count=1)),
     ("a NAME.part that is there", sink_refuses([("first.part", b"old")])),
     ("the same NAME twice in a batch", same_name_twice),
-    ("a name that is too long for NAME.part", into(lambda _, there: there, name="n" * 251)),
     ("DIR is missing", into(lambda _, there: os.path.join(there, "missing"))),
     ("DIR is a file", into(lambda here, _: os.path.join(here, "first"))),
     ("a disk that is full", into(lambda _, there: there, before=FULL_DISK)),
     ("a file that shrinks while it is sent",
-     changes(9000, 1500, (3, "sender done 0 source-failed\n"), (1, "receiver files 0 cancelled\n"), "fault: device\n", False)),
+     changes(200_000, 1500, (3, "sender done 0 source-failed\n"), (1, "receiver files 0 cancelled\n"), "fault: device\n", False)),
+    ("a file that shrinks when all of it has been read",
+     changes(9000, 1500, (0, "sender done 1 finished\n"), (0, "file changing 9000 - -\nreceiver files 1 finished\n"), "", True)),
     ("a file that grows while it is sent",
      changes(9000, 12000, (0, "sender done 1 finished\n"), (0, "file changing 9000 - -\nreceiver files 1 finished\n"), "", True)),
     ("FILE is missing", cannot_be_sent(lambda here: os.path.join(here, "missing"), 3, "fault: device\n")),

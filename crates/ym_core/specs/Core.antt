@@ -1,5 +1,6 @@
 -- What always holds of a receiver, whatever it has heard.
 use Rattle.std.specs.Prelude.{ℕ, ◌+◌, ◌*◌, ◌≡◌, ◌≤◌, ◌<◌, ◌^◌, true, if◌then◌else◌}
+use Rattle.ym_machine.specs.declared.limits.TheConstants.{GIVE_UP, MOST_FILES}
 use Rattle.ym_core.specs.declared.stage.Stage.{Stage}
 use Rattle.ym_core.specs.declared.stage.Stage.TheVariants.{AwaitHeader, InFile}
 use Rattle.ym_core.specs.declared.state.RecvState.TheVariants as state
@@ -13,16 +14,16 @@ LengthFits (InFile file) = (file.taken ≤ file.length) × (file.length < 2 ^ 63
 -- a block adds a byte, or is dropped and counted
 abbrev pub BlocksFit : Stage → ℕ → Type 0
 BlocksFit AwaitHeader count = Unit {0}
-BlocksFit (InFile file) count = (file.taken < file.length → file.blocks ≤ file.taken) × (file.blocks ≤ file.taken + count + (if file.first_eot then 10 else 0)) × (file.first_eot ≡ true → file.length ≤ file.taken) × (file.taken ≤ 1024 * file.blocks)
+BlocksFit (InFile file) count = (file.taken < file.length → file.blocks ≤ file.taken) × (file.blocks ≤ file.taken + count + (if file.first_eot then GIVE_UP else 0)) × (file.first_eot ≡ true → file.length ≤ file.taken) × (file.taken ≤ 1024 * file.blocks)
 
--- a batch has at most 65,535 files
+-- a batch has no more files than one may have
 abbrev pub FilesFit : Stage → ℕ → Type 0
-FilesFit AwaitHeader files = files ≤ 65535
-FilesFit (InFile file) files = files < 65535
+FilesFit AwaitHeader files = files ≤ MOST_FILES
+FilesFit (InFile file) files = files < MOST_FILES
 
 pub record IsCore (r : Receiver) : Type 0 where
   pub taken : LengthFits r.stage
   pub blocks : BlocksFit r.stage r.count
   pub few : FilesFit r.stage r.files
-  pub count : r.count ≤ 10
-  pub runs : r.state ≡ state.Running → r.count < 10
+  pub count : r.count ≤ GIVE_UP
+  pub runs : r.state ≡ state.Running → r.count < GIVE_UP

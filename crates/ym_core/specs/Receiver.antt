@@ -15,6 +15,7 @@ use Rattle.ym_header.specs.declared.reading.Zero.{Zero}
 use Rattle.ym_header.specs.declared.reading.Zero.TheVariants.{File, End}
 use Rattle.ym_machine.specs.declared.confirm.Confirm.{Confirm}
 use Rattle.ym_machine.specs.declared.confirm.Confirm.TheVariants.{Twice, Once}
+use Rattle.ym_machine.specs.declared.limits.TheConstants.{GIVE_UP, MOST_FILES}
 use Rattle.ym_core.specs.declared.delivery.Heard.{Heard}
 use Rattle.ym_core.specs.declared.delivery.Heard.TheVariants as heard
 use Rattle.ym_core.specs.declared.stage.OpenFile.{OpenFile}
@@ -49,10 +50,10 @@ pub record Step : Type 0 where
 abbrev pub goes_on : Receiver → Reply → Call → Step
 goes_on r reply call = record { receiver = record r { count = 0 }; reply = reply; call = call }
 
--- no progress; the tenth in a row ends it
+-- no progress; the last of so many in a row ends it
 abbrev pub stays : Receiver → Reply → Step
 stays r reply =
-    if nat_lt (r.count + 1) 10
+    if nat_lt (r.count + 1) GIVE_UP
     then record { receiver = record r { count = r.count + 1 }; reply = reply; call = No_call }
     else record { receiver = record r { count = r.count + 1; state = state.TooManyErrors }; reply = Cancel; call = No_call }
 
@@ -69,7 +70,7 @@ opened header = record { length = header.length; taken = 0; blocks = 0; first_eo
 -- a block 0, by what its body stands for
 abbrev pub zero_heard : Receiver → Result Zero HeaderFault → Step
 zero_heard r (Ok (File header)) =
-    if nat_lt r.files 65535
+    if nat_lt r.files MOST_FILES
     then goes_on (record r { stage = InFile (opened header) }) AckStart (Begins header)
     else ends r state.TooManyFiles Cancel
 zero_heard r (Ok End) = ends r state.Finished Ack

@@ -1,6 +1,7 @@
 -- What a delivery does to a sender, apart from its files and its frame.
 use Rattle.std.specs.Prelude.{◌≡◌, ℕ, ◌+◌, nat_lt, if◌then◌else◌, Bool, true, false, is_some, List, Option, None, Some}
 use Rattle.ym_frame.specs.declared.control.Control.{Control}
+use Rattle.ym_machine.specs.declared.limits.TheConstants.{GIVE_UP}
 use Rattle.ym_core.specs.Place.{first_of}
 use Rattle.ym_core.specs.Reading.{reads}
 use Rattle.ym_core.specs.declared.place.Place.{Place}
@@ -22,11 +23,11 @@ new_standing counts = record { place = first_of counts; mode = Waiting; misses =
 abbrev pub step : Standing → Step
 step s = record { standing = s; fills = None }
 
--- no progress: at the tenth delivery in a row the sender gives up, with CAN CAN to go
+-- no progress: at the last of so many deliveries in a row the sender gives up, with CAN CAN to go
 -- (reference, "XMODEM Protocol Overview": errors are retried 10 times)
 abbrev pub missed : Standing → Step
 missed s =
-    if nat_lt (s.misses + 1) 10 then step (record s { misses = s.misses + 1 })
+    if nat_lt (s.misses + 1) GIVE_UP then step (record s { misses = s.misses + 1 })
     else step (record s { misses = s.misses + 1; state = NoReply; farewell = true })
 
 -- progress: the place or the mode changed

@@ -3,7 +3,7 @@
 ghost use Rattle.std.specs.Prelude.{◌≡◌, ◌⊎◌, ◌<◌, ◌≤◌, ◌+◌, ◌%◌, ◌^◌, List, ℕ, length as list_length, take, drop, OnOk, OnErr, IfOk, IfSome};
 ghost use Rattle.ym_frame.specs.Seal.{IsBlockFrame};
 ghost use Rattle.ym_file.specs.Plan.{count_of, padded, piece_at, size_at};
-ghost use Rattle.ym_file.specs.Counts.{Rose};
+ghost use Rattle.ym_file.specs.Counts.{Rose, raised};
 
 use crate::plan::{Shape, place_of};
 use crate::source::{Source, SourceFault};
@@ -41,6 +41,7 @@ pub fn block_from<S: Source>(source: &mut S, shape: Shape, k: u64) -> Result<Blo
     ensures body { IfOk result (λ block. IfSome (S.bytes source.old) (λ all. block.body ≡ piece_at shape all k)) }
     ensures size_stays { S.size source.new ≡ S.size source.old }
     ensures bytes_stay { S.bytes source.new ≡ S.bytes source.old }
+    ensures counted { S.fills source.new ≡ raised (S.fills source.old) }
     ensures ok { OnOk result (S.failures source.new ≡ S.failures source.old) }
     ensures failed { OnErr result (Rose (S.failures source.old) (S.failures source.new)) }
 {
@@ -69,6 +70,7 @@ pub fn frame_from<S: Source>(
     ensures body { IfOk result (λ len. IfSome (S.bytes source.old) (λ all. IsBlockFrame (k % 256) (piece_at shape all k) (take len buffer.new))) }
     ensures size_stays { S.size source.new ≡ S.size source.old }
     ensures bytes_stay { S.bytes source.new ≡ S.bytes source.old }
+    ensures counted { S.fills source.new ≡ raised (S.fills source.old) }
     ensures ok { OnOk result (S.failures source.new ≡ S.failures source.old) }
     ensures failed { OnErr result (Rose (S.failures source.old) (S.failures source.new)) }
 {
@@ -93,6 +95,7 @@ fn write_frame<S: Source>(
     ensures body { OnOk result (IfSome (S.bytes source.old) (λ all. IsBlockFrame (k % 256) (piece_at shape all k) frame.new)) }
     ensures size_stays { S.size source.new ≡ S.size source.old }
     ensures bytes_stay { S.bytes source.new ≡ S.bytes source.old }
+    ensures counted { S.fills source.new ≡ raised (S.fills source.old) }
     ensures ok { OnOk result (S.failures source.new ≡ S.failures source.old) }
     ensures failed { OnErr result (Rose (S.failures source.old) (S.failures source.new)) }
 {
@@ -116,6 +119,7 @@ fn read_body<S: Source>(
     ensures body { OnOk result (IfSome (S.bytes source.old) (λ all. body.new ≡ piece_at shape all k)) }
     ensures size_stays { S.size source.new ≡ S.size source.old }
     ensures bytes_stay { S.bytes source.new ≡ S.bytes source.old }
+    ensures counted { S.fills source.new ≡ raised (S.fills source.old) }
     ensures ok { OnOk result (S.failures source.new ≡ S.failures source.old) }
     ensures failed { OnErr result (Rose (S.failures source.old) (S.failures source.new)) }
 {
@@ -138,6 +142,7 @@ fn read_padded<S: Source>(
     ensures body { OnOk result (IfSome (S.bytes source.old) (λ all. body.new ≡ padded (list_length body.old) (take filled (drop start all)))) }
     ensures size_stays { S.size source.new ≡ S.size source.old }
     ensures bytes_stay { S.bytes source.new ≡ S.bytes source.old }
+    ensures counted { S.fills source.new ≡ raised (S.fills source.old) }
     ensures ok { OnOk result (S.failures source.new ≡ S.failures source.old) }
     ensures failed { OnErr result (Rose (S.failures source.old) (S.failures source.new)) }
 {

@@ -1,7 +1,7 @@
 //! A source in memory.
 
 ghost use Rattle.std.specs.Prelude.{◌≡◌, ◌↔◌, ◌≤◌, ◌+◌, Some, OnOk, OnErr, IsErr, IsTrue, length as list_length, take, drop};
-ghost use Rattle.ym_file.specs.Counts.{Rose, fails_next, counted, new_tally};
+ghost use Rattle.ym_file.specs.Counts.{Rose, fails_next, counted, raised, new_tally};
 
 use crate::countdown::Countdown;
 use crate::source::{Source, SourceFault};
@@ -12,6 +12,7 @@ use std::marker::Model;
 pub struct MemSource {
     items: Vec<u8>,
     countdown: Countdown,
+    fills: u64,
 }
 
 impl Model for MemSource {
@@ -19,17 +20,18 @@ impl Model for MemSource {
 
     ghost Value = { MemSourceParts };
 
-    ghost view = { λ s. record { bytes = s.items.items; tally = s.countdown } };
+    ghost view = { λ s. record { bytes = s.items.items; tally = s.countdown; fills = s.fills } };
 }
 
 impl MemSource {
     /// A file of these bytes. Fill number `failing`, counted from 1, fails and no other does; 0 names none.
     pub fn new(bytes: Vec<u8>, failing: Option<u64>) -> Self
-        ensures { result ≡ record { bytes = bytes.items; tally = new_tally failing } }
+        ensures { result ≡ record { bytes = bytes.items; tally = new_tally failing; fills = 0 } }
     {
         MemSource {
             items: bytes,
             countdown: Countdown::new(failing),
+            fills: 0,
         }
     }
 
@@ -38,6 +40,13 @@ impl MemSource {
         ensures { result.now ≡ self.now.bytes }
     {
         self.items.as_slice()
+    }
+
+    /// How often it was asked to fill. At its greatest value the count stays.
+    pub fn fills(&self) -> u64
+        ensures { result ≡ self.now.fills }
+    {
+        self.fills
     }
 }
 
@@ -48,6 +57,8 @@ impl Source for MemSource {
 
     ghost failures = { λ s. s.tally.failures };
 
+    ghost fills = { λ s. s.fills };
+
     fn length(&self) -> u64 {
         self.items.len() as u64
     }
@@ -55,10 +66,11 @@ impl Source for MemSource {
     fn fill(&mut self, at: u64, into: &mut [u8]) -> Result<(), SourceFault>
         requires { at + list_length into.old ≤ list_length self.old.bytes }
         ensures bytes { OnOk result (into.new ≡ take (list_length into.old) (drop at self.old.bytes)) }
-        ensures after { self.new ≡ record { bytes = self.old.bytes; tally = counted self.old.tally } }
+        ensures after { self.new ≡ record { bytes = self.old.bytes; tally = counted self.old.tally; fills = raised self.old.fills } }
         ensures fails { IsErr result ↔ IsTrue (fails_next self.old.tally) }
         ensures failed { OnErr result (Rose self.old.tally.failures self.new.tally.failures) }
     {
+        self.fills = self.fills.saturating_add(1);
         if self.countdown.fails() {
             return Err(SourceFault);
         }

@@ -1,3 +1,5 @@
 pub mod DirSink
 pub mod FileSource
 pub mod OpenPart
+pub mod ReadAhead
+pub mod WriteBehind

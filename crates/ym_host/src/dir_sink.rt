@@ -5,14 +5,48 @@ ghost use Rattle.ym_file.specs.Counts.{Rose};
 ghost use Rattle.ym_file.specs.Kept.{IsNew, IsCoveredFile, room};
 ghost use Rattle.ym_host.specs.DirSink.{kept_of};
 
+use crate::file_id::stands_at;
+use crate::part::{
+    discard_part, give_name, make_part, open_folder, part_name, path_in, remove_part,
+};
+use crate::write_behind::WriteBehind;
 use std::alloc::{AllocError, Global};
 use std::fs::{File, Files};
-use std::io::{ErrorKind, Write};
+use std::io::ErrorKind;
 use std::marker::Model;
-use std::path::{Path, PathBuf};
+use std::path::PathBuf;
 use std::{fs, io};
 use ym_file::{Sink, SinkFault};
 use ym_header::Header;
+
+/// When a file counts as stored.
+#[derive(Clone, Copy, Debug, PartialEq, Eq)]
+pub enum Durability {
+    /// When it and its name are on the disk: they outlive a power cut.
+    Disk,
+    /// When the system has it: it outlives the program, and a power cut only where the system has written it by then.
+    System,
+}
+
+/// What becomes of a NAME.part that is there when NAME comes.
+#[derive(Clone, Copy, Debug, PartialEq, Eq)]
+pub enum Leftover {
+    /// NAME is refused.
+    Refused,
+    /// The part is removed, unless somebody has it locked. One that is there because this sink stored a file of that name is never removed.
+    Discarded,
+}
+
+/// What the disk has of the file that is being taken.
+#[derive(Clone, Copy, PartialEq, Eq)]
+enum Standing {
+    /// The bytes that were written.
+    Sound,
+    /// Bytes that are not known, since a write failed or the file was not stored.
+    Torn,
+    /// All of it, under its own name; but its folder could not be forced out to the disk.
+    Named,
+}
 
 /// The file that is being taken, as NAME.part.
 #[derive(Drop)]
@@ -24,18 +58,20 @@ struct OpenPart {
     /// The path of NAME.
     target: PathBuf,
     taken: u64,
-    /// Whether a write failed, so that what stands in the file is not known.
-    is_torn: bool,
+    standing: Standing,
 }
 
-/// Stores each file of a batch in a folder: it is written as NAME.part, and gets the name NAME when it is whole. Nothing that is there is ever
-/// overwritten. It tells no bytes.
+/// Stores each file of a batch in a folder: it is written as NAME.part, 64 KiB at a time, and gets the name NAME when it is whole. Nothing that is
+/// there is ever overwritten. It tells no bytes.
 #[derive(Drop)]
 pub struct DirSink<R: Files<File = File> + Drop> {
     rt: R,
     alloc: Global,
     dir: String,
+    durability: Durability,
+    leftover: Leftover,
     taking: Option<OpenPart>,
+    behind: WriteBehind,
     committed: Vec<Header>,
     failed: u64,
 }
@@ -52,13 +88,6 @@ impl<R: Files<File = File> + Drop> Model for DirSink<R> {
     ghost invariant = { λ s. IsReady s.taking (vec_len s.committed) (vec_capacity s.committed) };
 }
 
-/// The path of a name in a folder, and the same with `.part` behind it.
-fn paths(alloc: Global, dir: &str, name: &str) -> Result<(PathBuf, PathBuf), AllocError> {
-    let target = Path::new(dir).join(alloc, name)?;
-    let part = target.with_added_extension(alloc, "part")?;
-    Ok((target, part))
-}
-
 /// Whether something stands at a path. What cannot be told counts as something.
 fn is_taken<R: Files>(rt: &R, path: &PathBuf) -> bool {
     match fs::symlink_metadata(rt, path) {
@@ -67,29 +96,89 @@ fn is_taken<R: Files>(rt: &R, path: &PathBuf) -> bool {
     }
 }
 
-/// Gives the part the file's own name, where nothing stands there, and takes the name of the part away.
-fn rename_new<R: Files>(rt: &R, part: &PathBuf, target: &PathBuf) -> io::Result<()> {
-    // A link fails where the name is taken, also by one that came meanwhile. A rename would overwrite it.
-    fs::hard_link(rt, part, target)?;
-    // The file is whole under its name, so a part that stays is no failure.
-    let _ = fs::remove_file(rt, part);
-    Ok(())
+impl OpenPart {
+    /// Puts bytes behind those that were put before. Where that fails, what stands in the part is not known from then on.
+    fn put(&mut self, behind: &mut WriteBehind, bytes: &[u8]) -> io::Result<()>
+        ensures header { self.new.header ≡ self.old.header }
+        ensures taken { self.new.taken ≡ self.old.taken }
+    {
+        self.check_sound()?;
+        self.standing = Standing::Torn;
+        behind.put(&mut self.file, bytes)?;
+        self.standing = Standing::Sound;
+        Ok(())
+    }
+
+    /// Refuses a part of which it is not known what stands in it, and one that has its name.
+    fn check_sound(&self) -> io::Result<()> {
+        match self.standing {
+            Standing::Sound => Ok(()),
+            Standing::Torn | Standing::Named => Err(io::Error::from(ErrorKind::InvalidData)),
+        }
+    }
+
+    /// Writes the bytes that wait, and gives the file its name; and forces first the bytes and then the name out to the disk, where that is wanted.
+    fn store<R: Files<File = File>>(
+        &mut self,
+        rt: &R,
+        behind: &mut WriteBehind,
+        dir: &str,
+        durability: Durability,
+    ) -> io::Result<()>
+        ensures header { self.new.header ≡ self.old.header }
+        ensures taken { self.new.taken ≡ self.old.taken }
+    {
+        self.check_sound()?;
+        self.standing = Standing::Torn;
+        behind.flush(&mut self.file)?;
+        if durability == Durability::System {
+            return self.name(rt);
+        }
+        self.file.sync_all()?;
+        // Opened before the name is given, so that a folder that cannot be opened leaves nothing under it.
+        let folder = open_folder(rt, dir)?;
+        self.name(rt)?;
+        folder.sync_all()
+    }
+
+    /// Gives the file its name, where what stands at the part's path is still the file that was written.
+    fn name<R: Files<File = File>>(&mut self, rt: &R) -> io::Result<()>
+        ensures header { self.new.header ≡ self.old.header }
+        ensures taken { self.new.taken ≡ self.old.taken }
+    {
+        if !stands_at(rt, &self.file, &self.part) {
+            return Err(io::Error::from(ErrorKind::NotFound));
+        }
+        give_name(rt, &self.part, &self.target)?;
+        self.standing = Standing::Named;
+        Ok(())
+    }
 }
 
 impl<R: Files<File = File> + Drop> DirSink<R> {
     ghost use Rattle.ym_host.specs.DirSink.{DirSinkParts};
 
-    /// A sink that stores files in the folder at this path.
-    pub fn new(rt: R, alloc: Global, dir: &str) -> Result<DirSink<R>, AllocError>
+    /// A sink that stores files in the folder at this path. The memory for the bytes that wait to be written is taken here.
+    pub fn new(
+        rt: R,
+        alloc: Global,
+        dir: &str,
+        durability: Durability,
+        leftover: Leftover,
+    ) -> Result<DirSink<R>, AllocError>
         ensures parts { IfOk result (λ sink. sink ≡ record { opened = None; taken = 0; headers = []; failures = 0 }) }
         ensures new { IfOk result (λ sink. IsNew (kept_of sink)) }
     {
         let dir = String::from_str(alloc, dir)?;
+        let behind = WriteBehind::new(alloc)?;
         Ok(DirSink {
             rt,
             alloc,
             dir,
+            durability,
+            leftover,
             taking: None,
+            behind,
             committed: Vec::new(alloc),
             failed: 0,
         })
@@ -102,7 +191,8 @@ impl<R: Files<File = File> + Drop> DirSink<R> {
         self.committed.as_slice()
     }
 
-    /// Removes the part that is open, if there is one. Where that fails it stays on the disk, and the sink has no open file all the same.
+    /// Removes the part that is open, if there is one. Where that fails it stays on the disk, and the sink has no open file all the same. A file that
+    /// has its name already keeps it.
     pub fn close(&mut self) -> Result<(), SinkFault>
         ensures closed { self.new.opened ≡ None }
         ensures headers { self.new.headers ≡ self.old.headers }
@@ -110,10 +200,13 @@ impl<R: Files<File = File> + Drop> DirSink<R> {
         ensures failed { OnErr result (Rose self.old.failures self.new.failures) }
         ensures fault { result ≢ Err SinkFault.Memory }
     {
-        let Some(OpenPart { part, .. }) = self.taking.take() else {
+        let Some(open) = self.taking.take() else {
             return Ok(());
         };
-        match fs::remove_file(&self.rt, &part) {
+        if open.standing == Standing::Named {
+            return Ok(());
+        }
+        match remove_part(&self.rt, &open.file, &open.part) {
             Ok(()) => Ok(()),
             Err(_) => Err(self.fail()),
         }
@@ -128,6 +221,35 @@ impl<R: Files<File = File> + Drop> DirSink<R> {
         self.failed = self.failed.saturating_add(1);
         SinkFault::Failed
     }
+
+    /// Whether a part of this name may be removed: where that is wanted, and no file that this sink stored has the name.
+    fn may_discard(&self, part_name: &str) -> bool {
+        self.leftover == Leftover::Discarded
+            && self
+                .committed
+                .iter()
+                .all(|header| header.name() != part_name)
+    }
+
+    /// Makes a part new at this path, after one that an earlier run left there was removed where that is wanted.
+    fn open_part(&self, part_name: &str, part: &PathBuf) -> io::Result<File> {
+        match make_part(&self.rt, part) {
+            Err(error) if error.kind() == ErrorKind::AlreadyExists && self.may_discard(part_name) =>
+                {
+                    discard_part(&self.rt, part)?;
+                    make_part(&self.rt, part)
+                }
+            made => made,
+        }
+    }
+}
+
+/// The name and the path of the part of a file of this name in a folder, and the path of the file.
+fn paths(alloc: Global, dir: &str, name: &str) -> Result<(String, PathBuf, PathBuf), AllocError> {
+    let part_name = part_name(alloc, name)?;
+    let part = path_in(alloc, dir, part_name.as_str())?;
+    let target = path_in(alloc, dir, name)?;
+    Ok((part_name, part, target))
 }
 
 impl<R: Files<File = File> + Drop> Sink for DirSink<R> {
@@ -139,21 +261,23 @@ impl<R: Files<File = File> + Drop> Sink for DirSink<R> {
         if self.committed.reserve(1).is_err() {
             return Err(SinkFault::Memory);
         }
-        let Ok((target, part)) = paths(self.alloc, self.dir.as_str(), header.name()) else {
+        let Ok((part_name, part, target)) = paths(self.alloc, self.dir.as_str(), header.name())
+        else {
             return Err(SinkFault::Memory);
         };
         if is_taken(&self.rt, &target) {
             return Err(self.fail());
         }
-        match File::create_new(&self.rt, &part) {
+        match self.open_part(part_name.as_str(), &part) {
             Ok(file) => {
+                self.behind.clear();
                 self.taking = Some(OpenPart {
                     header,
                     file,
                     part,
                     target,
                     taken: 0,
-                    is_torn: false,
+                    standing: Standing::Sound,
                 });
                 Ok(())
             }
@@ -164,11 +288,10 @@ impl<R: Files<File = File> + Drop> Sink for DirSink<R> {
     fn add(&mut self, bytes: &[u8]) -> Result<(), SinkFault> {
         match &mut self.taking {
             Some(open) => {
-                if !open.is_torn && open.file.write_all(bytes).is_ok() {
+                if open.put(&mut self.behind, bytes).is_ok() {
                     open.taken += bytes.len() as u64;
                     return Ok(());
                 }
-                open.is_torn = true;
             }
             None => unreachable!(),
         }
@@ -176,8 +299,15 @@ impl<R: Files<File = File> + Drop> Sink for DirSink<R> {
     }
 
     fn commit(&mut self) -> Result<(), SinkFault> {
-        let is_stored = match &self.taking {
-            Some(open) => !open.is_torn && rename_new(&self.rt, &open.part, &open.target).is_ok(),
+        let is_stored = match &mut self.taking {
+            Some(open) => open
+                .store(
+                    &self.rt,
+                    &mut self.behind,
+                    self.dir.as_str(),
+                    self.durability,
+                )
+                .is_ok(),
             None => unreachable!(),
         };
         if !is_stored {

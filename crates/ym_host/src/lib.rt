@@ -2,11 +2,15 @@
 #![tactic(auto)]
 
 mod dir_sink;
+mod file_id;
 mod file_source;
+mod part;
+mod read_ahead;
 mod socket_carrier;
 mod socket_port;
+mod write_behind;
 
-pub use dir_sink::DirSink;
+pub use dir_sink::{DirSink, Durability, Leftover};
 pub use file_source::FileSource;
 pub use socket_carrier::SocketCarrier;
 pub use socket_port::SocketPort;

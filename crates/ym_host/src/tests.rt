@@ -1,2 +1,4 @@
-mod files;
+mod folders;
+mod sinks;
 mod sockets;
+mod sources;

@@ -9,6 +9,7 @@ use Rattle.ym_file.specs.declared.plan.Shape.{Shape}
 use Rattle.ym_machine.specs.declared.confirm.Confirm.{Confirm}
 use Rattle.ym_machine.specs.declared.confirm.Confirm.TheVariants.{Twice, Once}
 use Rattle.ym_machine.specs.Frames.{File, frames_of}
+use Rattle.ym_machine.specs.declared.limits.TheConstants.{BURST}
 use Rattle.ym_machine.specs.Left.{SenderGoes, ReceiverGoes, IsGoing, CountsWithin, IsComplete, needed_by, rounds_needed}
 use Rattle.ym_machine.specs.Run.{Turn, NoFailure, IsDamage, after_turns}
 use Rattle.ym_machine.specs.Run as machine
@@ -44,11 +45,11 @@ pub record Completion : Type 0 where
       AreTurns confirm files st rounds turns old all new → IsDamage (frames_of files) confirm turns st
   pub count : (shape : Shape) (file : List ℕ) → length (pieces_of shape file) ≡ count_of shape (length file)
   pub going : (files : Batch) (confirm : Confirm) (turns : List Turn) → IsDamage (frames_of files) confirm turns start → NoFailure turns →
-      machine.longest_bad_run 0 turns ≤ 4 → IsGoing (after_turns (frames_of files) confirm turns start)
+      machine.longest_bad_run 0 turns ≤ BURST → IsGoing (after_turns (frames_of files) confirm turns start)
   pub counts : (files : Batch) (confirm : Confirm) (turns : List Turn) → IsDamage (frames_of files) confirm turns start → NoFailure turns →
-      machine.longest_bad_run 0 turns ≤ 4 → CountsWithin 9 (after_turns (frames_of files) confirm turns start)
+      machine.longest_bad_run 0 turns ≤ BURST → CountsWithin (BURST + 1 + BURST) (after_turns (frames_of files) confirm turns start)
   pub complete : (files : Batch) (confirm : Confirm) (turns : List Turn) → IsDamage (frames_of files) confirm turns start → NoFailure turns →
-      machine.longest_bad_run 0 turns ≤ 4 → rounds_needed confirm files ≤ machine.whole_turns turns → IsComplete files (after_turns (frames_of files) confirm turns start)
+      machine.longest_bad_run 0 turns ≤ BURST → rounds_needed confirm files ≤ machine.whole_turns turns → IsComplete files (after_turns (frames_of files) confirm turns start)
   pub running : (files : Batch) (confirm : Confirm) (turns : List Turn) → machine.AllWhole turns → NoFailure turns → length turns < rounds_needed confirm files →
       (after_turns (frames_of files) confirm turns start).sender ≢ SenderEnd.Finished
 
@@ -91,37 +92,24 @@ needed-is laws pair fresh files = ap (λ n. 2 + n) (needed-files laws (confirm_o
 sender-going : (end : SenderEnd) (s : SendState) → s ≡ sender.state_of end → SenderGoes end → (s ≡ send_state.Running) ⊎ (s ≡ send_state.Finished)
 sender-going SenderEnd.Running s is goes = inl is
 sender-going SenderEnd.Finished s is goes = inr is
-sender-going SenderEnd.Cancelled s is goes = absurd goes
-sender-going SenderEnd.NoReply s is goes = absurd goes
-sender-going SenderEnd.SourceFailed s is goes = absurd goes
+sender-going _ s is goes = absurd goes
 
 receiver-going : (end : ReceiverEnd) (s : RecvState) → s ≡ receiver.state_of end → ReceiverGoes end → (s ≡ recv_state.Running) ⊎ (s ≡ recv_state.Finished)
 receiver-going ReceiverEnd.Running s is goes = inl is
 receiver-going ReceiverEnd.Finished s is goes = inr is
-receiver-going ReceiverEnd.Cancelled s is goes = absurd goes
-receiver-going ReceiverEnd.TooManyErrors s is goes = absurd goes
-receiver-going ReceiverEnd.SinkFailed s is goes = absurd goes
+receiver-going _ s is goes = absurd goes
 
 sender-runs : (end : SenderEnd) → sender.state_of end ≡ send_state.Running → end ≡ SenderEnd.Running
 sender-runs SenderEnd.Running is = refl
-sender-runs SenderEnd.Finished is = absurd (cc)
-sender-runs SenderEnd.Cancelled is = absurd (cc)
-sender-runs SenderEnd.NoReply is = absurd (cc)
-sender-runs SenderEnd.SourceFailed is = absurd (cc)
+sender-runs _ is = absurd (cc)
 
 sender-finished : (end : SenderEnd) → sender.state_of end ≡ send_state.Finished → end ≡ SenderEnd.Finished
-sender-finished SenderEnd.Running is = absurd (cc)
 sender-finished SenderEnd.Finished is = refl
-sender-finished SenderEnd.Cancelled is = absurd (cc)
-sender-finished SenderEnd.NoReply is = absurd (cc)
-sender-finished SenderEnd.SourceFailed is = absurd (cc)
+sender-finished _ is = absurd (cc)
 
 receiver-runs : (end : ReceiverEnd) → receiver.state_of end ≡ recv_state.Running → end ≡ ReceiverEnd.Running
 receiver-runs ReceiverEnd.Running is = refl
-receiver-runs ReceiverEnd.Finished is = absurd (cc)
-receiver-runs ReceiverEnd.Cancelled is = absurd (cc)
-receiver-runs ReceiverEnd.TooManyErrors is = absurd (cc)
-receiver-runs ReceiverEnd.SinkFailed is = absurd (cc)
+receiver-runs _ is = absurd (cc)
 
 -- ---- A run
 
@@ -184,18 +172,18 @@ run-going laws completion rounds old new trace gives brings = elim (trace-heard 
       let ran_so : Ran rounds old trace new = ran laws completion rounds old new trace gives brings.fresh files brings.none in
       let turns : List Turn = ran_so.turns in
       let st : State = after old turns in
-      let brief : machine.longest_bad_run 0 turns ≤ 4 = subst (λ n. n ≤ 4) (sym (ran_so.same.longest 0)) brings.short in
+      let brief : machine.longest_bad_run 0 turns ≤ BURST = subst (λ n. n ≤ BURST) (sym (ran_so.same.longest 0)) brings.short in
       let goes : IsGoing st = completion.going (batch_to_send old) (confirm_of old) turns ran_so.damage ran_so.none brief in
-      let counts : CountsWithin 9 st = completion.counts (batch_to_send old) (confirm_of old) turns ran_so.damage ran_so.none brief in
+      let counts : CountsWithin (BURST + 1 + BURST) st = completion.counts (batch_to_send old) (confirm_of old) turns ran_so.damage ran_so.none brief in
       record {
         send = sender-going st.sender trace.send ran_so.reports.send goes.0;
         recv = receiver-going st.receiver trace.recv ran_so.reports.recv goes.1;
         sender_count = λ running.
             let runs : st.sender ≡ SenderEnd.Running = sender-runs st.sender (sym ran_so.reports.send ∙ running) in
-            subst (λ n. n ≤ 9) (sym (ran_so.stands.sender.standing.misses runs)) (counts.sender_count runs);
+            subst (λ n. n ≤ BURST + 1 + BURST) (sym (ran_so.stands.sender.standing.misses runs)) (counts.sender_count runs);
         receiver_count = λ running.
             let runs : st.receiver ≡ ReceiverEnd.Running = receiver-runs st.receiver (sym ran_so.reports.recv ∙ running) in
-            subst (λ n. n ≤ 9) (sym (ap (λ (r : Receiver). r.count) (ran_so.stands.receiver.running runs))) (counts.receiver_count runs);
+            subst (λ n. n ≤ BURST + 1 + BURST) (sym (ap (λ (r : Receiver). r.count) (ran_so.stands.receiver.running runs))) (counts.receiver_count runs);
       }
 ]
 
@@ -209,7 +197,7 @@ run-complete laws completion rounds old new trace gives brings enough = elim (tr
       let st : State = after old turns in
       let shape : Shape = old.sender.shape in
       let sources : List FileParts = old.sender.files in
-      let brief : machine.longest_bad_run 0 turns ≤ 4 = subst (λ n. n ≤ 4) (sym (ran_so.same.longest 0)) brings.short in
+      let brief : machine.longest_bad_run 0 turns ≤ BURST = subst (λ n. n ≤ BURST) (sym (ran_so.same.longest 0)) brings.short in
       let many : rounds_needed (confirm_of old) (batch_to_send old) ≤ machine.whole_turns turns =
       subst (λ n. n ≤ machine.whole_turns turns) (sym (needed-is completion old brings.fresh files)) (subst (λ n. rounds_for old ≤ n) (sym ran_so.same.whole) enough) in
       let complete : IsComplete (batch_to_send old) st = completion.complete (batch_to_send old) (confirm_of old) turns ran_so.damage ran_so.none brief many in

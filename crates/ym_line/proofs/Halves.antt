@@ -1,5 +1,5 @@
 -- A round of a pair that stands is a turn of the machine.
-use Rattle.std.proofs.Common.{◌≡◌, ◌∙◌, ℕ, Bool, true, false, List, [], ◌∷◌, length, Option, None, Some, Ok, IsSome, refl, sym, ap, subst}
+use Rattle.std.proofs.Common.{◌≡◌, ◌∙◌, ℕ, Bool, true, false, List, [], ◌∷◌, length, Option, None, Some, Ok, IsSome, refl, sym, ap, subst, inl, inr}
 use Rattle.std.proofs.lemmas.List.Elements.{All-set}
 use Rattle.ym_frame.specs.Control.{reply_bytes}
 use Rattle.ym_frame.specs.declared.control.Control.{Control}
@@ -19,11 +19,12 @@ use Rattle.ym_link.specs.ReceiverStands.{IsBatch, ReceiverStands, heard_there, o
 use Rattle.ym_link.specs.ReceiverStands as receiver
 use Rattle.ym_link.specs.SenderStands.{Batch, SenderStands, IsSaid, AllTold}
 use Rattle.ym_link.specs.Sender.{SenderParts, IsSender, IsStep, IsFilled, counts, spoken}
-use Rattle.ym_link.specs.SourceFile.{FileParts, file_at, no_file}
+use Rattle.ym_link.specs.SourceFile.{FileParts, file_at, filled, no_file}
 use Rattle.ym_core.specs.Standing.{hears}
 use Rattle.ym_file.specs.Kept.{Kept}
 use Rattle.ym_core.specs.declared.place.Place.{Place}
 use Rattle.ym_core.specs.declared.place.Place.TheVariants.{Header, Block, Eot, End}
+use Rattle.ym_line.specs.declared.delivery.Delivery.{Delivery}
 use Rattle.ym_line.specs.declared.delivery.Round.{Round}
 use Rattle.ym_line.specs.declared.trace.Seen.{Seen}
 use Rattle.ym_line.specs.declared.trace.Trace.{Trace}
@@ -31,8 +32,8 @@ use Rattle.ym_line.specs.declared.trace.What.{What}
 use Rattle.ym_line.specs.Carried.{told_more}
 use Rattle.ym_line.specs.declared.delivery.Way.TheVariants.{There, Back}
 use Rattle.ym_line.specs.Damage.{arrives, how_of}
-use Rattle.ym_line.specs.Rounds.{Pair, sent_by, Goes, GoOn, IsTrace}
-use Rattle.ym_line.specs.Turns.{AreTurns, IsSourceTruth, IsTurn, PairStands, Reports, RunsAsMachine, came_of, is_whole, turn_of, what_said}
+use Rattle.ym_line.specs.Rounds.{Pair, sent_by, Goes, GoesThere, GoOn, IsTrace}
+use Rattle.ym_line.specs.Turns.{AreTurns, IsHalfTurn, IsSourceTruth, IsTurn, PairStands, Reports, RunsAsMachine, came_of, is_whole, turn_of, what_said}
 use Rattle.ym_line.proofs.Turns.{FrameFound, WithinReply, said-heard, said-shown, said-bytes, came-within, controls-arrive}
 
 -- ---- What the laws below say
@@ -88,19 +89,54 @@ receiver-still confirm files old new r kept same stands = record {
 -- ---- The sources
 
 source-truth : (failed : Bool) (fills : Option Place) (old new : List FileParts) → IsFilled failed fills old new → IsSourceTruth failed old new
-source-truth false fills old new filled = filled
+source-truth false (Some (Block file k)) old new filled = inr (file, filled)
+source-truth false (Some (Header file)) old new filled = inl filled
+source-truth false (Some (Eot file)) old new filled = inl filled
+source-truth false (Some End) old new filled = inl filled
+source-truth false None old new filled = inl filled
 source-truth true (Some (Block file k)) old new filled = (file, filled)
-source-truth true (Some (Header file)) old new filled = absurd filled
-source-truth true (Some (Eot file)) old new filled = absurd filled
-source-truth true (Some End) old new filled = absurd filled
-source-truth true None old new filled = absurd filled
+source-truth true _ old new filled = absurd filled
 
 -- the files go on to tell their bytes
 still-told : (failed : Bool) (old new : List FileParts) → IsSourceTruth failed old new → AllTold old → AllTold new
-still-told false old new truth told = rw truth told
+still-told false old new (inl same) told = rw same told
+still-told false old new (inr truth) told =
+    let tells : FileParts → Type 0 = λ f. IsSome f.bytes in
+    rw truth.1.after (All-set tells old truth.0 (filled (file_at old truth.0)) (told truth.0 no_file truth.1.within) told)
 still-told true old new truth told =
     let tells : FileParts → Type 0 = λ f. IsSome f.bytes in
-    rw truth.1.after (All-set tells old truth.0 (record (file_at old truth.0) { failures = truth.1.failures }) (told truth.0 no_file truth.1.within) told)
+    rw truth.1.after (All-set tells old truth.0 (record (filled (file_at old truth.0)) { failures = truth.1.failures }) (told truth.0 no_file truth.1.within) told)
+
+-- ---- The half there
+
+-- It leads from where a pair stood to where the machine's half leads, and its reply is the machine's.
+pub half-turn : Laws → (confirm : Confirm) (files : Batch) (st : State) (delivery : Delivery) (old : Pair) (reply : Reply) (new : Pair) →
+    PairStands confirm files st old → GoesThere delivery old reply new →
+    (half : IsHalfTurn confirm files st delivery old new) × (reply ≡ (there (frames_of files) confirm half.sink_failed (is_whole delivery) st).1)
+half-turn laws confirm files st delivery old reply new stands goes =
+    let whole : Bool = is_whole delivery in
+    let says : IsSaid files (said st) (spoken old.sender) = laws.says files st old.sender stands.sender goes.keeps stands.told in
+    let heard : heard_of (arrives delivery (sent_by old.sender)) ≡ heard_there files whole st = said-heard laws.found files (said st) old.sender delivery says goes.bad in
+    let answers : receiver.Follows confirm files whole st old.receiver reply new.receiver =
+    laws.receiver_follows confirm files whole st old.receiver reply new.receiver stands.batch stands.machine stands.receiver
+    (subst (λ h. HearsGives old.receiver h (Ok reply) new.receiver) heard goes.hears) in
+    let same_sender : new.sender ≡ old.sender = ap (λ (p : Pair). p.sender) goes.others in
+    let st_new : State = (there (frames_of files) confirm answers.0 whole st).0 in (
+      record {
+        sink_failed = answers.0;
+        sink = answers.1;
+        sender = same_sender;
+        handed_on = ap (λ (p : Pair). p.told) goes.others ∙ ap (λ b. told_more There (arrives delivery b) old.told) (said-bytes files (said st) old.sender says);
+        stands = record {
+          machine = laws.machine_there files confirm answers.0 whole st stands.machine;
+          batch = stands.batch;
+          told = subst (λ (s : SenderParts). AllTold s.files) (sym same_sender) stands.told;
+          sender = subst (λ s. SenderStands files st_new s) (sym same_sender) (sender-still files st st_new old.sender (laws.keeps_sender files confirm answers.0 whole st) stands.sender);
+          receiver = answers.2.stands;
+        };
+      },
+      answers.2.reply_is,
+    )
 
 -- ---- A round
 
@@ -114,16 +150,12 @@ goes-turn laws confirm files st round old new seen stands goes =
     let between : Pair = goes.between in
     let frames : List (Frame HeaderParts) = frames_of files in
     let whole : Bool = is_whole round.there in
-    let says : IsSaid files (said st) (spoken old.sender) = laws.says files st old.sender stands.sender goes.there.keeps stands.told in
-    let heard : heard_of (arrives round.there (sent_by old.sender)) ≡ heard_there files whole st = said-heard laws.found files (said st) old.sender round.there says goes.there.bad in
-    let answers : receiver.Follows confirm files whole st old.receiver seen.reply between.receiver =
-    laws.receiver_follows confirm files whole st old.receiver seen.reply between.receiver stands.batch stands.machine stands.receiver
-    (subst (λ h. HearsGives old.receiver h (Ok seen.reply) between.receiver) heard goes.there.hears) in
-    let sink_failed : Bool = answers.0 in
+    let both = half-turn laws confirm files st round.there old seen.reply between stands goes.there in
+    let half : IsHalfTurn confirm files st round.there old between = both.0 in
+    let sink_failed : Bool = half.sink_failed in
     let answer : Answer = there frames confirm sink_failed whole st in
-    let reply_is : seen.reply ≡ answer.1 = answers.2.reply_is in
+    let reply_is : seen.reply ≡ answer.1 = both.1 in
     let came : List Control = came_back (came_of round.back) answer.1 in
-    let same_sender : between.sender ≡ old.sender = ap (λ (p : Pair). p.sender) goes.there.others in
     let same_receiver : new.receiver ≡ between.receiver = ap (λ (p : Pair). p.receiver) goes.back.others in
     let bytes : List ℕ = arrives round.back (reply_bytes seen.reply) in
     let came_is : controls_in bytes ≡ came = controls-arrive round.back seen.reply ∙ ap (came_back (came_of round.back)) reply_is in
@@ -131,31 +163,26 @@ goes-turn laws confirm files st round old new seen stands goes =
     subst (λ r. machine.is_within (came_back (came_of round.back) r) (machine.controls r) ≡ true) reply_is (came-within laws.within laws.whole round.back seen.reply goes.back.shows) in
     let remnant : machine.IsRemnant (controls_in bytes) = subst machine.IsRemnant (sym came_is) (laws.remnants answer.1 came within) in
     let source_failed : Bool = goes.back.hears.0 in
-    let sender_between : SenderStands files answer.0 between.sender =
-    subst (λ s. SenderStands files answer.0 s) (sym same_sender) (sender-still files st answer.0 old.sender (laws.keeps_sender files confirm sink_failed whole st) stands.sender) in
-    let sender_new : SenderStands files (back frames source_failed came answer.0) new.sender =
-    subst (λ c. SenderStands files (back frames source_failed c answer.0) new.sender) came_is
-    (laws.sender_follows files answer.0 between.sender new.sender bytes source_failed sender_between remnant goes.back.hears.1) in
-    let receiver_new : ReceiverStands confirm files (back frames source_failed came answer.0) new.receiver.receiver new.receiver.kept =
-    subst (λ r. ReceiverStands confirm files (back frames source_failed came answer.0) r.receiver r.kept) (sym same_receiver)
-    (receiver-still confirm files answer.0 (back frames source_failed came answer.0) between.receiver.receiver between.receiver.kept (laws.keeps_receiver files source_failed came answer.0) answers.2.stands) in
+    let behind : State = back frames source_failed came answer.0 in
     let source : IsSourceTruth source_failed old.sender.files new.sender.files =
-    subst (λ s. IsSourceTruth source_failed s.files new.sender.files) same_sender (source-truth source_failed _ between.sender.files new.sender.files goes.back.hears.1.files) in (
+    subst (λ s. IsSourceTruth source_failed s.files new.sender.files) half.sender (source-truth source_failed _ between.sender.files new.sender.files goes.back.hears.1.files) in
+    let says : IsSaid files (said st) (spoken old.sender) = laws.says files st old.sender stands.sender goes.there.keeps stands.told in (
       turn_of round sink_failed source_failed,
       record {
         turn_is = refl;
-        sink = subst (λ (r : ReceiverParts). Tells sink_failed old.receiver.failures r.failures) (sym same_receiver) answers.1;
+        sink = subst (λ (r : ReceiverParts). Tells sink_failed old.receiver.failures r.failures) (sym same_receiver) half.sink;
         source = source;
         damage = goes.back.shows;
         seen_is = goes.seen_is ∙ (ap (λ what. showing round what seen.reply) (said-shown files (said st) old.sender says) ∙ ap (showing round (what_said frames (said st))) reply_is);
-        handed_on = ap (λ (p : Pair). p.told) goes.back.others ∙ ap (told_more Back bytes) (ap (λ (p : Pair). p.told) goes.there.others
-            ∙ ap (λ b. told_more There (arrives round.there b) old.told) (said-bytes files (said st) old.sender says));
+        handed_on = ap (λ (p : Pair). p.told) goes.back.others ∙ ap (told_more Back bytes) half.handed_on;
         stands = record {
           machine = laws.machine_back files confirm sink_failed whole source_failed came st stands.machine within;
           batch = stands.batch;
           told = still-told source_failed old.sender.files new.sender.files source stands.told;
-          sender = sender_new;
-          receiver = receiver_new;
+          sender = subst (λ c. SenderStands files (back frames source_failed c answer.0) new.sender) came_is
+              (laws.sender_follows files answer.0 between.sender new.sender bytes source_failed half.stands.sender remnant goes.back.hears.1);
+          receiver = subst (λ r. ReceiverStands confirm files behind r.receiver r.kept) (sym same_receiver)
+              (receiver-still confirm files answer.0 behind between.receiver.receiver between.receiver.kept (laws.keeps_receiver files source_failed came answer.0) half.stands.receiver);
         };
       },
     )

@@ -8,6 +8,7 @@ use Rattle.ym_file.specs.Plan.{IsPieces, pieces_of}
 use Rattle.ym_file.specs.declared.plan.Shape.{Shape}
 use Rattle.ym_machine.specs.declared.confirm.Confirm.{Confirm}
 use Rattle.ym_machine.specs.Frames.{File, frames_of, IsPrefix}
+use Rattle.ym_machine.specs.declared.limits.TheConstants.{MOST_FILES}
 use Rattle.ym_machine.specs.Machine.{State, start, committed, reported}
 use Rattle.ym_machine.specs.Run.{Turn, after_turns}
 use Rattle.ym_core.specs.Place.{done_at, first_of}
@@ -40,7 +41,7 @@ PlannedBytes = (shape : Shape) (header : HeaderParts) (bytes : List ℕ) (pieces
 
 abbrev pub NewStand : Type 0
 NewStand = (confirm : Confirm) (shape : Shape) (sources : List FileParts) (frame : List ℕ) (kept : Kept) (sink_failures : ℕ) (told : Option (List Handed)) (failures : ℕ) →
-    All IsFile sources → AllTold sources → length sources ≤ 65535 → IsNew kept →
+    All IsFile sources → AllTold sources → length sources ≤ MOST_FILES → IsNew kept →
     PairStands confirm (batch_of shape sources) start (record {
       sender = record { standing = new_standing (counts_of shape sources); shape = shape; files = sources; frame = frame };
       receiver = record { receiver = new_receiver confirm; kept = kept; failures = sink_failures };

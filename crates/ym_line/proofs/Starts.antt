@@ -2,6 +2,7 @@
 use Rattle.std.proofs.Common.{◌≡◌, ◌≤◌, ℕ, List, length, Option, None, Some, IfSome, IsSome, All, sym}
 use Rattle.std.proofs.lemmas.List.{length-map}
 use Rattle.std.proofs.lemmas.List.Elements.{All-map}
+use Rattle.ym_machine.specs.declared.limits.TheConstants.{MOST_FILES}
 use Rattle.ym_header.specs.Header.{HeaderParts, IsHeader, length_limit}
 use Rattle.ym_file.specs.Plan.{IsPieces, pieces_of}
 use Rattle.ym_file.specs.declared.plan.Shape.{Shape}
@@ -20,7 +21,7 @@ told-sent sent pieces shape count header None within sized told = absurd (cc)
 told-sent sent pieces shape count header (Some all) within sized told = sent shape header all (pieces_of shape all) within (sym sized) (pieces shape all)
 
 pub batch-is : PlannedIsSent → ((shape : Shape) (file : List ℕ) → IsPieces shape file (pieces_of shape file)) → (shape : Shape) (sources : List FileParts) →
-    All IsFile sources → AllTold sources → length sources ≤ 65535 → IsBatch (batch_of shape sources)
+    All IsFile sources → AllTold sources → length sources ≤ MOST_FILES → IsBatch (batch_of shape sources)
 batch-is sent pieces shape sources files told few = record {
   sent = All-map IsSent (file_of shape) sources
       (λ k d below. told-sent sent pieces shape _ _ _ (files k d below).header (files k d below).bytes (told k d below));

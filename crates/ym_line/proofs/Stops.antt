@@ -1,27 +1,21 @@
 -- A run that met a fault: the rounds before are turns, and of the round with the fault at most the half there was taken.
-use Rattle.std.proofs.Common.{◌≡◌, ◌∙◌, inl, inr, ℕ, ◌+◌, Bool, List, [], ◌∷◌, length, Ok, refl, sym, ap, subst, arith}
-use Rattle.ym_frame.specs.declared.control.Reply.{Reply}
+use Rattle.std.proofs.Common.{◌≡◌, ◌∙◌, inl, inr, ℕ, ◌+◌, List, [], ◌∷◌, length, refl, sym, ap, subst, arith}
 use Rattle.ym_machine.specs.declared.confirm.Confirm.{Confirm}
 use Rattle.ym_machine.specs.Frames.{frames_of}
-use Rattle.ym_machine.specs.Machine.{State, said, there}
+use Rattle.ym_machine.specs.Machine.{State, said}
 use Rattle.ym_machine.specs.Run.{after_turn}
-use Rattle.ym_core.specs.Hearing.{heard_of}
-use Rattle.ym_link.specs.ReceiverInto.{HearsGives}
-use Rattle.ym_link.specs.ReceiverStands.{ReceiverStands, heard_there}
-use Rattle.ym_link.specs.ReceiverStands as receiver
-use Rattle.ym_link.specs.SenderStands.{Batch, SenderStands, AllTold, IsSaid}
-use Rattle.ym_link.specs.Sender.{SenderParts, spoken}
+use Rattle.ym_link.specs.SenderStands.{Batch, IsSaid}
+use Rattle.ym_link.specs.Sender.{spoken}
 use Rattle.ym_line.specs.declared.delivery.Delivery.{Delivery}
 use Rattle.ym_line.specs.declared.delivery.Round.{Round}
 use Rattle.ym_line.specs.declared.delivery.Way.TheVariants.{There}
 use Rattle.ym_line.specs.declared.fault.LineFault.{LineFault}
 use Rattle.ym_line.specs.declared.fault.LineFault.TheVariants.{NotDamage, TooLong, Carrier, Memory}
-use Rattle.ym_line.specs.Carried.{told_more}
 use Rattle.ym_line.specs.Damage.{arrives}
-use Rattle.ym_line.specs.Rounds.{Pair, handed, sent_by, GoesThere, Stops, StopsHalf, StopsIn}
-use Rattle.ym_line.specs.Turns.{IsHalfTurn, IsOfRound, PairStands, StopsAsMachine, StopsInTurn, is_whole}
-use Rattle.ym_line.proofs.Turns.{said-bytes, said-heard}
-use Rattle.ym_line.proofs.Halves.{Laws, sender-still, goes-turn}
+use Rattle.ym_line.specs.Rounds.{Pair, handed, Stops, StopsHalf, StopsIn}
+use Rattle.ym_line.specs.Turns.{IsHalfTurn, IsOfRound, PairStands, StopsAsMachine, StopsInTurn}
+use Rattle.ym_line.proofs.Turns.{said-bytes}
+use Rattle.ym_line.proofs.Halves.{Laws, goes-turn, half-turn}
 
 -- ---- What a half leaves where no end has heard
 
@@ -47,39 +41,12 @@ half-number n shows short old Memory new stops = tt
 memory-number : (n : ℕ) (fault : LineFault) → fault ≡ Memory → IsOfRound n fault
 memory-number n fault memory = subst (IsOfRound n) (sym memory) tt
 
--- ---- The half there
-
--- the half there leads from where it stood to where the machine's half leads
-half-turn : Laws → (confirm : Confirm) (files : Batch) (st : State) (delivery : Delivery) (old : Pair) (reply : Reply) (new : Pair) →
-    PairStands confirm files st old → GoesThere delivery old reply new → IsHalfTurn confirm files st delivery old new
-half-turn laws confirm files st delivery old reply new stands goes =
-    let whole : Bool = is_whole delivery in
-    let says : IsSaid files (said st) (spoken old.sender) = laws.says files st old.sender stands.sender goes.keeps stands.told in
-    let heard : heard_of (arrives delivery (sent_by old.sender)) ≡ heard_there files whole st = said-heard laws.found files (said st) old.sender delivery says goes.bad in
-    let answers : receiver.Follows confirm files whole st old.receiver reply new.receiver =
-    laws.receiver_follows confirm files whole st old.receiver reply new.receiver stands.batch stands.machine stands.receiver
-    (subst (λ h. HearsGives old.receiver h (Ok reply) new.receiver) heard goes.hears) in
-    let same_sender : new.sender ≡ old.sender = ap (λ (p : Pair). p.sender) goes.others in
-    let st_new : State = (there (frames_of files) confirm answers.0 whole st).0 in
-    record {
-      sink_failed = answers.0;
-      sink = answers.1;
-      sender = same_sender;
-      handed_on = ap (λ (p : Pair). p.told) goes.others ∙ ap (λ b. told_more There (arrives delivery b) old.told) (said-bytes files (said st) old.sender says);
-      stands = record {
-        machine = laws.machine_there files confirm answers.0 whole st stands.machine;
-        batch = stands.batch;
-        told = subst (λ (s : SenderParts). AllTold s.files) (sym same_sender) stands.told;
-        sender = subst (λ s. SenderStands files st_new s) (sym same_sender) (sender-still files st st_new old.sender (laws.keeps_sender files confirm answers.0 whole st) stands.sender);
-        receiver = answers.2.stands;
-      };
-    }
+-- ---- The line's failures
 
 -- the line's failures are no part of where a pair stands
 pub failures-stand : (confirm : Confirm) (files : Batch) (st : State) (old new : Pair) → Same old new → PairStands confirm files st old → PairStands confirm files st new
 failures-stand confirm files st old new same stands =
-    let counted : PairStands confirm files st (record old { failures = new.failures }) =
-    record { machine = stands.machine; batch = stands.batch; told = stands.told; sender = stands.sender; receiver = stands.receiver } in
+    let counted : PairStands confirm files st (record old { failures = new.failures }) = assumption in
     subst (PairStands confirm files st) (sym same) counted
 
 -- nor of its half
@@ -107,7 +74,7 @@ round-stops laws confirm files st n round old new fault stands (inl (inr wanted)
       memory-number n fault wanted.0,
     )
 round-stops laws confirm files st n round old new fault stands (inr stopped) =
-    let half = half-turn laws confirm files st round.there old stopped.1 stopped.0 stands stopped.2 in
+    let half = (half-turn laws confirm files st round.there old stopped.1 stopped.0 stands stopped.2).0 in
     (StopsInTurn.half (failures-half confirm files st round.there old stopped.0 new (half-same n _ _ stopped.0 fault new stopped.3) half), half-number n _ _ stopped.0 fault new stopped.3)
 
 -- at the head of the rounds that are left

@@ -11,9 +11,9 @@ use Rattle.ym_machine.specs.Machine.{State}
 use Rattle.ym_machine.specs.Run.{Turn, NoFailure, after_turn}
 use Rattle.ym_machine.specs.Run as machine
 use Rattle.ym_link.specs.ReceiverInto.{Tells}
-use Rattle.ym_link.specs.Sender.{FailedAt}
+use Rattle.ym_link.specs.Sender.{FilledAt, FailedAt}
 use Rattle.ym_link.specs.SenderStands.{Batch}
-use Rattle.ym_link.specs.SourceFile.{FileParts, file_at, no_file}
+use Rattle.ym_link.specs.SourceFile.{FileParts, file_at, filled, no_file}
 use Rattle.ym_line.specs.declared.delivery.Delivery.{Delivery}
 use Rattle.ym_line.specs.declared.delivery.Delivery.TheVariants.{Whole, Lost, Damaged}
 use Rattle.ym_line.specs.declared.delivery.Round.{Round}
@@ -42,7 +42,7 @@ tells-grew false a b same = omega (arith, same)
 failed-grew : (at : ℕ) (old new : List FileParts) → FailedAt at old new → (i : ℕ) → (file_at old i).failures ≤ (file_at new i).failures
 failed-grew at old new failed i = elim (cases_eq i at) [
   | inl same ↦
-      let set_is : file_at new at ≡ record (file_at old at) { failures = failed.failures } = ap (λ l. file_at l at) failed.after ∙ get_or-set_same old at _ no_file failed.within in
+      let set_is : file_at new at ≡ record (filled (file_at old at)) { failures = failed.failures } = ap (λ l. file_at l at) failed.after ∙ get_or-set_same old at _ no_file failed.within in
       let counts : (file_at new at).failures ≡ failed.failures = ap (λ (f : FileParts). f.failures) set_is in
       let grew : (file_at old at).failures ≤ (file_at new at).failures = omega (arith, counts, rose-grew (file_at old at).failures failed.failures failed.rose) in
       subst (λ j. (file_at old j).failures ≤ (file_at new j).failures) (sym same) grew
@@ -52,9 +52,20 @@ failed-grew at old new failed i = elim (cases_eq i at) [
       omega (arith, counts)
 ]
 
+filled-same : (at : ℕ) (old new : List FileParts) → FilledAt at old new → (i : ℕ) → (file_at new i).failures ≡ (file_at old i).failures
+filled-same at old new asked i = elim (cases_eq i at) [
+  | inl same ↦
+      let set_is : file_at new at ≡ filled (file_at old at) = ap (λ l. file_at l at) asked.after ∙ get_or-set_same old at _ no_file asked.within in
+      subst (λ j. (file_at new j).failures ≡ (file_at old j).failures) (sym same) (ap (λ (f : FileParts). f.failures) set_is)
+  | inr other ↦
+      let kept_is : file_at new i ≡ file_at old i = ap (λ l. file_at l i) asked.after ∙ get_or-set_other old at i _ no_file other in
+      ap (λ (f : FileParts). f.failures) kept_is
+]
+
 sources-grew : (failed : Bool) (old new : List FileParts) → IsSourceTruth failed old new → (i : ℕ) → (file_at old i).failures ≤ (file_at new i).failures
 sources-grew true old new truth i = failed-grew truth.0 old new truth.1 i
-sources-grew false old new truth i = let same : (file_at new i).failures ≡ (file_at old i).failures = ap (λ l. (file_at l i).failures) truth in omega (arith, same)
+sources-grew false old new (inl truth) i = let same : (file_at new i).failures ≡ (file_at old i).failures = ap (λ l. (file_at l i).failures) truth in omega (arith, same)
+sources-grew false old new (inr truth) i = let same = filled-same truth.0 old new truth.1 i in omega (arith, same)
 
 -- the number of files stays
 failed-long : (at : ℕ) (old new : List FileParts) → FailedAt at old new → length new ≡ length old
@@ -62,7 +73,8 @@ failed-long at old new failed = ap length failed.after ∙ length-set old at _
 
 sources-long : (failed : Bool) (old new : List FileParts) → IsSourceTruth failed old new → length new ≡ length old
 sources-long true old new truth = failed-long truth.0 old new truth.1
-sources-long false old new truth = ap length truth
+sources-long false old new (inl truth) = ap length truth
+sources-long false old new (inr truth) = ap length truth.1.after ∙ length-set old truth.0 _
 
 record Grew (old new : Pair) : Type 0 where
   sink : old.receiver.failures ≤ new.receiver.failures
@@ -93,7 +105,7 @@ sink-true false a b c same grew none = refl
 failed-rose : (at : ℕ) (old between new : List FileParts) → FailedAt at old between →
     ((i : ℕ) → (file_at between i).failures ≤ (file_at new i).failures) → Rose (file_at old at).failures (file_at new at).failures
 failed-rose at old between new failed grew =
-    let set_is : file_at between at ≡ record (file_at old at) { failures = failed.failures } = ap (λ l. file_at l at) failed.after ∙ get_or-set_same old at _ no_file failed.within in
+    let set_is : file_at between at ≡ record (filled (file_at old at)) { failures = failed.failures } = ap (λ l. file_at l at) failed.after ∙ get_or-set_same old at _ no_file failed.within in
     let counts : (file_at between at).failures ≡ failed.failures = ap (λ (f : FileParts). f.failures) set_is in
     rose-on (file_at old at).failures failed.failures (file_at new at).failures failed.rose (omega (arith, counts, grew at))
 

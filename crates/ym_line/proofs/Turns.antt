@@ -11,7 +11,7 @@ use Rattle.ym_frame.specs.declared.control.Control.{Control}
 use Rattle.ym_frame.specs.declared.control.Control.TheVariants as control
 use Rattle.ym_frame.specs.declared.frame.Item.{Item}
 use Rattle.ym_frame.specs.declared.frame.Item.TheVariants as item
-use Rattle.ym_machine.specs.Frames.{Frame, BlockZero, Piece, Eot, EndBlock, frames_of, frame_at}
+use Rattle.ym_machine.specs.Frames.{Frame, BlockZero, frames_of, frame_at}
 use Rattle.ym_machine.specs.Halves as machine
 use Rattle.ym_machine.specs.Machine.{Speech, Nothing, FrameAt, CanCan}
 use Rattle.ym_machine.specs.Run.{came_back}
@@ -33,11 +33,7 @@ use Rattle.ym_line.specs.What.{what_is, what_of}
 -- the controls of a whole reply are the reply's
 whole-controls : (r : Reply) → controls_in (reply_bytes r) ≡ machine.controls r
 whole-controls reply.Silence = refl
-whole-controls reply.Start = refl
-whole-controls reply.Ack = refl
-whole-controls reply.AckStart = refl
-whole-controls reply.Nak = refl
-whole-controls reply.Cancel = refl
+whole-controls _ = refl
 
 pub controls-arrive : (delivery : Delivery) (r : Reply) → controls_in (arrives delivery (reply_bytes r)) ≡ came_back (came_of delivery) r
 controls-arrive Whole r = whole-controls r
@@ -47,11 +43,7 @@ controls-arrive (Damaged bytes) r = refl
 -- a reply has control bytes alone
 reply-controls : (r : Reply) → controls (reply_bytes r) ≡ reply_bytes r
 reply-controls reply.Silence = refl
-reply-controls reply.Start = refl
-reply-controls reply.Ack = refl
-reply-controls reply.AckStart = refl
-reply-controls reply.Nak = refl
-reply-controls reply.Cancel = refl
+reply-controls _ = refl
 
 -- the byte of the control that a byte is
 known-byte : (byte n : ℕ) (known control : Control) → byte ≡ n → control_at n ≡ Some known → machine.control_byte known ≡ n → control_at byte ≡ Some control →
@@ -99,23 +91,16 @@ frame-heard found i frame is =
 
 what-frame : (i : Item) (frame : List ℕ) → IsFrame i frame → what_of frame ≡ what_is i
 what-frame (item.Block block) frame is = elim is [ inl short ↦ rw (short.1, short.0) refl | inr long ↦ rw (long.1, long.0) refl ]
-what-frame item.Eot frame is = rw is refl
-what-frame item.Cancel frame is = rw is refl
+what-frame _ frame is = rw is refl
 
 frame-bytes : (i : Item) (frame : List ℕ) → IsFrame i frame → frame ≡ frame_of i
-frame-bytes (item.Block block) frame is = elim is [
-  | inl short ↦ rw (short.1, short.0) refl
-  | inr long ↦ rw (long.1, long.0) refl
-]
-frame-bytes item.Eot frame is = is
-frame-bytes item.Cancel frame is = is
+frame-bytes (item.Block block) frame is = elim is [ inl short ↦ rw (short.1, short.0) refl | inr long ↦ rw (long.1, long.0) refl ]
+frame-bytes _ frame is = is
 
 -- both ends have one item of a frame
 same-item : (frame : Frame HeaderParts) → receiver.item_of frame ≡ item_of frame
 same-item (BlockZero header) = refl
-same-item (Piece number body) = refl
-same-item Eot = refl
-same-item EndBlock = refl
+same-item _ = refl
 
 -- what is heard of what the sender said
 pub said-heard : FrameFound → (files : Batch) (speech : Speech) (sender : SenderParts) (delivery : Delivery) → IsSaid files speech (spoken sender) → IsHeardBad delivery →

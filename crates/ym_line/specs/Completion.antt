@@ -1,12 +1,13 @@
 -- Runs of new ends in which damage comes in short bursts: how they go on, and when they finish.
 --
--- The bounds are this profile's choice; that an end gives up at its tenth error in a row is the reference's ("XMODEM Protocol Overview").
+-- The burst is this profile's choice; after how many errors in a row an end gives up is the reference's ("XMODEM Protocol Overview").
 use Rattle.std.specs.Prelude.{◌≡◌, ◌≤◌, ◌<◌, ◌⊎◌, ℕ, ◌+◌, ◌&&◌, max, Bool, true, if◌then◌else◌, List, [], ◌∷◌, length, map, Some}
 use Rattle.ym_file.specs.Counts.{Rose}
 use Rattle.ym_file.specs.Kept.{Told}
 use Rattle.ym_link.specs.SourceFile.{FileParts, file_at}
 use Rattle.ym_core.specs.declared.state.SendState.TheVariants as sender
 use Rattle.ym_core.specs.declared.state.RecvState.TheVariants as receiver
+use Rattle.ym_machine.specs.declared.limits.TheConstants.{BURST}
 use Rattle.ym_line.specs.declared.delivery.Round.{Round}
 use Rattle.ym_line.specs.declared.trace.Trace.{Trace}
 use Rattle.ym_line.specs.Needed.{rounds_of}
@@ -46,12 +47,12 @@ pub record NoneRose (old new : Pair) : Type 0 where
 abbrev pub rounds_for : Pair → ℕ
 rounds_for pair = rounds_of pair.sender.shape pair.receiver.receiver.confirm pair.sender.files
 
--- neither end gave up, was cancelled or has failed, and the count of one that runs is at most 9
+-- neither end gave up, was cancelled or has failed, and the count of one that runs is at most that of a burst, one round and a burst again
 pub record AreGoing (trace : Trace) (pair : Pair) : Type 0 where
   pub send : (trace.send ≡ sender.Running) ⊎ (trace.send ≡ sender.Finished)
   pub recv : (trace.recv ≡ receiver.Running) ⊎ (trace.recv ≡ receiver.Finished)
-  pub sender_count : trace.send ≡ sender.Running → pair.sender.standing.misses ≤ 9
-  pub receiver_count : trace.recv ≡ receiver.Running → pair.receiver.receiver.count ≤ 9
+  pub sender_count : trace.send ≡ sender.Running → pair.sender.standing.misses ≤ BURST + 1 + BURST
+  pub receiver_count : trace.recv ≡ receiver.Running → pair.receiver.receiver.count ≤ BURST + 1 + BURST
 
 -- both ends have finished, and the whole batch is committed and reported
 pub record HaveFinished (batch : List FileParts) (trace : Trace) (pair : Pair) : Type 0 where
@@ -62,8 +63,8 @@ pub record HaveFinished (batch : List FileParts) (trace : Trace) (pair : Pair) :
   pub headers : pair.receiver.kept.headers ≡ map (λ (f : FileParts). f.header) batch
   pub bytes : (told : Told) → pair.receiver.kept.told ≡ Some told → map (λ (bytes : List ℕ). Some bytes) told.files ≡ map (λ (f : FileParts). f.bytes) batch
 
--- new ends over whose rounds no failure count rose, and no bad run is longer than four rounds
+-- new ends over whose rounds no failure count rose, and no bad run is longer than a burst
 pub record BringsShortBadRuns (rounds : List Round) (old new : Pair) : Type 0 where
   pub fresh : AreNew old
   pub none : NoneRose old new
-  pub short : longest_bad_run 0 rounds ≤ 4
+  pub short : longest_bad_run 0 rounds ≤ BURST

@@ -7,6 +7,7 @@ use Rattle.ym_frame.specs.Frame.{HasFrame}
 use Rattle.ym_frame.specs.declared.control.Reply.{Reply}
 use Rattle.ym_core.specs.Hearing.{heard_of}
 use Rattle.ym_core.specs.declared.delivery.Heard.TheVariants.{Bad}
+use Rattle.ym_line.specs.declared.check.TheConstants.{DELIVERY_LIMIT}
 use Rattle.ym_line.specs.declared.delivery.Delivery.{Delivery}
 use Rattle.ym_line.specs.declared.delivery.Delivery.TheVariants.{Whole, Lost, Damaged}
 use Rattle.ym_line.specs.declared.fault.LineFault.{LineFault}
@@ -42,7 +43,7 @@ ShowsBack reply _ = Unit {0}
 
 -- what is damaged is no longer than a delivery may be
 abbrev pub IsShort : Delivery → Type 0
-IsShort (Damaged bytes) = length bytes ≤ 2048
+IsShort (Damaged bytes) = length bytes ≤ DELIVERY_LIMIT
 IsShort _ = Unit {0}
 
 -- The check of a delivery of round n: the damage has to show and to be short enough, and the first that fails is told.

@@ -43,7 +43,7 @@ bad_header = refl
 -- ---- Rounds
 
 abbrev file : ℕ → FileParts
-file size = record { header = record { name = codes "a"; length = size; stamp = stamp.Nothing }; bytes = None; failures = 0 }
+file size = record { header = record { name = codes "a"; length = size; stamp = stamp.Nothing }; bytes = None; failures = 0; fills = 0 }
 
 one_block : rounds_of Mixed Twice (file 128 ∷ []) ≡ 6
 one_block = refl

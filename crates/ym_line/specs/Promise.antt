@@ -10,6 +10,7 @@ use Rattle.ym_core.specs.declared.place.Place.{Place}
 use Rattle.ym_core.specs.declared.place.Place.TheVariants.{Header, End}
 use Rattle.ym_core.specs.declared.place.Mode.TheVariants.{Waiting}
 use Rattle.ym_core.specs.declared.state.SendState.TheVariants.{Running}
+use Rattle.ym_machine.specs.declared.limits.TheConstants.{MOST_FILES}
 use Rattle.ym_line.specs.Rounds.{Pair}
 use Rattle.ym_line.specs.declared.trace.Trace.{Trace}
 
@@ -18,12 +19,12 @@ abbrev pub first_place : List FileParts → Place
 first_place [] = End
 first_place (file ∷ files) = Header 0
 
--- New ends: a sender that waits at the first frame of a batch of at most 65,535 files whose sources tell their bytes, and a receiver that
+-- New ends: a sender that waits at the first frame of a batch of no more files than one may have, whose sources tell their bytes, and a receiver that
 -- awaits its first header, into a sink that has no file.
 pub record AreNew (pair : Pair) : Type 0 where
   pub sender : pair.sender.standing ≡ record { place = first_place pair.sender.files; mode = Waiting; misses = 0; state = Running; farewell = false }
   pub tells : All (λ (f : FileParts). IsSome f.bytes) pair.sender.files
-  pub few : length pair.sender.files ≤ 65535
+  pub few : length pair.sender.files ≤ MOST_FILES
   pub receiver : pair.receiver.receiver ≡ new_receiver pair.receiver.receiver.confirm
   pub sink : IsNew pair.receiver.kept
 

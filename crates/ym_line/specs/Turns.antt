@@ -1,5 +1,5 @@
 -- Two ends that stand at a state of the machine of two counters, and rounds as turns of that machine.
-use Rattle.std.specs.Prelude.{◌≡◌, map, ◌==◌, length, ◌+◌, ◌++◌, if◌then◌else◌, ℕ, Bool, true, false, List, [], ◌∷◌, Option, None, Some}
+use Rattle.std.specs.Prelude.{◌≡◌, ◌⊎◌, map, ◌==◌, length, ◌+◌, ◌++◌, if◌then◌else◌, ℕ, Bool, true, false, List, [], ◌∷◌, Option, None, Some}
 use Rattle.ym_frame.specs.declared.control.Control.{Control}
 use Rattle.ym_machine.specs.declared.confirm.Confirm.{Confirm}
 use Rattle.ym_machine.specs.Frames.{File, Frame, frames_of, frame_at, IsPrefix}
@@ -13,7 +13,7 @@ use Rattle.ym_link.specs.ReceiverStands as receiver
 use Rattle.ym_link.specs.SenderStands as sender
 use Rattle.ym_core.specs.Place.{done_at}
 use Rattle.ym_file.specs.Kept.{Told}
-use Rattle.ym_link.specs.Sender.{FailedAt}
+use Rattle.ym_link.specs.Sender.{FilledAt, FailedAt}
 use Rattle.ym_link.specs.SourceFile.{FileParts}
 use Rattle.ym_link.specs.SenderStands.{Batch, SenderStands, AllTold, item_of}
 use Rattle.ym_line.specs.declared.delivery.Delivery.{Delivery}
@@ -80,9 +80,9 @@ bytes_said frames Nothing = []
 bytes_said frames (FrameAt i) = frame_of (item_of (frame_at frames i))
 bytes_said frames CanCan = 0x18 ∷ 0x18 ∷ []
 
--- whether a source failed, by the failure counts of the files
+-- Whether a source failed, by the failure counts of the files. Nothing else changes but that one source may have been asked to fill.
 abbrev pub IsSourceTruth : Bool → List FileParts → List FileParts → Type 0
-IsSourceTruth false old new = new ≡ old
+IsSourceTruth false old new = (new ≡ old) ⊎ ((file : ℕ) × FilledAt file old new)
 IsSourceTruth true old new = (file : ℕ) × FailedAt file old new
 
 -- what the line tells behind the delivery of what the machine's sender had to say

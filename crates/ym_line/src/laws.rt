@@ -2,6 +2,7 @@
 
 ghost use Rattle.std.specs.Prelude.{◌≢◌, ◌≤◌, ◌<◌, List, ℕ, Option, Result, All, length};
 ghost use Rattle.ym_machine.specs.declared.confirm.Confirm.{Confirm};
+ghost use Rattle.ym_machine.specs.declared.limits.TheConstants.{MOST_FILES};
 ghost use Rattle.ym_machine.specs.Frames.{frames_of};
 ghost use Rattle.ym_machine.specs.Machine.{State, start};
 ghost use Rattle.ym_machine.specs.Run.{Turn, IsDamage, after_turns};
@@ -73,7 +74,7 @@ pub fn a_standing_pair_commits_the_first_files()
 /// file.
 pub fn new_ends_stand()
     ensures { (confirm : Confirm) (shape : Shape) (sources : List FileParts) (frame : List ℕ) (kept : Kept) (sink_failures : ℕ) (told : Option (List Handed)) (failures : ℕ) →
-        All IsFile sources → AllTold sources → length sources ≤ 65535 → IsNew kept →
+        All IsFile sources → AllTold sources → length sources ≤ MOST_FILES → IsNew kept →
         PairStands confirm (batch_of shape sources) start (record {
           sender = record { standing = new_standing (counts_of shape sources); shape = shape; files = sources; frame = frame };
           receiver = record { receiver = new_receiver confirm; kept = kept; failures = sink_failures };

@@ -1,6 +1,7 @@
 //! How many whole rounds a batch needs.
 
 ghost use Rattle.std.specs.Prelude.{◌≡◌, ◌≤◌, length as list_length};
+ghost use Rattle.ym_machine.specs.declared.limits.TheConstants.{MOST_FILES};
 ghost use Rattle.ym_line.specs.Needed.{others_of, rounds_of};
 
 use ym_file::{Shape, Source};
@@ -23,7 +24,7 @@ pub fn whole_rounds_needed<S: Source>(
     shape: Shape,
     confirm: Confirm,
 ) -> u128
-    requires { list_length files.now ≤ 65535 }
+    requires { list_length files.now ≤ MOST_FILES }
     ensures { result ≡ rounds_of shape confirm files.now }
 {
     let others = others_of(confirm);

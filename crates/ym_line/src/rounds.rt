@@ -173,7 +173,7 @@ pub fn round<S: Source, K: Sink, C: Carrier>(
 ///   they lead to (`machine`). Where a round meets a fault, those before it are turns, and of its own at most the half there was taken (`stopped`).
 /// - From new ends, whatever is lost or damaged and also where it met a fault, the files committed are the first ones of the batch, each exact, and
 ///   what the sender reports is among them (`commits`, `reports`).
-/// - From new ends, where no failure count rose and no bad run is longer than four rounds, neither end gives up; with as many whole rounds as the
+/// - From new ends, where no failure count rose and no bad run is longer than `BURST` rounds, neither end gives up; with as many whole rounds as the
 ///   batch needs, both finish; and with whole rounds alone, they do not finish sooner (`neither_gives_up`, `both_finish`, `not_sooner`).
 ///
 /// All this rests on these premises: damage shows, and other damage is refused here by `NotDamage` and `TooLong`; the sources tell their bytes, and

@@ -10,6 +10,7 @@ use Rattle.ym_file.specs.declared.plan.Shape.{Shape}
 use Rattle.ym_file.specs.Plan.{piece_at, size_at}
 use Rattle.ym_file.specs.declared.source.SourceFault.{SourceFault}
 use Rattle.ym_link.specs.SourceFile.{FileParts, IsBlockOf, file_at}
+use Rattle.ym_header.specs.Header.{HeaderParts}
 use Rattle.ym_header.specs.Text.{text}
 use Rattle.ym_link.specs.FrameAt.{IsItemAt, IsFrameAt}
 use Rattle.ym_core.specs.declared.place.Place.{Place}
@@ -43,6 +44,21 @@ module _ (shape : Shape) (file : FileParts) (k : ℕ) where
       framed_by file.bytes refl (take len buffer) made.0 (made.1 ∙ ap (λ n. size_at shape n k) same) made.2
       (subst (λ b. IfSome b (λ all. IsFrame (Block (record { number = k % 256; body = piece_at shape all k })) (take len buffer))) known told)
   framed size bytes same known (Err fault) buffer made told = tt
+
+-- a block of a file is one of any file with its header and bytes
+pub frame_of_same : (shape : Shape) (old new : FileParts) (k : ℕ) (r : Result ℕ SourceFault) (buffer : List ℕ) → new.header ≡ old.header → new.bytes ≡ old.bytes
+    → IfOk r (λ len. (block : BlockParts) × IsBlockOf shape old k block × IsFrame (Block block) (take len buffer))
+    → IfOk r (λ len. (block : BlockParts) × IsBlockOf shape new k block × IsFrame (Block block) (take len buffer))
+frame_of_same shape old new k (Ok len) buffer header bytes made = (
+  made.0,
+  record {
+    number = made.1.number;
+    size = made.1.size ∙ ap (λ (h : HeaderParts). size_at shape h.length k) (sym header);
+    body = subst (λ (b : Option (List ℕ)). IfSome b (λ all. made.0.body ≡ piece_at shape all k)) (sym bytes) made.1.body;
+  },
+  made.2,
+)
+frame_of_same shape old new k (Err fault) buffer header bytes made = tt
 
 -- the frame of a file's block is that of its place in the batch
 pub block_frame_at : (shape : Shape) (files : List FileParts) (file k : ℕ) (p : Place) → p ≡ place.Block file k → (one : FileParts) → one ≡ file_at files file → (r : Result ℕ SourceFault) (buffer : List ℕ)

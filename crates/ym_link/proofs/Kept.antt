@@ -1,5 +1,5 @@
 -- What a sender keeps to, after a step.
-use Rattle.std.proofs.Common.{ℕ, ◌≡◌, List, true, sym, subst, Option, None, Some}
+use Rattle.std.proofs.Common.{ℕ, ◌≡◌, List, true, false, refl, ap, sym, ◌∙◌, subst, Option, None, Some}
 use Rattle.std.specs.Prelude.{All}
 use Rattle.ym_file.specs.declared.plan.Shape.{Shape}
 use Rattle.ym_frame.specs.declared.control.Control.{Control}
@@ -7,16 +7,40 @@ use Rattle.ym_link.specs.SourceFile.{FileParts, IsFile, counts_of}
 use Rattle.ym_core.specs.Place.{IsPlace}
 use Rattle.ym_link.specs.FrameAt.{IsFrameAt}
 use Rattle.ym_core.specs.declared.place.Place.{Place}
+use Rattle.ym_core.specs.declared.place.Place.TheVariants.{Header, Block, Eot, End}
 use Rattle.ym_core.specs.declared.standing.Standing.{Standing}
 use Rattle.ym_core.specs.declared.standing.SendStep.{SendStep as Step}
 use Rattle.ym_core.specs.declared.state.SendState.TheVariants.{Running, SourceFailed}
-use Rattle.ym_link.specs.Sender.{IsSender, IsFilled}
-use Rattle.ym_core.specs.Standing.{hears}
+use Rattle.ym_link.specs.Sender.{SenderParts, IsSender, IsStep, IsFilled}
+use Rattle.ym_core.specs.Standing.{hears, after_fill}
 use Rattle.ym_link.proofs.Files.{filled_counts, filled_files}
 use Rattle.ym_link.proofs.Steps.{Keeps, step_keeps}
 
 is_failed : SourceFailed ≡ Running → ⊥
 is_failed h = absurd cc
+
+-- a step at which the source failed is one of the table's
+pub failed_hears : (shape : Shape) (seen files new : List FileParts) (held out : List ℕ) (s t : Standing) (cs : List Control) (step : Step) (place : Place) → seen ≡ files
+    → step ≡ hears (counts_of shape seen) s cs → step.fills ≡ Some place → t ≡ record step.standing { state = SourceFailed; farewell = true } → IsFilled true (Some place) files new
+    → IsStep (record { standing = s; shape = shape; files = files; frame = held }) (hears (counts_of shape files) s cs) true (record { standing = t; shape = shape; files = new; frame = out })
+failed_hears shape seen files new held out s t cs step place same is fills failed filled =
+    let old : SenderParts = record { standing = s; shape = shape; files = files; frame = held } in
+    let left : SenderParts = record { standing = t; shape = shape; files = new; frame = out } in
+    subst (λ (x : Step). IsStep old x true left) (is ∙ ap (λ (fs : List FileParts). hears (counts_of shape fs) s cs) same) (record {
+      files = subst (λ p. IsFilled true p files new) (sym fills) filled;
+      standing = failed ∙ (by place filled ∙ ap (λ p. after_fill true p step.standing) (sym fills));
+      frame = λ h. absurd (no_truth h);
+      shape = refl;
+    })
+  where
+    no_truth : true ≡ false → ⊥
+    no_truth h = absurd cc
+
+    by : (p : Place) → IsFilled true (Some p) files new → record step.standing { state = SourceFailed; farewell = true } ≡ after_fill true (Some p) step.standing
+    by (Block file k) h = refl
+    by (Header file) h = absurd h
+    by (Eot file) h = absurd h
+    by End h = absurd h
 
 -- `seen` are the files before the step, as the step saw them
 module _ (shape : Shape) (frame : List ℕ) (seen old : List FileParts) (same : seen ≡ old) where
@@ -49,15 +73,14 @@ module _ (shape : Shape) (frame : List ℕ) (seen old : List FileParts) (same : 
 
   -- a frame was filled
   pub filled_sender : (out : List ℕ) (new : List FileParts) (s : Standing) (step : Step) (cs : List Control) (place : Place) → step ≡ hears (counts_of shape seen) s cs
-      → step.fills ≡ Some place → new ≡ old → IsPlace (counts_of shape seen) step.standing.place → IsFrameAt shape old place out → All IsFile old
+      → step.fills ≡ Some place → IsFilled false (Some place) old new → IsPlace (counts_of shape seen) step.standing.place → IsFrameAt shape new place out → All IsFile old
       → IsSender (record { standing = step.standing; shape = shape; files = new; frame = out })
-  filled_sender out new s step cs place is fills unchanged within held files =
-      subst (λ (x : List FileParts). IsSender (record { standing = step.standing; shape = shape; files = x; frame = out })) (sym unchanged) (record {
-        files = files;
-        place = within_old step.standing.place within;
-        misses = λ h. (keeps h).misses;
-        frame = λ h sent. subst (λ p. IsFrameAt shape old p out) (sym ((keeps h).filled place fills)) held;
-      })
+  filled_sender out new s step cs place is fills filled within held files = record {
+    files = filled_files false (Some place) old new filled files;
+    place = subst (λ counts. IsPlace counts step.standing.place) (sym (filled_counts shape false (Some place) old new filled)) (within_old step.standing.place within);
+    misses = λ h. (keeps h).misses;
+    frame = λ h sent. subst (λ p. IsFrameAt shape new p out) (sym ((keeps h).filled place fills)) held;
+  }
     where
       keeps : step.standing.state ≡ Running → Keeps s step
       keeps h = subst (λ (x : Step). x.standing.state ≡ Running → Keeps s x) (sym is) (step_keeps (counts_of shape seen) s cs) h

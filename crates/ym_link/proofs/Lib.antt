@@ -1,3 +1,4 @@
+pub mod Courses
 pub mod AnsweredCalls
 pub mod Follows
 pub mod Framed

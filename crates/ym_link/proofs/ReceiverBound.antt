@@ -1,7 +1,8 @@
 -- At most ten deliveries for each step of progress of a receiver, and ten more.
-use Rattle.std.proofs.Common.{ℕ, ◌+◌, ◌-◌, ◌*◌, ◌%◌, ◌<◌, ◌≤◌, ◌≡◌, ◌≢◌, Bool, true, false, nat_lt, if◌then◌else◌, refl, sym, ap, subst, arith, length, min, take, Result, Ok, Err, List}
+use Rattle.std.proofs.Common.{ℕ, ◌+◌, ◌-◌, ◌*◌, ◌%◌, ◌<◌, ◌≤◌, ◌≡◌, ◌≢◌, Bool, true, false, nat_lt, if◌then◌else◌, refl, sym, ap, subst, arith, length, min, take, Result, Ok, Err, List, [], ◌∷◌}
 use Rattle.std.specs.Prelude.{◌==◌}
 use Rattle.std.proofs.lemmas.Bool.{cond_both}
+use Rattle.std.proofs.lemmas.List.{length-append}
 use Rattle.ym_frame.specs.declared.control.Reply.{Reply}
 use Rattle.ym_frame.specs.declared.control.Reply.TheVariants.{AckStart, Ack, Nak, Start}
 use Rattle.ym_frame.specs.declared.frame.Item.TheVariants as item
@@ -23,6 +24,7 @@ use Rattle.ym_link.specs.ReceiverInto.{ReceiverParts, IsReceiver, HearsGives, ou
 use Rattle.ym_link.specs.ReceiveOver.{Outcome, Receives, ended, unread, unheard, unwritten}
 use Rattle.ym_link.specs.ReceiveOver as receiving
 use Rattle.ym_link.specs.Bound.{progress_in, progress_at, receiver_hears, receiver_progress}
+use Rattle.ym_link.specs.Course.{ReceiverHears, receiver_none, receiver_more}
 use Rattle.ym_link.proofs.ReceiverDeliveries.{runs}
 
 -- how many deliveries without progress stand before this one
@@ -137,3 +139,21 @@ paced r t out (receiving.heard _ _ h reply new _ is on some gives later) =
 
 pub hears-le : (r : ReceiverParts) (t : Tape) (out : Outcome) (run : Receives r t out) → receiver_hears r t out run ≤ 10 * (receiver_progress r t out run + 1)
 hears-le r t out run = let all = paced r t out run in omega (arith, all)
+
+-- The same of the deliveries that were heard, whatever the port tells.
+course-pace : (r : ReceiverParts) (hs : List Heard) (p : ℕ) (new : ReceiverParts) → ReceiverHears r hs p new → length hs + weight r ≤ weight new + 10 * p
+course-pace r hs p new (receiver_none _) = omega arith
+course-pace r hs p new (receiver_more _ before q between h reply _ hears is on large gives) =
+    let first = course-pace r before q between hears in
+    let one = step-pace between h reply new is on gives in
+    let now = weight_of_running between.receiver.state between.receiver.count on in
+    let long = length-append before (h ∷ []) in
+    omega (arith, first, one, now, long)
+
+weight-le : (now : RecvState) (count : ℕ) → count ≤ 10 → weight_in now count ≤ 10
+unfolding weight_in
+weight-le state.Running count most = most
+weight-le _ count most = omega arith
+
+pub course-few : (r : ReceiverParts) (hs : List Heard) (p : ℕ) (new : ReceiverParts) → IsReceiver new → ReceiverHears r hs p new → length hs ≤ 10 * (p + 1)
+course-few r hs p new is hears = let paced = course-pace r hs p new hears in let most = weight-le new.receiver.state new.receiver.count is.count in omega (arith, paced, most)

@@ -36,6 +36,8 @@ use Rattle.ym_link.specs.ReceiverInto.{ReceiverParts, IsReceiver, IsOpenFile, He
 use Rattle.ym_link.specs.ReceiveOver.{Outcome, Receives, ended, unread, unheard, unwritten, heard_in}
 use Rattle.ym_link.specs.ReceiveOver as receiving
 use Rattle.ym_link.specs.Bound.{blocks_in, steps_of, steps_taken, steps_at, accepted, progress_in, progress_at, receiver_progress}
+use Rattle.ym_link.specs.Course.{ReceiverHears, ReceiverCourse, receiver_none, receiver_more}
+use Rattle.ym_link.proofs.ReceiverBound.{course-few}
 use Rattle.ym_link.proofs.ReceiverDeliveries.{runs}
 
 -- ---- A block has 128 bytes at least
@@ -238,3 +240,20 @@ accepted-le r is = by r.receiver.stage is.open_file
         let same = ap blocks_in open_file.2 in
         let most : (if file.first_eot then 2 else 1) ≤ 2 = cond_both file.first_eot 2 1 (λ n. n ≤ 2) (λ e. omega arith) (λ e. omega arith) in
         omega (arith, more, same, most)
+
+-- ---- Whatever the port tells
+
+course-raises : (r : ReceiverParts) (hs : List Heard) (p : ℕ) (new : ReceiverParts) → ReceiverHears r hs p new → p + steps_at r ≤ steps_at new
+course-raises r hs p new (receiver_none _) = omega arith
+course-raises r hs p new (receiver_more _ before q between h reply _ hears is on large gives) =
+    let first = course-raises r before q between hears in
+    let one = step-raises between h reply new is on gives large in
+    omega (arith, first, one)
+
+pub course-is : (r : ReceiverParts) (hs : List Heard) (p : ℕ) (new : ReceiverParts) → IsReceiver new → ReceiverHears r hs p new → ReceiverCourse r hs new
+course-is r hs p new is hears = record {
+  progress = p;
+  hears = hears;
+  few = course-few r hs p new is hears;
+  steps = let raised = course-raises r hs p new hears in let most = accepted-le new is in omega (arith, raised, most);
+}

@@ -1,7 +1,8 @@
 -- At most ten deliveries for each step of progress of a sender, and ten more; and at most two steps for each frame.
-use Rattle.std.proofs.Common.{ℕ, ◌+◌, ◌*◌, ◌<◌, ◌≤◌, ◌≡◌, ◌≢◌, ◌⊎◌, inl, inr, Bool, true, false, nat_lt, cond, if◌then◌else◌, refl, sym, ap, subst, ◌∙◌, arith, List, [], ◌∷◌, Option, None, Some}
+use Rattle.std.proofs.Common.{ℕ, ◌+◌, ◌*◌, ◌<◌, ◌≤◌, ◌≡◌, ◌≢◌, ◌⊎◌, inl, inr, Bool, true, false, nat_lt, cond, if◌then◌else◌, refl, sym, ap, subst, ◌∙◌, arith, List, [], ◌∷◌, length, Option, None, Some}
 use Rattle.std.proofs.lemmas.Bool.Decides.{nat_tests}
 use Rattle.std.specs.Prelude.{◌==◌}
+use Rattle.std.proofs.lemmas.List.{length-append}
 use Rattle.ym_frame.specs.declared.control.Control.{Control}
 use Rattle.ym_link.specs.SourceFile.{counts_of}
 use Rattle.ym_link.specs.Port.{Tape}
@@ -21,6 +22,7 @@ use Rattle.ym_link.specs.Sender.{SenderParts, IsSender, Hears, counts}
 use Rattle.ym_link.specs.SendOver.{Outcome, Sends, ended, unwritten, unread, heard}
 use Rattle.ym_link.specs.Deliveries.{frames_in, frames_from, sender_steps}
 use Rattle.ym_link.specs.Bound.{sender_progress_in, sender_progress_at, sender_hears, sender_progress}
+use Rattle.ym_link.specs.Course.{SenderHears, SenderCourse, sender_none, sender_more}
 use Rattle.ym_link.proofs.Files.{filled_counts}
 use Rattle.ym_link.proofs.SenderDeliveries.{runs_at, next-frames, some-frames}
 use Rattle.ym_link.proofs.Steps.{Reaches, stays, cancels, again, finishes, sends, waits_next, sends_next, cancels_next, reaches, Counts, step_counts}
@@ -215,6 +217,37 @@ lowered s t out (heard _ _ bytes new _ is on some gives later) =
 
 pub progress-le : (s : SenderParts) (t : Tape) (out : Outcome) (run : Sends s t out) → sender_progress s t out run ≤ 2 * frames_from (counts s) s.standing.place
 progress-le s t out run = let all = lowered s t out run in let most = steps-le s.standing.state (counts s) s.standing.place s.standing.mode in omega (arith, all, most)
+
+-- The same of the deliveries that were heard, whatever the port tells.
+course-pace : (s : SenderParts) (ds : List (List ℕ)) (p : ℕ) (new : SenderParts) → SenderHears s ds p new → length ds + weight s ≤ weight new + 10 * p
+course-pace s ds p new (sender_none _) = omega arith
+course-pace s ds p new (sender_more _ before q between bytes _ hears is on short gives) =
+    let first = course-pace s before q between hears in
+    let one = step-pace between bytes new is on gives in
+    let now = weight_of_running between.standing.state between.standing.misses on in
+    let long = length-append before (bytes ∷ []) in
+    omega (arith, first, one, now, long)
+
+course-lower : (s : SenderParts) (ds : List (List ℕ)) (p : ℕ) (new : SenderParts) → SenderHears s ds p new
+    → steps_in new.standing.state (counts new) new.standing.place new.standing.mode + p ≤ steps_in s.standing.state (counts s) s.standing.place s.standing.mode
+course-lower s ds p new (sender_none _) = omega arith
+course-lower s ds p new (sender_more _ before q between bytes _ hears is on short gives) =
+    let first = course-lower s before q between hears in
+    let one = step-lower between bytes new is on gives in
+    let now = running-steps between.standing.state (counts between) between.standing.place between.standing.mode on in
+    omega (arith, first, one, now)
+
+pub course-is : (s : SenderParts) (ds : List (List ℕ)) (p : ℕ) (new : SenderParts) → IsSender new → SenderHears s ds p new → SenderCourse s ds new
+course-is s ds p new is hears = record {
+  progress = p;
+  hears = hears;
+  few = let paced = course-pace s ds p new hears in let most = weight-le new.standing.state new.standing.misses is.misses in omega (arith, paced, most);
+  steps = let lower = course-lower s ds p new hears in let most = steps-le s.standing.state (counts s) s.standing.place s.standing.mode in omega (arith, lower, most);
+}
+
+-- a sender that hears nothing
+pub course-none : (s : SenderParts) → SenderCourse s [] s
+course-none s = record { progress = 0; hears = sender_none s; few = omega arith; steps = omega arith }
 
 -- from the first place on there are all frames
 pub all-frames : (counts : List ℕ) → frames_from counts (first_of counts) ≡ frames_in counts

@@ -10,6 +10,7 @@ use Rattle.ym_frame.specs.declared.frame.Item.{Item}
 use Rattle.ym_frame.specs.declared.frame.Item.TheVariants as item
 use Rattle.ym_header.specs.Header.{HeaderParts}
 use Rattle.ym_header.specs.Text.{text}
+use Rattle.ym_file.specs.Counts.{raised}
 use Rattle.ym_file.specs.declared.plan.Shape.{Shape}
 use Rattle.ym_file.specs.Plan.{pieces_of, piece_at, count_of}
 use Rattle.ym_machine.specs.Frames.{Eot as EotFrame, frames_of, frame_at, numbered_from, body_at, count_within}
@@ -42,17 +43,22 @@ counts_are shape (source ∷ sources) (file ∷ files) are = ap₂ (λ (k : ℕ)
 
 -- ---- Hearing
 
--- failures do not matter
-set_are : (shape : Shape) (sources : List FileParts) (files : Batch) (i n : ℕ) → Are shape sources files → Are shape (slice_set sources i (record (file_at sources i) { failures = n })) files
-set_are shape [] [] i n are = tt
-set_are shape [] (file ∷ files) i n are = absurd are
-set_are shape (source ∷ sources) [] i n are = absurd are
-set_are shape (source ∷ sources) (file ∷ files) zero n are = (record { header = are.0.header; count = are.0.count; pieces = are.0.pieces }, are.1)
-set_are shape (source ∷ sources) (file ∷ files) (suc i) n are = (are.0, set_are shape sources files i n are.1)
+-- how often a source was asked, or failed, does not matter
+set_are : (shape : Shape) (sources : List FileParts) (files : Batch) (i n m : ℕ) → Are shape sources files → Are shape (slice_set sources i (record (file_at sources i) { failures = n; fills = m })) files
+set_are shape [] [] i n m are = tt
+set_are shape [] (file ∷ files) i n m are = absurd are
+set_are shape (source ∷ sources) [] i n m are = absurd are
+set_are shape (source ∷ sources) (file ∷ files) zero n m are = (record { header = are.0.header; count = are.0.count; pieces = are.0.pieces }, are.1)
+set_are shape (source ∷ sources) (file ∷ files) (suc i) n m are = (are.0, set_are shape sources files i n m are.1)
 
 still_are : (shape : Shape) (failed : Bool) (fills : Option Place) (old new : List FileParts) (files : Batch) → IsFilled failed fills old new → Are shape old files → Are shape new files
-still_are shape false fills old new files filled are = subst (λ xs. Are shape xs files) (sym filled) are
-still_are shape true (Some (Block file k)) old new files filled are = subst (λ xs. Are shape xs files) (sym filled.after) (set_are shape old files file filled.failures are)
+still_are shape false (Some (Block file k)) old new files filled are =
+    subst (λ xs. Are shape xs files) (sym filled.after) (set_are shape old files file (file_at old file).failures (raised (file_at old file).fills) are)
+still_are shape false (Some (Header file)) old new files filled are = subst (λ xs. Are shape xs files) (sym filled) are
+still_are shape false (Some (Eot file)) old new files filled are = subst (λ xs. Are shape xs files) (sym filled) are
+still_are shape false (Some End) old new files filled are = subst (λ xs. Are shape xs files) (sym filled) are
+still_are shape false None old new files filled are = subst (λ xs. Are shape xs files) (sym filled) are
+still_are shape true (Some (Block file k)) old new files filled are = subst (λ xs. Are shape xs files) (sym filled.after) (set_are shape old files file filled.failures (raised (file_at old file).fills) are)
 still_are shape true (Some (Header file)) old new files filled are = absurd filled
 still_are shape true (Some (Eot file)) old new files filled are = absurd filled
 still_are shape true (Some End) old new files filled are = absurd filled

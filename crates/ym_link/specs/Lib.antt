@@ -14,6 +14,7 @@ pub mod Deliveries
 pub mod ReceiveOver
 pub mod SendOver
 pub mod Bound
+pub mod Course
 pub mod DeliveryExamples
 pub mod ReceiverStands
 pub mod Sender

@@ -1,20 +1,26 @@
 -- A port that plays a list of events.
-use Rattle.std.specs.Prelude.{ℕ, Bool, if◌then◌else◌, List, [], ◌∷◌, ◌++◌, drop, Option}
+use Rattle.std.specs.Prelude.{ℕ, Bool, true, false, if◌then◌else◌, List, [], ◌∷◌, ◌++◌, drop, Option, None, Some}
 use Rattle.ym_file.specs.Counts.{Tally, new_tally, counted, raised}
 use Rattle.ym_link.specs.Port.{read_leaves}
 use Rattle.ym_link.specs.declared.event.Event.{Event}
 use Rattle.ym_link.specs.declared.event.Event.TheVariants as event
+use Rattle.ym_link.specs.declared.port.Wait.{Wait}
 
--- the events still to come, the bytes written, the count down to the write that is to fail with the calls that failed, and the
+-- the events still to come, the bytes written, the waits that reads were given where there was memory to keep them, the count down to the write that is to fail with the calls that failed, and the
 -- writes among them that found no memory
 pub record PortParts : Type 0 where
   pub coming : List Event
   pub written : List ℕ
+  pub waits : Option (List Wait)
   pub tally : Tally
   pub refused : ℕ
 
 abbrev pub new_port : List Event → Option ℕ → PortParts
-new_port events failing_write = record { coming = events; written = []; tally = new_tally failing_write; refused = 0 }
+new_port events failing_write = record { coming = events; written = []; waits = Some []; tally = new_tally failing_write; refused = 0 }
+
+abbrev pub kept_waits : Bool → List Wait → Option (List Wait)
+kept_waits true waits = Some waits
+kept_waits false waits = None
 
 -- after a read into a buffer of this length, which failed or not
 abbrev pub after_read : Bool → ℕ → PortParts → PortParts

@@ -2,7 +2,7 @@
 use Rattle.std.specs.Prelude.{◌≡◌, ℕ, ◌<◌, length, Bool, true, false, List, [], ◌∷◌, slice_set, All, Option, None, Some}
 use Rattle.ym_file.specs.Counts.{Rose}
 use Rattle.ym_file.specs.declared.plan.Shape.{Shape}
-use Rattle.ym_link.specs.SourceFile.{FileParts, IsFile, file_at, counts_of}
+use Rattle.ym_link.specs.SourceFile.{FileParts, IsFile, file_at, filled, counts_of}
 use Rattle.ym_core.specs.Place.{IsPlace}
 use Rattle.ym_link.specs.FrameAt.{IsFrameAt}
 use Rattle.ym_core.specs.Reading.{controls_in}
@@ -16,17 +16,24 @@ use Rattle.ym_core.specs.declared.standing.SendStep.{SendStep as Step}
 use Rattle.ym_core.specs.declared.state.SendState.{SendState}
 use Rattle.ym_core.specs.declared.state.SendState.TheVariants.{Running, NoReply, SourceFailed}
 
--- the source of a data block's file failed: its failure count rose, and nothing else of the batch changed
+-- the source of a data block's file was asked to fill, once, and nothing else of the batch changed
+pub record FilledAt (file : ℕ) (old new : List FileParts) : Type 0 where
+  pub within : file < length old
+  pub after : new ≡ slice_set old file (filled (file_at old file))
+
+-- it was asked once and failed: its failure count rose too
 pub record FailedAt (file : ℕ) (old new : List FileParts) : Type 0 where
   pub within : file < length old
   pub failures : ℕ
   pub rose : Rose (file_at old file).failures failures
-  pub after : new ≡ slice_set old file (record (file_at old file) { failures = failures })
+  pub after : new ≡ slice_set old file (record (filled (file_at old file)) { failures = failures })
 
--- what filling a place's frame, which failed or not, does to the files
+-- What filling a place's frame, which failed or not, does to the files. Only a data block is filled from its source, and its source is
+-- asked once.
 abbrev pub IsFilled : Bool → Option Place → List FileParts → List FileParts → Type 0
-IsFilled false fills old new = new ≡ old
+IsFilled false (Some (Block file k)) old new = FilledAt file old new
 IsFilled true (Some (Block file k)) old new = FailedAt file old new
+IsFilled false fills old new = new ≡ old
 IsFilled true fills old new = ⊥
 
 pub record SenderParts : Type 0 where

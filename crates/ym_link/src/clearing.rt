@@ -34,15 +34,12 @@ impl Talk {
         }
     }
 
-    /// After so many bytes that were held were heard.
-    fn gave(self, count: usize, held: Held) -> Talk
-        ensures { result ≡ gave count held self }
+    /// Takes that so many bytes that were held were heard.
+    fn give(&mut self, count: usize, held: Held)
+        ensures { self.new ≡ gave count held self.old }
     {
-        Talk {
-            role: self.role,
-            exchange: self.exchange.heard(count),
-            held,
-        }
+        self.exchange.hear(count);
+        self.held = held;
     }
 
     /// After these bytes were written.
@@ -113,7 +110,7 @@ impl<P: Port + Drop> Clearing<P> {
         ensures failed { OnErr result (Rose (P.failures self.old.port) (P.failures self.new.port)) }
     {
         let got = self.port.read(wait, buf);
-        self.talk.exchange = self.talk.exchange.after(&got);
+        self.talk.exchange.take(&got);
         got
     }
 
@@ -129,7 +126,7 @@ impl<P: Port + Drop> Clearing<P> {
         for _done in 0..MOST_READS {
             let got = self.port.read(Wait::Within, buf);
             if !self.talk.exchange.is_stale(self.talk.role, &got, buf) {
-                self.talk.exchange = self.talk.exchange.after(&got);
+                self.talk.exchange.take(&got);
                 return got;
             }
         }
@@ -172,17 +169,17 @@ impl<P: Port + Drop> Clearing<P> {
             }
             Held::CanCan if 1 < buf.len() => {
                 buf[..2].copy_from_slice(&[CAN, CAN]);
-                self.talk = self.talk.gave(2, Held::Nothing);
+                self.talk.give(2, Held::Nothing);
                 Ok(Got::Bytes(2))
             }
             Held::CanCan => {
                 buf[..1].copy_from_slice(&[CAN]);
-                self.talk = self.talk.gave(1, Held::Can);
+                self.talk.give(1, Held::Can);
                 Ok(Got::Bytes(1))
             }
             Held::Can => {
                 buf[..1].copy_from_slice(&[CAN]);
-                self.talk = self.talk.gave(1, Held::Nothing);
+                self.talk.give(1, Held::Nothing);
                 Ok(Got::Bytes(1))
             }
         }
@@ -201,8 +198,11 @@ impl<P: Port + Drop> Port for Clearing<P> {
 
     ghost tells = { λ c u. (t : Tape) × P.tells c.port t × (u.written ≡ t.written) × Passes c.talk t.coming u.coming };
 
+    ghost asked = { λ _ _. ⊥ };
+
     ghost failures = { λ c. P.failures c.port };
 
+    #[inline(always)]
     fn read(&mut self, wait: Wait, buf: &mut [u8]) -> Result<Got, PortFault>
         requires { 0 < length buf.old }
         ensures count { (n : ℕ) → result ≡ Ok (Got.Bytes n) → (0 < n) × (n ≤ length buf.old) }
@@ -218,6 +218,7 @@ impl<P: Port + Drop> Port for Clearing<P> {
         self.read_next(wait, buf)
     }
 
+    #[inline(always)]
     fn write(&mut self, bytes: &[u8]) -> Result<(), PortFault>
         ensures exact { (u : Tape) → P.tells self.new.port u → (t : Tape) × P.tells self.old.port t
             × Writes self.old.talk bytes.now (cleared self.old.talk bytes.now t.coming) result self.new.talk t u }
@@ -227,8 +228,9 @@ impl<P: Port + Drop> Port for Clearing<P> {
         ensures ok { OnOk result (P.failures self.new.port ≡ P.failures self.old.port) }
         ensures failed { OnErr result (Rose (P.failures self.old.port) (P.failures self.new.port)) }
     {
-        let held = clear_for(&mut self.port, self.talk, bytes)?;
-        self.talk = self.talk.said(bytes, held);
+        let talk = self.talk;
+        let held = clear_for(&mut self.port, talk, bytes)?;
+        self.talk = talk.said(bytes, held);
         self.port.write(bytes)
     }
 }

@@ -92,21 +92,17 @@ impl Exchange {
         }
     }
 
-    /// After so many bytes came.
-    pub fn heard(self, count: usize) -> Exchange
-        ensures { result ≡ table.heard count self }
+    /// Takes that so many bytes came.
+    pub fn hear(&mut self, count: usize)
+        ensures { self.new ≡ table.heard count self.old }
     {
         let room = DELIVERY_LIMIT.saturating_sub(self.came);
-        let came = if count < room {
+        self.came = if count < room {
             self.came + count
         } else {
             DELIVERY_LIMIT
         };
-        Exchange {
-            came,
-            is_quiet: false,
-            ..self
-        }
+        self.is_quiet = false;
     }
 
     /// Whether a sender has just written block 0.
@@ -131,26 +127,23 @@ impl Exchange {
         }
     }
 
-    /// After what a read got.
-    pub fn after(self, got: &Result<Got, PortFault>) -> Exchange
-        ensures { (buf : List ℕ) → ((n : ℕ) → got.now ≡ Ok (Got.Bytes n) → n ≤ length buf) → result ≡ table.after_seen (seen_of got.now buf) self }
+    /// Takes what a read got.
+    pub fn take(&mut self, got: &Result<Got, PortFault>)
+        ensures { (buf : List ℕ) → ((n : ℕ) → got.now ≡ Ok (Got.Bytes n) → n ≤ length buf) → self.new ≡ table.after_seen (seen_of got.now buf) self.old }
     {
         match got {
-            Ok(Got::Bytes(count)) => self.heard(*count),
-            Ok(Got::Quiet) => self.quieted(),
-            Ok(Got::Closed) | Err(PortFault) => self,
+            Ok(Got::Bytes(count)) => self.hear(*count),
+            Ok(Got::Quiet) => self.wait(),
+            Ok(Got::Closed) | Err(PortFault) => {}
         }
     }
 
-    /// After a read that found the line quiet.
-    pub fn quieted(self) -> Exchange
-        ensures { result ≡ table.quieted self }
+    /// Takes that a read found the line quiet.
+    fn wait(&mut self)
+        ensures { self.new ≡ table.quieted self.old }
     {
-        Exchange {
-            is_quiet: true,
-            waited: true,
-            ..self
-        }
+        self.is_quiet = true;
+        self.waited = true;
     }
 
     /// Whether what came filled a delivery, and more may be coming.

@@ -1,8 +1,9 @@
 //! What an engine asks of a port, and what a port answers.
 
-ghost use Rattle.std.specs.Prelude.{◌≡◌, ◌<◌, ◌≤◌, ℕ, Ok, OnOk, OnErr, length, is_ok};
+ghost use Rattle.std.specs.Prelude.{◌≡◌, ◌<◌, ◌≤◌, ℕ, List, [], ◌∷◌, ◌++◌, Ok, OnOk, OnErr, length, is_ok};
 ghost use Rattle.ym_link.specs.Port.{Tape, seen_of, read_gives, read_leaves, after_write};
 ghost use Rattle.ym_file.specs.Counts.{Rose};
+ghost use Rattle.ym_link.specs.declared.port.Wait.{Wait as Asked};
 
 /// How many bytes a delivery has at most.
 pub(crate) const DELIVERY_LIMIT: usize = 2048;
@@ -38,6 +39,9 @@ pub trait Port {
     /// knows any.
     ghost tells: { Self → Tape → Type 0 };
 
+    /// The waits that its reads were given so far, in order. A port that keeps them has exactly one such list, and any other one none.
+    ghost asked: { Self → List Asked → Type 0 };
+
     /// How often a call failed. At its greatest value the count stays.
     ghost failures: { Self → ℕ };
 
@@ -48,12 +52,14 @@ pub trait Port {
         ensures told { (u : Tape) → tells self.new u → (t : Tape) × tells self.old t
             × (seen_of result buf.new ≡ read_gives (length buf.old) t.coming)
             × (u ≡ record t { coming = read_leaves (length buf.old) t.coming }) }
+        ensures asked { (w : List Asked) → asked self.new w → (v : List Asked) × asked self.old v × (w ≡ v ++ wait ∷ []) }
         ensures ok { OnOk result (failures self.new ≡ failures self.old) }
         ensures failed { OnErr result (Rose (failures self.old) (failures self.new)) };
 
     /// Writes all the bytes, or fails, and then none of them counts as written.
     fn write(&mut self, bytes: &[u8]) -> Result<(), PortFault>
         ensures told { (u : Tape) → tells self.new u → (t : Tape) × tells self.old t × (u ≡ after_write (is_ok result) t bytes.now) }
+        ensures asked { (w : List Asked) → asked self.new w → asked self.old w }
         ensures ok { OnOk result (failures self.new ≡ failures self.old) }
         ensures failed { OnErr result (Rose (failures self.old) (failures self.new)) };
 }

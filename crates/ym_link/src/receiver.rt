@@ -117,6 +117,7 @@ impl<K: Sink> ReceiverInto<K> {
     pub fn hear(&mut self, heard: &Heard) -> Result<Reply, AllocError>
         ensures table { HearsGives self.old heard.now result self.new }
         ensures bounded { IsWithin self.new.receiver.stage self.new.kept }
+        ensures receiver { IsReceiver self.new }
     {
         let answer = self.answer(&HeardRef::of(heard));
         // what always holds of a receiver is known once a field was read

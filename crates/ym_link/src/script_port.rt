@@ -1,8 +1,9 @@
 //! A port that plays a list of events, and keeps what is written.
 
-ghost use Rattle.std.specs.Prelude.{◌≡◌, ◌<◌, ◌≤◌, ◌⊎◌, ℕ, IsTrue, IsErr, OnOk, OnErr, length, Some, Ok, is_ok};
+ghost use Rattle.std.specs.Prelude.{◌≡◌, ◌<◌, ◌≤◌, ◌⊎◌, ℕ, List, [], ◌∷◌, ◌++◌, IsTrue, IsErr, OnOk, OnErr, length, Some, None, MatchOption, Ok, is_ok};
 ghost use Rattle.ym_file.specs.Counts.{Rose, fails_next};
 ghost use Rattle.ym_link.specs.Port.{seen_of, read_gives};
+ghost use Rattle.ym_link.specs.declared.port.Wait.{Wait as Asked};
 
 use crate::event::Event;
 use crate::port::{Got, Port, PortFault, Wait};
@@ -16,17 +17,20 @@ pub struct ScriptPort {
     next: usize,
     used: usize,
     log: Vec<u8>,
+    waits: Vec<Wait>,
+    /// Whether there was memory to keep all of them.
+    keeps_waits: bool,
     failing: u64,
     failed: u64,
     refused: u64,
 }
 
 impl Model for ScriptPort {
-    ghost use Rattle.ym_link.specs.ScriptPort.{PortParts, coming_of};
+    ghost use Rattle.ym_link.specs.ScriptPort.{PortParts, coming_of, kept_waits};
 
     ghost Value = { PortParts };
 
-    ghost view = { λ p. record { coming = coming_of p.used p.next p.events.items; written = p.log.items; tally = record { failing = p.failing; failures = p.failed }; refused = p.refused } };
+    ghost view = { λ p. record { coming = coming_of p.used p.next p.events.items; written = p.log.items; waits = kept_waits p.keeps_waits p.waits.items; tally = record { failing = p.failing; failures = p.failed }; refused = p.refused } };
 }
 
 impl ScriptPort {
@@ -41,6 +45,8 @@ impl ScriptPort {
             next: 0,
             used: 0,
             log: Vec::new(alloc),
+            waits: Vec::new(alloc),
+            keeps_waits: true,
             failing: failing_write.unwrap_or(0),
             failed: 0,
             refused: 0,
@@ -52,6 +58,27 @@ impl ScriptPort {
         ensures { result.now ≡ self.now.written }
     {
         self.log.as_slice()
+    }
+
+    /// The waits that its reads were given so far, in order; `None` where memory for this record was wanting.
+    pub fn waits(&self) -> Option<&[Wait]>
+        ensures { MatchOption result (self.now.waits ≡ None) (λ waits. self.now.waits ≡ Some waits.now) }
+    {
+        if self.keeps_waits {
+            Some(self.waits.as_slice())
+        } else {
+            None
+        }
+    }
+
+    /// Keeps the wait of a read, while there is memory for it.
+    fn keep(&mut self, wait: Wait)
+        ensures same { self.new ≡ record self.old { waits = self.new.waits } }
+        ensures kept { (w : List Asked) → self.new.waits ≡ Some w → (v : List Asked) × (self.old.waits ≡ Some v) × (w ≡ v ++ wait ∷ []) }
+    {
+        if self.keeps_waits && self.waits.push(wait).is_err() {
+            self.keeps_waits = false;
+        }
     }
 
     /// How many calls failed.
@@ -74,15 +101,19 @@ impl Port for ScriptPort {
 
     ghost tells = { λ p t. t ≡ record { coming = p.coming; written = p.written } };
 
+    ghost asked = { λ p w. p.waits ≡ Some w };
+
     ghost failures = { λ p. p.tally.failures };
 
-    fn read(&mut self, _wait: Wait, buf: &mut [u8]) -> Result<Got, PortFault>
+    fn read(&mut self, wait: Wait, buf: &mut [u8]) -> Result<Got, PortFault>
         requires { 0 < length buf.old }
         ensures count { (n : ℕ) → result ≡ Ok (Got.Bytes n) → (0 < n) × (n ≤ length buf.old) }
         ensures seen { seen_of result buf.new ≡ read_gives (length buf.old) self.old.coming }
-        ensures after { self.new ≡ after_read (is_ok result) (length buf.old) self.old }
+        ensures after { self.new ≡ record (after_read (is_ok result) (length buf.old) self.old) { waits = self.new.waits } }
+        ensures asked { (w : List Asked) → self.new.waits ≡ Some w → (v : List Asked) × (self.old.waits ≡ Some v) × (w ≡ v ++ wait ∷ []) }
         ensures failed { OnErr result (Rose self.old.tally.failures self.new.tally.failures) }
     {
+        self.keep(wait);
         let Some(event) = self.events.get(self.next) else {
             return Ok(Got::Closed);
         };

@@ -1,12 +1,14 @@
 //! A sender over a port.
 
-ghost use Rattle.std.specs.Prelude.{◌≡◌, ◌≢◌, ◌≤◌, ℕ, [], Ok, Err, Some, None, is_ok, true};
+ghost use Rattle.std.specs.Prelude.{◌≡◌, ◌≢◌, ◌≤◌, ◌+◌, ℕ, List, [], Ok, Err, Some, None, is_ok, true, length};
 ghost use Rattle.ym_file.specs.Counts.{Rose};
 ghost use Rattle.ym_link.specs.Port.{Tape, after_write};
+ghost use Rattle.ym_link.specs.Course.{Asks, ReadOnce, SenderCourse};
 ghost use Rattle.ym_link.specs.Delivery.{taken};
 ghost use Rattle.ym_link.specs.SendOver.{Sends, written_for, settles, bytes_read};
 ghost use Rattle.ym_link.specs.Sender.{IsSender, spoken};
 ghost use Rattle.ym_core.specs.declared.state.SendState.TheVariants as state;
+ghost use Rattle.ym_link.specs.declared.port.Wait.{Wait as Asked};
 
 use crate::end_fault::EndFault;
 use crate::port::{DELIVERY_LIMIT, Got, Port, PortFault, Wait};
@@ -18,6 +20,7 @@ use ym_file::Source;
 fn write_frame<P: Port, S: Source>(port: &mut P, sender: &SenderFrom<S>) -> Result<(), EndFault>
     ensures told { (u : Tape) → P.tells port.new u →
         (t : Tape) × P.tells port.old t × (u ≡ after_write (is_ok result) t (written_for (spoken sender.now))) }
+    ensures asked { (w : List Asked) → P.asked port.new w → P.asked port.old w }
     ensures device { (e : EndFault) → result ≡ Err e → (e ≡ EndFault.Device) × (spoken sender.now ≢ None) × Rose (P.failures port.old) (P.failures port.new) }
     ensures calm { is_ok result ≡ true → P.failures port.new ≡ P.failures port.old }
     ensures sender { IsSender sender.now }
@@ -42,6 +45,7 @@ fn read_delivery<P: Port, S: Source>(
     ensures told { (u : Tape) → P.tells port.new u → (t : Tape) × P.tells port.old t
         × (bytes_read result buf.new ≡ (taken (settles sender.now) [] t.coming).delivery)
         × (u ≡ record t { coming = (taken (settles sender.now) [] t.coming).rest }) }
+    ensures asked { (w : List Asked) → P.asked port.new w → (v : List Asked) × P.asked port.old v × ReadOnce v w }
     ensures device { result ≡ Err EndFault.Device → Rose (P.failures port.old) (P.failures port.new) }
     ensures memory { result ≢ Err EndFault.Memory }
     ensures calm { result ≢ Err EndFault.Device → P.failures port.new ≡ P.failures port.old }
@@ -72,6 +76,8 @@ pub fn send_over<P: Port, S: Source>(
 ) -> Result<(), EndFault>
     ensures told { sender.old.standing.state ≡ state.Running → (u : Tape) → P.tells port.new u →
         (t : Tape) × P.tells port.old t × Sends sender.old t (record { sender = sender.new; tape = u; answer = result }) }
+    ensures course { (deliveries : List (List ℕ)) × SenderCourse sender.old deliveries sender.new
+        × ((w : List Asked) → P.asked port.new w → (v : List Asked) × P.asked port.old v × (begun : ℕ) × (begun ≤ length deliveries + 1) × Asks begun v w) }
     ensures device { result ≡ Err EndFault.Device → Rose (P.failures port.old) (P.failures port.new) }
     ensures memory { result ≢ Err EndFault.Memory }
     ensures ended { is_ok result ≡ true → sender.new.standing.state ≢ state.Running }

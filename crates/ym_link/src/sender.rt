@@ -1,6 +1,6 @@
 //! The sender of a batch, over any source.
 
-ghost use Rattle.std.specs.Prelude.{◌≡◌, ◌↔◌, ◌≤◌, length, MatchOption, Some, None, IfOk, IfErr, IfSome, IsOk, OnOk, OnErr, All, take, true};
+ghost use Rattle.std.specs.Prelude.{◌≡◌, ◌↔◌, ◌≤◌, length, MatchOption, Some, None, IfOk, IfErr, IfSome, IsOk, OnOk, OnErr, All, take, true, false};
 ghost use Rattle.ym_frame.specs.Frame.{IsFrame};
 ghost use Rattle.ym_link.specs.SourceFile.{IsFile, counts_of};
 ghost use Rattle.ym_core.specs.Place.{IsPlace, done_at};
@@ -76,8 +76,8 @@ fn copy_frame(item: &Item, buffer: &mut [u8; 1029]) -> usize
 }
 
 /// Writes the frame of a place to the front of a buffer, and answers the frame's length: at most 1029 bytes. The body of a
-/// data block goes from its source right to its place in the frame. After a failure of the source nothing is said of the
-/// buffer's bytes.
+/// data block goes from its source right to its place in the frame, and the source is asked for it once. After a failure of
+/// the source nothing is said of the buffer's bytes.
 fn frame_at<S: Source>(
     files: &mut Vec<SourceFile<S>>,
     shape: Shape,
@@ -85,17 +85,15 @@ fn frame_at<S: Source>(
     buffer: &mut [u8; 1029],
 ) -> Result<usize, SourceFault>
     requires { IsPlace (counts_of shape files.old.items) place }
-    ensures frame { IfOk result (λ len. IsFrameAt shape files.old.items place (take len buffer.new)) }
+    ensures frame { IfOk result (λ len. IsFrameAt shape files.new.items place (take len buffer.new)) }
     ensures length { IfOk result (λ len. len ≤ 1029) }
     ensures buffer { length buffer.new ≡ 1029 }
-    ensures ok { OnOk result (files.new.items ≡ files.old.items) }
+    ensures ok { OnOk result (IsFilled false (Some place) files.old.items files.new.items) }
     ensures failed { OnErr result (IsFilled true (Some place) files.old.items files.new.items) }
 {
     match place {
-        Place::Header { file } => {
-            let block = write(files[file].header());
-            Ok(copy_frame(&Item::Block(block), buffer))
-        }
+        // a block with a name would be cleared for data blocks too
+        Place::Header { file } => Ok(copy_frame(&Item::Block(write(files[file].header())), buffer)),
         Place::Block { file, number } => {
             let one = &mut files[file];
             one.frame(shape, number, buffer)

@@ -6,8 +6,8 @@ ghost use Rattle.ym_frame.specs.Frame.{IsFrame};
 ghost use Rattle.ym_frame.specs.declared.frame.Item.{Item};
 ghost use Rattle.ym_frame.specs.declared.frame.Item.TheVariants as Item;
 ghost use Rattle.ym_header.specs.Header.{IsHeader, IsRefused, length_limit};
-ghost use Rattle.ym_file.specs.Counts.{new_tally, Rose};
-ghost use Rattle.ym_link.specs.SourceFile.{IsFile, IsBlockOf, blocks_of};
+ghost use Rattle.ym_file.specs.Counts.{new_tally, Rose, raised};
+ghost use Rattle.ym_link.specs.SourceFile.{IsFile, IsBlockOf, blocks_of, filled};
 
 use std::alloc::Global;
 use std::marker::Model;
@@ -30,9 +30,9 @@ impl<S: Source> Model for SourceFile<S> {
 
     ghost Value = { FileParts };
 
-    ghost view = { λ f. record { header = f.header; bytes = S.bytes f.source; failures = S.failures f.source } };
+    ghost view = { λ f. record { header = f.header; bytes = S.bytes f.source; failures = S.failures f.source; fills = S.fills f.source } };
 
-    ghost invariant = { λ f. (f.header.length ≡ S.size f.source) × IsFile (record { header = f.header; bytes = S.bytes f.source; failures = S.failures f.source }) };
+    ghost invariant = { λ f. (f.header.length ≡ S.size f.source) × IsFile (record { header = f.header; bytes = S.bytes f.source; failures = S.failures f.source; fills = S.fills f.source }) };
 }
 
 impl<S: Source + Drop> SourceFile<S> {
@@ -44,7 +44,7 @@ impl<S: Source + Drop> SourceFile<S> {
         source: S,
         stamp: Stamp,
     ) -> Result<SourceFile<S>, HeaderFault>
-        ensures ok { IfOk result (λ file. file ≡ record { header = record { name = name.now; length = S.size source; stamp = stamp }; bytes = S.bytes source; failures = S.failures source }) }
+        ensures ok { IfOk result (λ file. file ≡ record { header = record { name = name.now; length = S.size source; stamp = stamp }; bytes = S.bytes source; failures = S.failures source; fills = S.fills source }) }
         ensures within { IfOk result IsFile }
         ensures refused { IfErr result (λ fault. IsRefused length_limit name.now (S.size source) fault) }
     {
@@ -70,8 +70,8 @@ impl<S: Source> SourceFile<S> {
     }
 
     /// Writes the frame of data block `k`, counted from 1, to the front of a buffer, and answers the frame's length: at most
-    /// 1029 bytes. The source fills the body right where it stands in the frame. After a failure of the source nothing is
-    /// said of the buffer's bytes.
+    /// 1029 bytes. The source fills the body right where it stands in the frame, in one call. After a failure of the source
+    /// nothing is said of the buffer's bytes.
     pub(crate) fn frame(
         &mut self,
         shape: Shape,
@@ -83,9 +83,10 @@ impl<S: Source> SourceFile<S> {
         ensures frame { IfOk result (λ len. (block : BlockParts) × IsBlockOf shape self.old k block × IsFrame (Item.Block block) (take len buffer.new)) }
         ensures length { IfOk result (λ len. len ≤ 1029) }
         ensures buffer { list_length buffer.new ≡ 1029 }
-        ensures ok { OnOk result (self.new ≡ self.old) }
+        ensures ok { OnOk result (self.new ≡ filled self.old) }
         ensures header { self.new.header ≡ self.old.header }
         ensures bytes { self.new.bytes ≡ self.old.bytes }
+        ensures counted { self.new.fills ≡ raised self.old.fills }
         ensures failed { OnErr result (Rose self.old.failures self.new.failures) }
     {
         let _length = self.header.length();
@@ -102,7 +103,7 @@ impl SourceFile<MemSource> {
         bytes: Vec<u8>,
         stamp: Stamp,
     ) -> Result<SendFile, HeaderFault>
-        ensures ok { IfOk result (λ file. file ≡ record { header = record { name = name.now; length = list_length bytes.items; stamp = stamp }; bytes = Some bytes.items; failures = 0 }) }
+        ensures ok { IfOk result (λ file. file ≡ record { header = record { name = name.now; length = list_length bytes.items; stamp = stamp }; bytes = Some bytes.items; failures = 0; fills = 0 }) }
         ensures within { IfOk result IsFile }
         ensures refused { IfErr result (λ fault. IsRefused length_limit name.now (list_length bytes.items) fault) }
     {

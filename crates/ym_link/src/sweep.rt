@@ -175,6 +175,9 @@ fn read_on<P: Port>(
 }
 
 /// Lets a line clear, and answers what is to be heard yet of what was dropped.
+// rarely called: kept out of the way of a write that has nothing to clear
+#[cold]
+#[inline(never)]
 pub fn let_clear<P: Port>(port: &mut P, role: Role, start: Sweep) -> Result<Held, PortFault>
     ensures told { (u : Tape) → P.tells port.new u → (t : Tape) × P.tells port.old t
         × (result ≡ (table.swept table.most_reads role start t.coming).answer)

@@ -1,11 +1,53 @@
 -- what stands at each place of the list of frames
-use Rattle.std.proofs.Common.{ℕ, ◌+◌, ◌%◌, ◌<◌, ◌≤◌, ◌≡◌, ◌⊎◌, inl, inr, suc, zero, List, [], ◌∷◌, ◌++◌, length, refl, sym, ap, ◌∙◌, subst, arith, add-one, add-zero, take}
+use Rattle.std.proofs.Common.{ℕ, ◌+◌, ◌%◌, ◌<◌, ◌≤◌, ◌≡◌, ◌≢◌, ◌⊎◌, inl, inr, suc, zero, List, [], ◌∷◌, ◌++◌, length, refl, sym, ap, ◌∙◌, subst, arith, add-one, add-zero, take}
+use Rattle.std.proofs.Math.Seq.{take-length}
 use Rattle.std.proofs.lemmas.List.{length-take-le, take-take}
 use Rattle.ym_machine.specs.declared.confirm.Confirm.{Confirm}
-use Rattle.ym_machine.proofs.Completion.{eots-frames}
-use Rattle.ym_machine.specs.Frames.{BlockZero, EndBlock, Eot, File, Frame, IsPrefix, Piece, body_at, count_within, eots, files_within, frame_at, frames_of, numbered_from}
+use Rattle.ym_machine.specs.Frames.{BlockZero, EndBlock, EndsOnce, Eot, File, Frame, IsPrefix, Piece, body_at, count_within, eots, files_within, frame_at, frames_of, numbered_from}
 use Rattle.ym_machine.specs.State.{State, committed, reported}
 use Rattle.ym_machine.specs.Machine.{IsMachine}
+
+-- a frame that is not the end block has another behind it
+pub more_behind : {H : Type 0} (frames : List (Frame H)) (i : ℕ) → EndsOnce frames → i < length frames → frame_at frames i ≢ EndBlock → i + 1 < length frames
+more_behind frames i ends below other = let no : i + 1 ≢ length frames = λ w. other (ends.last i w) in omega arith
+
+-- the end block has none
+pub none_behind : {H : Type 0} (frames : List (Frame H)) (i : ℕ) → EndsOnce frames → i < length frames → frame_at frames i ≡ EndBlock → i + 1 ≡ length frames
+none_behind frames i ends below is = let no : i + 1 < length frames → ⊥ = λ w. ends.only i w is in omega arith
+
+-- the frames of a batch
+cons-ends : {H : Type 0} (frame : Frame H) (frames : List (Frame H)) → frame ≢ EndBlock → EndsOnce frames → EndsOnce (frame ∷ frames)
+cons-ends frame frames other ends = record {
+  last = elim [ zero ↦ λ w. absurd (let x = ends.some in omega arith) | suc i ↦ λ w. ends.last i (omega arith) ];
+  only = elim [ zero ↦ λ w. other | suc i ↦ λ w. ends.only i (omega arith) ];
+  some = omega arith;
+}
+
+pieces-end : {H : Type 0} (k : ℕ) (pieces : List (List ℕ)) (frames : List (Frame H)) → EndsOnce frames → EndsOnce (numbered_from k pieces ++ frames)
+pieces-end k [] frames ends = ends
+pieces-end k (piece ∷ pieces) frames ends = cons-ends (Piece (k % 256) piece) (numbered_from (k + 1) pieces ++ frames) (λ w. cc) (pieces-end (k + 1) pieces frames ends)
+
+pub frames-end : {H : Type 0} (files : List (File H)) → EndsOnce (frames_of files)
+frames-end [] = record {
+  last = elim [ zero ↦ λ _. refl | suc i ↦ λ w. absurd (omega arith) ];
+  only = λ i w. absurd (omega arith);
+  some = omega arith;
+}
+frames-end (file ∷ files) =
+    cons-ends (BlockZero file.header) (numbered_from 1 file.pieces ++ Eot ∷ frames_of files) (λ w. cc)
+    (pieces-end 1 file.pieces (Eot ∷ frames_of files) (cons-ends Eot (frames_of files) (λ w. cc) (frames-end files)))
+
+-- all files are within all frames
+eots-pieces : {H : Type 0} (k : ℕ) (pieces : List (List ℕ)) (rest : List (Frame H)) → eots (numbered_from k pieces ++ rest) ≡ eots rest
+eots-pieces k [] rest = refl
+eots-pieces k (piece ∷ pieces) rest = eots-pieces (k + 1) pieces rest
+
+pub eots-frames : {H : Type 0} (files : List (File H)) → eots (frames_of files) ≡ length files
+eots-frames [] = refl
+eots-frames (file ∷ files) = let x = eots-pieces 1 file.pieces (Eot ∷ frames_of files) in let z = eots-frames files in omega (arith, x, z)
+
+pub all-within : {H : Type 0} (files : List (File H)) → files_within files (length (frames_of files)) ≡ files
+all-within files = ap (λ fs. take (eots fs) files) (take-length (frames_of files)) ∙ ap (λ n. take n files) (eots-frames files) ∙ take-length files
 
 module _ {H : Type 0} where
   in-pieces : (k n : ℕ) (pieces : List (List ℕ)) (rest : List (Frame H)) → n < length pieces → frame_at (numbered_from k pieces ++ rest) n ≡ Piece ((k + n) % 256) (body_at n pieces)
@@ -63,13 +105,9 @@ module _ {H : Type 0} where
   eots-more [] zero = inl refl
   eots-more [] (suc n) = inl refl
   eots-more (Eot ∷ frames) zero = inr refl
-  eots-more (BlockZero header ∷ frames) zero = inl refl
-  eots-more (Piece number body ∷ frames) zero = inl refl
-  eots-more (EndBlock ∷ frames) zero = inl refl
+  eots-more (_ ∷ frames) zero = inl refl
   eots-more (Eot ∷ frames) (suc n) = elim (eots-more frames n) [ inl e ↦ inl (ap (λ x. x + 1) e) | inr e ↦ inr (ap (λ x. x + 1) e) ]
-  eots-more (BlockZero header ∷ frames) (suc n) = eots-more frames n
-  eots-more (Piece number body ∷ frames) (suc n) = eots-more frames n
-  eots-more (EndBlock ∷ frames) (suc n) = eots-more frames n
+  eots-more (_ ∷ frames) (suc n) = eots-more frames n
 
   eots-next : (frames : List (Frame H)) (n : ℕ) → (eots (take (n + 1) frames) ≡ eots (take n frames)) ⊎ (eots (take (n + 1) frames) ≡ eots (take n frames) + 1)
   eots-next frames n = subst (λ m. (eots (take m frames) ≡ eots (take n frames)) ⊎ (eots (take m frames) ≡ eots (take n frames) + 1)) one (eots-more frames n)
@@ -83,9 +121,7 @@ module _ {H : Type 0} where
   eots-least [] (suc n) = omega arith
   eots-least (frame ∷ frames) zero = omega arith
   eots-least (Eot ∷ frames) (suc n) = let x = eots-least frames n in omega (arith, x)
-  eots-least (BlockZero header ∷ frames) (suc n) = eots-least frames n
-  eots-least (Piece number body ∷ frames) (suc n) = eots-least frames n
-  eots-least (EndBlock ∷ frames) (suc n) = eots-least frames n
+  eots-least (_ ∷ frames) (suc n) = eots-least frames n
 
   pub counted : (files : List (File H)) (n : ℕ) → length (files_within files n) ≡ count_within files n
   counted files n = length-take-le (count_within files n) files (let x = eots-least (frames_of files) n in let y = eots-frames files in omega (arith, x, y))

@@ -14,22 +14,7 @@ one-of control.Ack (control.Ack ∷ []) w = inr refl
 one-of control.Nak (control.Nak ∷ []) w = inr refl
 one-of control.Start (control.Start ∷ []) w = inr refl
 one-of control.Can (control.Can ∷ []) w = inr refl
-one-of control.Ack (control.Ack ∷ d ∷ came) w = cc
-one-of control.Nak (control.Nak ∷ d ∷ came) w = cc
-one-of control.Start (control.Start ∷ d ∷ came) w = cc
-one-of control.Can (control.Can ∷ d ∷ came) w = cc
-one-of control.Ack (control.Nak ∷ came) w = cc
-one-of control.Ack (control.Start ∷ came) w = cc
-one-of control.Ack (control.Can ∷ came) w = cc
-one-of control.Nak (control.Ack ∷ came) w = cc
-one-of control.Nak (control.Start ∷ came) w = cc
-one-of control.Nak (control.Can ∷ came) w = cc
-one-of control.Start (control.Ack ∷ came) w = cc
-one-of control.Start (control.Nak ∷ came) w = cc
-one-of control.Start (control.Can ∷ came) w = cc
-one-of control.Can (control.Ack ∷ came) w = cc
-one-of control.Can (control.Nak ∷ came) w = cc
-one-of control.Can (control.Start ∷ came) w = cc
+one-of _ _ w = cc
 
 pub remnants : (reply : Reply) (came : List Control) → is_within came (controls reply) ≡ true → IsRemnant came
 remnants Silence [] w = inl refl
@@ -40,13 +25,9 @@ remnants Nak came w = elim (one-of control.Nak came w) [ inl e ↦ inl e | inr e
 remnants AckStart [] w = inl refl
 remnants AckStart (control.Ack ∷ came) w = elim (one-of control.Start came w) [ inl e ↦ inr (inr (inl (ap (λ x. control.Ack ∷ x) e))) | inr e ↦ inr (inr (inr (inl (ap (λ x. control.Ack ∷ x) e)))) ]
 remnants AckStart (control.Start ∷ came) w = elim (one-of control.Start (control.Start ∷ came) w) [ inl e ↦ inl e | inr e ↦ inr (inl e) ]
-remnants AckStart (control.Nak ∷ came) w = cc
-remnants AckStart (control.Can ∷ came) w = cc
 remnants Cancel [] w = inl refl
 remnants Cancel (control.Can ∷ came) w = elim (one-of control.Can came w) [ inl e ↦ inr (inr (inr (inr (inr (inl (ap (λ x. control.Can ∷ x) e)))))) | inr e ↦ inr (inr (inr (inr (inr (inr (ap (λ x. control.Can ∷ x) e)))))) ]
-remnants Cancel (control.Ack ∷ came) w = cc
-remnants Cancel (control.Nak ∷ came) w = cc
-remnants Cancel (control.Start ∷ came) w = cc
+remnants _ _ w = cc
 
 -- a list that leaves out more is within too
 less : (c : Control) (came reply : List Control) → is_within (c ∷ came) reply ≡ true → is_within came reply ≡ true
@@ -66,18 +47,7 @@ same-byte control.Ack control.Ack e = refl
 same-byte control.Nak control.Nak e = refl
 same-byte control.Start control.Start e = refl
 same-byte control.Can control.Can e = refl
-same-byte control.Ack control.Nak e = absurd (omega (arith, e))
-same-byte control.Ack control.Start e = absurd (omega (arith, e))
-same-byte control.Ack control.Can e = absurd (omega (arith, e))
-same-byte control.Nak control.Ack e = absurd (omega (arith, e))
-same-byte control.Nak control.Start e = absurd (omega (arith, e))
-same-byte control.Nak control.Can e = absurd (omega (arith, e))
-same-byte control.Start control.Ack e = absurd (omega (arith, e))
-same-byte control.Start control.Nak e = absurd (omega (arith, e))
-same-byte control.Start control.Can e = absurd (omega (arith, e))
-same-byte control.Can control.Ack e = absurd (omega (arith, e))
-same-byte control.Can control.Nak e = absurd (omega (arith, e))
-same-byte control.Can control.Start e = absurd (omega (arith, e))
+same-byte _ _ e = absurd (omega (arith, e))
 
 -- a subsequence of bytes is one of controls
 controls-within : (came reply : List Control) → IsSubsequence (map control_byte came) (map control_byte reply) → is_within came reply ≡ true
@@ -92,11 +62,7 @@ controls-within (c ∷ came) (r ∷ reply) (inr s) = go (controls-within (c ∷ 
 
 pub bytes-of : (reply : Reply) → map control_byte (controls reply) ≡ reply_bytes reply
 bytes-of Silence = refl
-bytes-of Start = refl
-bytes-of Ack = refl
-bytes-of AckStart = refl
-bytes-of Nak = refl
-bytes-of Cancel = refl
+bytes-of _ = refl
 
 pub subsequence : (reply : Reply) (came : List Control) → IsSubsequence (map control_byte came) (reply_bytes reply) → is_within came (controls reply) ≡ true
 subsequence reply came s = controls-within came (controls reply) (subst (IsSubsequence (map control_byte came)) (sym (bytes-of reply)) s)

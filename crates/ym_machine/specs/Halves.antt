@@ -8,6 +8,7 @@ use Rattle.ym_frame.specs.declared.control.Reply.{Reply}
 use Rattle.ym_frame.specs.declared.control.Reply.TheVariants.{Silence, Start, Ack, AckStart, Nak, Cancel}
 use Rattle.ym_machine.specs.declared.confirm.Confirm.{Confirm}
 use Rattle.ym_machine.specs.declared.confirm.Confirm.TheVariants.{Twice, Once}
+use Rattle.ym_machine.specs.declared.limits.TheConstants.{GIVE_UP}
 use Rattle.ym_machine.specs.Frames.{Frame, BlockZero, Piece, Eot, EndBlock, frame_at, frame_before}
 use Rattle.ym_machine.specs.State.{SenderEnd, ReceiverEnd, State, Speech, FrameAt, CanCan, said}
 
@@ -27,11 +28,11 @@ heard _ _ = Bad
 abbrev pub Answer : Type 0
 Answer = State × Reply
 
--- a delivery that brings the receiver no progress: at the tenth in a row it gives up
+-- a delivery that brings the receiver no progress: at the last of so many in a row it gives up
 -- (reference, "XMODEM Protocol Overview": errors are retried 10 times)
 abbrev pub nothing_taken : State → Reply → Answer
 nothing_taken st reply =
-    if nat_lt (st.receiver_count + 1) 10
+    if nat_lt (st.receiver_count + 1) GIVE_UP
     then (record st { receiver_count = st.receiver_count + 1 }, reply)
     else (record st { receiver_count = st.receiver_count + 1; receiver = ReceiverEnd.TooManyErrors }, Cancel)
 
@@ -107,10 +108,10 @@ controls AckStart = control.Ack ∷ control.Start ∷ []
 controls Nak = control.Nak ∷ []
 controls Cancel = control.Can ∷ control.Can ∷ []
 
--- a delivery that brings the sender no progress: at the tenth in a row it gives up, with CAN CAN to go
+-- a delivery that brings the sender no progress: at the last of so many in a row it gives up, with CAN CAN to go
 abbrev pub nothing_gained : State → State
 nothing_gained st =
-    if nat_lt (st.sender_count + 1) 10
+    if nat_lt (st.sender_count + 1) GIVE_UP
     then record st { sender_count = st.sender_count + 1 }
     else record st { sender_count = st.sender_count + 1; sender = SenderEnd.NoReply; farewell = true }
 

@@ -2,6 +2,7 @@
 use Rattle.std.specs.Prelude.{◌+◌, ◌<◌, ◌≤◌, ◌≡◌, ◌↔◌, ◌⊎◌, List, length, true, false}
 use Rattle.ym_machine.specs.declared.confirm.Confirm.{Confirm}
 use Rattle.ym_machine.specs.declared.confirm.Confirm.TheVariants.{Twice}
+use Rattle.ym_machine.specs.declared.limits.TheConstants.{GIVE_UP}
 use Rattle.ym_machine.specs.Frames.{Frame, Piece, Eot, frame_at, frame_before}
 pub use Rattle.ym_machine.specs.State.{SenderEnd, ReceiverEnd, State, start, Speech, Nothing, FrameAt, CanCan, said, committed, reported}
 pub use Rattle.ym_machine.specs.Halves.{Sound, At, Can, Bad, heard, Answer, there, back, controls, is_within, KeepsSender, KeepsReceiver, SenderStays}
@@ -26,8 +27,8 @@ pub record CountersAgree {H : Type 0} (confirm : Confirm) (frames : List (Frame 
   pub first_eot : st.first_eot ≡ true → (confirm ≡ Twice) × (st.sent ≡ true) × (st.taken ≡ st.acknowledged) × (frame_at frames st.taken ≡ Eot) × (st.taken < length frames)
   pub sender_done : (st.acknowledged ≡ length frames) ↔ (st.sender ≡ SenderEnd.Finished)
   pub receiver_done : (st.taken ≡ length frames) ↔ (st.receiver ≡ ReceiverEnd.Finished)
-  pub sender_count : st.sender ≡ SenderEnd.Running → st.sender_count < 10
-  pub receiver_count : st.receiver ≡ ReceiverEnd.Running → st.receiver_count < 10
+  pub sender_count : st.sender ≡ SenderEnd.Running → st.sender_count < GIVE_UP
+  pub receiver_count : st.receiver ≡ ReceiverEnd.Running → st.receiver_count < GIVE_UP
 
 -- the sender gave up, or its source failed
 abbrev pub SenderBroke : SenderEnd → Type 0
@@ -50,8 +51,8 @@ pub record IsMachine {H : Type 0} (confirm : Confirm) (frames : List (Frame H)) 
 -- How ends that were new have stopped: an end gave up at its tenth delivery without progress, a source failed at a data block, and
 -- an end is cancelled only where the other one broke.
 pub record EndingsAgree {H : Type 0} (frames : List (Frame H)) (st : State) : Type 0 where
-  pub no_reply : st.sender ≡ SenderEnd.NoReply → st.sender_count ≡ 10
+  pub no_reply : st.sender ≡ SenderEnd.NoReply → st.sender_count ≡ GIVE_UP
   pub source_failed : st.sender ≡ SenderEnd.SourceFailed → (st.sent ≡ true) × IsPiece (frame_at frames st.acknowledged)
   pub sender_cancelled : st.sender ≡ SenderEnd.Cancelled → ReceiverBroke st.receiver
-  pub too_many_errors : st.receiver ≡ ReceiverEnd.TooManyErrors → st.receiver_count ≡ 10
+  pub too_many_errors : st.receiver ≡ ReceiverEnd.TooManyErrors → st.receiver_count ≡ GIVE_UP
   pub receiver_cancelled : st.receiver ≡ ReceiverEnd.Cancelled → SenderBroke st.sender

@@ -1,8 +1,9 @@
 -- A run: turn after turn, with what is said and replied at each.
-use Rattle.std.specs.Prelude.{ℕ, ◌+◌, ◌≡◌, ◌&&◌, List, [], ◌∷◌, Bool, true, false, if◌then◌else◌, max, Option, None, Some, is_none}
+use Rattle.std.specs.Prelude.{ℕ, ◌+◌, ◌≡◌, ◌&&◌, List, [], ◌∷◌, ◌++◌, replicate, Bool, true, false, if◌then◌else◌, max, Option, None, Some, is_none}
 use Rattle.ym_frame.specs.declared.control.Control.{Control}
 use Rattle.ym_frame.specs.declared.control.Reply.{Reply}
 use Rattle.ym_machine.specs.declared.confirm.Confirm.{Confirm}
+use Rattle.ym_machine.specs.declared.limits.TheConstants.{BURST}
 use Rattle.ym_machine.specs.Frames.{Frame}
 use Rattle.ym_machine.specs.State.{State, Speech, said}
 use Rattle.ym_machine.specs.Halves.{Answer, there, back, controls, is_within}
@@ -90,6 +91,6 @@ whole = record { whole_there = true; back = None; sink_failed = false; source_fa
 abbrev pub lost : Turn
 lost = record { whole_there = false; back = Some []; sink_failed = false; source_failed = false }
 
--- two bad runs of five, each with a whole turn behind it
+-- two bad runs that are one round longer than a burst, each with a whole turn behind it
 abbrev pub five_and_five : List Turn
-five_and_five = lost ∷ lost ∷ lost ∷ lost ∷ lost ∷ whole ∷ lost ∷ lost ∷ lost ∷ lost ∷ lost ∷ whole ∷ []
+five_and_five = replicate (BURST + 1) lost ++ whole ∷ replicate (BURST + 1) lost ++ whole ∷ []

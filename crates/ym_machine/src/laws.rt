@@ -10,6 +10,7 @@ ghost use Rattle.ym_frame.specs.declared.control.Reply.{Reply};
 ghost use Rattle.ym_frame.specs.declared.control.Reply.TheVariants.{Silence};
 ghost use Rattle.ym_frame.specs.Control.{reply_bytes, IsSubsequence};
 ghost use Rattle.ym_machine.specs.declared.confirm.Confirm.{Confirm};
+ghost use Rattle.ym_machine.specs.declared.limits.TheConstants.{BURST};
 ghost use Rattle.ym_machine.specs.Frames.{File, Frame, BlockZero, Piece, Eot, EndBlock, frames_of, frame_at, frame_before, body_at, count_within, files_within, IsPrefix, EndsOnce};
 ghost use Rattle.ym_machine.specs.State.{SenderEnd, ReceiverEnd, State, start, FrameAt, said, committed, reported};
 ghost use Rattle.ym_machine.specs.Halves.{there, back, controls, holds_start, is_within, IsRemnant, control_byte, KeepsSender, KeepsReceiver, SenderStays};
@@ -167,22 +168,22 @@ pub fn left_falls_by_whole_rounds<B: Batch>()
     ensures at_start { (files : List (File B.Header)) (confirm : Confirm) → left confirm (frames_of files) start ≡ rounds_needed confirm files }
 {}
 
-/// Where no bad run is longer than four rounds, and neither the sink nor the source fails, no end
-/// gives up or is cancelled, and no count passes 9.
+/// Where no bad run is longer than a burst, and neither the sink nor the source fails, no end gives up or is
+/// cancelled, and no count passes that of a burst, one round and a burst again.
 pub fn neither_end_gives_up<B: Batch>()
     ensures going { (files : List (File B.Header)) (confirm : Confirm) (turns : List Turn) →
-        IsDamage (frames_of files) confirm turns start → NoFailure turns → longest_bad_run 0 turns ≤ 4 →
+        IsDamage (frames_of files) confirm turns start → NoFailure turns → longest_bad_run 0 turns ≤ BURST →
         IsGoing (after_turns (frames_of files) confirm turns start) }
     ensures counts { (files : List (File B.Header)) (confirm : Confirm) (turns : List Turn) →
-        IsDamage (frames_of files) confirm turns start → NoFailure turns → longest_bad_run 0 turns ≤ 4 →
-        CountsWithin 9 (after_turns (frames_of files) confirm turns start) }
+        IsDamage (frames_of files) confirm turns start → NoFailure turns → longest_bad_run 0 turns ≤ BURST →
+        CountsWithin (BURST + 1 + BURST) (after_turns (frames_of files) confirm turns start) }
 {}
 
 /// Where such a run also holds as many whole rounds as the batch needs, in any places, both ends
 /// finish with the whole batch.
 pub fn both_finish<B: Batch>()
     ensures complete { (files : List (File B.Header)) (confirm : Confirm) (turns : List Turn) →
-        IsDamage (frames_of files) confirm turns start → NoFailure turns → longest_bad_run 0 turns ≤ 4 →
+        IsDamage (frames_of files) confirm turns start → NoFailure turns → longest_bad_run 0 turns ≤ BURST →
         rounds_needed confirm files ≤ whole_turns turns →
         IsComplete files (after_turns (frames_of files) confirm turns start) }
 {}
@@ -194,10 +195,10 @@ pub fn not_sooner<B: Batch>()
         (after_turns (frames_of files) confirm turns start).sender ≢ SenderEnd.Finished }
 {}
 
-/// Four is the largest bound: with bad runs of five the receiver gives up at the start of any
-/// batch, and neither end finishes.
+/// A burst, of four rounds today, is the largest bound: with bad runs of one round more the receiver gives up at the start of
+/// any batch, and neither end finishes.
 pub fn four_is_the_largest<B: Batch>()
-    ensures runs { longest_bad_run 0 five_and_five ≡ 5 }
+    ensures runs { longest_bad_run 0 five_and_five ≡ BURST + 1 }
     ensures gives_up { (files : List (File B.Header)) (confirm : Confirm) →
         (after_turns (frames_of files) confirm five_and_five start).receiver ≡ ReceiverEnd.TooManyErrors }
     ensures damage { (files : List (File B.Header)) (confirm : Confirm) → IsDamage (frames_of files) confirm five_and_five start }

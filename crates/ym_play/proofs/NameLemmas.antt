@@ -71,7 +71,7 @@ name_is name h =
 
 -- a file that a header takes is the one that its words write
 pub file_written : (name text : List ℕ) (words : StampWords) (bytes : List ℕ) (stamp : Stamp) (file : FileParts) → bytes_at text ≡ Ok bytes → stamp_at words ≡ Ok stamp
-    → file ≡ record { header = record { name = name; length = length bytes; stamp = stamp }; bytes = Some bytes; failures = 0 }
+    → file ≡ record { header = record { name = name; length = length bytes; stamp = stamp }; bytes = Some bytes; failures = 0; fills = 0 }
     → IsHeader length_limit file.header → file_at name text words ≡ Ok file
 file_written name text words bytes stamp file e f made within =
     let named : IsName name = rw (ap (λ (parts : FileParts). parts.header.name) made) at within.name in

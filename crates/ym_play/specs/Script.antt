@@ -38,7 +38,7 @@ is_name name = nat_lt 0 (length name) && (nat_le (length name) 255 && (is_utf8 n
 
 abbrev pub named_file : List ℕ → List ℕ → Stamp → Result FileParts ScriptWhy
 named_file name bytes stamp =
-    if is_name name then Ok (record { header = record { name = name; length = length bytes; stamp = stamp }; bytes = Some bytes; failures = 0 })
+    if is_name name then Ok (record { header = record { name = name; length = length bytes; stamp = stamp }; bytes = Some bytes; failures = 0; fills = 0 })
     else Err why.Name
 
 -- the file of a name, bytes and a stamp as they are written

@@ -32,12 +32,6 @@ abbrev pub fault_status : SessionFault → ℕ
 fault_status session.Device = 3
 fault_status (session.Play fault) = play_status fault
 
--- what the reader's text gives when it is played, unless the reader failed
-abbrev pub InputPlays : List ℕ → Option (List Handed) → ℕ → Result Played SessionFault → Option (List Handed) → ℕ → Type 0
-InputPlays text told failures (Ok played) new_told new_failures = PlayGives text told failures (Ok played) new_told new_failures
-InputPlays text told failures (Err session.Device) new_told new_failures = Unit {0}
-InputPlays text told failures (Err (session.Play fault)) new_told new_failures = PlayGives text told failures (Err fault) new_told new_failures
-
 -- the text goes to out and nothing else anywhere; or nothing goes to out, and the status is that of the fault
 abbrev pub EndsAs : Result Played PlayFault → List ℕ → List ℕ → ℕ → Option (List ℕ) → Option (List ℕ) → Type 0
 EndsAs (Ok played) before wrong status out err = (status ≡ played.status) × (out ≡ Some (before ++ string_bytes played.text)) × (err ≡ Some wrong)

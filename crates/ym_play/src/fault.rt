@@ -1,47 +1,58 @@
 //! Why a script is not played to its end.
 
-ghost use Rattle.std.specs.Prelude.{◌≡◌};
+ghost use Rattle.std.specs.Prelude.{◌≡◌, Some};
 ghost use Rattle.ym_play.specs.Fault.{fault_at};
+ghost use Rattle.ym_play.specs.FaultText.{why_text, round_text, play_text};
 
 use std::alloc::{AllocError, AllocFailed};
 use std::error::Error;
 use std::fmt;
-use thiserror::Error;
 use ym_header::HeaderFault;
 use ym_line::LineFault;
 
 /// Why a script is refused. Of one line's faults the first in this order is told.
-#[derive(Clone, Copy, Debug, PartialEq, Eq, Error)]
+#[derive(Clone, Copy, Debug, PartialEq, Eq)]
 pub enum ScriptWhy {
     /// The script has more than 1,048,576 bytes. It is told of line 0.
-    #[error("too large")]
     Large,
     /// The script is not UTF-8. It is told of line 0.
-    #[error("not text")]
     NotText,
     /// Another first word, a wrong number of words, an empty word, or a delivery that is none of `whole`, `lost` and `hex:` with
     /// what follows it.
-    #[error("not a command")]
     NotCommand,
     /// `short`, `single` or `file` behind a round.
-    #[error("too late")]
     Late,
     /// A number of rounds that is not from 1 to 65,535, or more than 65,535 rounds in all.
-    #[error("bad number")]
     Number,
     /// An odd number of hexadecimal digits, or another character among them.
-    #[error("bad hex")]
     Hex,
     /// A time or a mode that is not written in octal digits alone, or is out of range.
-    #[error("bad stamp")]
     Stamp,
     /// A name that no header can have.
-    #[error("bad name")]
     Name,
     /// The 65,536th file.
-    #[error("too many files")]
     TooMany,
 }
+
+impl fmt::Display for ScriptWhy {
+    ghost output = { λ why. Some (why_text why) };
+
+    fn fmt<W: fmt::Write>(&self, f: &mut fmt::Formatter<W>) -> fmt::Result {
+        match self {
+            ScriptWhy::Large => write!(f, "too large"),
+            ScriptWhy::NotText => write!(f, "not text"),
+            ScriptWhy::NotCommand => write!(f, "not a command"),
+            ScriptWhy::Late => write!(f, "too late"),
+            ScriptWhy::Number => write!(f, "bad number"),
+            ScriptWhy::Hex => write!(f, "bad hex"),
+            ScriptWhy::Stamp => write!(f, "bad stamp"),
+            ScriptWhy::Name => write!(f, "bad name"),
+            ScriptWhy::TooMany => write!(f, "too many files"),
+        }
+    }
+}
+
+impl Error for ScriptWhy {}
 
 /// Why a script is not played to its end. Its `Display` is the line that tells it, without the line's end.
 #[derive(Clone, Copy, Debug, PartialEq, Eq)]
@@ -59,12 +70,39 @@ pub enum PlayFault {
     Memory,
 }
 
-impl fmt::Display for PlayFault {
+/// Why a round was not finished, by its line.
+#[derive(Clone, Copy)]
+struct RoundWords(LineFault);
+
+impl fmt::Display for RoundWords {
+    ghost output = { λ words. Some (round_text words.0) };
+
     fn fmt<W: fmt::Write>(&self, f: &mut fmt::Formatter<W>) -> fmt::Result {
-        match self {
-            PlayFault::Script { line: 0, why } => write!(f, "script: {why}"),
-            PlayFault::Script { line, why } => write!(f, "line {line}: {why}"),
-            PlayFault::Line(fault) => write!(f, "{fault}"),
+        match self.0 {
+            LineFault::NotDamage(round) => write!(f, "round {round}: not damage"),
+            LineFault::TooLong(round) => write!(f, "round {round}: too long"),
+            LineFault::Carrier => write!(f, "fault: device"),
+            LineFault::Memory => write!(f, "fault: memory"),
+        }
+    }
+}
+
+impl fmt::Display for PlayFault {
+    ghost output = { λ fault. Some (play_text fault) };
+
+    fn fmt<W: fmt::Write>(&self, f: &mut fmt::Formatter<W>) -> fmt::Result {
+        match *self {
+            PlayFault::Script { line, why } => {
+                if line == 0 {
+                    write!(f, "script: {why}")
+                } else {
+                    write!(f, "line {line}: {why}")
+                }
+            }
+            PlayFault::Line(fault) => {
+                let words = RoundWords(fault);
+                write!(f, "{words}")
+            }
             PlayFault::Memory => write!(f, "fault: memory"),
         }
     }

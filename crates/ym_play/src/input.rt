@@ -1,15 +1,17 @@
 //! How a script is taken from a reader.
 
-ghost use Rattle.std.specs.Prelude.{◌≡◌, ◌≤◌, ℕ, List, Some, take, vec_len, IfOk};
+ghost use Rattle.std.specs.Prelude.{◌≡◌, ◌≢◌, Err, IfOk};
+ghost use Rattle.ym_file.specs.Counts.{Rose};
+ghost use Rattle.ym_play.specs.SessionOver.{IsTaken, IsReadWithin};
 
 use crate::script::SCRIPT_LIMIT;
+use crate::streams::{Input, StreamFault};
 use std::alloc::Global;
-use std::io::Read;
 
 /// Why a script was not taken.
 #[derive(Clone, Copy, Debug, PartialEq, Eq)]
 pub(crate) enum InputFault {
-    /// A read failed, or there were too many of them.
+    /// A read failed.
     Device,
     /// Out of memory.
     Memory,
@@ -18,34 +20,30 @@ pub(crate) enum InputFault {
 /// One byte more than a script may have: enough to see that it is too large.
 const MOST: usize = SCRIPT_LIMIT + 1;
 
-/// The most reads.
-const READS: u32 = 2_097_152;
-
 /// How many bytes a read asks for.
 const PIECE: usize = 8192;
 
 /// The reader's bytes, or the first of them that show a script to be too large. A read that fails is not tried again.
-pub(crate) fn take_script<R: Read>(alloc: Global, input: &mut R) -> Result<Vec<u8>, InputFault>
-    ensures short { IfOk result (λ bytes. vec_len bytes ≤ MOST) }
-    ensures told { IfOk result (λ bytes. (text : List ℕ) → R.remaining input.old ≡ Some text → bytes.items ≡ take MOST text) }
+pub(crate) fn take_script<I: Input>(alloc: Global, input: &mut I) -> Result<Vec<u8>, InputFault>
+    ensures taken { IfOk result (λ bytes. IsTaken (I.remaining input.old) bytes.items) }
+    ensures within { IsReadWithin 1048577 (I.remaining input.old) (I.remaining input.new) }
+    ensures device { result ≡ Err InputFault.Device → Rose (I.failures input.old) (I.failures input.new) }
+    ensures calm { result ≢ Err InputFault.Device → I.failures input.new ≡ I.failures input.old }
 {
     let mut bytes = Vec::new(alloc);
     let mut buffer = [0u8; PIECE];
-    for _ in 0..READS {
+    while bytes.len() < MOST {
         let room = (MOST - bytes.len()).min(PIECE);
-        if room == 0 {
-            return Ok(bytes);
-        }
         let piece = &mut buffer[..room];
-        match input.read(piece) {
+        match input.read_some(piece) {
             Ok(0) => return Ok(bytes),
             Ok(count) => {
                 if bytes.extend_from_slice(&piece[..count]).is_err() {
                     return Err(InputFault::Memory);
                 }
             }
-            Err(_) => return Err(InputFault::Device),
+            Err(StreamFault) => return Err(InputFault::Device),
         }
     }
-    Err(InputFault::Device)
+    Ok(bytes)
 }

@@ -7,13 +7,15 @@ mod input;
 mod play;
 mod script;
 mod sessions;
+mod streams;
 mod value;
 mod words;
 
 pub use fault::{PlayFault, ScriptWhy};
 pub use play::{Played, play_script};
 pub use script::{Script, read_script};
-pub use sessions::session;
+pub use sessions::{session, session_over};
+pub use streams::{Input, Output, StreamFault};
 
 #[cfg(test)]
 mod tests;

@@ -1,15 +1,18 @@
 //! A session: a script in, the text of its run out, and a status back.
 
-ghost use Rattle.std.specs.Prelude.{◌≡◌, ◌≢◌, ◌≤◌, ◌⊎◌, ℕ, List, Some, IfOk, OnOk};
+ghost use Rattle.std.specs.Prelude.{◌≡◌, ◌≢◌, ◌≤◌, ◌⊎◌, ℕ, List, Some, IfOk};
 ghost use Rattle.std.specs.Io.KnownBytes.{Appends};
-ghost use Rattle.ym_play.specs.Session.{fault_status, InputPlays, SessionGives};
+ghost use Rattle.ym_file.specs.Counts.{Rose};
+ghost use Rattle.ym_play.specs.Session.{fault_status, SessionGives};
+ghost use Rattle.ym_play.specs.SessionOver.{Scene, ScriptGives, SessionEnds, HasFailed, IsReadWithin, session_text, session_line};
 
 use crate::fault::PlayFault;
 use crate::input::{InputFault, take_script};
 use crate::play::{Played, play_script};
+use crate::streams::{Input, Output, StreamFault};
 use std::alloc::Global;
+use std::fmt;
 use std::io::{Read, Write};
-use std::{fmt, io};
 use ym_line::{Carrier, LineFault};
 
 /// The status after a refused script or round.
@@ -28,6 +31,8 @@ enum SessionFault {
 }
 
 impl fmt::Display for SessionFault {
+    ghost output = { λ fault. Some (session_text fault) };
+
     fn fmt<W: fmt::Write>(&self, f: &mut fmt::Formatter<W>) -> fmt::Result {
         match self {
             SessionFault::Device => write!(f, "fault: device"),
@@ -69,14 +74,17 @@ impl SessionFault {
 }
 
 /// Takes the script from the reader and plays it.
-fn play_input<R: Read, C: Carrier>(
+fn play_input<I: Input, C: Carrier>(
     alloc: Global,
-    input: &mut R,
+    input: &mut I,
     carrier: &mut C,
 ) -> Result<Played, SessionFault>
+    // At any outputs, which it does not see.
+    ensures plays { (old new : Scene) → old.told ≡ C.told carrier.old → old.carries_failed ≡ C.failures carrier.old → old.reads_failed ≡ I.failures input.old
+        → new.told ≡ C.told carrier.new → new.carries_failed ≡ C.failures carrier.new → new.reads_failed ≡ I.failures input.new
+        → ScriptGives (I.remaining input.old) old result new }
+    ensures within { IsReadWithin 1048577 (I.remaining input.old) (I.remaining input.new) }
     ensures status { IfOk result (λ played. played.status ≤ 1) }
-    ensures plays { (text : List ℕ) → R.remaining input.old ≡ Some text
-        → InputPlays text (C.told carrier.old) (C.failures carrier.old) result (C.told carrier.new) (C.failures carrier.new) }
 {
     let script = take_script(alloc, input)?;
     match play_script(alloc, &script, carrier) {
@@ -85,21 +93,14 @@ fn play_input<R: Read, C: Carrier>(
     }
 }
 
-/// Writes the text.
-fn print<W: Write>(out: &mut W, text: &str) -> io::Result<()>
-    ensures { OnOk result (Appends (W.contents out.old) (W.contents out.new) text.now) }
-{
-    out.write_all(text.as_bytes())?;
-    out.flush()
-}
-
 /// Writes the line that tells a fault. The answer is its status, or that of a failed device where the line could not be written.
-fn tell<E: Write>(err: &mut E, fault: SessionFault) -> u8
-    ensures { (result ≡ fault_status fault) ⊎ (result ≡ 3) }
+fn tell<E: Output>(err: &mut E, fault: SessionFault) -> u8
+    ensures { ((result ≡ fault_status fault) × Appends (E.contents err.old) (E.contents err.new) (session_line fault) × (E.failures err.new ≡ E.failures err.old))
+        ⊎ ((result ≡ 3) × Rose (E.failures err.old) (E.failures err.new)) }
 {
-    match writeln!(err, "{fault}").and_then(|()| err.flush()) {
+    match err.put_line(fault) {
         Ok(()) => fault.status(),
-        Err(_) => FAILED,
+        Err(StreamFault) => FAILED,
     }
 }
 
@@ -107,7 +108,68 @@ fn tell<E: Write>(err: &mut E, fault: SessionFault) -> u8
 /// to `err`, and nothing to `out`. The answer is the status: 0 where both ends have finished, 1 where they have not, 2 where the script or one of its rounds is
 /// refused, and 3 where a read, a write or the carrier failed or memory ran out.
 ///
-/// It takes at most 1,048,577 bytes of the script, by at most 2,097,152 reads.
+/// It takes at most 1,048,577 bytes of the script.
+pub fn session_over<I: Input, O: Output, E: Output, C: Carrier>(
+    alloc: Global,
+    input: &mut I,
+    out: &mut O,
+    err: &mut E,
+    carrier: &mut C,
+) -> u8
+    ensures ends { SessionEnds (I.remaining input.old)
+        (record {
+          out = O.contents out.old;
+          err = E.contents err.old;
+          told = C.told carrier.old;
+          reads_failed = I.failures input.old;
+          out_failed = O.failures out.old;
+          err_failed = E.failures err.old;
+          carries_failed = C.failures carrier.old;
+        })
+        result
+        (record {
+          out = O.contents out.new;
+          err = E.contents err.new;
+          told = C.told carrier.new;
+          reads_failed = I.failures input.new;
+          out_failed = O.failures out.new;
+          err_failed = E.failures err.new;
+          carries_failed = C.failures carrier.new;
+        }) }
+    ensures failed { result ≡ 3 → HasFailed (I.remaining input.old)
+        (record {
+          out = O.contents out.old;
+          err = E.contents err.old;
+          told = C.told carrier.old;
+          reads_failed = I.failures input.old;
+          out_failed = O.failures out.old;
+          err_failed = E.failures err.old;
+          carries_failed = C.failures carrier.old;
+        })
+        (record {
+          out = O.contents out.new;
+          err = E.contents err.new;
+          told = C.told carrier.new;
+          reads_failed = I.failures input.new;
+          out_failed = O.failures out.new;
+          err_failed = E.failures err.new;
+          carries_failed = C.failures carrier.new;
+        }) }
+    ensures within { IsReadWithin 1048577 (I.remaining input.old) (I.remaining input.new) }
+    ensures refused { result ≡ 2 → O.contents out.new ≡ O.contents out.old }
+    ensures status { result ≤ 3 }
+{
+    let played = match play_input(alloc, input, carrier) {
+        Ok(played) => played,
+        Err(fault) => return tell(err, fault),
+    };
+    match out.put(played.text.as_bytes()) {
+        Ok(()) => played.status,
+        Err(StreamFault) => tell(err, SessionFault::Device),
+    }
+}
+
+/// The same over a reader and writers of the standard library, which do not say how often they failed.
 pub fn session<R: Read, W: Write, E: Write, C: Carrier>(
     alloc: Global,
     input: &mut R,
@@ -119,15 +181,9 @@ pub fn session<R: Read, W: Write, E: Write, C: Carrier>(
     ensures gives { (text before wrong : List ℕ) → R.remaining input.old ≡ Some text → W.contents out.old ≡ Some before
         → E.contents err.old ≡ Some wrong → result ≢ 3
         → SessionGives text before wrong (C.told carrier.old) (C.failures carrier.old) result (W.contents out.new) (E.contents err.new) (C.told carrier.new) (C.failures carrier.new) }
+    ensures within { IsReadWithin 1048577 (R.remaining input.old) (R.remaining input.new) }
     ensures refused { result ≡ 2 → W.contents out.new ≡ W.contents out.old }
     ensures status { result ≤ 3 }
 {
-    let played = match play_input(alloc, input, carrier) {
-        Ok(played) => played,
-        Err(fault) => return tell(err, fault),
-    };
-    match print(out, &played.text) {
-        Ok(()) => played.status,
-        Err(_) => tell(err, SessionFault::Device),
-    }
+    session_over(alloc, input, out, err, carrier)
 }

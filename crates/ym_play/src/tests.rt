@@ -2,6 +2,7 @@ mod bursts;
 mod fixtures;
 mod losses;
 mod memory;
+mod refused;
 mod refused_rounds;
 mod script_faults;
 mod streams;

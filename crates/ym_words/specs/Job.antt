@@ -3,6 +3,7 @@ use Rattle.std.specs.Prelude.{◌≡◌, ℕ, Bool, false, List, map, Option, So
 use Rattle.clap.specs.Words.{Row, Text, all_of, first_of}
 use Rattle.std.specs.Str.{bytes_eq}
 use Rattle.ym_words.specs.Port.{port_value}
+use Rattle.ym_words.specs.declared.job.ReceiveFlags.{ReceiveFlags}
 use Rattle.ym_words.specs.declared.job.Job.{Job}
 use Rattle.ym_words.specs.declared.job.Job.TheVariants as job
 use Rattle.ym_words.specs.declared.job.JobFault.{JobFault}
@@ -13,21 +14,32 @@ pub data Asked : Type 0 where
   Play : Asked
   Loop : ℕ → Asked
   Send : ℕ → Bool → List Text → Asked
-  Receive : ℕ → Bool → Text → Asked
+  Receive : ℕ → ReceiveFlags → Text → Asked
 
 abbrev pub is_true_text : Option Text → Bool
 is_true_text None = false
 is_true_text (Some text) = bytes_eq text (codes "true")
+
+-- what the flag of this name says
+abbrev pub flag_of : Text → List Row → Bool
+flag_of name rows = is_true_text (first_of name rows)
+
+abbrev pub receive_flags_of : List Row → ReceiveFlags
+receive_flags_of rows = record {
+  single = flag_of (codes "single") rows;
+  no_sync = flag_of (codes "no_sync") rows;
+  discard_parts = flag_of (codes "discard_parts") rows;
+}
 
 abbrev pub send_of : Option ℕ → Bool → Option (List Text) → Option Asked
 send_of None short files = None
 send_of (Some port) short None = None
 send_of (Some port) short (Some files) = Some (Send port short files)
 
-abbrev pub receive_of : Option ℕ → Bool → Option Text → Option Asked
-receive_of None single dir = None
-receive_of (Some port) single None = None
-receive_of (Some port) single (Some dir) = Some (Receive port single dir)
+abbrev pub receive_of : Option ℕ → ReceiveFlags → Option Text → Option Asked
+receive_of None flags dir = None
+receive_of (Some port) flags None = None
+receive_of (Some port) flags (Some dir) = Some (Receive port flags dir)
 
 -- the job that a subcommand and its matches ask for, unless a value is lacking
 abbrev pub asked_for : Text → List Row → Option Asked
@@ -35,8 +47,8 @@ asked_for name rows =
     let port = port_value (first_of (codes "port") rows) in
     if bytes_eq name (codes "play") then Some Play
     else (if bytes_eq name (codes "loop") then option_map Loop port
-    else (if bytes_eq name (codes "send") then send_of port (is_true_text (first_of (codes "short") rows)) (all_of (codes "files") rows)
-    else (if bytes_eq name (codes "receive") then receive_of port (is_true_text (first_of (codes "single") rows)) (first_of (codes "dir") rows)
+    else (if bytes_eq name (codes "send") then send_of port (flag_of (codes "short") rows) (all_of (codes "files") rows)
+    else (if bytes_eq name (codes "receive") then receive_of port (receive_flags_of rows) (first_of (codes "dir") rows)
     else None)))
 
 abbrev pub asked : Option (Text × List Row) → Option Asked
@@ -47,7 +59,7 @@ abbrev pub asked_of : Job → Asked
 asked_of job.Play = Play
 asked_of (job.Loop port) = Loop port
 asked_of (job.Send port short files) = Send port short (map (λ f. f.now) files.items)
-asked_of (job.Receive port single dir) = Receive port single dir.now
+asked_of (job.Receive port flags dir) = Receive port flags dir.now
 
 -- what each fault says of the words
 abbrev pub FaultSays : JobFault → Option Asked → Bool → Type 0

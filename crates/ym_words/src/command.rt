@@ -2,7 +2,7 @@
 
 ghost use Rattle.std.specs.Prelude.{◌≡◌, IfOk, false};
 ghost use Rattle.clap.specs.Words.{app_of, rule_of};
-ghost use Rattle.ym_words.specs.Command.{the_app, port_rule, short_rule, single_rule, files_rule, dir_rule, bare_app, play_app, loop_app, send_app, receive_app};
+ghost use Rattle.ym_words.specs.Command.{the_app, port_rule, short_rule, single_rule, no_sync_rule, discard_parts_rule, files_rule, dir_rule, bare_app, play_app, loop_app, send_app, line_app, receive_app};
 ghost use Rattle.clap.specs.declared.builder.command.Command.TheViews.{out-Command};
 
 use clap::{Arg, ArgAction, Command};
@@ -63,8 +63,8 @@ const RECEIVE_ABOUT: &str =
     "Waits for one connection on 127.0.0.1, and receives files into a folder";
 
 const RECEIVE_HELP: &str =
-    "A file NAME is written as NAME.part and renamed when it is whole. Nothing that is there is overwritten. It waits 3 seconds for each block,
-and gives up after 10 without progress.
+    "A file NAME is written as NAME.part and renamed when it is whole. Nothing that is there is overwritten. It acknowledges a file when the disk has it.
+A NAME.part that is there, as a receiver leaves it that is killed, refuses NAME. It waits 3 seconds for each block, and gives up after 10 without progress.
 
 Exit status: 0 where the batch was received whole, 1 where not, 2 where the words are refused, 3 at a device fault, a closed connection or want of
 memory.
@@ -101,6 +101,26 @@ fn single_arg<'a>(alloc: Global) -> Arg<'a>
     Arg::new(alloc, "single")
         .long("single")
         .help("Acknowledges the first EOT of a file (else the second)")
+        .action(ArgAction::SetTrue)
+}
+
+fn no_sync_arg<'a>(alloc: Global) -> Arg<'a>
+    ensures rule { rule_of result ≡ no_sync_rule }
+    ensures local { result.global ≡ false }
+{
+    Arg::new(alloc, "no_sync")
+        .long("no-sync")
+        .help("Acknowledges a file before it has reached the disk")
+        .action(ArgAction::SetTrue)
+}
+
+fn discard_parts_arg<'a>(alloc: Global) -> Arg<'a>
+    ensures rule { rule_of result ≡ discard_parts_rule }
+    ensures local { result.global ≡ false }
+{
+    Arg::new(alloc, "discard_parts")
+        .long("discard-parts")
+        .help("Removes a NAME.part that an earlier run left, when NAME comes")
         .action(ArgAction::SetTrue)
 }
 
@@ -162,19 +182,31 @@ fn send_command<'a>(alloc: Global) -> Result<Command<'a>, AllocError>
     with_short.arg(files)
 }
 
-fn receive_command<'a>(alloc: Global) -> Result<Command<'a>, AllocError>
-    ensures shape { IfOk result (λ c. app_of c ≡ receive_app) }
+/// `receive`, with what its words say of the line.
+fn line_command<'a>(alloc: Global) -> Result<Command<'a>, AllocError>
+    ensures shape { IfOk result (λ c. app_of c ≡ line_app) }
     ensures local { IfOk result (λ c. (out-Command c).has_globals ≡ false) }
 {
     let port = port_arg(alloc);
     let single = single_arg(alloc);
-    let dir = dir_arg(alloc);
     let bare = Command::new(alloc, "receive")
         .about(RECEIVE_ABOUT)
         .after_help(RECEIVE_HELP);
     let with_port = bare.arg(port)?;
-    let with_single = with_port.arg(single)?;
-    with_single.arg(dir)
+    with_port.arg(single)
+}
+
+fn receive_command<'a>(alloc: Global) -> Result<Command<'a>, AllocError>
+    ensures shape { IfOk result (λ c. app_of c ≡ receive_app) }
+    ensures local { IfOk result (λ c. (out-Command c).has_globals ≡ false) }
+{
+    let no_sync = no_sync_arg(alloc);
+    let discard_parts = discard_parts_arg(alloc);
+    let dir = dir_arg(alloc);
+    let bare = line_command(alloc)?;
+    let with_no_sync = bare.arg(no_sync)?;
+    let with_discard_parts = with_no_sync.arg(discard_parts)?;
+    with_discard_parts.arg(dir)
 }
 
 fn bare_command<'a>(alloc: Global) -> Command<'a>

@@ -4,13 +4,24 @@ ghost use Rattle.std.specs.Prelude.{◌≡◌, IfOk, IfErr, Some, None, true, ma
 ghost use Rattle.clap.specs.Words.{takes, subcommand_of, rows_of, found_of, first_of};
 ghost use Rattle.ym_words.specs.Command.{the_app};
 ghost use Rattle.ym_words.specs.Port.{port_value};
-ghost use Rattle.ym_words.specs.Job.{asked, asked_for, asked_of, FaultSays, is_true_text};
+ghost use Rattle.ym_words.specs.Job.{asked, asked_for, asked_of, FaultSays, flag_of, receive_flags_of};
 
 use crate::command::the_command;
 use crate::port::port_number;
 use clap::error::ErrorKind;
 use clap::{ArgMatches, Error};
 use std::alloc::Global;
+
+/// How a receiver answers and stores.
+#[derive(Clone, Copy, Debug, PartialEq, Eq)]
+pub struct ReceiveFlags {
+    /// It acknowledges the first EOT of a file.
+    pub single: bool,
+    /// It does not wait until a file has reached the disk.
+    pub no_sync: bool,
+    /// It removes parts that an earlier run left.
+    pub discard_parts: bool,
+}
 
 /// What the program is asked to do. Ports are from 1 to 65535, on 127.0.0.1.
 #[derive(Drop)]
@@ -27,10 +38,10 @@ pub enum Job<'a> {
         short: bool,
         files: Vec<&'a str>,
     },
-    /// Receive files into a folder, by a single receiver where `single` says so.
+    /// Receive files into a folder, in the way that the flags say.
     Receive {
         port: u16,
-        single: bool,
+        flags: ReceiveFlags,
         dir: &'a str,
     },
 }
@@ -56,23 +67,24 @@ fn port_in(matches: &ArgMatches<'_>) -> Option<u16>
     }
 }
 
-/// What `--short` says.
-fn short_in(matches: &ArgMatches<'_>) -> bool
-    ensures { result ≡ is_true_text (first_of (codes "short") (rows_of (found_of matches.now))) }
+/// What the flag of this name says.
+fn flag_in(matches: &ArgMatches<'_>, name: &str) -> bool
+    ensures { result ≡ flag_of name.now (rows_of (found_of matches.now)) }
 {
-    match matches.get_str("short") {
+    match matches.get_str(name) {
         Some(text) => text == "true",
         None => false,
     }
 }
 
-/// What `--single` says.
-fn single_in(matches: &ArgMatches<'_>) -> bool
-    ensures { result ≡ is_true_text (first_of (codes "single") (rows_of (found_of matches.now))) }
+/// What the flags of `receive` say.
+fn receive_flags_in(matches: &ArgMatches<'_>) -> ReceiveFlags
+    ensures { result ≡ receive_flags_of (rows_of (found_of matches.now)) }
 {
-    match matches.get_str("single") {
-        Some(text) => text == "true",
-        None => false,
+    ReceiveFlags {
+        single: flag_in(matches, "single"),
+        no_sync: flag_in(matches, "no_sync"),
+        discard_parts: flag_in(matches, "discard_parts"),
     }
 }
 
@@ -96,7 +108,7 @@ fn job_for<'a>(alloc: Global, name: &str, matches: &ArgMatches<'a>) -> Result<Jo
             Some(paths) => match Vec::from_slice(alloc, paths) {
                 Ok(files) => Ok(Job::Send {
                     port,
-                    short: short_in(matches),
+                    short: flag_in(matches, "short"),
                     files,
                 }),
                 Err(_) => Err(JobFault::Memory),
@@ -108,7 +120,7 @@ fn job_for<'a>(alloc: Global, name: &str, matches: &ArgMatches<'a>) -> Result<Jo
         return match matches.get_str("dir") {
             Some(dir) => Ok(Job::Receive {
                 port,
-                single: single_in(matches),
+                flags: receive_flags_in(matches),
                 dir,
             }),
             None => Err(JobFault::Value),

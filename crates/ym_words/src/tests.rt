@@ -18,8 +18,13 @@ fn told(rt: &HostRuntime, line: &str) -> Result<String, Fail> {
             }
             text
         }
-        Ok(Job::Receive { port, single, dir }) => {
-            format!(in rt.alloc(); "receive {port} {single} {dir}")?
+        Ok(Job::Receive { port, flags, dir }) => {
+            let ReceiveFlags {
+                single,
+                no_sync,
+                discard_parts,
+            } = flags;
+            format!(in rt.alloc(); "receive {port} {single} {no_sync} {discard_parts} {dir}")?
         }
         Err(JobFault::Value) => format!(in rt.alloc(); "value")?,
         Err(JobFault::Memory) => format!(in rt.alloc(); "memory")?,
@@ -45,8 +50,24 @@ fn reads_words(rt: HostRuntime) -> Result<(), Fail> {
         ("ymodem send --port 00007 a", "send 7 false a"),
         ("ymodem send a", "words 2"),
         ("ymodem send --port 1", "words 2"),
-        ("ymodem receive --port=65535 d", "receive 65535 false d"),
-        ("ymodem receive --port 9 --single d", "receive 9 true d"),
+        (
+            "ymodem receive --port=65535 d",
+            "receive 65535 false false false d",
+        ),
+        (
+            "ymodem receive --port 9 --single d",
+            "receive 9 true false false d",
+        ),
+        (
+            "ymodem receive --port 9 --no-sync d",
+            "receive 9 false true false d",
+        ),
+        (
+            "ymodem receive --discard-parts --port 9 d",
+            "receive 9 false false true d",
+        ),
+        ("ymodem receive --port 9 --no-sync --no-sync d", "words 2"),
+        ("ymodem send --port 9 --no-sync a", "words 2"),
         ("ymodem receive --port 9", "words 2"),
         ("ymodem receive --port 9 d e", "words 2"),
         ("ymodem nosuch", "words 2"),

@@ -14,9 +14,9 @@ use std::fmt::Display;
 use std::fs::{File, Files};
 use std::io::{Read, Write};
 use std::net::{Net, TcpListener, TcpStream};
+use std::time::Clock;
 use ym_file::Shape;
 use ym_line::Direct;
-use ym_link::Confirm;
 use ym_play::session;
 use ym_words::{Job, JobFault, job_of};
 
@@ -63,7 +63,7 @@ fn do_job<R, I, W, E>(
     err: &mut E,
 ) -> Result<u8, CommandFault>
 where
-    R: Files<File = File> + Net<Listener = TcpListener, Stream = TcpStream>,
+    R: Files<File = File> + Net<Listener = TcpListener, Stream = TcpStream> + Clock,
     I: Read,
     W: Write,
     E: Write,
@@ -82,14 +82,7 @@ where
             let shape = if short { Shape::Short } else { Shape::Mixed };
             send(rt, alloc, port, shape, files.as_slice(), out)
         }
-        Job::Receive { port, single, dir } => {
-            let confirm = if single {
-                Confirm::Once
-            } else {
-                Confirm::Twice
-            };
-            receive(rt, alloc, port, confirm, dir, out)
-        }
+        Job::Receive { port, flags, dir } => receive(rt, alloc, port, flags, dir, out),
     }
 }
 
@@ -106,7 +99,7 @@ pub fn command<R, I, W, E>(
     err: &mut E,
 ) -> u8
 where
-    R: Files<File = File> + Net<Listener = TcpListener, Stream = TcpStream>,
+    R: Files<File = File> + Net<Listener = TcpListener, Stream = TcpStream> + Clock,
     I: Read,
     W: Write,
     E: Write,

@@ -11,7 +11,7 @@ use std::io;
 use std::io::Write;
 use std::net::{Ipv4Addr, Net, SocketAddr, TcpStream};
 use std::path::Path;
-use std::time::Duration;
+use std::time::{Clock, Duration};
 use ym_file::Shape;
 use ym_header::Stamp;
 use ym_host::{FileSource, SocketPort};
@@ -24,23 +24,23 @@ const REPLY_MS: u32 = 10_000;
 const WITHIN_MS: u32 = 1000;
 
 /// The file at this path, under the last part of the path. No stamp is sent.
-fn open_file<R: Files<File = File>>(
-    rt: &R,
+fn open_file<'a, R: Files<File = File>>(
+    rt: &'a R,
     alloc: Global,
-    path: &str,
-) -> Result<SourceFile<FileSource>, CommandFault> {
+    path: &'a str,
+) -> Result<SourceFile<FileSource<'a, &'a R>>, CommandFault> {
     let source = FileSource::new(rt, alloc, path)?;
     let name = Path::new(path).file_name().unwrap_or("");
     let file = SourceFile::from_source(alloc, name, source, Stamp::Nothing)?;
     Ok(file)
 }
 
-/// The files at these paths, opened in order, or the first fault.
-fn open_batch<R: Files<File = File>>(
-    rt: &R,
+/// The files at these paths, looked at in order, or the first fault.
+fn open_batch<'a, R: Files<File = File>>(
+    rt: &'a R,
     alloc: Global,
-    paths: &[&str],
-) -> Result<Vec<SourceFile<FileSource>>, CommandFault> {
+    paths: &[&'a str],
+) -> Result<Vec<SourceFile<FileSource<'a, &'a R>>>, CommandFault> {
     let mut batch = Vec::new(alloc);
     for path in paths {
         let file = open_file(rt, alloc, path)?;
@@ -84,7 +84,7 @@ pub fn send<R, W>(
     out: &mut W,
 ) -> Result<u8, CommandFault>
 where
-    R: Files<File = File> + Net<Stream = TcpStream>,
+    R: Files<File = File> + Net<Stream = TcpStream> + Clock,
     W: Write,
     ensures { IfOk result (λ status. status ≤ 1) }
 {
@@ -92,7 +92,7 @@ where
     let Ok(mut sender) = SenderFrom::new(batch, shape) else {
         return Err(CommandFault::TooManyFiles);
     };
-    let port = SocketPort::new(connect(rt, port)?, REPLY_MS - WITHIN_MS, WITHIN_MS);
+    let port = SocketPort::new(rt, connect(rt, port)?, REPLY_MS - WITHIN_MS, WITHIN_MS);
     let mut port = Clearing::new(port, Role::Sender);
     let ended = send_over(&mut port, &mut sender);
     let line = SenderLine {

@@ -1,11 +1,11 @@
 //! Sockets on 127.0.0.1: both ends of one connection, in one test.
 
 use crate::{SocketCarrier, SocketPort};
-use std::io;
 use std::io::{Read, Write};
 use std::net::{TcpListener, TcpStream};
 use std::test::Fail;
-use std::time::Instant;
+use std::time::{Duration, Instant};
+use std::{io, thread};
 use ym_line::{Carrier, CarryFault, Way};
 use ym_link::{Got, Port, PortFault, Wait};
 
@@ -20,14 +20,14 @@ fn pair(rt: &HostRuntime) -> io::Result<(TcpStream, TcpStream)> {
 #[test]
 fn a_port_reads_what_is_there(rt: HostRuntime) -> Result<(), Fail> {
     let (mut near, far) = pair(&rt)?;
-    let mut port = SocketPort::new(far, 300, 100);
+    let mut port = SocketPort::new(&rt, far, 3000, 100);
     let mut buf = [0; 8];
     near.write_all(b"abcdefghij")?;
     assert_eq!(rt; port.read(Wait::Reply, &mut buf), Ok(Got::Bytes(8)));
     assert_eq!(rt; buf.as_slice(), b"abcdefgh".as_slice());
     assert_eq!(rt; port.read(Wait::Within, &mut buf), Ok(Got::Bytes(2)));
     assert_eq!(rt; &buf[..2], b"ij".as_slice());
-    for (wait, least, most) in [(Wait::Within, 90, 290), (Wait::Reply, 290, 2000)] {
+    for (wait, least, most) in [(Wait::Within, 90, 2990), (Wait::Reply, 2990, 60_000)] {
         let start = Instant::now(&rt)?;
         assert_eq!(rt; port.read(wait, &mut buf), Ok(Got::Quiet));
         let took = start.elapsed(&rt)?.as_millis();
@@ -39,10 +39,47 @@ fn a_port_reads_what_is_there(rt: HostRuntime) -> Result<(), Fail> {
     Ok(())
 }
 
+/// A delivery ends ten times both waits after it has begun, though more has come: every byte is there before the first is read, so that
+/// no byte is late.
+#[test]
+fn a_port_hears_no_delivery_for_ever(rt: HostRuntime) -> Result<(), Fail> {
+    let (mut near, far) = pair(&rt)?;
+    let mut port = SocketPort::new(&rt, far, 150, 50);
+    near.write_all([b'x'; 1000].as_slice())?;
+    let mut buf = [0; 1];
+    let start = Instant::now(&rt)?;
+    let mut last = Ok(Got::Quiet);
+    for _ in 0..100 {
+        if last != Ok(Got::Quiet) {
+            break;
+        }
+        last = port.read(Wait::Reply, &mut buf);
+    }
+    for _ in 0..900 {
+        if last != Ok(Got::Bytes(1)) {
+            break;
+        }
+        thread::sleep(&rt, Duration::from_millis(20));
+        last = port.read(Wait::Within, &mut buf);
+    }
+    assert_eq!(rt; last, Ok(Got::Quiet));
+    assert!(rt; start.elapsed(&rt)?.as_millis() >= 2000);
+    // quiet until something is written
+    assert_eq!(rt; port.read(Wait::Within, &mut buf), Ok(Got::Quiet));
+    // a write, and a wait for a reply, begin a new delivery
+    assert_eq!(rt; port.write(b"y"), Ok(()));
+    assert_eq!(rt; port.read(Wait::Within, &mut buf), Ok(Got::Bytes(1)));
+    for _ in 0..30 {
+        thread::sleep(&rt, Duration::from_millis(100));
+        assert_eq!(rt; port.read(Wait::Reply, &mut buf), Ok(Got::Bytes(1)));
+    }
+    Ok(())
+}
+
 #[test]
 fn a_port_writes(rt: HostRuntime) -> Result<(), Fail> {
     let (mut near, far) = pair(&rt)?;
-    let mut port = SocketPort::new(far, 300, 100);
+    let mut port = SocketPort::new(&rt, far, 3000, 100);
     assert_eq!(rt; port.write(b"abc"), Ok(()));
     assert_eq!(rt; port.write(b""), Ok(()));
     assert_eq!(rt; port.write(b"de"), Ok(()));
@@ -60,7 +97,7 @@ fn a_port_writes(rt: HostRuntime) -> Result<(), Fail> {
 #[test]
 fn a_write_without_headway_fails(rt: HostRuntime) -> Result<(), Fail> {
     let (_near, far) = pair(&rt)?;
-    let mut port = SocketPort::new(far, 100, 50);
+    let mut port = SocketPort::new(&rt, far, 100, 50);
     let bytes = [0; 65536];
     for _ in 0..1000 {
         if port.write(&bytes) == Err(PortFault) {

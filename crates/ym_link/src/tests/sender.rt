@@ -31,6 +31,7 @@ fn one_file(alloc: Global, length: usize, failing: Option<u64>) -> Result<Sender
 #[derive(Drop)]
 struct Zeros {
     length: u64,
+    fills: u64,
 }
 
 impl Source for Zeros {
@@ -42,11 +43,14 @@ impl Source for Zeros {
 
     ghost failures = { λ s. 0 };
 
+    ghost fills = { λ s. s.fills };
+
     fn length(&self) -> u64 {
         self.length
     }
 
     fn fill(&mut self, _at: u64, into: &mut [u8]) -> Result<(), SourceFault> {
+        self.fills = self.fills.saturating_add(1);
         into.fill(0);
         Ok(())
     }
@@ -163,9 +167,16 @@ fn too_many_files_are_handed_back(rt: HostRuntime) -> Result<(), Fail> {
 fn a_source_of_any_kind(rt: HostRuntime) -> Result<(), Fail> {
     let alloc = rt.alloc();
     let stamp = Stamp::TimeMode(12, 0o644);
-    let file = SourceFile::from_source(alloc, "zeros", Zeros { length: 1025 }, stamp).map_err(
-        |_| "file",
-    )?;
+    let file = SourceFile::from_source(
+        alloc,
+        "zeros",
+        Zeros {
+            length: 1025,
+            fills: 0,
+        },
+        stamp,
+    )
+    .map_err(|_| "file")?;
     assert_eq!(rt; file.header().name(), "zeros");
     assert_eq!(rt; file.header().length(), 1025);
     assert_eq!(rt; file.header().stamp(), stamp);
@@ -184,7 +195,10 @@ fn a_source_of_any_kind(rt: HostRuntime) -> Result<(), Fail> {
 
 #[test]
 fn a_source_that_is_too_long(rt: HostRuntime) -> Result<(), Fail> {
-    let source = Zeros { length: 1 << 63 };
+    let source = Zeros {
+        length: 1 << 63,
+        fills: 0,
+    };
     let refused = SourceFile::from_source(rt.alloc(), "zeros", source, Stamp::Nothing);
     assert!(rt; matches!(refused, Err(HeaderFault::LengthLarge)));
     Ok(())

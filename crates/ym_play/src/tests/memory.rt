@@ -7,7 +7,7 @@ use std::test::Fail;
 use ym_line::{Carrier, CarryFault, Direct, Way};
 
 /// One file of `A`, 128 times, and the six rounds that it needs.
-const ONE_FILE: &[u8] = b"file a.txt \
+pub(super) const ONE_FILE: &[u8] = b"file a.txt \
     4141414141414141414141414141414141414141414141414141414141414141\
     4141414141414141414141414141414141414141414141414141414141414141\
     4141414141414141414141414141414141414141414141414141414141414141\

@@ -1,5 +1,7 @@
+ghost use Rattle.std.specs.Prelude.{None};
+
 use super::fixtures::with_file;
-use crate::session;
+use crate::{Input, StreamFault, session, session_over};
 use std::io;
 use std::io::{ErrorKind, Read, Write};
 use std::test::Fail;
@@ -50,6 +52,23 @@ impl Read for Endless {
         }
         self.bytes = self.bytes.saturating_add(buf.len() as u64);
         Ok(buf.len())
+    }
+}
+
+/// Fails at each read, and counts them.
+#[derive(Drop)]
+struct Broken {
+    failed: u64,
+}
+
+impl Input for Broken {
+    ghost remaining = { λ _. None };
+
+    ghost failures = { λ b. b.failed };
+
+    fn read_some(&mut self, _buf: &mut [u8]) -> Result<usize, StreamFault> {
+        self.failed = self.failed.saturating_add(1);
+        Err(StreamFault)
     }
 }
 
@@ -133,6 +152,27 @@ fn a_read_fails(rt: HostRuntime) -> Result<(), Fail> {
             assert_eq!(rt; err.as_slice(), b"fault: device\n".as_slice());
         }
     }
+    Ok(())
+}
+
+/// Of an input that counts its failures too.
+#[test]
+fn a_counted_read_fails(rt: HostRuntime) -> Result<(), Fail> {
+    let alloc = rt.alloc();
+    let mut input = Broken { failed: 0 };
+    let mut out = Vec::new(alloc);
+    let mut err = Vec::new(alloc);
+    let status = session_over(
+        alloc,
+        &mut input,
+        &mut out,
+        &mut err,
+        &mut Direct::new(alloc),
+    );
+    assert_eq!(rt; status, 3);
+    assert_eq!(rt; input.failed, 1);
+    assert_eq!(rt; out.len(), 0);
+    assert_eq!(rt; err.as_slice(), b"fault: device\n".as_slice());
     Ok(())
 }
 

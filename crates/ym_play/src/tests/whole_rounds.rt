@@ -1,5 +1,7 @@
 use super::fixtures::{a128, assert_plays, with_file};
+use crate::play_script;
 use std::test::Fail;
+use ym_line::Direct;
 
 const ONE_FILE: &str = "1 > - whole < C whole\n\
     2 > block 0 128 whole < ACK C whole\n\
@@ -16,6 +18,22 @@ fn one_file(rt: HostRuntime) -> Result<(), Fail> {
     assert_plays(&rt, &script, 0, ONE_FILE)?;
     let script = with_file(rt.alloc(), "a.txt", "\nok 006")?;
     assert_plays(&rt, &script, 0, ONE_FILE)
+}
+
+/// More than a thousand files are kept.
+#[test]
+fn many_files(rt: HostRuntime) -> Result<(), Fail> {
+    let alloc = rt.alloc();
+    let mut script = String::new(alloc);
+    for _ in 0..1001 {
+        script.push_str("file a -\n")?;
+    }
+    script.push_str("ok 3005\n")?;
+    let played = play_script(alloc, script.as_bytes(), &mut Direct::new(alloc))?;
+    assert_eq!(rt; played.status, 0);
+    let text = played.text.as_str();
+    assert!(rt; text.ends_with("\nsender done 1001 finished\nreceiver files 1001 finished\n"));
+    Ok(())
 }
 
 #[test]

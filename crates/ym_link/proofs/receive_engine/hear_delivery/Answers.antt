@@ -10,6 +10,7 @@ use Rattle.ym_link.specs.ReceiveOver.{has_item, delivery_at}
 use Rattle.ym_core.specs.declared.delivery.Heard.TheVariants as heard
 use Rattle.ym_link.specs.declared.end_fault.EndFault.TheVariants as fault
 use Rattle.ym_link.proofs.DeliveryHeard.{verdict-item, verdict-bad, heard-out}
+use Rattle.ym_link.proofs.Courses.{reading-none, reading-more, reading-last, reading-full}
 use Rattle.ym_link.proofs.Taking.{onward, onward-full, after-read}
 use Rattle.ym_link.proofs.receive_engine.hear_delivery.Goals as goal
 
@@ -90,5 +91,42 @@ loop-len-preserved g c = record {
         none,
         after-read has_item inv.1 (Data (take c.in-Ok-Bytes.n c.read.new.buf)) (delivery_at inv.0) got.0.coming _ less room inv.7 (sym seen ∙ got.2) ∙ (rw bad.1 refl ∙ ap (λ (x : Tape). onward has_item (inv.1 ++ take c.in-Ok-Bytes.n c.read.new.buf) x.coming) (sym got.3)),
       );
+  asked = λ w e.
+      let got = c.read.ensures.asked w e in
+      let inv = c.loop-len.invariant.asked got.0 got.1 in
+      let some : 0 < c.in-Ok-Bytes.n = search rules in
+      (inv.0, inv.1, reading-more c.loop-len.len c.in-Ok-Bytes.n c.loop-len.wait inv.0 got.0 w inv.2 some got.2);
   calm = search rules;
 }
+
+pub returns-in-Ok-Closed-clause-asked : goal.returns-in-Ok-Closed-clause-asked
+returns-in-Ok-Closed-clause-asked g c w e =
+    let got = c.read.ensures.asked w e in
+    let inv = c.loop-len.invariant.asked got.0 got.1 in
+    (inv.0, inv.1, reading-last c.loop-len.len c.loop-len.wait inv.0 got.0 w inv.2 c.loop-len-test.true got.2)
+
+pub returns-in-Err-clause-asked : goal.returns-in-Err-clause-asked
+returns-in-Err-clause-asked g c w e =
+    let got = c.read.ensures.asked w e in
+    let inv = c.loop-len.invariant.asked got.0 got.1 in
+    (inv.0, inv.1, reading-last c.loop-len.len c.loop-len.wait inv.0 got.0 w inv.2 c.loop-len-test.true got.2)
+
+pub returns-in-Ok-Quiet-clause-asked : goal.returns-in-Ok-Quiet-clause-asked
+returns-in-Ok-Quiet-clause-asked g c w e =
+    let got = c.read.ensures.asked w e in
+    let inv = c.loop-len.invariant.asked got.0 got.1 in
+    (inv.0, inv.1, reading-last c.loop-len.len c.loop-len.wait inv.0 got.0 w inv.2 c.loop-len-test.true got.2)
+
+pub returns-in-Some-clause-asked : goal.returns-in-Some-clause-asked
+returns-in-Some-clause-asked g c w e =
+    let got = c.read.ensures.asked w e in
+    let inv = c.loop-len.invariant.asked got.0 got.1 in
+    (inv.0, inv.1, reading-last c.loop-len.len c.loop-len.wait inv.0 got.0 w inv.2 c.loop-len-test.true got.2)
+
+pub returns-clause-asked : goal.returns-clause-asked
+returns-clause-asked g c w e =
+    let inv = c.loop-len.invariant.asked w e in
+    (inv.0, inv.1, reading-full c.loop-len.len c.loop-len.wait inv.0 w inv.2 c.loop-len-test.false c.loop-len.invariant.within)
+
+pub loop-len-init : goal.loop-len-init
+loop-len-init g c = record { within = search rules; told = search rules; asked = λ w e. (w, e, reading-none w); calm = search rules }

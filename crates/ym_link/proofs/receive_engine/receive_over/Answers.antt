@@ -1,5 +1,5 @@
 -- Each way out is a rule of `Receives`, behind the rules of the deliveries before.
-use Rattle.std.proofs.Common.{◌≡◌, ◌≢◌, rules, refl, sym, ◌∙◌, true, false, is_ok, Result, Ok, Err}
+use Rattle.std.proofs.Common.{◌≡◌, ◌≢◌, ◌+◌, ◌++◌, ◌∷◌, [], length, arith, ap, rules, refl, sym, ◌∙◌, true, false, is_ok, Result, Ok, Err}
 use Rattle.std.specs.declared.alloc.AllocError.{AllocError}
 use Rattle.ym_frame.specs.Control.{reply_bytes}
 use Rattle.ym_link.specs.Port.{Tape, after_write}
@@ -9,6 +9,10 @@ use Rattle.ym_core.specs.declared.delivery.Heard.{Heard}
 use Rattle.ym_link.specs.declared.end_fault.EndFault.{EndFault}
 use Rattle.ym_link.specs.declared.end_fault.EndFault.TheVariants as fault
 use Rattle.ym_core.specs.declared.state.RecvState.TheVariants as state
+use Rattle.ym_link.specs.Bound.{progress_at}
+use Rattle.ym_link.specs.Course.{receiver_none, receiver_more}
+use Rattle.ym_link.proofs.Courses.{asks-none, asks-more, asks-behind}
+use Rattle.ym_link.proofs.ReceiverProgress.{course-is}
 use Rattle.ym_link.proofs.ReceiverDeliveries.{step-fewer}
 use Rattle.ym_link.proofs.receive_engine.receive_over.Goals as goal
 
@@ -80,6 +84,67 @@ loop-buf-preserved g c = record {
         inv.1,
         λ out later. inv.2 out (heard c.loop-buf.receiver got.0 c.in_ok-heard.heard c.in-Ok.reply c.hear.new.self out c.is_running.ensures.receiver on some gives (rw spoke at later)),
       );
+  course =
+      let old = c.loop-buf.invariant.course in
+      let on : c.loop-buf.receiver.receiver.state ≡ state.Running = search rules in
+      let gives : HearsGives c.loop-buf.receiver c.in_ok-heard.heard (Ok c.in-Ok.reply) c.hear.new.self = search rules in (
+        old.0 ++ c.in_ok-heard.heard ∷ [],
+        old.1 + progress_at c.hear.new.self,
+        receiver_more c.args.receiver.now old.0 old.1 c.loop-buf.receiver c.in_ok-heard.heard c.in-Ok.reply c.hear.new.self old.2 c.is_running.ensures.receiver on (λ block is. c.hear_delivery.ensures.sized block (c.in_ok-heard.was ∙ ap Ok is)) gives,
+        λ w e.
+            let got = c.hear_delivery.ensures.asked w (c.write_reply.ensures.asked w e) in
+            let inv = old.3 got.0 got.1 in
+            (inv.0, inv.1, asks-behind old.0 c.in_ok-heard.heard inv.0 got.0 w inv.2 got.2),
+      );
   calm = search rules;
   left = search rules;
 }
+
+pub loop-buf-init : goal.loop-buf-init
+loop-buf-init g c = record { told = search rules; course = ([], 0, receiver_none c.args.receiver.now, λ w e. (w, e, asks-none w)); calm = search rules; left = search rules }
+
+pub returns-clause-course : goal.returns-clause-course
+returns-clause-course g c =
+    let old = c.loop-buf.invariant.course in (
+      old.0,
+      course-is c.args.receiver.now old.0 old.1 c.loop-buf.receiver c.is_running.ensures.receiver old.2,
+      λ w e. let inv = old.3 w e in (inv.0, inv.1, length old.0, omega arith, inv.2),
+    )
+
+pub returns-in_err-heard-clause-course : goal.returns-in_err-heard-clause-course
+returns-in_err-heard-clause-course g c =
+    let old = c.loop-buf.invariant.course in (
+      old.0,
+      course-is c.args.receiver.now old.0 old.1 c.loop-buf.receiver c.is_running.ensures.receiver old.2,
+      λ w e.
+          let got = c.hear_delivery.ensures.asked w e in
+          let inv = old.3 got.0 got.1 in
+          (inv.0, inv.1, length old.0 + 1, omega arith, asks-more (length old.0) inv.0 got.0 w inv.2 got.2),
+    )
+
+pub returns-in-Err-clause-course : goal.returns-in-Err-clause-course
+returns-in-Err-clause-course g c =
+    let old = c.loop-buf.invariant.course in
+    let gives : HearsGives c.loop-buf.receiver c.in_ok-heard.heard (Err c.in-Err.field-0) c.hear.new.self = search rules in
+    let kept = wanted c.loop-buf.receiver c.in_ok-heard.heard c.in-Err.field-0 c.hear.new.self gives in (
+      old.0,
+      rw kept.0 (course-is c.args.receiver.now old.0 old.1 c.loop-buf.receiver c.is_running.ensures.receiver old.2),
+      λ w e.
+          let got = c.hear_delivery.ensures.asked w e in
+          let inv = old.3 got.0 got.1 in
+          (inv.0, inv.1, length old.0 + 1, omega arith, asks-more (length old.0) inv.0 got.0 w inv.2 got.2),
+    )
+
+pub returns-in_err-write_reply-in-Ok-clause-course : goal.returns-in_err-write_reply-in-Ok-clause-course
+returns-in_err-write_reply-in-Ok-clause-course g c =
+    let old = c.loop-buf.invariant.course in
+    let on : c.loop-buf.receiver.receiver.state ≡ state.Running = search rules in
+    let gives : HearsGives c.loop-buf.receiver c.in_ok-heard.heard (Ok c.in-Ok.reply) c.hear.new.self = search rules in
+    let heard_all = receiver_more c.args.receiver.now old.0 old.1 c.loop-buf.receiver c.in_ok-heard.heard c.in-Ok.reply c.hear.new.self old.2 c.is_running.ensures.receiver on (λ block is. c.hear_delivery.ensures.sized block (c.in_ok-heard.was ∙ ap Ok is)) gives in (
+      old.0 ++ c.in_ok-heard.heard ∷ [],
+      course-is c.args.receiver.now (old.0 ++ c.in_ok-heard.heard ∷ []) (old.1 + progress_at c.hear.new.self) c.hear.new.self c.hear.ensures.receiver heard_all,
+      λ w e.
+          let got = c.hear_delivery.ensures.asked w (c.write_reply.ensures.asked w e) in
+          let inv = old.3 got.0 got.1 in
+          (inv.0, inv.1, length (old.0 ++ c.in_ok-heard.heard ∷ []), omega arith, asks-behind old.0 c.in_ok-heard.heard inv.0 got.0 w inv.2 got.2),
+    )

@@ -1,7 +1,10 @@
 -- However the call may end from here, it may end so from the start.
-use Rattle.std.proofs.Common.{◌≡◌, ◌≢◌}
+use Rattle.std.proofs.Common.{◌≡◌, ◌≢◌, ℕ, List, length}
 use Rattle.ym_core.specs.declared.state.RecvState.TheVariants as state
+use Rattle.ym_core.specs.declared.delivery.Heard.{Heard}
+use Rattle.ym_link.specs.Course.{Asks, ReceiverHears}
 use Rattle.ym_link.specs.Port.{Tape}
+use Rattle.ym_link.specs.declared.port.Wait.{Wait}
 use Rattle.ym_link.specs.ReceiveOver.{Receives, Outcome}
 use Rattle.ym_link.specs.Deliveries.{receiver_deliveries}
 use Rattle.ym_link.proofs.receive_engine.receive_over.Given as goal
@@ -11,6 +14,8 @@ invariant-loop-buf g l = record {
   told : (u : Tape) → g.P.Port.tells l.port u
       → (t : Tape) × g.P.Port.tells l.fn.port t
       × ((out : Outcome) → Receives l.receiver u out → Receives l.fn.receiver t out);
+  course : (deliveries : List Heard) × (progress : ℕ) × ReceiverHears l.fn.receiver deliveries progress l.receiver
+      × ((w : List Wait) → g.P.Port.asked l.port w → (v : List Wait) × g.P.Port.asked l.fn.port v × Asks (length deliveries) v w);
   calm : g.P.Port.failures l.port ≡ g.P.Port.failures l.fn.port;
   left : l.fn.receiver.receiver.state ≢ state.Running → (l.receiver ≡ l.fn.receiver) × (l.port ≡ l.fn.port);
 }

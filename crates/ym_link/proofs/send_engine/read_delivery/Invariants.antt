@@ -1,8 +1,10 @@
 -- What was taken so far is what the delivery begins with.
-use Rattle.std.proofs.Common.{◌-◌, ◌≡◌, ◌≤◌, [], take, length}
+use Rattle.std.proofs.Common.{◌-◌, ◌≡◌, ◌≤◌, List, [], take, length}
 use Rattle.ym_link.specs.Port.{Tape}
 use Rattle.ym_link.specs.Delivery.{taken}
 use Rattle.ym_link.specs.SendOver.{settles}
+use Rattle.ym_link.specs.declared.port.Wait.{Wait}
+use Rattle.ym_link.proofs.Courses.{Reading}
 use Rattle.ym_link.proofs.Taking.{onward}
 use Rattle.ym_link.proofs.send_engine.read_delivery.Given as goal
 
@@ -13,6 +15,7 @@ invariant-loop-len g l = record {
   told : (u : Tape) → g.P.Port.tells l.port u
       → (t : Tape) × g.P.Port.tells l.fn.port t × (u.written ≡ t.written)
       × (taken (settles l.sender) [] t.coming ≡ onward (settles l.sender) (take l.len l.buf) u.coming);
+  asked : (w : List Wait) → g.P.Port.asked l.port w → (v : List Wait) × g.P.Port.asked l.fn.port v × Reading l.len l.wait v w;
   calm : g.P.Port.failures l.port ≡ g.P.Port.failures l.fn.port;
 }
 

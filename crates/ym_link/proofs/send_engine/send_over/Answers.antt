@@ -1,11 +1,16 @@
 -- Each way out is a rule of `Sends`, behind the rules of the deliveries before.
-use Rattle.std.proofs.Common.{◌≡◌, ◌≢◌, None, Result, Ok, Err, take, true, false, is_ok, rules, refl, sym, ◌∙◌}
+use Rattle.std.proofs.Common.{◌≡◌, ◌≢◌, ◌≤◌, ◌+◌, ◌++◌, ◌∷◌, [], length, arith, None, Result, Ok, Err, take, true, false, is_ok, rules, refl, sym, ◌∙◌}
+use Rattle.std.proofs.lemmas.List.{length-take}
 use Rattle.ym_link.specs.Port.{Tape, after_write}
 use Rattle.ym_link.specs.Sender.{SenderParts, IsSender, spoken}
 use Rattle.ym_link.specs.SendOver.{Sends, ended, unwritten, unread, heard, written_for, said, behind, delivery_to}
 use Rattle.ym_link.specs.declared.end_fault.EndFault.{EndFault}
 use Rattle.ym_link.specs.declared.end_fault.EndFault.TheVariants as fault
 use Rattle.ym_core.specs.declared.state.SendState.TheVariants.{Running}
+use Rattle.ym_link.specs.Bound.{sender_progress_at}
+use Rattle.ym_link.specs.Course.{sender_none, sender_more}
+use Rattle.ym_link.proofs.Courses.{asks-none, asks-more, asks-behind}
+use Rattle.ym_link.proofs.SenderBound.{course-is, course-none}
 use Rattle.ym_link.proofs.SenderDeliveries.{step-fewer}
 use Rattle.ym_link.proofs.send_engine.send_over.Goals as goal
 
@@ -76,5 +81,52 @@ loop-buf-preserved g c = record {
         inv.1,
         λ out later. inv.2 out (heard c.loop-buf.sender wrote.0 (take c.in_ok-len.len c.read_delivery.new.buf) c.hear.new.self out c.write_frame.ensures.sender on whole (search rules) (rw left at later)),
       );
+  course =
+      let old = c.loop-buf.invariant.course in
+      let bytes = take c.in_ok-len.len c.read_delivery.new.buf in
+      let on : c.loop-buf.sender.standing.state ≡ Running = search rules in
+      let within : c.in_ok-len.len ≤ 2048 = search rules in
+      let short : length bytes ≤ 2048 = let most = length-take c.in_ok-len.len c.read_delivery.new.buf in omega (arith, within, most) in (
+        old.0 ++ bytes ∷ [],
+        old.1 + sender_progress_at c.hear.new.self,
+        sender_more c.args.sender.now old.0 old.1 c.loop-buf.sender bytes c.hear.new.self old.2 c.write_frame.ensures.sender on short (search rules),
+        λ w e.
+            let got = c.read_delivery.ensures.asked w e in
+            let inv = old.3 got.0 (c.write_frame.ensures.asked got.0 got.1) in
+            (inv.0, inv.1, asks-behind old.0 bytes inv.0 got.0 w inv.2 got.2),
+      );
   calm = search rules;
 }
+
+pub loop-buf-init : goal.loop-buf-init
+loop-buf-init g c = record { ran = search rules; told = search rules; course = ([], 0, sender_none c.args.sender.now, λ w e. (w, e, asks-none w)); calm = search rules }
+
+pub returns-clause-course : goal.returns-clause-course
+returns-clause-course g c =
+    let old = c.loop-buf.invariant.course in (
+      old.0,
+      course-is c.args.sender.now old.0 old.1 c.loop-buf.sender c.write_frame-2.ensures.sender old.2,
+      λ w e. let inv = old.3 w (c.write_frame-2.ensures.asked w e) in (inv.0, inv.1, length old.0, omega arith, inv.2),
+    )
+
+pub returns-in_err-write_frame-clause-course : goal.returns-in_err-write_frame-clause-course
+returns-in_err-write_frame-clause-course g c =
+    let old = c.loop-buf.invariant.course in (
+      old.0,
+      course-is c.args.sender.now old.0 old.1 c.loop-buf.sender c.write_frame.ensures.sender old.2,
+      λ w e. let inv = old.3 w (c.write_frame.ensures.asked w e) in (inv.0, inv.1, length old.0, omega arith, inv.2),
+    )
+
+pub returns-in_err-len-clause-course : goal.returns-in_err-len-clause-course
+returns-in_err-len-clause-course g c =
+    let old = c.loop-buf.invariant.course in (
+      old.0,
+      course-is c.args.sender.now old.0 old.1 c.loop-buf.sender c.write_frame.ensures.sender old.2,
+      λ w e.
+          let got = c.read_delivery.ensures.asked w e in
+          let inv = old.3 got.0 (c.write_frame.ensures.asked got.0 got.1) in
+          (inv.0, inv.1, length old.0 + 1, omega arith, asks-more (length old.0) inv.0 got.0 w inv.2 got.2),
+    )
+
+pub returns-then-ne-clause-course : goal.returns-then-ne-clause-course
+returns-then-ne-clause-course g c = ([], course-none c.args.sender.now, λ w e. (w, e, 0, omega arith, asks-none w))

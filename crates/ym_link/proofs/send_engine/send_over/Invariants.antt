@@ -1,7 +1,9 @@
 -- However the call may end from here, it may end so from the start.
-use Rattle.std.proofs.Common.{◌≡◌}
+use Rattle.std.proofs.Common.{◌≡◌, ℕ, List, length}
 use Rattle.ym_core.specs.declared.state.SendState.TheVariants.{Running}
+use Rattle.ym_link.specs.Course.{Asks, SenderHears}
 use Rattle.ym_link.specs.Port.{Tape}
+use Rattle.ym_link.specs.declared.port.Wait.{Wait}
 use Rattle.ym_link.specs.SendOver.{Sends, Outcome}
 use Rattle.ym_link.specs.Deliveries.{sender_deliveries}
 use Rattle.ym_link.proofs.send_engine.send_over.Given as goal
@@ -12,6 +14,8 @@ invariant-loop-buf g l = record {
   told : (u : Tape) → g.P.Port.tells l.port u
       → (t : Tape) × g.P.Port.tells l.fn.port t
       × ((out : Outcome) → Sends l.sender u out → Sends l.fn.sender t out);
+  course : (deliveries : List (List ℕ)) × (progress : ℕ) × SenderHears l.fn.sender deliveries progress l.sender
+      × ((w : List Wait) → g.P.Port.asked l.port w → (v : List Wait) × g.P.Port.asked l.fn.port v × Asks (length deliveries) v w);
   calm : g.P.Port.failures l.port ≡ g.P.Port.failures l.fn.port;
 }
 

@@ -1,16 +1,17 @@
-use Rattle.std.proofs.Common.{◌<◌, length, subst, sym, ap, ◌∙◌, arith, rules, Some, true, Result, Ok, Err}
-use Rattle.std.specs.Prelude.{slice_set, OnErr}
+use Rattle.std.proofs.Common.{◌<◌, length, subst, sym, ap, ◌∙◌, arith, rules, Some, true, false, Result, Ok, Err}
+use Rattle.std.specs.Prelude.{slice_set, OnOk, OnErr}
+use Rattle.std.proofs.Common.{get_or-set_same}
 use Rattle.std.proofs.lemmas.List.{length-map, get_or_default}
-use Rattle.ym_file.specs.Counts.{Rose}
+use Rattle.ym_file.specs.Counts.{Rose, raised}
 use Rattle.ym_frame.specs.declared.frame.Item.TheVariants as item
 use Rattle.ym_header.specs.Header.{HeaderParts}
 use Rattle.ym_header.specs.Text.{text}
-use Rattle.ym_link.specs.SourceFile.{FileParts, no_file, counts_of, blocks_of}
+use Rattle.ym_link.specs.SourceFile.{FileParts, no_file, filled, counts_of, blocks_of}
 use Rattle.ym_core.specs.Place.{IsPlace}
 use Rattle.ym_link.specs.Sender.{IsFilled}
 use Rattle.ym_core.specs.declared.place.Place.{Place}
-use Rattle.ym_link.proofs.Files.{failed_at}
-use Rattle.ym_link.proofs.Framed.{block_frame_at, header_item_at}
+use Rattle.ym_link.proofs.Files.{filled_at, failed_at}
+use Rattle.ym_link.proofs.Framed.{block_frame_at, frame_of_same, header_item_at}
 use Rattle.ym_link.proofs.sender.frame_at.Goals as goal
 
 pub returns-in-Header-clause-frame : goal.returns-in-Header-clause-frame
@@ -23,9 +24,9 @@ returns-in-Header-clause-frame g c =
     let within : file < length files = (let x = fits in omega (arith, all, x)) in
     let same = c.index.ensures ∙ sym (get_or_default files file no_file one within) in
     record {
-      item = item.Block c.write-block.result;
-      there = header_item_at c.args.shape files file c.args.place c.in-Header.is c.write-block.result
-          (c.write-block.ensures.written ∙ ap (λ (h : HeaderParts). record { number = 0; body = text h }) (c.header.ensures.value ∙ ap (λ (f : FileParts). f.header) same));
+      item = item.Block c.write.result;
+      there = header_item_at c.args.shape files file c.args.place c.in-Header.is c.write.result
+          (c.write.ensures.written ∙ ap (λ (h : HeaderParts). record { number = 0; body = text h }) (c.header.ensures.value ∙ ap (λ (f : FileParts). f.header) same));
       frame = c.copy_frame.ensures.frame;
     }
 
@@ -35,16 +36,29 @@ returns-in-End-clause-frame g c = record { item = item.Block c.write_end.result;
 pub returns-in-Block-clause-frame : goal.returns-in-Block-clause-frame
 returns-in-Block-clause-frame g c =
     let files = c.args.files.now.items in
-    let one = c.index_mut-one.result.now in
     let fits = subst (IsPlace (counts_of c.args.shape files)) c.in-Block.is c.requires in
     let all = length-map files (blocks_of c.args.shape) in
     let within : c.in-Block.file < length files = (let x = fits.0 in omega (arith, all, x)) in
-    block_frame_at c.args.shape files c.in-Block.file c.in-Block.number c.args.place c.in-Block.is one (c.index_mut-one.ensures.value ∙ sym (get_or_default files c.in-Block.file no_file one within))
-    c.frame.result c.frame.new.buffer c.frame.ensures.frame
+    block_frame_at c.args.shape (slice_set files c.in-Block.file c.frame.new.self) c.in-Block.file c.in-Block.number c.args.place c.in-Block.is c.frame.new.self
+    (sym (get_or-set_same files c.in-Block.file c.frame.new.self no_file within)) c.frame.result c.frame.new.buffer
+    (frame_of_same c.args.shape c.index_mut-one.result.now c.frame.new.self c.in-Block.number c.frame.result c.frame.new.buffer c.frame.ensures.header c.frame.ensures.bytes c.frame.ensures.frame)
+
+on_ok : {A E P Q : Type 0} (r : Result A E) → (P → Q) → OnOk r P → OnOk r Q
+on_ok (Ok x) f p = f p
+on_ok (Err e) f p = tt
 
 on_err : {A E P Q : Type 0} (r : Result A E) → (P → Q) → OnErr r P → OnErr r Q
 on_err (Ok x) f p = tt
 on_err (Err e) f p = f p
+
+pub returns-in-Block-clause-ok : goal.returns-in-Block-clause-ok
+returns-in-Block-clause-ok g c =
+    let files = c.args.files.now.items in
+    let fits = subst (IsPlace (counts_of c.args.shape files)) c.in-Block.is c.requires in
+    let all = length-map files (blocks_of c.args.shape) in
+    let within : c.in-Block.file < length files = (let x = fits.0 in omega (arith, all, x)) in
+    on_ok c.frame.result (λ same. subst (λ (p : Place). IsFilled false (Some p) files (slice_set files c.in-Block.file c.frame.new.self)) (sym c.in-Block.is)
+    (filled_at files c.in-Block.file c.index_mut-one.result.now c.frame.new.self within (same ∙ ap filled c.index_mut-one.ensures.value))) c.frame.ensures.ok
 
 pub returns-in-Block-clause-failed : goal.returns-in-Block-clause-failed
 returns-in-Block-clause-failed g c =
@@ -56,4 +70,5 @@ returns-in-Block-clause-failed g c =
     on_err c.frame.result (λ rose. subst (λ (p : Place). IsFilled true (Some p) files (slice_set files c.in-Block.file c.frame.new.self)) (sym c.in-Block.is)
     (failed_at files c.in-Block.file c.index_mut-one.result.now c.frame.new.self within
     (c.frame.ensures.header ∙ ap (λ (f : FileParts). f.header) v) (c.frame.ensures.bytes ∙ ap (λ (f : FileParts). f.bytes) v)
+    (c.frame.ensures.counted ∙ ap (λ (f : FileParts). raised f.fills) v)
     (subst (λ (f : FileParts). Rose f.failures c.frame.new.self.failures) v rose))) c.frame.ensures.failed

@@ -1,11 +1,9 @@
-use Rattle.ym_machine.proofs.Halves.{frames-end, there-answers, acknowledged-honest}
+use Rattle.std.specs.Prelude.{refl, ◌∷◌}
+use Rattle.ym_frame.specs.declared.control.Control.TheVariants as control
+use Rattle.ym_machine.proofs.MachineStates.{acknowledged-taken}
+use Rattle.ym_machine.proofs.Places.{frames-end}
 use Rattle.ym_machine.proofs.laws.acknowledged_is_taken.Goals as goal
 use Rattle.ym_machine.specs.Frames.{frames_of}
-use Rattle.ym_machine.specs.Halves.{there}
 
 pub returns : goal.returns
-returns g c = record {
-  taken = λ files confirm sink whole came old m within running.
-      let answer = there (frames_of files) confirm sink whole old in
-      acknowledged-honest came answer.1 answer.0 within (there-answers (frames_of files) confirm sink whole old (frames-end files) m.counters).honest running;
-}
+returns g c = record { taken = λ files confirm sink whole came old m within running. acknowledged-taken (frames_of files) confirm (frames-end files) sink whole (control.Ack ∷ came) old m within came refl running }

@@ -1,19 +1,19 @@
 use Rattle.std.specs.Prelude.{Some}
-use Rattle.ym_machine.proofs.Halves.{frames-end}
-use Rattle.ym_machine.proofs.Endings.{start-state, there-state, turn-state, turns-state}
+use Rattle.ym_machine.proofs.MachineStates.{start-machine, there-machine, turn-machine, turns-machine}
+use Rattle.ym_machine.proofs.Places.{frames-end}
 use Rattle.ym_machine.proofs.laws.halves_keep_machine_states.Goals as goal
 use Rattle.ym_machine.specs.Frames.{frames_of}
-use Rattle.ym_machine.specs.Run.{whole}
+use Rattle.ym_machine.specs.State.{SenderEnd}
 
 pub returns-clause-at_start : goal.returns-clause-at_start
-returns-clause-at_start g c files confirm = start-state confirm (frames_of files) (frames-end files)
+returns-clause-at_start g c files confirm = start-machine (frames_of files) confirm (frames-end files) SenderEnd.Running (λ w. cc)
 
 pub returns-clause-half_there : goal.returns-clause-half_there
-returns-clause-half_there g c files confirm sink whole st m = there-state (frames_of files) confirm sink whole st (frames-end files) m
+returns-clause-half_there g c files confirm sink whole st m = there-machine (frames_of files) confirm (frames-end files) sink whole st m
 
 pub returns-clause-half_back : goal.returns-clause-half_back
 returns-clause-half_back g c files confirm sink whole source came st m within =
-    turn-state (frames_of files) confirm (record { whole_there = whole; back = Some came; sink_failed = sink; source_failed = source }) st (frames-end files) m within
+    turn-machine (frames_of files) confirm (frames-end files) (record { whole_there = whole; back = Some came; sink_failed = sink; source_failed = source }) st m within
 
 pub returns-clause-run : goal.returns-clause-run
-returns-clause-run g c files confirm turns st m damage = turns-state (frames_of files) confirm turns st (frames-end files) m damage
+returns-clause-run g c files confirm turns st m damage = turns-machine (frames_of files) confirm (frames-end files) turns st m damage

@@ -1,4 +1,4 @@
-use Rattle.ym_machine.proofs.Halves.{frames-end}
+use Rattle.ym_machine.proofs.Places.{frames-end}
 use Rattle.ym_machine.proofs.Heard.{said-place, said-next-or-last, last-is-no-end}
 use Rattle.ym_machine.proofs.laws.heard_is_next_or_last.Goals as goal
 use Rattle.ym_machine.specs.Frames.{frames_of}

@@ -1,5 +1,4 @@
-use Rattle.ym_machine.proofs.Halves.{frames-end}
-use Rattle.ym_machine.proofs.Places.{piece-at, eot-at, behind-at, length-frames}
+use Rattle.ym_machine.proofs.Places.{frames-end, piece-at, eot-at, behind-at, length-frames}
 use Rattle.ym_machine.proofs.laws.places_of_a_batch.Goals as goal
 
 pub returns-clause-piece : goal.returns-clause-piece

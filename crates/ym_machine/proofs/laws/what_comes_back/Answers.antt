@@ -1,4 +1,4 @@
-use Rattle.ym_machine.proofs.Completion.{all-of-it}
+use Rattle.ym_machine.proofs.Rounds.{all-of-it}
 use Rattle.ym_machine.proofs.Remnants.{remnants, bytes-of, subsequence}
 use Rattle.ym_machine.proofs.laws.what_comes_back.Goals as goal
 

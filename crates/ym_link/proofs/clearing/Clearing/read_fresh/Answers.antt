@@ -41,9 +41,9 @@ returns-then-not-is_stale-clause-exact g c u e =
     let seen : seen_of c.read-got.result c.read-got.new.buf ≡ read_gives (length c.args.buf.now) got.0.coming = rw sized at got.2 in
     let left = rw sized at got.3 in
     let whole = inv.3 ∙ fresh-over 65536 c.loop-done._done (length c.args.buf.now) c.args.self.now.talk got.0.coming _ c.loop-done-test.true seen new in
-    let after : c.after-self.result ≡ after_seen (seen_of c.read-got.result c.read-got.new.buf) c.loop-done.self.talk.exchange = search rules in
-    let read = read-of _ (length c.args.buf.now) c.args.self.now.talk (record c.loop-done.self.talk { exchange = c.after-self.result }) (seen_of c.read-got.result c.read-got.new.buf) u got.0 inv.0 whole inv.2
-    (seen, talk-after c.loop-done.self.talk c.args.self.now.talk c.after-self.result _ _ same after seen, left) in
+    let after : c.take.new.self ≡ after_seen (seen_of c.read-got.result c.read-got.new.buf) c.loop-done.self.talk.exchange = search rules in
+    let read = read-of _ (length c.args.buf.now) c.args.self.now.talk (record c.loop-done.self.talk { exchange = c.take.new.self }) (seen_of c.read-got.result c.read-got.new.buf) u got.0 inv.0 whole inv.2
+    (seen, talk-after c.loop-done.self.talk c.args.self.now.talk c.take.new.self _ _ same after seen, left) in
     (inv.0, inv.1, read)
 
 pub returns-clause-exact : goal.returns-clause-exact

@@ -1,6 +1,8 @@
-use Rattle.std.proofs.Common.{Some, take}
+use Rattle.std.proofs.Common.{Some, take, true, subst}
 use Rattle.ym_core.specs.Reading.{controls_in}
-use Rattle.ym_link.proofs.Kept.{failed_sender, unfilled_sender, filled_sender}
+use Rattle.ym_core.specs.Standing.{hears}
+use Rattle.ym_link.specs.Sender.{SenderParts, IsStep, counts}
+use Rattle.ym_link.proofs.Kept.{failed_hears, failed_sender, unfilled_sender, filled_sender}
 use Rattle.ym_link.proofs.sender.SenderFrom.hear.Goals as goal
 
 pub invariant_of-self-in-Err : goal.invariant_of-self-in-Err
@@ -25,4 +27,14 @@ invariant_of-self g c =
       c.in-Ok.ensures.length,
       filled_sender s.shape (take s.len s.buffer) c.deref.result.now s.batch.items c.deref.ensures.value (take c.in-Ok.len c.frame_at.new.buffer) c.frame_at.new.files.items s.standing c.after-step.result (controls_in c.args.bytes.now)
           c.in-Some.place c.after-step.ensures.step c.in-Some.is c.in-Ok.ensures.ok c.after-step.ensures.within c.in-Ok.ensures.frame c.self.invariant.1.files,
+    )
+
+pub returns-in-Err : goal.returns-in-Err
+returns-in-Err g c =
+    let s = c.self.inside in
+    let left : SenderParts = record { standing = c.source_failed-self-inside.result; shape = s.shape; files = c.frame_at.new.files.items; frame = take s.len c.frame_at.new.buffer } in (
+      true,
+      subst (λ (o : SenderParts). IsStep o (hears (counts o) o.standing (controls_in c.args.bytes.now)) true left) c.self.view_is
+          (failed_hears s.shape c.deref.result.now s.batch.items c.frame_at.new.files.items (take s.len s.buffer) (take s.len c.frame_at.new.buffer) s.standing c.source_failed-self-inside.result (controls_in c.args.bytes.now)
+          c.after-step.result c.in-Some.place c.deref.ensures.value c.after-step.ensures.step c.in-Some.is c.source_failed-self-inside.ensures c.in-Err.ensures.failed),
     )

@@ -1,0 +1,47 @@
+-- A body in its frame, and what a sender fills by itself.
+use Rattle.std.specs.Prelude.{◌≡◌, ◌≤◌, ℕ, ◌+◌, ◌-◌, ◌/◌, ◌%◌, List, [], ◌∷◌, ◌++◌, length, take, drop, Option, Some, refl}
+use Rattle.std.proofs.Common.{sym, ◌∙◌, ap, ap₂, subst, arith, inl, inr, length-append, length-drop}
+use Rattle.std.proofs.lemmas.List.{length-take-le, take_at, take_all, drop_at}
+use borrow.Rule.Slice.PartMut.{put_mid}
+use Rattle.ym_frame.specs.Check.{check_of}
+use Rattle.ym_frame.specs.Seal.{IsBlockFrame}
+use Rattle.ym_header.specs.Text.{end_text}
+use Rattle.ym_core.specs.declared.place.Place.{Place}
+use Rattle.ym_core.specs.declared.place.Place.TheVariants.{Eot, End}
+use Rattle.ym_c.specs.declared.sender.YmSender.{YmSender}
+use Rattle.ym_c.specs.Sending.{IsFilled}
+
+-- a body that was put behind the first three bytes and before the last two
+pub body_put : (n : ℕ) (frame body : List ℕ) → length frame ≡ n + 5 → length body ≡ n → take (length (put_mid 3 n frame body) - 5) (drop 3 (put_mid 3 n frame body)) ≡ body
+body_put n frame body p q =
+    let front : length (take 3 frame) ≡ 3 = length-take-le 3 frame (omega arith) in
+    let whole = length-append (take 3 frame) (body ++ drop n (drop 3 frame)) in
+    let behind = length-append body (drop n (drop 3 frame)) in
+    let last = length-drop n (drop 3 frame) in
+    let others = length-drop 3 frame in
+    let size : length (put_mid 3 n frame body) - 5 ≡ length body = omega (arith, whole, behind, last, others, front) in
+    ap₂ take size (drop_at (take 3 frame) (body ++ drop n (drop 3 frame)) 3 front) ∙ take_at body (drop n (drop 3 frame)) (length body) refl
+
+-- what is filled, where it is an EOT or an end block
+pub eot_filled : (fills : Option Place) (file : ℕ) (s : YmSender) → fills ≡ Some (Eot file) → take s.len s.frame ≡ 0x04 ∷ [] → IsFilled fills s
+eot_filled fills file s e h = subst (λ f. IsFilled f s) (sym e) h
+
+pub end_filled : (fills : Option Place) (s : YmSender) → fills ≡ Some End → IsBlockFrame 0 end_text (take s.len s.frame) → IsFilled fills s
+end_filled fills s e h = subst (λ f. IsFilled f s) (sym e) h
+
+-- the frame of a block has five bytes more than its body
+pub frame_length : (number : ℕ) (body frame : List ℕ) → IsBlockFrame number body frame → length frame ≡ length body + 5
+frame_length number body frame (inl (l, e)) = ap length e ∙ (let all = length-append body (check_of body / 256 ∷ check_of body % 256 ∷ []) in omega (arith, all))
+frame_length number body frame (inr (l, e)) = ap length e ∙ (let all = length-append body (check_of body / 256 ∷ check_of body % 256 ∷ []) in omega (arith, all))
+
+-- a frame at the front of a longer buffer
+pub frame_front : (number : ℕ) (body frame more : List ℕ) (n : ℕ) → IsBlockFrame number body frame → length body + 5 ≡ n → IsBlockFrame number body (take n (frame ++ more))
+frame_front number body frame more n h e =
+    let P : List ℕ → Type 0 = λ f. IsBlockFrame number body f in
+    subst P (sym (take_at frame more n (frame_length number body frame h ∙ e))) h
+
+pub frame_whole : (number : ℕ) (body frame : List ℕ) (n : ℕ) → IsBlockFrame number body frame → length body + 5 ≤ n → IsBlockFrame number body (take n frame)
+frame_whole number body frame n h e =
+    let P : List ℕ → Type 0 = λ f. IsBlockFrame number body f in
+    let l = frame_length number body frame h in
+    subst P (sym (take_all n frame (omega arith))) h

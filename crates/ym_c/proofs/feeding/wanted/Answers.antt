@@ -1,0 +1,24 @@
+use Rattle.std.proofs.Common.{rules}
+use Rattle.ym_c.proofs.Openings.{soh_open, stx_open, soh_left, stx_left, empty_open, can_open, decided}
+use Rattle.ym_c.proofs.feeding.wanted.Goals as goal
+
+pub returns-then-is_empty-clause-wanted : goal.returns-then-is_empty-clause-wanted
+returns-then-is_empty-clause-wanted c more few = empty_open c.args.bytes.now more (search rules) few
+
+pub returns-then-first-eq-SOH-clause-wanted : goal.returns-then-first-eq-SOH-clause-wanted
+returns-then-first-eq-SOH-clause-wanted c more few = soh_open c.args.bytes.now more (search rules) c.if-first-eq-SOH.true (c.wanted_of_block.ensures.wanted more few)
+
+pub returns-then-first-eq-SOH-clause-some : goal.returns-then-first-eq-SOH-clause-some
+returns-then-first-eq-SOH-clause-some c h = c.wanted_of_block.ensures.some (soh_left c.args.bytes.now (search rules) c.if-first-eq-SOH.true h)
+
+pub returns-then-first-eq-STX-clause-wanted : goal.returns-then-first-eq-STX-clause-wanted
+returns-then-first-eq-STX-clause-wanted c more few = stx_open c.args.bytes.now more (search rules) c.if-first-eq-STX.true (c.wanted_of_block-then-first-eq-STX.ensures.wanted more few)
+
+pub returns-then-first-eq-STX-clause-some : goal.returns-then-first-eq-STX-clause-some
+returns-then-first-eq-STX-clause-some c h = c.wanted_of_block-then-first-eq-STX.ensures.some (stx_left c.args.bytes.now (search rules) c.if-first-eq-STX.true h)
+
+pub returns-then-bytes-eq1-clause-wanted : goal.returns-then-bytes-eq1-clause-wanted
+returns-then-bytes-eq1-clause-wanted c more few = can_open c.args.bytes.now more c.if-bytes-eq1.true c.if-first-eq-CAN.true few
+
+pub returns-clause-some : goal.returns-clause-some
+returns-clause-some c h = absurd (decided c.args.bytes.now (search rules) c.if-first-eq-SOH.false c.if-first-eq-STX.false (search rules) h)

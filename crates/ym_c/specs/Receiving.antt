@@ -1,0 +1,46 @@
+-- A receiver as C keeps it, and what its calls do.
+use Rattle.std.specs.Prelude.{ℕ, ◌≡◌, ◌≤◌, List, length, take, ◌==◌, if◌then◌else◌}
+use Rattle.ym_header.specs.declared.stamp.Stamp.{Stamp}
+use Rattle.ym_header.specs.declared.stamp.Stamp.TheVariants.{Nothing, Time, TimeMode}
+use Rattle.ym_core.specs.Receiver.{Receiver, Call, No_call, Begins, Adds, Commits, Step, ends}
+use Rattle.ym_core.specs.declared.delivery.Heard.{Heard}
+use Rattle.ym_core.specs.declared.delivery.Heard.TheVariants as heard
+use Rattle.ym_core.specs.declared.state.RecvState.TheVariants.{SinkFailed}
+use Rattle.ym_frame.specs.declared.control.Reply.TheVariants.{Cancel}
+use Rattle.ym_c.specs.declared.receiver.YmReceiver.{YmReceiver}
+use Rattle.ym_c.specs.declared.receiver.YmAsk.{YmAsk}
+use Rattle.ym_c.specs.Codes.{reply_code}
+use Rattle.ym_c.specs.Stands.{Keeps}
+
+-- a receiver, and what came of the delivery that is coming
+pub record Holds (r : YmReceiver) (core : Receiver) (held : List ℕ) : Type 0 where
+  pub stand : Keeps r.stand core
+  pub room : r.len ≤ 1029
+  pub bytes : take r.len r.held ≡ held
+
+-- a receiver that has heard its delivery, and waits for the word that its host has done what the step asks
+pub record Awaits (r : YmReceiver) (core : Receiver) (step : Step) : Type 0 where
+  pub stand : Keeps r.stand core
+  pub next : Keeps r.next step.receiver
+  pub reply : r.reply ≡ reply_code step.reply
+
+abbrev pub IsStamped : YmAsk → Stamp → Type 0
+IsStamped ask Nothing = ask.stamp ≡ 0
+IsStamped ask (Time time) = (ask.stamp ≡ 1) × (ask.time ≡ time)
+IsStamped ask (TimeMode time mode) = (ask.stamp ≡ 2) × (ask.time ≡ time) × (ask.mode ≡ mode)
+
+-- what the ask tells of a call
+abbrev pub IsAsk : Call → YmAsk → Type 0
+IsAsk No_call ask = ask.kind ≡ 0
+IsAsk (Begins header) ask = (ask.kind ≡ 1) × (ask.length ≡ header.length) × (ask.count ≡ length header.name) × IsStamped ask header.stamp
+IsAsk (Adds bytes) ask = (ask.kind ≡ 2) × (ask.count ≡ length bytes)
+IsAsk Commits ask = ask.kind ≡ 3
+
+-- whether no frame was heard
+abbrev pub bad_code : Heard → ℕ
+bad_code (heard.Item item) = 0
+bad_code heard.Bad = 1
+
+-- what is taken of a step: where the host could not do what is asked, the end
+abbrev pub outcome : ℕ → Receiver → Step → Step
+outcome done core step = if done == 0 then ends core SinkFailed Cancel else step

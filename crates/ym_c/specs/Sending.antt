@@ -1,0 +1,78 @@
+-- A sender as C keeps it.
+use Rattle.std.specs.Prelude.{ℕ, Bool, ◌*◌, ◌≡◌, ◌<◌, ◌≤◌, ◌^◌, List, [], ◌∷◌, length, take, Option, Some}
+use Rattle.ym_frame.specs.Seal.{IsBlockFrame}
+use Rattle.ym_header.specs.Text.{end_text}
+use Rattle.ym_core.specs.Place.{IsPlace}
+use Rattle.ym_core.specs.declared.place.Place.{Place}
+use Rattle.ym_core.specs.declared.place.Place.TheVariants.{Header, Block, Eot, End}
+use Rattle.ym_core.specs.declared.place.Mode.{Mode}
+use Rattle.ym_core.specs.declared.place.Mode.TheVariants.{Waiting, Sent}
+use Rattle.ym_core.specs.declared.standing.Standing.{Standing}
+use Rattle.ym_core.specs.declared.state.SendState.{SendState}
+use Rattle.ym_core.specs.declared.state.SendState.TheVariants.{Running, Finished, NoReply, Cancelled, SourceFailed}
+use Rattle.ym_c.specs.declared.sender.YmSender.{YmSender}
+use Rattle.ym_c.specs.declared.sender.YmFill.{YmFill}
+use Rattle.ym_c.specs.Codes.{bool_code}
+
+abbrev pub KeepsPlace : YmSender → Place → Type 0
+KeepsPlace s (Header file) = (s.place ≡ 0) × (s.file ≡ file)
+KeepsPlace s (Block file k) = (s.place ≡ 1) × (s.file ≡ file) × (s.number ≡ k)
+KeepsPlace s (Eot file) = (s.place ≡ 2) × (s.file ≡ file)
+KeepsPlace s End = s.place ≡ 3
+
+-- the number of the file fits the field
+abbrev pub FitsC : Place → Type 0
+FitsC (Header file) = file < 2 ^ 32
+FitsC (Block file k) = file < 2 ^ 32
+FitsC (Eot file) = file < 2 ^ 32
+FitsC End = Unit {0}
+
+abbrev pub mode_code : Mode → ℕ
+mode_code Waiting = 0
+mode_code Sent = 1
+
+abbrev pub send_code : SendState → ℕ
+send_code Running = 0
+send_code Finished = 1
+send_code NoReply = 2
+send_code Cancelled = 3
+send_code SourceFailed = 4
+
+-- the numbers are those of where this sender stands
+pub record KeepsStanding (s : YmSender) (standing : Standing) : Type 0 where
+  pub place : KeepsPlace s standing.place
+  pub mode : s.mode ≡ mode_code standing.mode
+  pub misses : s.misses ≡ standing.misses
+  pub state : s.state ≡ send_code standing.state
+  pub farewell : s.farewell ≡ bool_code standing.farewell
+
+-- where a sender of a batch of so many blocks a file can come to stand; a batch has at most 65,535 files
+pub record Stands (blocks : List ℕ) (standing : Standing) : Type 0 where
+  pub place : IsPlace blocks standing.place
+  pub misses : standing.misses ≤ 10
+  pub runs : standing.state ≡ Running → standing.misses < 10
+  pub few : length blocks ≤ 65535
+
+-- what is to be filled
+abbrev pub IsFill : Option Place → YmFill → Type 0
+IsFill (Some (Header file)) fill = (fill.kind ≡ 1) × (fill.file ≡ file)
+IsFill (Some (Block file k)) fill = (fill.kind ≡ 2) × (fill.file ≡ file) × (fill.number ≡ k)
+IsFill _ fill = fill.kind ≡ 0
+
+-- an EOT and an end block are filled without the host
+abbrev pub IsFilled : Option Place → YmSender → Type 0
+IsFilled (Some (Eot file)) s = take s.len s.frame ≡ 0x04 ∷ []
+IsFilled (Some End) s = IsBlockFrame 0 end_text (take s.len s.frame)
+IsFilled _ s = Unit {0}
+
+-- what is to be sent: 0 nothing, 1 the frame, 2 CAN CAN
+abbrev pub out_in : SendState → Mode → Bool → ℕ
+out_in Running Sent farewell = 1
+out_in Running Waiting farewell = 0
+out_in NoReply mode farewell = bool_code farewell * 2
+out_in SourceFailed mode farewell = bool_code farewell * 2
+out_in Finished mode farewell = 0
+out_in Cancelled mode farewell = 0
+
+abbrev pub out_code : Standing → ℕ
+out_code s = out_in s.state s.mode s.farewell

@@ -1,0 +1,16 @@
+//! Both ends of a transfer, frames, the check and block 0, for callers in C. Nothing here takes memory,
+//! keeps anything between calls or calls back. Each function returns, whatever stands in what it is
+//! given.
+#![tactic(auto)]
+
+mod codes;
+mod feeding;
+mod frames;
+mod receiver;
+mod sender;
+mod stand;
+
+pub use frames::YmFront;
+pub use receiver::{YmAsk, YmReceiver};
+pub use sender::{YmFill, YmSender};
+pub use stand::YmStand;

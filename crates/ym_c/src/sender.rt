@@ -1,0 +1,365 @@
+//! The sender.
+
+ghost use Rattle.std.specs.Prelude.{◌≡◌, ◌<◌, ◌≤◌, ◌↔◌, ◌⊎◌, ◌%◌, ◌+◌, ◌∷◌, [], ℕ, List, Some, IfSome, length, take, true};
+ghost use Rattle.ym_core.specs.declared.standing.Standing.{Standing as Stood};
+ghost use Rattle.ym_core.specs.declared.state.SendState.TheVariants.{Running};
+ghost use Rattle.ym_core.specs.declared.place.Place.{Place as Placed};
+ghost use Rattle.ym_core.specs.declared.state.SendState.{SendState as Ended};
+ghost use Rattle.ym_core.specs.Place.{IsPlace};
+ghost use Rattle.ym_core.specs.Reading.{controls_in};
+ghost use Rattle.ym_core.specs.Standing as table;
+ghost use Rattle.ym_frame.specs.Seal.{IsBlockFrame};
+ghost use Rattle.ym_header.specs.Text.{text, end_text};
+ghost use Rattle.ym_c.specs.Codes.{bool_code};
+ghost use Rattle.ym_c.specs.Fronts.{stamp_of};
+ghost use Rattle.ym_c.specs.Sending.{FitsC, KeepsPlace, send_code, KeepsStanding, Stands, IsFill, IsFilled, out_code};
+
+use crate::codes::code_of_fault;
+use ym_core::{Batch, Mode, Place, SendState, Standing, first_place};
+use ym_frame::seal_block;
+use ym_header::{HeaderRef, Stamp, write_body};
+
+/// A sender, and the frame that was filled last.
+#[repr(C)]
+pub struct YmSender {
+    /// At place 1: the number of the data block, counted from 1.
+    pub number: u64,
+    /// At places 0 to 2: the file, counted from 0.
+    pub file: u32,
+    /// How many bytes the frame has; 0 while it is to be filled.
+    pub len: u32,
+    /// 0: the block 0 of a file; 1: a data block; 2: an EOT; 3: the end block.
+    pub place: u32,
+    /// 0: it waits for C; 1: the frame is out.
+    pub mode: u32,
+    /// Deliveries in a row without progress.
+    pub misses: u32,
+    /// 0: it runs; else how it has ended.
+    pub state: u32,
+    /// Whether CAN CAN is still to go.
+    pub farewell: u32,
+    /// The frame.
+    pub frame: [u8; 1029],
+}
+
+/// What the host is to fill into the frame.
+#[repr(C)]
+pub struct YmFill {
+    /// At 2: the number of the data block, counted from 1.
+    pub number: u64,
+    /// 0: nothing; 1: the header of a file; 2: a data block.
+    pub kind: u32,
+    /// At 1 and 2: the file, counted from 0.
+    pub file: u32,
+}
+
+/// A batch, by the number of data blocks of each file.
+#[derive(Drop)]
+struct Counts<'a> {
+    blocks: &'a [u64],
+}
+
+impl Batch for Counts<'_> {
+    ghost counts = { λ c. c.blocks.now };
+
+    fn files(&self) -> usize {
+        self.blocks.len()
+    }
+
+    fn blocks(&self, file: usize) -> u64 {
+        self.blocks[file]
+    }
+}
+
+/// A sender that has ended, with nothing to send, in place of numbers that no sender has.
+fn ended() -> Standing
+    ensures place { result.place ≡ Place.End }
+    ensures state { result.state ≡ SendState.NoReply }
+{
+    Standing {
+        place: Place::End,
+        mode: Mode::Waiting,
+        misses: 0,
+        state: SendState::NoReply,
+        farewell: false,
+    }
+}
+
+/// The place that is kept, if it is one of the batch.
+fn place_of(kept: &YmSender, blocks: &[u64]) -> Option<Place>
+    ensures kept { (place : Placed) → KeepsPlace kept.now place → IsPlace blocks.now place → result ≡ Some place }
+    ensures within { IfSome result (IsPlace blocks.now) }
+{
+    let file = kept.file as usize;
+    match kept.place {
+        0 if file < blocks.len() => Some(Place::Header { file }),
+        1 if file < blocks.len() && 1 <= kept.number && kept.number <= blocks[file] => {
+            Some(Place::Block {
+                file,
+                number: kept.number,
+            })
+        }
+        2 if file < blocks.len() => Some(Place::Eot { file }),
+        3 => Some(Place::End),
+        _ => None,
+    }
+}
+
+/// The state that is kept.
+fn state_of(state: u32) -> Option<SendState>
+    ensures { (known : Ended) → state ≡ send_code known → result ≡ Some known }
+{
+    match state {
+        0 => Some(SendState::Running),
+        1 => Some(SendState::Finished),
+        2 => Some(SendState::NoReply),
+        3 => Some(SendState::Cancelled),
+        4 => Some(SendState::SourceFailed),
+        _ => None,
+    }
+}
+
+/// Where the sender stands.
+fn load(kept: &YmSender, blocks: &[u64]) -> Standing
+    ensures kept { (s : Stood) → KeepsStanding kept.now s → Stands blocks.now s → result ≡ s }
+    ensures place { IsPlace blocks.now result.place }
+    ensures misses { result.state ≡ Running → result.misses < 10 }
+{
+    let Some(place) = place_of(kept, blocks) else {
+        return ended();
+    };
+    let Some(state) = state_of(kept.state) else {
+        return ended();
+    };
+    let misses = u8::try_from(kept.misses).unwrap_or(u8::MAX);
+    if state == SendState::Running && misses >= 10 {
+        return ended();
+    }
+    Standing {
+        place,
+        mode: if kept.mode == 0 {
+            Mode::Waiting
+        } else {
+            Mode::Sent
+        },
+        misses,
+        state,
+        farewell: kept.farewell != 0,
+    }
+}
+
+/// Keeps where a sender stands.
+fn store(kept: &mut YmSender, standing: Standing)
+    ensures { FitsC standing.place → KeepsStanding kept.new standing }
+{
+    let (place, file, number) = match standing.place {
+        Place::Header { file } => (0, file, 0),
+        Place::Block { file, number } => (1, file, number),
+        Place::Eot { file } => (2, file, 0),
+        Place::End => (3, 0, 0),
+    };
+    kept.place = place;
+    kept.file = u32::try_from(file).unwrap_or(u32::MAX);
+    kept.number = number;
+    kept.mode = match standing.mode {
+        Mode::Waiting => 0,
+        Mode::Sent => 1,
+    };
+    kept.misses = u32::from(standing.misses);
+    kept.state = match standing.state {
+        SendState::Running => 0,
+        SendState::Finished => 1,
+        SendState::NoReply => 2,
+        SendState::Cancelled => 3,
+        SendState::SourceFailed => 4,
+    };
+    kept.farewell = if standing.farewell { 1 } else { 0 };
+}
+
+/// Makes a sender that waits at the first frame of a batch, of which each file has so many data blocks.
+#[unsafe(no_mangle)]
+pub extern "C" fn ym_sender_init(sender: &mut YmSender, blocks: &[u64])
+    ensures { KeepsStanding sender.new (table.new_standing blocks.now) }
+{
+    store(sender, Standing::new(first_place(&Counts { blocks })));
+    sender.len = 0;
+}
+
+/// Makes the frame of the block of this number and this body.
+fn seal_frame(frame: &mut [u8], number: u8, body: &[u8])
+    requires sized { (length body.now ≡ 128) ⊎ (length body.now ≡ 1024) }
+    requires room { length frame.old ≡ length body.now + 5 }
+    ensures { IsBlockFrame number body.now frame.new }
+{
+    frame[3..3 + body.len()].copy_from_slice(body);
+    seal_block(number, frame);
+}
+
+/// Makes the frame of the block of this number and this body at the front, and answers its length.
+fn seal_body(frame: &mut [u8; 1029], number: u8, body: &[u8]) -> u32
+    requires { (length body.now ≡ 128) ⊎ (length body.now ≡ 1024) }
+    ensures { IsBlockFrame number body.now (take result frame.new) }
+{
+    if body.len() == 128 {
+        seal_frame(&mut frame[..133], number, body);
+        return 133;
+    }
+    seal_frame(frame, number, body);
+    1029
+}
+
+/// Makes the frame of a header's block 0 at the front, and answers its length.
+fn seal_header(frame: &mut [u8; 1029], header: &HeaderRef<'_>) -> u32
+    ensures { IsBlockFrame 0 (text header.entry.now) (take result frame.new) }
+{
+    let mut body = [0; 1024];
+    let size = write_body(header, &mut body);
+    seal_body(frame, 0, &body[..size])
+}
+
+/// Makes the frame of an EOT at the front, and answers its length.
+fn seal_eot(frame: &mut [u8; 1029]) -> u32
+    ensures { take result frame.new ≡ 0x04 ∷ [] }
+{
+    frame[0] = 0x04;
+    1
+}
+
+/// Makes the frame of the end block at the front, and answers its length.
+fn seal_end(frame: &mut [u8; 1029]) -> u32
+    ensures { IsBlockFrame 0 end_text (take result frame.new) }
+{
+    seal_body(frame, 0, &[0; 128])
+}
+
+/// Hears a delivery, and tells what the host is to fill into the frame before it is sent.
+#[unsafe(no_mangle)]
+pub extern "C" fn ym_sender_hear(
+    sender: &mut YmSender,
+    blocks: &[u64],
+    bytes: &[u8],
+    fill: &mut YmFill,
+)
+    ensures { (s : Stood) → KeepsStanding sender.old s → Stands blocks.now s →
+        KeepsStanding sender.new (table.hears blocks.now s (controls_in bytes.now)).standing
+        × IsFill (table.hears blocks.now s (controls_in bytes.now)).fills fill.new
+        × IsFilled (table.hears blocks.now s (controls_in bytes.now)).fills sender.new }
+{
+    fill.kind = 0;
+    fill.file = 0;
+    fill.number = 0;
+    let step = load(sender, blocks).after(&Counts { blocks }, bytes);
+    store(sender, step.standing);
+    match step.fills {
+        Some(Place::Header { .. }) => {
+            fill.kind = 1;
+            fill.file = sender.file;
+            sender.len = 0;
+        }
+        Some(Place::Block { number, .. }) => {
+            fill.kind = 2;
+            fill.file = sender.file;
+            fill.number = number;
+            sender.len = 0;
+        }
+        Some(Place::Eot { .. }) => {
+            sender.len = seal_eot(&mut sender.frame);
+        }
+        Some(Place::End) => {
+            sender.len = seal_end(&mut sender.frame);
+        }
+        None => {}
+    }
+}
+
+/// 1 where more bytes cannot change what `ym_sender_hear` does with these.
+#[unsafe(no_mangle)]
+pub extern "C" fn ym_sender_settled(sender: &YmSender, blocks: &[u64], bytes: &[u8]) -> u32
+    ensures { (s : Stood) → KeepsStanding sender.now s → Stands blocks.now s →
+        result ≡ bool_code (table.is_settled blocks.now s (controls_in bytes.now)) }
+{
+    if load(sender, blocks).settled(&Counts { blocks }, bytes) {
+        1
+    } else {
+        0
+    }
+}
+
+/// The stamp of these numbers.
+fn stamp_from(kind: u32, time: u64, mode: u32) -> Stamp
+    ensures { result ≡ stamp_of kind time mode }
+{
+    match kind {
+        0 => Stamp::Nothing,
+        1 => Stamp::Time(time),
+        _ => Stamp::TimeMode(time, mode),
+    }
+}
+
+/// Fills the header of a file: stamp 0 none, 1 the time, 2 the time and the mode. Answers 0, or the
+/// number of the header's fault, and then the frame is not to be sent.
+#[unsafe(no_mangle)]
+pub extern "C" fn ym_sender_header(
+    sender: &mut YmSender,
+    name: &[u8],
+    length: u64,
+    stamp: u32,
+    time: u64,
+    mode: u32,
+) -> u32
+    ensures { result ≡ 0 → IsBlockFrame 0 (text (record { name = name.now; length = length; stamp = stamp_of stamp time mode })) (take sender.new.len sender.new.frame) }
+{
+    sender.len = 0;
+    let Ok(name) = str::from_utf8(name) else {
+        return 3;
+    };
+    match HeaderRef::new(name, length, stamp_from(stamp, time, mode)) {
+        Ok(header) => {
+            sender.len = seal_header(&mut sender.frame, &header);
+            0
+        }
+        Err(fault) => code_of_fault(fault),
+    }
+}
+
+/// Fills the data block that the sender stands at with this body, of 128 or 1024 bytes. Answers 0, or 1
+/// where the body has another length.
+#[unsafe(no_mangle)]
+pub extern "C" fn ym_sender_block(sender: &mut YmSender, body: &[u8]) -> u32
+    ensures valid { result ≡ 0 ↔ ((length body.now ≡ 128) ⊎ (length body.now ≡ 1024)) }
+    ensures frame { result ≡ 0 → IsBlockFrame (sender.old.number % 256) body.now (take sender.new.len sender.new.frame) }
+{
+    let size = body.len();
+    if size != 128 && size != 1024 {
+        return 1;
+    }
+    let number = (sender.number % 256) as u8;
+    sender.len = seal_body(&mut sender.frame, number, body);
+    0
+}
+
+/// The host cannot fill the frame: the sender ends, with CAN CAN to go.
+#[unsafe(no_mangle)]
+pub extern "C" fn ym_sender_failed(sender: &mut YmSender, blocks: &[u64])
+    ensures { (s : Stood) → KeepsStanding sender.old s → Stands blocks.now s →
+        KeepsStanding sender.new (record s { state = SendState.SourceFailed; farewell = true }) }
+{
+    let standing = load(sender, blocks).source_failed();
+    store(sender, standing);
+}
+
+/// What is to be sent now: 0 nothing; 1 the frame, of `len` bytes; 2 CAN CAN.
+#[unsafe(no_mangle)]
+pub extern "C" fn ym_sender_out(sender: &YmSender, blocks: &[u64]) -> u32
+    ensures { (s : Stood) → KeepsStanding sender.now s → Stands blocks.now s → result ≡ out_code s }
+{
+    let standing = load(sender, blocks);
+    match standing.state {
+        SendState::Running => match standing.mode {
+            Mode::Sent => 1,
+            Mode::Waiting => 0,
+        },
+        SendState::NoReply | SendState::SourceFailed => { if standing.farewell { 2 } else { 0 } }
+        _ => 0,
+    }
+}

@@ -1,0 +1,211 @@
+-- each half leads from a machine state to a machine state
+use Rattle.std.proofs.Common.{ℕ, ◌+◌, ◌<◌, ◌≡◌, ◌≢◌, ◌↔◌, List, [], ◌∷◌, length, Bool, true, refl, sym, ap, ◌∙◌, subst, inl, inr, arith, add-one}
+use Rattle.ym_frame.specs.declared.control.Control.{Control}
+use Rattle.ym_frame.specs.declared.control.Control.TheVariants as control
+use Rattle.ym_machine.specs.declared.confirm.Confirm.{Confirm}
+use Rattle.ym_machine.specs.declared.limits.TheConstants.{GIVE_UP}
+use Rattle.ym_machine.proofs.Keeps.{there-keeps}
+use Rattle.ym_machine.proofs.Places.{more_behind, none_behind}
+use Rattle.ym_machine.proofs.ReceiverSteps.{IsEcho, IsFault, ReceiverStep, receiver-step}
+use Rattle.ym_machine.proofs.SenderSteps.{IsAcknowledged, Onward, SenderStep, sender-step}
+use Rattle.ym_machine.specs.Frames.{BlockZero, EndBlock, EndsOnce, Eot, Frame, Piece, frame_at}
+use Rattle.ym_machine.specs.State.{ReceiverEnd, SenderEnd, State, start}
+use Rattle.ym_machine.specs.Halves.{Answer, KeepsSender, asks_again, controls, is_within, there}
+use Rattle.ym_machine.specs.Run.{IsDamage, IsTurnDamage, Turn, after_turn, after_turns, came_back}
+use Rattle.ym_machine.specs.Machine.{CountersAgree, IsMachine, SenderBroke}
+
+-- an ACK that can come back tells of a frame that the sender has sent and the receiver has taken
+abbrev pub IsHonest : Answer → Type 0
+IsHonest answer = (came : List Control) → is_within (control.Ack ∷ came) (controls answer.1) ≡ true → answer.0.sender ≡ SenderEnd.Running → (answer.0.sent ≡ true) × (answer.0.taken ≡ answer.0.acknowledged + 1)
+
+asks-no-ack : {H : Type 0} (frame : Frame H) (came : List Control) → is_within (control.Ack ∷ came) (controls (asks_again frame)) ≡ true → ⊥
+asks-no-ack (Piece number body) came w = cc
+asks-no-ack (BlockZero header) came w = cc
+asks-no-ack Eot came w = cc
+asks-no-ack EndBlock came w = cc
+
+module _ {H : Type 0} (frames : List (Frame H)) (confirm : Confirm) (ends : EndsOnce frames) where
+  module _ (sink whole : Bool) (st : State) (m : CountersAgree confirm frames st) where
+    less : st.receiver ≡ ReceiverEnd.Running → st.taken < length frames
+    less running = let open_yet : st.taken ≢ length frames = λ w. let x = m.receiver_done.0 w in cc in let w = m.within in omega arith
+
+    receiver-stopped : (end : ReceiverEnd) (count : ℕ) → st.receiver ≡ ReceiverEnd.Running → end ≢ ReceiverEnd.Running → end ≢ ReceiverEnd.Finished → CountersAgree confirm frames (record st { receiver_count = count; receiver = end })
+    receiver-stopped end count running ended other =
+        let below = less running in
+        let receiver_done : (st.taken ≡ length frames) ↔ (end ≡ ReceiverEnd.Finished) = (λ w. absurd (omega arith), λ w. absurd (other w)) in
+        let receiver_count : end ≡ ReceiverEnd.Running → count < GIVE_UP = λ w. absurd (ended w) in
+        assumption
+
+    there-counters : {answer : Answer} → ReceiverStep frames confirm sink whole st answer → CountersAgree confirm frames answer.0
+    there-counters (ReceiverStep.stays ended echo) = m
+    there-counters (ReceiverStep.faults running fault few) = assumption
+    there-counters (ReceiverStep.gives_up running fault many) = receiver-stopped ReceiverEnd.TooManyErrors (st.receiver_count + 1) running (λ w. cc) (λ w. cc)
+    there-counters (ReceiverStep.takes_it fresh other eot) =
+        let more = more_behind frames st.taken ends (less fresh.receiving) (λ w. other (ap (frame_at frames) (sym fresh.at) ∙ w)) in
+        record {
+          ahead = inr (ap (λ n. n + 1) fresh.at);
+          within = omega arith;
+          waiting = λ w. let x = fresh.sent in cc;
+          first_eot = λ w. cc;
+          sender_done = m.sender_done;
+          receiver_done = (λ w. absurd (omega arith), λ w. let x = fresh.receiving in cc);
+          sender_count = m.sender_count;
+          receiver_count = λ _. omega arith;
+        }
+    there-counters (ReceiverStep.confirms fresh twice eot first) =
+        record {
+          ahead = m.ahead;
+          within = m.within;
+          waiting = m.waiting;
+          first_eot = λ _. (twice, fresh.sent, fresh.at, ap (frame_at frames) fresh.at ∙ eot, less fresh.receiving);
+          sender_done = m.sender_done;
+          receiver_done = m.receiver_done;
+          sender_count = m.sender_count;
+          receiver_count = λ _. omega arith;
+        }
+    there-counters (ReceiverStep.finishes fresh is) = record {
+      ahead = inr (ap (λ n. n + 1) fresh.at);
+      within = let below = less fresh.receiving in omega arith;
+      waiting = λ w. let x = fresh.sent in cc;
+      first_eot = λ w. let x : frame_at frames st.acknowledged ≡ Eot = ap (frame_at frames) (sym fresh.at) ∙ (m.first_eot w).3 in cc;
+      sender_done = m.sender_done;
+      receiver_done = (λ _. refl, λ _. none_behind frames st.taken ends (less fresh.receiving) (ap (frame_at frames) fresh.at ∙ is));
+      sender_count = m.sender_count;
+      receiver_count = λ w. cc;
+    }
+    there-counters (ReceiverStep.breaks fresh failed) = receiver-stopped ReceiverEnd.SinkFailed st.receiver_count fresh.receiving (λ w. cc) (λ w. cc)
+    there-counters (ReceiverStep.is_cancelled running broke) = receiver-stopped ReceiverEnd.Cancelled st.receiver_count running (λ w. cc) (λ w. cc)
+
+    there-honest : {answer : Answer} → ReceiverStep frames confirm sink whole st answer → IsHonest answer
+    there-honest (ReceiverStep.stays ended (IsEcho.repeats done sending sent at)) came w sender = (sent, at)
+    there-honest (ReceiverStep.stays ended (IsEcho.silent n)) came w sender = cc
+    there-honest (ReceiverStep.faults running (IsFault.again sending sent other) few) came w sender = (sent, (let a = m.ahead in omega arith))
+    there-honest (ReceiverStep.faults running (IsFault.bad n) few) came w sender = absurd (asks-no-ack _ came w)
+    there-honest (ReceiverStep.takes_it fresh other eot) came w sender = (fresh.sent, ap (λ n. n + 1) fresh.at)
+    there-honest (ReceiverStep.finishes fresh is) came w sender = (fresh.sent, ap (λ n. n + 1) fresh.at)
+    there-honest _ came w sender = cc
+
+  module _ (source : Bool) (came : List Control) (st : State) (m : CountersAgree confirm frames st) (told : (rest : List Control) → came ≡ control.Ack ∷ rest → st.sender ≡ SenderEnd.Running → (st.sent ≡ true) × (st.taken ≡ st.acknowledged + 1)) where
+    taken_is : {rest : List Control} → IsAcknowledged came rest st → st.sender ≡ SenderEnd.Running → st.taken ≡ st.acknowledged + 1
+    taken_is is running = (told _ is.came_is running).1
+
+    below : st.sender ≡ SenderEnd.Running → st.acknowledged < length frames
+    below running = let open_yet : st.acknowledged ≢ length frames = λ w. let x = m.sender_done.0 w in cc in let w = m.within in let a = m.ahead in omega arith
+
+    no-first : st.taken ≡ st.acknowledged + 1 → st.first_eot ≡ true → ⊥
+    no-first at w = let x : st.taken ≡ st.acknowledged = (m.first_eot w).2 in omega arith
+
+    -- where a sender that goes on is
+    pub onward : {place : ℕ} → st.sender ≡ SenderEnd.Running → Onward frames came st place → (st.taken ≡ place) × (place < length frames) × (st.first_eot ≡ true → ⊥)
+    onward running (Onward.first unsent asked) = ((m.waiting unsent).0, below running, λ w. let x : st.sent ≡ true = (m.first_eot w).1 in cc)
+    onward running (Onward.next is other) = (taken_is is running, more_behind frames st.acknowledged ends (below running) other, no-first (taken_is is running))
+
+    sender-stopped : (end : SenderEnd) (count : ℕ) (farewell : Bool) → st.sender ≡ SenderEnd.Running → end ≢ SenderEnd.Running → end ≢ SenderEnd.Finished → CountersAgree confirm frames (record st { sender_count = count; sender = end; farewell = farewell })
+    sender-stopped end count farewell running ended other =
+        let less = below running in
+        let sender_done : (st.acknowledged ≡ length frames) ↔ (end ≡ SenderEnd.Finished) = (λ w. absurd (omega arith), λ w. absurd (other w)) in
+        let sender_count : end ≡ SenderEnd.Running → count < GIVE_UP = λ w. absurd (ended w) in
+        assumption
+
+    sent-on : {place : ℕ} (end : SenderEnd) (farewell : Bool) → st.sender ≡ SenderEnd.Running → end ≢ SenderEnd.Finished → Onward frames came st place → CountersAgree confirm frames (record st { acknowledged = place; sent = true; sender_count = 0; sender = end; farewell = farewell })
+    sent-on end farewell running other on =
+        let o = onward running on in
+        record {
+          ahead = inl o.0;
+          within = m.within;
+          waiting = λ w. cc;
+          first_eot = λ w. absurd (o.2 w);
+          sender_done = (λ w. absurd (let x = o.1 in omega arith), λ w. absurd (other w));
+          receiver_done = m.receiver_done;
+          sender_count = λ _. omega arith;
+          receiver_count = m.receiver_count;
+        }
+
+    back-counters : {new : State} → SenderStep frames source came st new → CountersAgree confirm frames new
+    back-counters (SenderStep.stays farewell ended left) = assumption
+    back-counters (SenderStep.misses running vain few) = assumption
+    back-counters (SenderStep.gives_up running vain many) = sender-stopped SenderEnd.NoReply (st.sender_count + 1) true running (λ w. cc) (λ w. cc)
+    back-counters (SenderStep.waits running is alone other calls) =
+        let at = taken_is is running in
+        let more = more_behind frames st.acknowledged ends (below running) other in
+        record {
+          ahead = inl at;
+          within = m.within;
+          waiting = λ _. (at, rw add-one calls);
+          first_eot = λ w. absurd (no-first at w);
+          sender_done = (λ w. absurd (omega arith), λ w. cc);
+          receiver_done = m.receiver_done;
+          sender_count = λ _. omega arith;
+          receiver_count = m.receiver_count;
+        }
+    back-counters (SenderStep.sends_it running on) = sent-on st.sender st.farewell running (λ w. cc) on
+    back-counters (SenderStep.breaks running on failed piece) = sent-on SenderEnd.SourceFailed true running (λ w. cc) on
+    back-counters (SenderStep.finishes running is last) =
+        let at = taken_is is running in
+        record {
+          ahead = inl at;
+          within = m.within;
+          waiting = λ w. let x = is.sent in cc;
+          first_eot = λ w. absurd (no-first at w);
+          sender_done = (λ _. refl, λ _. none_behind frames st.acknowledged ends (below running) last);
+          receiver_done = m.receiver_done;
+          sender_count = λ w. cc;
+          receiver_count = m.receiver_count;
+        }
+    back-counters (SenderStep.is_cancelled running cans) = sender-stopped SenderEnd.Cancelled st.sender_count st.farewell running (λ w. cc) (λ w. cc)
+
+    -- CAN CAN is to go only of a sender that broke
+    back-farewell : {new : State} → SenderStep frames source came st new → (st.farewell ≡ true → SenderBroke st.sender) → new.farewell ≡ true → SenderBroke new.sender
+    back-farewell (SenderStep.stays farewell ended left) broke w = broke (left w)
+    back-farewell (SenderStep.gives_up running vain many) broke w = tt
+    back-farewell (SenderStep.breaks running on failed piece) broke w = tt
+    back-farewell (SenderStep.finishes running is last) broke w = absurd (subst SenderBroke running (broke w))
+    back-farewell (SenderStep.is_cancelled running cans) broke w = absurd (subst SenderBroke running (broke w))
+    back-farewell _ broke w = broke w
+
+  pub there-machine : (sink whole : Bool) (st : State) → IsMachine confirm frames st → IsMachine confirm frames (there frames confirm sink whole st).0
+  there-machine sink whole st m =
+      let keeps : KeepsSender st (there frames confirm sink whole st).0 = there-keeps frames st confirm sink whole in
+      record {
+        counters = there-counters sink whole st m.counters (receiver-step frames confirm sink whole st);
+        farewell = λ e. subst SenderBroke (sym keeps.sender) (m.farewell (sym keeps.farewell ∙ e));
+      }
+
+  -- an ACK that comes back was in the reply
+  pub acknowledged-taken : (sink whole : Bool) (came : List Control) (st : State) → IsMachine confirm frames st → is_within came (controls (there frames confirm sink whole st).1) ≡ true
+      → (rest : List Control) → came ≡ control.Ack ∷ rest → (there frames confirm sink whole st).0.sender ≡ SenderEnd.Running
+      → ((there frames confirm sink whole st).0.sent ≡ true) × ((there frames confirm sink whole st).0.taken ≡ (there frames confirm sink whole st).0.acknowledged + 1)
+  acknowledged-taken sink whole came st m within rest is =
+      there-honest sink whole st m.counters (receiver-step frames confirm sink whole st) rest (subst (λ cs. is_within cs (controls (there frames confirm sink whole st).1) ≡ true) is within)
+
+  pub turn-machine : (turn : Turn) (st : State) → IsMachine confirm frames st → IsTurnDamage frames confirm turn st → IsMachine confirm frames (after_turn frames confirm turn st)
+  turn-machine turn st m damage =
+      let answer = there frames confirm turn.sink_failed turn.whole_there st in
+      let mid = there-machine turn.sink_failed turn.whole_there st m in
+      let came = came_back turn.back answer.1 in
+      let told = acknowledged-taken turn.sink_failed turn.whole_there came st m damage in
+      let step = sender-step frames turn.source_failed came answer.0 in
+      record {
+        counters = back-counters turn.source_failed came answer.0 mid.counters told step;
+        farewell = back-farewell turn.source_failed came answer.0 mid.counters told step mid.farewell;
+      }
+
+  pub turns-machine : (turns : List Turn) (st : State) → IsMachine confirm frames st → IsDamage frames confirm turns st → IsMachine confirm frames (after_turns frames confirm turns st)
+  turns-machine [] st m damage = m
+  turns-machine (turn ∷ turns) st m damage = turns-machine turns (after_turn frames confirm turn st) (turn-machine turn st m damage.0) damage.1
+
+  -- a new machine, whose sender may even be cancelled
+  pub start-machine : (sender : SenderEnd) → sender ≢ SenderEnd.Finished → IsMachine confirm frames (record start { sender = sender })
+  start-machine sender other = record {
+    counters = record {
+      ahead = inl refl;
+      within = omega arith;
+      waiting = λ _. (refl, tt);
+      first_eot = λ w. cc;
+      sender_done = (λ w. absurd (let x = ends.some in omega arith), λ w. absurd (other w));
+      receiver_done = (λ w. absurd (let x = ends.some in omega arith), λ w. cc);
+      sender_count = λ _. omega arith;
+      receiver_count = λ _. omega arith;
+    };
+    farewell = λ w. cc;
+  }

@@ -1,0 +1,162 @@
+/* YMODEM batch transfer for C: both ends as state machines that the caller drives, the frames, the check and block 0.
+
+   Nothing here allocates, blocks, keeps anything between calls or calls back. All state stands in the structs below, in the caller's
+   memory. Every function returns, whatever stands in a struct: numbers that no receiver or sender can have count as an end that has
+   ended, and a call at the wrong time does nothing.
+
+   What the caller keeps: a pointer is never NULL, not even with length 0, and points to as many bytes as its length says; no other
+   pointer of the same call points into what a call writes; a struct is used by one call at a time. */
+#ifndef YMODEM_H
+#define YMODEM_H
+
+#include <stddef.h>
+#include <stdint.h>
+
+#ifdef __cplusplus
+extern "C" {
+#endif
+
+/* ---- The receiver ---- */
+
+enum ym_state {
+    YM_RUNNING,
+    YM_FINISHED,
+    YM_TOO_MANY_ERRORS,
+    YM_CANCELLED,
+    YM_OUT_OF_STEP,
+    YM_TOO_MANY_FILES,
+    YM_HOST_FAILED,
+    YM_BAD_HEADER
+};
+
+/* Why a block 0 or a header is refused. */
+enum ym_fault { YM_NAME_EMPTY = 1, YM_NAME_LONG, YM_NAME_UNSAFE, YM_NO_LENGTH, YM_LENGTH_LARGE };
+
+/* What a receiver asks of its host. */
+enum ym_kind { YM_NOTHING, YM_BEGIN, YM_ADD, YM_COMMIT };
+
+/* Where a receiver stands. */
+typedef struct ym_stand {
+    uint64_t length;    /* while a file is taken: the length that its header states, */
+    uint64_t taken;     /* how many of its bytes were taken, */
+    uint64_t blocks;    /* and how many data blocks */
+    uint32_t files;     /* files committed */
+    uint32_t state;     /* enum ym_state */
+    uint32_t fault;     /* at YM_BAD_HEADER: enum ym_fault */
+    uint32_t in_file;   /* 1 while a file is taken */
+    uint32_t first_eot; /* 1 where its first EOT has come */
+    uint32_t count;     /* deliveries in a row without progress; the tenth ends it */
+    uint32_t confirm;   /* 0: the first EOT of a file is questioned; 1: it is not */
+} ym_stand;
+
+/* A receiver, and the bytes of the delivery that is coming. Read it, and let the functions write it. */
+typedef struct ym_receiver {
+    ym_stand stand;     /* where it stands */
+    ym_stand next;      /* where it will stand once ym_receiver_answer is called */
+    uint32_t reply;
+    uint32_t len;       /* how many bytes of the delivery are held */
+    uint8_t held[1029];
+} ym_receiver;
+
+typedef struct ym_ask {
+    uint64_t length;    /* YM_BEGIN: the length of the file */
+    uint64_t time;      /* YM_BEGIN, where stamp is 1 or 2: seconds since 1970 */
+    uint64_t count;     /* YM_BEGIN, YM_ADD: how many bytes the name has, or are to be stored; they stand at held + at */
+    uint32_t kind;      /* enum ym_kind */
+    uint32_t at;
+    uint32_t stamp;     /* YM_BEGIN: 0 none, 1 a time, 2 a time and a mode */
+    uint32_t mode;      /* YM_BEGIN, where stamp is 2 */
+    uint32_t bad;       /* 1: no frame was heard. Where bytes came (len is not 0), read on until the line has been quiet for a second, and then answer */
+} ym_ask;
+
+/* Makes a receiver that awaits its first file, whatever stood there. confirm 0: the first EOT of a file is questioned. */
+void ym_receiver_init(ym_receiver *receiver, uint32_t confirm);
+
+/* Takes bytes as they come, and tells how many it took. Call it again with the rest; 0 where the delivery is whole. */
+size_t ym_receiver_feed(ym_receiver *receiver, const uint8_t *bytes, size_t len);
+
+/* 0: hear now. Else at least so many bytes are missing: read on, and hear when the line has been quiet. */
+size_t ym_receiver_wants(const ym_receiver *receiver);
+
+/* Hears what was fed, and tells what is to be done before the answer. */
+void ym_receiver_hear(ym_receiver *receiver, ym_ask *ask);
+
+/* Takes the step that was heard: done is 0 where the host failed at what was asked, and then the receiver ends. Writes the reply, for
+   which 2 bytes suffice, and tells its length. The next delivery begins. */
+size_t ym_receiver_answer(ym_receiver *receiver, uint32_t done, uint8_t *reply, size_t room);
+
+/* ---- The sender ---- */
+
+enum ym_send_state { YM_SENDING, YM_SENT, YM_NO_REPLY, YM_SEND_CANCELLED, YM_SOURCE_FAILED };
+
+/* What ym_sender_out says is to be sent. */
+enum ym_out { YM_OUT_NOTHING, YM_OUT_FRAME, YM_OUT_CANCEL };
+
+/* What is to be filled. */
+enum ym_fill_kind { YM_FILL_NOTHING, YM_FILL_HEADER, YM_FILL_BLOCK };
+
+/* A sender, and the frame that was filled last. */
+typedef struct ym_sender {
+    uint64_t number;    /* at a data block: its number, counted from 1 */
+    uint32_t file;      /* the file, counted from 0 */
+    uint32_t len;       /* how many bytes the frame has */
+    uint32_t place;     /* 0 block 0, 1 a data block, 2 EOT, 3 the end block */
+    uint32_t mode;      /* 0 it waits for C, 1 the frame is out */
+    uint32_t misses;    /* deliveries in a row without progress; the tenth ends it */
+    uint32_t state;     /* enum ym_send_state */
+    uint32_t farewell;  /* 1 where CAN CAN is still to go */
+    uint8_t frame[1029];
+} ym_sender;
+
+typedef struct ym_fill {
+    uint64_t number;    /* YM_FILL_BLOCK: the data block, counted from 1 */
+    uint32_t kind;      /* enum ym_fill_kind */
+    uint32_t file;      /* the file, counted from 0 */
+} ym_fill;
+
+/* A batch is given at each call as the number of data blocks of each file, which stays the same; at most 65,535 files. */
+
+/* Makes a sender that waits for the first C. */
+void ym_sender_init(ym_sender *sender, const uint64_t *blocks, size_t files);
+
+/* 1: these bytes can be heard now; 0: read on until the line is quiet, or the wait for a reply is over. */
+uint32_t ym_sender_settled(const ym_sender *sender, const uint64_t *blocks, size_t files, const uint8_t *bytes, size_t len);
+
+/* Hears a delivery, of no bytes too, and tells what is to be filled by ym_sender_header or ym_sender_block. */
+void ym_sender_hear(ym_sender *sender, const uint64_t *blocks, size_t files, const uint8_t *bytes, size_t len, ym_fill *fill);
+
+/* Makes the frame of a file's block 0: stamp 0 none, 1 the time, 2 the time and the mode. Answers 0 or an enum ym_fault. */
+uint32_t ym_sender_header(ym_sender *sender, const uint8_t *name, size_t name_len, uint64_t length, uint32_t stamp, uint64_t time, uint32_t mode);
+
+/* Makes the frame of the data block that the sender stands at: 128 or 1024 bytes, the file's last ones filled up with 1A. Answers 0, or
+   1 where there are more or fewer. */
+uint32_t ym_sender_block(ym_sender *sender, const uint8_t *body, size_t len);
+
+/* The frame cannot be filled: the sender ends, with CAN CAN to go. */
+void ym_sender_failed(ym_sender *sender, const uint64_t *blocks, size_t files);
+
+/* What is to be sent now (enum ym_out): the frame, of len bytes, or 18 18. */
+uint32_t ym_sender_out(const ym_sender *sender, const uint64_t *blocks, size_t files);
+
+/* ---- Frames ---- */
+
+enum ym_front_kind { YM_FRONT_OPEN, YM_FRONT_BLOCK, YM_FRONT_EOT, YM_FRONT_CANCEL, YM_FRONT_NONE };
+
+typedef struct ym_front {
+    uint32_t kind;      /* enum ym_front_kind; YM_FRONT_OPEN: it may go on to a frame */
+    uint32_t number;    /* YM_FRONT_BLOCK: the block's number, 0 to 255 */
+    uint64_t size;      /* YM_FRONT_BLOCK: its body's bytes, 128 or 1024, which stand behind the first three bytes */
+    uint64_t length;    /* how many bytes the frame has; without one: where no frame can go on */
+} ym_front;
+
+/* The 16-bit check of these bytes. */
+uint32_t ym_check(const uint8_t *bytes, size_t len);
+
+/* Tells what stands at the front of some bytes. */
+void ym_frame_read(const uint8_t *bytes, size_t len, ym_front *front);
+
+#ifdef __cplusplus
+}
+#endif
+
+#endif

@@ -1,0 +1,21 @@
+# bash completion of ymodem-tty(1)
+
+_ymodem_tty() {
+    local cur=${COMP_WORDS[COMP_CWORD]} command= words
+    [ "$COMP_CWORD" -gt 1 ] && command=${COMP_WORDS[1]}
+    case $command in
+    '') words='send receive --help -h' ;;
+    send) words='--short --help -h' ;;
+    receive) words='--single --no-sync --discard-parts --help -h' ;;
+    *) words= ;;
+    esac
+    local IFS=$'\n'
+    case $command:$cur in
+    :* | *:-*) COMPREPLY=($(compgen -W "${words// /$'\n'}" -- "$cur")) ;;
+    send:*) compopt -o filenames; COMPREPLY=($(compgen -f -- "$cur")) ;;
+    receive:*) compopt -o filenames; COMPREPLY=($(compgen -d -- "$cur")) ;;
+    *) COMPREPLY=() ;;
+    esac
+}
+
+complete -F _ymodem_tty ymodem-tty

@@ -1,0 +1,116 @@
+"""Either end is killed at some moment of a batch, and its folder is looked at: each file is there whole under its name or not at all, at most one part
+stands beside them, and the same batch comes again.
+
+Moments are numbered events of the batch, each with a piece of a millisecond behind it. What has to hold does not depend on where within a call the end
+was, and with strace it is killed before each of its calls on files as well.
+"""
+
+import contextlib
+import os
+import random
+import signal
+import threading
+
+from claims import claim_of_receive, claim_of_send
+from frames import frames_of
+from program import LIMIT, folders, free_port, running, stored, write_files
+from relay import Clean, Relay
+from storing import comes_again, part_of, received, told, wants_whole_front
+from tracing import at_paths, calls_of, numbered, strace
+
+MOMENTS = 200
+CHANCE = random.Random(18)
+FILES = [("empty", b""), ("short", CHANCE.randbytes(100)), ("long", CHANCE.randbytes(70_000)), ("last", CHANCE.randbytes(3000))]
+FEW_FILES = [("first", CHANCE.randbytes(66_000)), ("empty", b""), ("third", CHANCE.randbytes(200))]
+
+# A sender's C, and then a frame and its answer each. Each first EOT has an answer of its own.
+EVENTS = 1 + 2 * (len(frames_of(FILES)) + len(FILES))
+
+
+class Killing(Clean):
+    """A line at whose event of this number an end is killed."""
+
+    def __init__(self, at, seconds):
+        self.at, self.seconds = at, seconds
+        self.events = 0
+        self.are_running = threading.Event()
+        self.victim = None
+
+    def happens(self, data):
+        if self.events == self.at:
+            self.are_running.wait(LIMIT)
+            threading.Timer(self.seconds, self.victim.child.kill).start()
+        self.events += 1
+        return data
+
+    there = back = happens
+
+
+def moment(number):
+    """One of the two ends dies; what the other one tells is so."""
+
+    def check():
+        chance = random.Random(number)
+        line = Killing(chance.randrange(EVENTS), chance.choice((0, chance.uniform(0, 0.002))))
+        with folders() as (here, there), contextlib.ExitStack() as children:
+            paths = write_files(here, FILES)
+            port = free_port()
+            relay = Relay(line, port)
+            relay.start()
+            receive = children.enter_context(running("receive", "--port", port, there))
+            send = children.enter_context(running("send", "--port", relay.port, *paths))
+            line.victim = send if number % 2 else receive
+            line.are_running.set()
+            received_, sent = receive.ended(), send.ended()
+            relay.join()
+            if relay.fault:
+                raise AssertionError("the relay: %r" % relay.fault)
+            found = stored(there)
+            count, _ = wants_whole_front(found, FILES)
+            if sent.status != -signal.SIGKILL and claim_of_send(sent).count > count:
+                raise AssertionError("send told %r, and %d are stored" % (sent.out, count))
+            if received_.status != -signal.SIGKILL:
+                if len(found) > count:
+                    raise AssertionError("receive ended with status %d and left a part" % received_.status)
+                if claim_of_receive(received_, FILES).count != count:
+                    raise AssertionError("receive told %r, and %d are stored" % (received_.out, count))
+            if -signal.SIGKILL not in (sent.status, received_.status) and count < len(FILES):
+                raise AssertionError("nobody was killed, and %d files are stored" % count)
+            comes_again(FILES, there)
+
+    return check
+
+
+def paths_of(folder, files):
+    """All paths that `receive` has to do with."""
+    return [folder, *(os.path.join(folder, it) for name, _ in files for it in (name, part_of(name)))]
+
+
+def file_calls(files, flags=(), more=()):
+    """The calls on files that `receive` makes over a batch, when none of them fails."""
+    with folders() as (log, there):
+        log = os.path.join(log, "log")
+        received(files, there, flags, strace(log, *more, *at_paths(paths_of(there, files))))[0].wants(0, told(files))
+        return list(numbered(calls_of(log)))
+
+
+def before_each_call():
+    for call, number in file_calls(FEW_FILES):
+        with folders() as (log, there):
+            kill = strace(os.path.join(log, "log"), *at_paths(paths_of(there, FEW_FILES)), "-e", "inject=%s:signal=KILL:when=%d" % (call.name, number))
+            ended, sender = received(FEW_FILES, there, before=kill)
+            if ended.status != -signal.SIGKILL:
+                raise AssertionError("before %r it was not killed, but ended with status %d" % (call, ended.status))
+            try:
+                count, _ = wants_whole_front(stored(there), FEW_FILES)
+                if sender.done > count:
+                    raise AssertionError("%d files are stored, and %d were acknowledged" % (count, sender.done))
+                comes_again(FEW_FILES, there)
+            except AssertionError as wrong:
+                raise AssertionError("killed before %r: %s" % (call, wrong)) from None
+
+
+CHECKS = [
+    *[("killed: %s, at moment %d of a batch" % ("send" if number % 2 else "receive", number), moment(number)) for number in range(MOMENTS)],
+    ("killed: receive, before each of its calls on files", before_each_call),
+]

@@ -1,0 +1,153 @@
+"""What `make install`, `make deb` and `make dist` make of the program that is tested."""
+
+import glob
+import hashlib
+import os
+import stat
+import subprocess
+import tempfile
+
+from program import PROGRAM, ROOT, wants_same
+from skipping import Skipped, needs
+
+SCRIPT = "file a.txt 48656C6C6F\nok 6\n"
+INSTALLED = {
+    "bin/ymodem": 0o755,
+    "bin/ymodem-tty": 0o755,
+    "share/man/man1/ymodem.1": 0o644,
+    "share/man/man1/ymodem-tty.1": 0o644,
+    "share/bash-completion/completions/ymodem": 0o644,
+    "share/bash-completion/completions/ymodem-tty": 0o644,
+    "share/zsh/site-functions/_ymodem": 0o644,
+    "share/zsh/site-functions/_ymodem-tty": 0o644,
+    "share/fish/vendor_completions.d/ymodem.fish": 0o644,
+    "share/fish/vendor_completions.d/ymodem-tty.fish": 0o644,
+}
+# What a package of this tree is called, and when its files were last changed.
+FIXED = {**os.environ, "VERSION": "0+test", "SOURCE_DATE_EPOCH": "1700000000"}
+
+
+def linked_program():
+    """The program as it is linked. A script in its place cannot be packed."""
+    with open(PROGRAM, "rb") as it:
+        if it.read(4) != b"\x7fELF":
+            raise Skipped("%s is a script" % PROGRAM)
+    return PROGRAM
+
+
+def played(program):
+    return subprocess.run([program, "play"], input=SCRIPT, capture_output=True, text=True, check=True).stdout
+
+
+def below(top):
+    """The files below a folder, with their modes."""
+    return {os.path.relpath(it, top): stat.S_IMODE(os.stat(it).st_mode) for it in glob.glob(top + "/**", recursive=True) if os.path.isfile(it)}
+
+
+def is_installed():
+    """Each file is there and everybody may read it, whatever the umask is, in a folder with a space in its name."""
+    with tempfile.TemporaryDirectory(prefix="ymodem install ") as top:
+        words = ["sh", "-c", 'umask 077; exec "$@"', "", os.path.join(ROOT, "tools", "install.sh"), PROGRAM, top + "/usr local"]
+        subprocess.run(words, check=True)
+        wants_same(below(top + "/usr local"), INSTALLED)
+        wants_same({"played": played(top + "/usr local/bin/ymodem")}, {"played": played(PROGRAM)})
+
+
+def copied(to, umask):
+    """A copy of what packages are made of, as a user with this umask has it."""
+    os.mkdir(to)
+    for name in ("packaging", "tools", "share", "docs", "README.md", "ymodem-tty"):
+        subprocess.run(["sh", "-c", 'umask "$1"; exec cp -R "$2" "$3"', "", umask, os.path.join(ROOT, name), to], check=True)
+    return to
+
+
+def packed(kind, tree, umask, **environment):
+    words = ["sh", "-c", 'umask "$1"; shift; exec "$@"', "", umask, tree + "/packaging/package.py", kind, linked_program(), tree + "/out"]
+    return subprocess.run(words, env={**FIXED, **environment}, capture_output=True, text=True, check=True).stdout.strip()
+
+
+def sum_of(file):
+    with open(file, "rb") as it:
+        return hashlib.sha256(it.read()).hexdigest()
+
+
+def is_same_twice(kind, *tools):
+    """Two packages of one tree, made in different folders and by users with different umasks, are the same byte for byte."""
+
+    def check():
+        needs("strip", "readelf", *tools)
+        linked_program()
+        with tempfile.TemporaryDirectory(prefix="ymodem-") as top:
+            trees = [(copied(top + "/one", "022"), "022"), (copied(top + "/two of them", "077"), "077")]
+            os.utime(trees[1][0] + "/README.md", (10**9, 10**9))
+            # Files are older than one of these commits, and younger than the other one.
+            for epoch in ("1700000000", "4000000000"):
+                if len({sum_of(packed(kind, *it, SOURCE_DATE_EPOCH=epoch)) for it in trees}) != 1:
+                    raise AssertionError("they differ, for a commit at %s" % epoch)
+
+    return check
+
+
+def deb_is_well():
+    """The package has the files in their places, needs the C library alone, and its program plays."""
+    needs("strip", "readelf", "dpkg-deb")
+    with tempfile.TemporaryDirectory(prefix="ymodem-") as top:
+        file = packed("deb", copied(top + "/one", "022"), "022")
+        fields = subprocess.run(["dpkg-deb", "--field", file, "Depends", "Suggests"], capture_output=True, text=True, check=True).stdout
+        if not fields.startswith("Depends: libc6 (>= 2.") or "," in fields.splitlines()[0] or "Suggests: socat" not in fields:
+            raise AssertionError("its fields are %r" % fields)
+        subprocess.run(["dpkg-deb", "--extract", file, top + "/root"], check=True)
+        wanted = {it.replace("site-functions", "vendor-completions") + (".gz" if "/man/" in it else "") for it in INSTALLED}
+        missing = {it for it in wanted if not os.path.isfile(top + "/root/usr/" + it)}
+        if missing:
+            raise AssertionError("it lacks %s" % sorted(missing))
+        wants_same({"played": played(top + "/root/usr/bin/ymodem")}, {"played": played(PROGRAM)})
+
+
+def lintian_is_silent():
+    needs("strip", "readelf", "dpkg-deb", "lintian")
+    with tempfile.TemporaryDirectory(prefix="ymodem-") as top:
+        file = packed("deb", copied(top + "/one", "022"), "022")
+        ran = subprocess.run(["lintian", "--fail-on", "error,warning", file], capture_output=True, text=True, check=False)
+        found = [it for it in ran.stdout.splitlines() if it[:2] in ("E:", "W:")]
+        if found or ran.returncode:
+            raise AssertionError("\n".join(found) or ran.stderr)
+
+
+def runs_in_a_root():
+    """dpkg installs it below another root, as on a machine without the toolchain, and takes it away again."""
+    needs("strip", "readelf", "dpkg", "dpkg-deb")
+    if os.geteuid():
+        raise Skipped("dpkg --root: only for root")
+    with tempfile.TemporaryDirectory(prefix="ymodem-") as top:
+        file = packed("deb", copied(top + "/one", "022"), "022")
+        root = top + "/root"
+        os.makedirs(root + "/var/lib/dpkg/updates")
+        os.makedirs(root + "/var/lib/dpkg/info")
+        for name in ("status", "available"):
+            open(root + "/var/lib/dpkg/" + name, "w").close()
+        how = {"capture_output": True, "check": True, "text": True}
+        subprocess.run(["dpkg", "--root", root, "--force-depends", "--install", file], **how)
+        wants_same({"played": played(root + "/usr/bin/ymodem")}, {"played": played(PROGRAM)})
+        subprocess.run(["dpkg", "--root", root, "--force-depends", "--purge", "ymodem"], **how)
+        if os.path.exists(root + "/usr/bin/ymodem"):
+            raise AssertionError("it is still there")
+
+
+def tools_exist():
+    """What the Makefile calls is there and may be run."""
+    names = ("tools/prove.py", "tools/install.sh", "packaging/package.py", "docs/pictures/draw.py", "ymodem-tty")
+    missing = [it for it in names if not os.access(os.path.join(ROOT, it), os.X_OK)]
+    if missing:
+        raise AssertionError("missing: %s" % missing)
+
+
+CHECKS = [
+    ("what the Makefile calls is there", tools_exist),
+    ("make install, with umask 077 and a space in the folder", is_installed),
+    ("two Debian packages are the same", is_same_twice("deb", "dpkg-deb")),
+    ("two tar files are the same", is_same_twice("dist")),
+    ("the Debian package has its files, and its program plays", deb_is_well),
+    ("lintian finds no error and no warning", lintian_is_silent),
+    ("the Debian package is installed below another root, and plays", runs_in_a_root),
+]

@@ -1,0 +1,93 @@
+"""The README's commands, as they stand there: each is run, on a port that is free and with the program that is tested."""
+
+import os
+import re
+import subprocess
+import tempfile
+import time
+
+from program import LIMIT, PROGRAM, ROOT, free_port, wants_same
+
+PROGRAM_THERE = "crates/ymodem/out/ymodem"
+
+
+def readme():
+    with open(os.path.join(ROOT, "README.md"), encoding="utf-8") as it:
+        return it.read()
+
+
+def line(words):
+    """The README's only line that begins so, without its remark."""
+    found = re.findall(r"^%s.*$" % re.escape(words), readme(), re.M)
+    if len(found) != 1:
+        raise AssertionError("the README has %d lines that begin with %r" % (len(found), words))
+    return found[0].partition(" # ")[0].strip()
+
+
+def started(words, folder):
+    """A line of the README in a shell, in a folder."""
+    how = {"stdin": subprocess.DEVNULL, "stdout": subprocess.PIPE, "stderr": subprocess.PIPE, "text": True}
+    script = 'ymodem() { "$YMODEM" "$@"; }; ' + words
+    return subprocess.Popen(["bash", "-c", script], cwd=folder, env={**os.environ, "YMODEM": PROGRAM}, **how)
+
+
+def ended(child, words):
+    try:
+        out, err = child.communicate(timeout=LIMIT)
+    except subprocess.TimeoutExpired:
+        child.kill()
+        child.communicate()
+        raise AssertionError("%s never ended" % words) from None
+    if child.returncode:
+        raise AssertionError("%s: status %d, %r" % (words, child.returncode, err))
+    return out
+
+
+def example():
+    """The session that it shows is what the program prints."""
+    found = re.search(r"^\$ (printf .*)\n((?:.+\n)+?)```", readme(), re.M)
+    if not found or PROGRAM_THERE not in found[1]:
+        raise AssertionError("the README shows no session")
+    words = found[1].replace(PROGRAM_THERE, "ymodem")
+    with tempfile.TemporaryDirectory(prefix="ymodem-") as top:
+        wants_same({"the session": ended(started(words, top), words)}, {"the session": found[2]})
+
+
+def listens(port):
+    with open("/proc/net/tcp", encoding="ascii") as it:
+        return any(row.split()[1].endswith(":%04X" % port) and row.split()[3] == "0A" for row in list(it)[1:])
+
+
+def send_and_receive():
+    port = free_port()
+    receive, send = (line("ymodem %s --port 4000" % it).replace("4000", str(port)) for it in ("receive", "send"))
+    with tempfile.TemporaryDirectory(prefix="ymodem-") as top:
+        os.mkdir(os.path.join(top, "downloads"))
+        for name in ("firmware.bin", "settings.txt"):
+            with open(os.path.join(top, name), "w", encoding="utf-8") as it:
+                it.write(name * 100)
+        receiver = started(receive, top)
+        until = time.monotonic() + LIMIT
+        while not listens(port) and receiver.poll() is None and time.monotonic() < until:
+            time.sleep(0.02)
+        try:
+            ended(started(send, top), send)
+            ended(receiver, receive)
+        finally:
+            receiver.kill()
+        wants_same({it: None for it in os.listdir(os.path.join(top, "downloads"))}, {"firmware.bin": None, "settings.txt": None})
+
+
+def loop():
+    words = line("ymodem loop --port 4000").replace("4000", str(free_port()))
+    with tempfile.TemporaryDirectory(prefix="ymodem-") as top:
+        with open(os.path.join(top, "script"), "w", encoding="utf-8") as it:
+            it.write("file a.txt 48656C6C6F\nok 6\n")
+        wants_same({"the end": ended(started(words, top), words).splitlines()[-1]}, {"the end": "receiver files 1 finished"})
+
+
+CHECKS = [
+    ("the README's session", example),
+    ("the README's lines to receive and to send", send_and_receive),
+    ("the README's line to play over a connection", loop),
+]

@@ -1,0 +1,245 @@
+#!/usr/bin/env python3
+"""Builds the program by `rt run`, which proves what changed, and shows meanwhile which crate is being proved.
+
+On a terminal that is one line, rewritten in place; elsewhere it is a line a crate. What `rt` says is kept in out/build.log, and is shown where it
+fails. A build that is interrupted goes on where it was, since `rt` keeps what it has proved.
+
+usage: prove.py [play|check]
+  play    plays the example session, by the program where it is built and no source has changed since, else by `rt try`, which proves nothing
+  check   builds, and tries the tests of the crates that changed since the last green run, unproved
+"""
+
+import contextlib
+import hashlib
+import json
+import os
+import re
+import signal
+import subprocess
+import sys
+import threading
+import time
+
+ROOT = os.path.dirname(os.path.dirname(os.path.abspath(__file__)))
+CRATES = os.path.join(ROOT, "crates")
+TOP = os.path.join(CRATES, "ymodem")
+PROGRAM = os.path.join(TOP, "out", "ymodem")
+LOG = os.path.join(ROOT, "out", "build.log")
+GREEN = os.path.join(ROOT, "out", "green.json")
+# What a crate is made of. Its out/ is made by rt.
+PARTS = ("src", "specs", "proofs", "must-fail", "stdin", "stdout")
+
+BEGUN = re.compile(r"rt: chose --jobs \d+ for (\w+)")
+COUNTED = re.compile(r"so far: (\d+) of (\d+) functions checked")
+# Lines of a proof that went well.
+QUIET = re.compile(r".*: proved$|statements |logic |library |so far: |rt: chose|by-macro: |only=0|crate \w+: modules|rt: the quick pass")
+
+
+def crates():
+    """The crates of this repository, lowest first, each with those that it uses."""
+    with open(os.path.join(ROOT, "crates.txt"), encoding="utf-8") as it:
+        lines = [line.partition(":") for line in it if line.strip() and not line.startswith("#")]
+    return {name.split()[0]: used.split() for name, _, used in lines}
+
+
+def of_program():
+    """The names of the program's crates, lowest first."""
+    found = crates()
+    return [name for name in found if name in (*found["ymodem"], "ymodem")]
+
+
+class Shown:
+    """A line about what is going on, with the minutes so far: rewritten in place on a terminal, and new only when the crate is another one elsewhere."""
+
+    def __init__(self, to):
+        self.to, self.began, self.is_terminal = to, time.monotonic(), to.isatty()
+        self.what, self.more, self.told = "", "", None
+        self.lock, self.is_over = threading.Lock(), threading.Event()
+        if self.is_terminal:
+            threading.Thread(target=self.keep_time, daemon=True).start()
+
+    def minutes(self):
+        return "%d:%02d min" % divmod(time.monotonic() - self.began, 60)
+
+    def keep_time(self):
+        while not self.is_over.wait(1):
+            self.draw()
+
+    def tell(self, what, more=""):
+        self.what, self.more = what, more
+        self.draw()
+
+    def draw(self):
+        with self.lock:
+            if self.is_over.is_set() or not self.what:
+                return
+            if self.is_terminal:
+                width = os.get_terminal_size(self.to.fileno()).columns or 80
+                line = "%s%s, %s" % (self.what, self.more, self.minutes())
+                self.to.write("\r\x1b[K" + line[: width - 1])
+            elif self.what != self.told:
+                self.to.write("%s (%s so far)\n" % (self.what, self.minutes()))
+            self.told = self.what
+            self.to.flush()
+
+    def clear(self):
+        """Takes the line away."""
+        with self.lock:
+            if self.is_terminal and self.told and not self.is_over.is_set():
+                self.to.write("\r\x1b[K")
+                self.to.flush()
+            self.is_over.set()
+
+
+def log_file():
+    """Where what `rt` says is kept, if that can be written."""
+    try:
+        os.makedirs(os.path.dirname(LOG), exist_ok=True)
+        return open(LOG, "w", encoding="utf-8", buffering=1)
+    except OSError:
+        return open(os.devnull, "w", encoding="utf-8")
+
+
+def followed(words, folder, given, hear):
+    """Runs a command, and has each line that it says heard. Gives its status. It ends with this script."""
+    with open(given, "rb") as it:
+        child = subprocess.Popen(words, cwd=folder, stdin=it, stdout=subprocess.PIPE, stderr=subprocess.STDOUT, text=True, errors="replace")
+    try:
+        for line in child.stdout:
+            hear(line)
+        return child.wait()
+    finally:
+        if child.poll() is None:
+            child.terminate()
+            child.wait()
+
+
+def build():
+    """Proves what changed, and builds. Whatever goes wrong ends this script."""
+    names, shown, said = of_program(), Shown(sys.stderr), []
+    kept = log_file()
+
+    def hear(line):
+        kept.write(line)
+        said.append(line)
+        begun, counted = BEGUN.match(line), COUNTED.match(line)
+        if begun and begun[1] in names:
+            shown.tell("proving crate %d of %d, %s" % (names.index(begun[1]) + 1, len(names), begun[1]))
+            said.clear()
+        elif line.startswith("rt: waiting for another rt"):
+            shown.tell("waiting for another rt that works in this folder")
+        elif counted:
+            shown.tell(shown.what, ": %s of %s functions" % counted.groups())
+
+    with kept:
+        shown.tell("reading %d crates" % len(names))
+        status = followed(["rt", "run"], TOP, os.path.join(TOP, "stdin"), hear)
+        shown.clear()
+    if status:
+        sys.stderr.write("".join(it for it in said if not QUIET.match(it)))
+        sys.exit("the build failed; all that rt said is in %s" % os.path.relpath(LOG))
+    # It is newer than its sources now, also where nothing had to be built.
+    with contextlib.suppress(OSError):
+        os.utime(PROGRAM)
+    print("%s is proved and built (%s)" % (os.path.relpath(PROGRAM), shown.minutes()), file=sys.stderr)
+
+
+def sources(name):
+    """The files of a crate, in order."""
+    for part in PARTS:
+        top = os.path.join(CRATES, name, part)
+        if os.path.isfile(top):
+            yield top
+        for folder, folders, files in os.walk(top):
+            folders.sort()
+            for it in sorted(files):
+                yield os.path.join(folder, it)
+
+
+def is_current():
+    """Whether the program is built, and no source has changed since."""
+    if not os.access(PROGRAM, os.X_OK):
+        return False
+    built = os.stat(PROGRAM).st_mtime
+    files = [os.path.join(ROOT, "crates.txt"), *(it for name in of_program() for it in sources(name))]
+    return all(os.stat(it).st_mtime <= built for it in files)
+
+
+def play():
+    given = os.path.join(TOP, "stdin")
+    if is_current():
+        with open(given, "rb") as it:
+            return subprocess.run([PROGRAM, "play"], stdin=it, check=False).returncode
+    shown = Shown(sys.stderr)
+    shown.tell("building without proofs, about a minute")
+    with open(given, "rb") as it:
+        ran = subprocess.run(["rt", "try", "--", "play"], cwd=TOP, stdin=it, capture_output=True, check=False)
+    shown.clear()
+    # Its last line says how the program ended; without it, it was not run.
+    if b"run=ended status=%d " % ran.returncode not in ran.stderr:
+        sys.stderr.buffer.write(ran.stderr)
+        return ran.returncode or 1
+    print("this run is not proved: make build proves it (minutes the first time)", file=sys.stderr, flush=True)
+    sys.stdout.buffer.write(ran.stdout)
+    return ran.returncode
+
+
+def sum_of(name):
+    found = hashlib.sha256()
+    for it in sources(name):
+        found.update(os.path.relpath(it, CRATES).encode() + b"\0")
+        with open(it, "rb") as opened:
+            found.update(hashlib.sha256(opened.read()).digest())
+    return found.hexdigest()
+
+
+def has_tests(name):
+    for it in sources(name):
+        if it.endswith(".rt"):
+            with open(it, encoding="utf-8") as opened:
+                if re.search(r"^\s*#\[test\]", opened.read(), re.M):
+                    return True
+    return False
+
+
+def check():
+    try:
+        with open(GREEN, encoding="utf-8") as it:
+            green = json.load(it)
+    except (OSError, ValueError):
+        green = {}
+    now = {name: sum_of(name) for name in crates()}
+    changed = [name for name in now if green.get(name) != now[name]]
+    build()
+    shown, failed, proved = Shown(sys.stderr), [], of_program()
+    for at, name in enumerate(changed, 1):
+        verbs = [["check"]] * (name not in proved) + [["try", "--test"]] * has_tests(name)
+        for words in verbs:
+            shown.tell("rt %s: %s, crate %d of the %d that changed" % (" ".join(words), name, at, len(changed)))
+            tried = subprocess.run(["rt", *words], cwd=os.path.join(CRATES, name), stdin=subprocess.DEVNULL, capture_output=True, check=False)
+            if tried.returncode:
+                failed.append(name)
+                sys.stderr.write("\n" + (tried.stdout + tried.stderr).decode(errors="replace"))
+                break
+        if name not in failed:
+            green[name] = now[name]
+    shown.clear()
+    with open(GREEN, "w", encoding="utf-8") as it:
+        json.dump(green, it)
+    print("changed since the last green run: %s; failed: %s" % (" ".join(changed) or "nothing", " ".join(failed) or "nothing"), file=sys.stderr)
+    return 1 if failed else 0
+
+
+def main(words):
+    verbs = {(): build, ("play",): play, ("check",): check}
+    if tuple(words) not in verbs:
+        sys.exit(__doc__)
+    signal.signal(signal.SIGTERM, lambda *_: sys.exit(143))
+    try:
+        return verbs[tuple(words)]()
+    except KeyboardInterrupt:
+        print("\ninterrupted" + ("" if words == ["play"] else ": the next build goes on where this one was"), file=sys.stderr)
+        return 130
+
+
+sys.exit(main(sys.argv[1:]))
