@@ -1,6 +1,6 @@
 //! What a sender keeps beside its files and its frame, and what a delivery makes of it.
 
-ghost use Rattle.std.specs.Prelude.{◌≡◌, ◌<◌, true, false};
+ghost use Rattle.std.specs.Prelude.{◌≡◌, ◌<◌, ℕ, List, true, false};
 ghost use Rattle.ym_core.specs.Place.{IsPlace};
 ghost use Rattle.ym_core.specs.Reading.{controls_in};
 ghost use Rattle.ym_core.specs.Standing as table;
@@ -93,10 +93,12 @@ impl Standing {
         }
     }
 
-    /// After a delivery has been read.
-    fn after_reading(self, read: Reading) -> SendStep
+    /// After a delivery that a running sender has read, by `read_delivery` from its place and mode on: what `after` gives on its
+    /// bytes, without reading them again.
+    pub fn after_reading(self, read: Reading) -> SendStep
         requires { self.misses < 10 }
         ensures step { result ≡ table.after_reading self read.place read.mode read.stop }
+        ensures within { (counts : List ℕ) → IsPlace counts self.place → IsPlace counts read.place → IsPlace counts result.standing.place }
         ensures misses { result.standing.state ≡ SendState.Running → result.standing.misses < 10 }
     {
         let standing = match read.stop {

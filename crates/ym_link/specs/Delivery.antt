@@ -43,3 +43,8 @@ reads_in ends had (event.Piece (b ∷ bs) ∷ rest) =
     else (if ends (had ++ b ∷ bs) then 1
     else (if nat_le delivery_limit (length (had ++ b ∷ bs)) then 1
     else reads_in ends (had ++ b ∷ bs) rest + 1))
+
+-- the bytes of a delivery that stands at the front of a buffer, with its length
+abbrev pub bytes_read : {A : Type 0} → Result (ℕ × A) EndFault → List ℕ → Result (List ℕ) EndFault
+bytes_read (Ok found) buf = Ok (take found.0 buf)
+bytes_read (Err fault) buf = Err fault

@@ -5,7 +5,8 @@ use Rattle.ym_file.specs.declared.plan.Shape.{Shape}
 use Rattle.ym_link.specs.SourceFile.{FileParts, IsFile, file_at, filled, counts_of}
 use Rattle.ym_core.specs.Place.{IsPlace}
 use Rattle.ym_link.specs.FrameAt.{IsFrameAt}
-use Rattle.ym_core.specs.Reading.{controls_in}
+use Rattle.ym_core.specs.Reading.{controls_in, reads}
+use Rattle.ym_core.specs.declared.reading.Reading.{Reading}
 use Rattle.ym_core.specs.Standing.{hears, after_fill}
 use Rattle.ym_core.specs.declared.place.Place.{Place}
 use Rattle.ym_core.specs.declared.place.Place.TheVariants.{Block}
@@ -60,6 +61,12 @@ pub record IsStep (old : SenderParts) (taken : Step) (failed : Bool) (new : Send
 -- a sender hears a delivery: its own source tells whether it failed
 abbrev pub Hears : SenderParts → List ℕ → SenderParts → Type 0
 Hears old bytes new = (failed : Bool) × IsStep old (hears (counts old) old.standing (controls_in bytes)) failed new
+
+-- what a running sender reads in a delivery
+pub record IsReading (s : SenderParts) (bytes : List ℕ) (read : Reading) : Type 0 where
+  pub runs : s.standing.state ≡ Running
+  pub exact : read ≡ reads (counts s) s.standing.place s.standing.mode (controls_in bytes)
+  pub place : IsPlace (counts s) read.place
 
 -- what is to be sent: the frame held, CAN CAN, or nothing
 abbrev pub spoken_in : SendState → Mode → Bool → List ℕ → Option (List ℕ)

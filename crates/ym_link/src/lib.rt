@@ -2,6 +2,7 @@
 #![tactic(auto)]
 
 mod clearing;
+mod delivery;
 mod end_fault;
 mod event;
 mod exchange;

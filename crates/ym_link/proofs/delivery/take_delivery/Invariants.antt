@@ -1,20 +1,20 @@
--- What was taken so far is what the delivery begins with.
-use Rattle.std.proofs.Common.{◌-◌, ◌≡◌, ◌≤◌, List, [], take, length}
+-- What was taken so far is what the delivery begins with, and does not end it.
+use Rattle.std.proofs.Common.{◌-◌, ◌≡◌, ◌≤◌, ◌⊎◌, List, [], take, length, false}
 use Rattle.ym_link.specs.Port.{Tape}
 use Rattle.ym_link.specs.Delivery.{taken}
-use Rattle.ym_link.specs.SendOver.{settles}
 use Rattle.ym_link.specs.declared.port.Wait.{Wait}
 use Rattle.ym_link.proofs.Courses.{Reading}
 use Rattle.ym_link.proofs.Taking.{onward}
-use Rattle.ym_link.proofs.send_engine.read_delivery.Given as goal
+use Rattle.ym_link.proofs.delivery.take_delivery.Given as goal
 
 abbrev pub invariant-loop-len : goal.invariant-loop-len
 invariant-loop-len g l = record {
   within : l.len ≤ 2048;
   sized : length l.buf ≡ 2048;
+  goes_on : (l.len ≡ 0) ⊎ (g.L.Listener.ends l.listener (take l.len l.buf) ≡ false);
   told : (u : Tape) → g.P.Port.tells l.port u
       → (t : Tape) × g.P.Port.tells l.fn.port t × (u.written ≡ t.written)
-      × (taken (settles l.sender) [] t.coming ≡ onward (settles l.sender) (take l.len l.buf) u.coming);
+      × (taken (g.L.Listener.ends l.listener) [] t.coming ≡ onward (g.L.Listener.ends l.listener) (take l.len l.buf) u.coming);
   asked : (w : List Wait) → g.P.Port.asked l.port w → (v : List Wait) × g.P.Port.asked l.fn.port v × Reading l.len l.wait v w;
   calm : g.P.Port.failures l.port ≡ g.P.Port.failures l.fn.port;
 }
