@@ -13,10 +13,12 @@ ghost use Rattle.ym_header.specs.Text.{text, end_text};
 ghost use Rattle.ym_c.specs.Codes.{bool_code};
 ghost use Rattle.ym_c.specs.Fronts.{stamp_of};
 ghost use Rattle.ym_c.specs.Sending.{FitsC, KeepsPlace, send_code, KeepsStanding, Stands, IsFill, IsFilled, out_code};
+ghost use Rattle.ym_machine.specs.declared.limits.TheConstants.{GIVE_UP};
 
 use crate::codes::code_of_fault;
 use ym_core::{Batch, Mode, Place, SendState, Standing, first_place};
 use ym_frame::seal_block;
+use ym_machine::GIVE_UP;
 use ym_header::{HeaderRef, Stamp, write_body};
 
 /// A sender, and the frame that was filled last.
@@ -123,7 +125,7 @@ fn state_of(state: u32) -> Option<SendState>
 fn load(kept: &YmSender, blocks: &[u64]) -> Standing
     ensures kept { (s : Stood) → KeepsStanding kept.now s → Stands blocks.now s → result ≡ s }
     ensures place { IsPlace blocks.now result.place }
-    ensures misses { result.state ≡ Running → result.misses < 10 }
+    ensures misses { result.state ≡ Running → result.misses < GIVE_UP }
 {
     let Some(place) = place_of(kept, blocks) else {
         return ended();
@@ -132,7 +134,7 @@ fn load(kept: &YmSender, blocks: &[u64]) -> Standing
         return ended();
     };
     let misses = u8::try_from(kept.misses).unwrap_or(u8::MAX);
-    if state == SendState::Running && misses >= 10 {
+    if state == SendState::Running && misses >= GIVE_UP {
         return ended();
     }
     Standing {

@@ -16,6 +16,7 @@ use Rattle.ym_core.specs.declared.standing.Standing.{Standing}
 use Rattle.ym_core.specs.declared.standing.SendStep.{SendStep as Step}
 use Rattle.ym_core.specs.declared.state.SendState.{SendState}
 use Rattle.ym_core.specs.declared.state.SendState.TheVariants.{Running, NoReply, SourceFailed}
+use Rattle.ym_machine.specs.declared.limits.TheConstants.{GIVE_UP}
 
 -- the source of a data block's file was asked to fill, once, and nothing else of the batch changed
 pub record FilledAt (file : ℕ) (old new : List FileParts) : Type 0 where
@@ -82,5 +83,5 @@ spoken s = spoken_in s.standing.state s.standing.mode s.standing.farewell s.fram
 pub record IsSender (s : SenderParts) : Type 0 where
   pub files : All IsFile s.files
   pub place : IsPlace (counts s) s.standing.place
-  pub misses : s.standing.state ≡ Running → s.standing.misses < 10
+  pub misses : s.standing.state ≡ Running → s.standing.misses < GIVE_UP
   pub frame : s.standing.state ≡ Running → s.standing.mode ≡ Sent → IsFrameAt s.shape s.files s.standing.place s.frame

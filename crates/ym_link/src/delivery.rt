@@ -6,6 +6,7 @@ ghost use Rattle.ym_link.specs.Course.{ReadOnce};
 ghost use Rattle.ym_link.specs.Delivery.{taken, bytes_read};
 ghost use Rattle.ym_link.specs.Port.{Tape};
 ghost use Rattle.ym_link.specs.declared.port.Wait.{Wait as Asked};
+ghost use Rattle.ym_link.specs.declared.port.TheConstants.{DELIVERY_LIMIT};
 
 use crate::end_fault::EndFault;
 use crate::port::{DELIVERY_LIMIT, Got, Port, PortFault, Wait};
@@ -38,10 +39,10 @@ pub(crate) trait Listener {
 pub(crate) fn take_delivery<P: Port, L: Listener>(
     port: &mut P,
     listener: &L,
-    buf: &mut [u8; 2048],
+    buf: &mut [u8; DELIVERY_LIMIT],
 ) -> Result<(usize, Option<L::Found>), EndFault>
     requires { L.listens listener.now }
-    ensures within { IfOk result (λ d. d.0 ≤ 2048) }
+    ensures within { IfOk result (λ d. d.0 ≤ DELIVERY_LIMIT) }
     ensures told { (u : Tape) → P.tells port.new u → (t : Tape) × P.tells port.old t
         × (bytes_read result buf.new ≡ (taken (L.ends listener.now) [] t.coming).delivery)
         × (u ≡ record t { coming = (taken (L.ends listener.now) [] t.coming).rest }) }

@@ -31,7 +31,7 @@ pub struct Front {
 pub struct Exchange {
     /// How many answers may be under way: one for each write whose answer did not come. Two stands for more.
     pub owed: u8,
-    /// How many bytes came since the last write; 2048 stands for more.
+    /// How many bytes came since the last write; [`DELIVERY_LIMIT`] stands for more.
     pub came: usize,
     /// Whether the last read found the line quiet.
     pub is_quiet: bool,

@@ -8,6 +8,7 @@ ghost use Rattle.ym_link.specs.SourceFile.{IsFile, counts_of};
 ghost use Rattle.ym_core.specs.Place.{IsPlace, done_at};
 ghost use Rattle.ym_link.specs.FrameAt.{IsFrameAt};
 ghost use Rattle.ym_link.specs.Sender.{IsFilled};
+ghost use Rattle.ym_machine.specs.declared.limits.TheConstants.{MOST_FILES};
 
 #[cfg(test)]
 mod stand;
@@ -19,10 +20,8 @@ use std::marker::Model;
 use ym_core::{Mode, Place, Reading, SendState, SendStep, Standing, first_place, read_delivery};
 use ym_file::{MemSource, Shape, Source, SourceFault};
 use ym_frame::{Item, Reply, encode};
+use ym_machine::MOST_FILES;
 use ym_header::{Header, write, write_end};
-
-/// How many files a batch may have.
-const MOST_FILES: usize = 65_535;
 
 /// Sends a batch of files, whose bytes come from sources.
 #[derive(Drop)]
@@ -140,7 +139,7 @@ impl<S: Source> SenderFrom<S> {
         ensures standing { IfOk result (λ sender. sender.standing ≡ new_standing (counts_of shape batch.items)) }
         ensures shape { IfOk result (λ sender. sender.shape ≡ shape) }
         ensures files { IfOk result (λ sender. sender.files ≡ batch.items) }
-        ensures valid { IsOk result ↔ (length batch.items ≤ 65535) }
+        ensures valid { IsOk result ↔ (length batch.items ≤ MOST_FILES) }
         ensures refused { IfErr result (λ fault. fault ≡ BatchFault.TooMany batch) }
     {
         if batch.len() > MOST_FILES {

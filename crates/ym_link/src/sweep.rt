@@ -4,6 +4,7 @@ ghost use Rattle.std.specs.Prelude.{◌≡◌, OnOk, OnErr};
 ghost use Rattle.ym_file.specs.Counts.{Rose};
 ghost use Rattle.ym_link.specs.Port.{Tape, read_gives, read_leaves};
 ghost use Rattle.ym_link.specs.Sweep as table;
+ghost use Rattle.ym_link.specs.declared.port.TheConstants.{DELIVERY_LIMIT};
 
 use crate::exchange::Role;
 use crate::port::{DELIVERY_LIMIT, Got, Port, PortFault, Wait};
@@ -158,11 +159,11 @@ fn read_on<P: Port>(
     port: &mut P,
     role: Role,
     sweep: Sweep,
-    buf: &mut [u8; 2048],
+    buf: &mut [u8; DELIVERY_LIMIT],
 ) -> Result<Option<Sweep>, PortFault>
     ensures told { (u : Tape) → P.tells port.new u → (t : Tape) × P.tells port.old t
-        × (result ≡ table.after_read role sweep (read_gives 2048 t.coming))
-        × (u ≡ record t { coming = read_leaves 2048 t.coming }) }
+        × (result ≡ table.after_read role sweep (read_gives DELIVERY_LIMIT t.coming))
+        × (u ≡ record t { coming = read_leaves DELIVERY_LIMIT t.coming }) }
     ensures ok { OnOk result (P.failures port.new ≡ P.failures port.old) }
     ensures failed { OnErr result (Rose (P.failures port.old) (P.failures port.new)) }
 {

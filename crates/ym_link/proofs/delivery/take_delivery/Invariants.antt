@@ -6,11 +6,12 @@ use Rattle.ym_link.specs.declared.port.Wait.{Wait}
 use Rattle.ym_link.proofs.Courses.{Reading}
 use Rattle.ym_link.proofs.Taking.{onward}
 use Rattle.ym_link.proofs.delivery.take_delivery.Given as goal
+use Rattle.ym_link.specs.declared.port.TheConstants.{DELIVERY_LIMIT}
 
 abbrev pub invariant-loop-len : goal.invariant-loop-len
 invariant-loop-len g l = record {
-  within : l.len ≤ 2048;
-  sized : length l.buf ≡ 2048;
+  within : l.len ≤ DELIVERY_LIMIT;
+  sized : length l.buf ≡ DELIVERY_LIMIT;
   goes_on : (l.len ≡ 0) ⊎ (g.L.Listener.ends l.listener (take l.len l.buf) ≡ false);
   told : (u : Tape) → g.P.Port.tells l.port u
       → (t : Tape) × g.P.Port.tells l.fn.port t × (u.written ≡ t.written)
@@ -20,4 +21,4 @@ invariant-loop-len g l = record {
 }
 
 abbrev pub decreases-loop-len : goal.decreases-loop-len
-decreases-loop-len g l = 2048 - l.len
+decreases-loop-len g l = DELIVERY_LIMIT - l.len

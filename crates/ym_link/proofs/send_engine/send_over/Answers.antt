@@ -13,6 +13,7 @@ use Rattle.ym_link.proofs.Courses.{asks-none, asks-more, asks-behind}
 use Rattle.ym_link.proofs.SenderBound.{course-is, course-none}
 use Rattle.ym_link.proofs.SenderDeliveries.{step-fewer}
 use Rattle.ym_link.proofs.send_engine.send_over.Goals as goal
+use Rattle.ym_link.specs.declared.port.TheConstants.{DELIVERY_LIMIT}
 
 -- the last write
 finishes : (s : SenderParts) (u new : Tape) (result : Result Unit EndFault) → IsSender s → s.standing.state ≢ Running
@@ -85,8 +86,8 @@ loop-buf-preserved g c = record {
       let old = c.loop-buf.invariant.course in
       let bytes = take c.in_ok-len.len c.take_delivery.new.buf in
       let on : c.loop-buf.sender.standing.state ≡ Running = search rules in
-      let within : c.in_ok-len.len ≤ 2048 = search rules in
-      let short : length bytes ≤ 2048 = let most = length-take c.in_ok-len.len c.take_delivery.new.buf in omega (arith, within, most) in (
+      let within : c.in_ok-len.len ≤ DELIVERY_LIMIT = search rules in
+      let short : length bytes ≤ DELIVERY_LIMIT = let most = length-take c.in_ok-len.len c.take_delivery.new.buf in omega (arith, within, most) in (
         old.0 ++ bytes ∷ [],
         old.1 + sender_progress_at c.hear_found.new.self,
         sender_more c.args.sender.now old.0 old.1 c.loop-buf.sender bytes c.hear_found.new.self old.2 c.write_frame.ensures.sender on short (search rules),
