@@ -9,9 +9,6 @@ use Rattle.ym_link.specs.declared.end_fault.EndFault.{EndFault}
 use Rattle.ym_link.specs.declared.end_fault.EndFault.TheVariants as fault
 use Rattle.ym_link.specs.declared.port.TheConstants.{DELIVERY_LIMIT}
 
--- how many bytes a delivery has at most
-abbrev pub DELIVERY_LIMIT : ℕ
-
 -- a delivery, or why there is none, and the events behind it
 pub record Taken : Type 0 where
   pub delivery : Result (List ℕ) EndFault
