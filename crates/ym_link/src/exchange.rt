@@ -71,7 +71,12 @@ impl Front {
 fn all_ask(bytes: &[u8]) -> bool
     ensures { result ≡ table.all_ask bytes.now }
 {
-    bytes.iter().all(|byte| *byte == b'C')
+    for byte in bytes {
+        if *byte != b'C' {
+            return false;
+        }
+    }
+    true
 }
 
 impl Exchange {
