@@ -1,8 +1,9 @@
 //! A port that lets the line clear before it writes, where more answers may be under way than one.
 
-ghost use Rattle.std.specs.Prelude.{◌≡◌, ◌<◌, ◌≤◌, ℕ, Ok, Err, OnOk, OnErr, length, is_ok};
+ghost use Rattle.std.specs.Prelude.{◌≡◌, ◌<◌, ◌≤◌, ℕ, List, Ok, Err, OnOk, OnErr, length, is_ok};
 ghost use Rattle.ym_file.specs.Counts.{Rose};
 ghost use Rattle.ym_link.specs.Clearing as table;
+ghost use Rattle.ym_link.specs.Exchange.{front_of, must_clear};
 ghost use Rattle.ym_link.specs.Port.{Tape, seen_of, read_gives, read_leaves, after_write};
 
 use crate::exchange::{Exchange, Front, Role};
@@ -21,18 +22,7 @@ pub struct Talk {
 }
 
 impl Talk {
-    ghost use Rattle.ym_link.specs.Clearing.{new_talk, said, gave};
-
-    /// Nothing was said or heard.
-    fn new(role: Role) -> Talk
-        ensures { result ≡ new_talk role }
-    {
-        Talk {
-            role,
-            exchange: Exchange::new(),
-            held: Held::Nothing,
-        }
-    }
+    ghost use Rattle.ym_link.specs.Clearing.{gave};
 
     /// Takes that so many bytes that were held were heard.
     fn give(&mut self, count: usize, held: Held)
@@ -41,29 +31,19 @@ impl Talk {
         self.exchange.hear(count);
         self.held = held;
     }
-
-    /// After these bytes were written.
-    fn said(self, bytes: &[u8], held: Held) -> Talk
-        ensures { result ≡ said bytes.now held self }
-    {
-        Talk {
-            role: self.role,
-            exchange: self.exchange.wrote(self.role, Front::of(bytes)),
-            held,
-        }
-    }
 }
 
-/// Lets the line clear, where it has to before these bytes are written, and answers what is to be heard yet.
-fn clear_for<P: Port>(port: &mut P, talk: Talk, bytes: &[u8]) -> Result<Held, PortFault>
+/// Lets the line clear, where it has to before the next write, and answers what is to be heard yet.
+#[inline(always)]
+fn clear_for<P: Port>(port: &mut P, talk: &Talk, clears: bool) -> Result<Held, PortFault>
     ensures told { (u : Tape) → P.tells port.new u → (t : Tape) × P.tells port.old t
-        × (result ≡ (table.cleared talk bytes.now t.coming).answer)
-        × (u ≡ record t { coming = (table.cleared talk bytes.now t.coming).rest }) }
+        × ((bytes : List ℕ) → clears ≡ must_clear talk.now.role talk.now.exchange (front_of bytes)
+        → (result ≡ (table.cleared talk.now bytes t.coming).answer) × (u ≡ record t { coming = (table.cleared talk.now bytes t.coming).rest })) }
     ensures ok { OnOk result (P.failures port.new ≡ P.failures port.old) }
     ensures failed { OnErr result (Rose (P.failures port.old) (P.failures port.new)) }
 {
     match talk.held {
-        Held::Nothing if talk.exchange.must_clear(talk.role, Front::of(bytes)) => {
+        Held::Nothing if clears => {
             let_clear(
                 port,
                 talk.role,
@@ -96,11 +76,16 @@ impl<P: Port + Drop> Clearing<P> {
     {
         Clearing {
             port,
-            talk: Talk::new(role),
+            talk: Talk {
+                role,
+                exchange: Exchange::new(),
+                held: Held::Nothing,
+            },
         }
     }
 
     /// Reads what is there, or waits.
+    #[inline(always)]
     fn read_once(&mut self, wait: Wait, buf: &mut [u8]) -> Result<Got, PortFault>
         requires { 0 < length buf.old }
         ensures count { (n : ℕ) → result ≡ Ok (Got.Bytes n) → (0 < n) × (n ≤ length buf.old) }
@@ -115,6 +100,7 @@ impl<P: Port + Drop> Clearing<P> {
     }
 
     /// The same, for a short time, and past what asks for the block 0 that was just written.
+    #[inline(always)]
     fn read_fresh(&mut self, buf: &mut [u8]) -> Result<Got, PortFault>
         requires { 0 < length buf.old }
         ensures count { (n : ℕ) → result ≡ Ok (Got.Bytes n) → (0 < n) × (n ≤ length buf.old) }
@@ -134,6 +120,7 @@ impl<P: Port + Drop> Clearing<P> {
     }
 
     /// Reads what is there, or waits: for a reply a short time first, and then the rest of it.
+    #[inline(always)]
     fn read_patiently(&mut self, wait: Wait, buf: &mut [u8]) -> Result<Got, PortFault>
         requires { 0 < length buf.old }
         ensures count { (n : ℕ) → result ≡ Ok (Got.Bytes n) → (0 < n) × (n ≤ length buf.old) }
@@ -153,6 +140,7 @@ impl<P: Port + Drop> Clearing<P> {
     }
 
     /// Reads what is to be heard yet, or what is there.
+    #[inline(always)]
     fn read_next(&mut self, wait: Wait, buf: &mut [u8]) -> Result<Got, PortFault>
         requires { 0 < length buf.old }
         ensures count { (n : ℕ) → result ≡ Ok (Got.Bytes n) → (0 < n) × (n ≤ length buf.old) }
@@ -228,9 +216,14 @@ impl<P: Port + Drop> Port for Clearing<P> {
         ensures ok { OnOk result (P.failures self.new.port ≡ P.failures self.old.port) }
         ensures failed { OnErr result (Rose (P.failures self.old.port) (P.failures self.new.port)) }
     {
-        let talk = self.talk;
-        let held = clear_for(&mut self.port, talk, bytes)?;
-        self.talk = talk.said(bytes, held);
+        let next = Front::of(bytes);
+        let is_same = self.talk.exchange.last.is(next);
+        let clears = self.talk.exchange.must_clear(self.talk.role, is_same);
+        let held = clear_for(&mut self.port, &self.talk, clears)?;
+        self.talk.held = held;
+        self.talk
+            .exchange
+            .wrote(self.talk.role, next, is_same, clears);
         self.port.write(bytes)
     }
 }

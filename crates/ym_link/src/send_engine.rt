@@ -17,6 +17,7 @@ use ym_core::SendState;
 use ym_file::Source;
 
 /// Writes what is to be sent now, if there is anything.
+#[inline(always)]
 fn write_frame<P: Port, S: Source>(port: &mut P, sender: &SenderFrom<S>) -> Result<(), EndFault>
     ensures told { (u : Tape) → P.tells port.new u →
         (t : Tape) × P.tells port.old t × (u ≡ after_write (is_ok result) t (written_for (spoken sender.now))) }

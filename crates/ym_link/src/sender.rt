@@ -91,6 +91,17 @@ fn copy_header(header: &Header, buffer: &mut [u8; 1029]) -> usize
     copy_frame(&Item::Block(write(header)), buffer)
 }
 
+/// The same for an EOT.
+#[cold]
+#[inline(never)]
+fn copy_eot(buffer: &mut [u8; 1029]) -> usize
+    ensures frame { IsFrame FrameItem.Eot (take result buffer.new) }
+    ensures length { result ≤ 1029 }
+    ensures buffer { length buffer.new ≡ 1029 }
+{
+    copy_frame(&Item::Eot, buffer)
+}
+
 /// The same for the end block.
 #[cold]
 #[inline(never)]
@@ -124,7 +135,7 @@ fn frame_at<S: Source>(
             let one = &mut files[file];
             one.frame(shape, number, buffer)
         }
-        Place::Eot { .. } => Ok(copy_frame(&Item::Eot, buffer)),
+        Place::Eot { .. } => Ok(copy_eot(buffer)),
         Place::End => Ok(copy_end(buffer)),
     }
 }
@@ -263,6 +274,10 @@ impl<S: Source> Listener for SenderFrom<S> {
     fn found_in(&self, bytes: &[u8]) -> Option<Reading> {
         let standing = self.standing;
         let read = read_delivery(&self.shaped(), standing.place, standing.mode, bytes);
-        if read.stop.is_some() { Some(read) } else { None }
+        if read.stop.is_some() {
+            Some(read)
+        } else {
+            None
+        }
     }
 }

@@ -121,28 +121,6 @@ impl Sweep {
         }
     }
 
-    /// After these bytes were dropped.
-    fn dropped(self, role: Role, bytes: &[u8]) -> Sweep
-        ensures { result ≡ table.dropped role bytes.now self }
-    {
-        Sweep {
-            quiet_left: quiet_waits(role),
-            waits_left: self.waits_left,
-            heed: self.heed.after_all(role, bytes),
-        }
-    }
-
-    /// After one more quiet wait.
-    fn waited(self) -> Sweep
-        ensures { result ≡ table.waited self }
-    {
-        Sweep {
-            quiet_left: self.quiet_left.saturating_sub(1),
-            waits_left: self.waits_left.saturating_sub(1),
-            heed: Heed::Open,
-        }
-    }
-
     /// Whether the line is clear, or will not get clearer; or the other end cancelled.
     fn is_over(self) -> bool
         ensures { result ≡ table.is_over self }
@@ -168,8 +146,16 @@ fn read_on<P: Port>(
     ensures failed { OnErr result (Rose (P.failures port.old) (P.failures port.new)) }
 {
     match port.read(Wait::Within, buf) {
-        Ok(Got::Bytes(n)) => Ok(Some(sweep.dropped(role, &buf[..n]))),
-        Ok(Got::Quiet) => Ok(Some(sweep.waited())),
+        Ok(Got::Bytes(n)) => Ok(Some(Sweep {
+            quiet_left: quiet_waits(role),
+            waits_left: sweep.waits_left,
+            heed: sweep.heed.after_all(role, &buf[..n]),
+        })),
+        Ok(Got::Quiet) => Ok(Some(Sweep {
+            quiet_left: sweep.quiet_left.saturating_sub(1),
+            waits_left: sweep.waits_left.saturating_sub(1),
+            heed: Heed::Open,
+        })),
         Ok(Got::Closed) => Ok(None),
         Err(fault) => Err(fault),
     }
