@@ -1,0 +1,102 @@
+-- Whatever comes, what a receiver has committed was spelled by what it heard in the call.
+use Rattle.std.proofs.Common.{◌≡◌, inl, inr, ℕ, List, [], ◌∷◌, ◌++◌, Result, Ok, Err, refl, sym, ap, subst, arith, append_assoc, append-nil}
+use Rattle.ym_frame.specs.declared.frame.Item.{Item}
+use Rattle.ym_file.specs.Kept.{Kept, IsNew, TellsNone}
+use Rattle.ym_machine.specs.declared.confirm.Confirm.{Confirm}
+use Rattle.ym_pair.specs.AnyPeer.{CommitsTheHeard, AreAmong, spelling}
+use Rattle.ym_pair.specs.Logs.{heard_in, came_at, came_in}
+use Rattle.ym_core.specs.declared.delivery.Heard.{Heard}
+use Rattle.ym_core.specs.declared.delivery.Heard.TheVariants as heard
+use Rattle.ym_core.specs.declared.stage.Stage.{Stage}
+use Rattle.ym_core.specs.declared.stage.Stage.TheVariants.{AwaitHeader, InFile}
+use Rattle.ym_core.specs.Receiver.{Receiver, new_receiver}
+use Rattle.ym_link.specs.ReceiverInto.{ReceiverParts}
+use Rattle.ym_link.specs.Port.{Tape}
+use Rattle.ym_link.specs.ReceiveOver.{Outcome, Receives, ended, unread, unheard, unwritten, heard_at, delivery_at}
+use Rattle.ym_link.specs.ReceiveOver as receiving
+use Rattle.ym_core.specs.Hearing.{heard_of}
+use Rattle.ym_link.specs.declared.end_fault.EndFault.{EndFault}
+use Rattle.ym_pair.proofs.Spelling.{Holds, OpenHolds, IsHeardAs, nothing}
+use Rattle.ym_pair.proofs.SpellingTable.{Behind, hears-holds}
+
+-- ---- A run
+
+among-skip : (h : Heard) (items : List Item) (all : List Heard) → AreAmong items all → AreAmong items (h ∷ all)
+among-skip h [] all among = tt
+among-skip h (i ∷ items) all among = inr among
+
+among-more : (h : Heard) (first items : List Item) (all : List Heard) → IsHeardAs h first → AreAmong items all → AreAmong (first ++ items) (h ∷ all)
+among-more h [] items all heard_as among = among-skip h items all among
+among-more h (i ∷ []) items all heard_as among = inl (heard_as, among)
+among-more h (i ∷ j ∷ first) items all heard_as among = absurd heard_as
+
+-- what was heard is read off the delivery that came
+came-heard : (came : Result (List ℕ) EndFault) (h : Heard) → receiving.heard_in came ≡ Ok h → heard_of (came_in came) ≡ h
+came-heard (Ok bytes) h is = cc
+came-heard (Err fault) h is = absurd (cc)
+
+among-came : (t : Tape) (h : Heard) (first items : List Item) (all : List Heard) → heard_at t ≡ Ok h → IsHeardAs h first → AreAmong items all →
+    AreAmong (first ++ items) (heard_of (came_at t) ∷ all)
+among-came t h first items all some heard_as among =
+    subst (λ x. AreAmong (first ++ items) (x ∷ all)) (sym (came-heard (delivery_at t).delivery h some)) (among-more h first items all heard_as among)
+
+among-front : (front more : List Item) (all : List Heard) → AreAmong (front ++ more) all → AreAmong front all
+among-front [] more all among = tt
+among-front (i ∷ front) more [] among = absurd among
+among-front (i ∷ front) more (h ∷ all) (inl here) = inl (here.0, among-front front more all here.1)
+among-front (i ∷ front) more (h ∷ all) (inr later) = inr (among-front (i ∷ front) more all later)
+
+record Spelt (confirm : Confirm) (items : List Item) (all : List Heard) (new : ReceiverParts) : Type 0 where
+  more : List Item
+  among : AreAmong more all
+  holds : Holds confirm (items ++ more) new.receiver.stage new.kept
+
+spelt-none : (confirm : Confirm) (items : List Item) (all : List Heard) (r : ReceiverParts) → Holds confirm items r.receiver.stage r.kept → Spelt confirm items all r
+spelt-none confirm items all r holds = record { more = []; among = tt; holds = nothing confirm items heard.Bad r.kept r.receiver.stage holds }
+
+run-spelt : (r : ReceiverParts) (t : Tape) (out : Outcome) (run : Receives r t out) (confirm : Confirm) (items : List Item) → r.receiver.confirm ≡ confirm → Holds confirm items r.receiver.stage r.kept →
+    Spelt confirm items (heard_in r t out run) out.receiver
+run-spelt r t out (ended _ _ over) confirm items same holds = spelt-none confirm items [] r holds
+run-spelt r t out (unread _ _ f is on none) confirm items same holds = spelt-none confirm items [] r holds
+run-spelt r t out (unheard _ _ h e is on some gives) confirm items same holds = spelt-none confirm items [] r holds
+run-spelt r t out (unwritten _ _ h reply new is on some gives spoken) confirm items same holds =
+    let behind : Behind confirm items h new = hears-holds confirm items r h reply new is on same holds gives in
+    record {
+      more = behind.more;
+      among = subst (λ x. AreAmong x (heard_of (came_at t) ∷ [])) (append-nil behind.more) (among-came t h behind.more [] [] some behind.heard_as tt);
+      holds = behind.holds;
+    }
+run-spelt r t out (receiving.heard _ _ h reply new _ is on some gives later) confirm items same holds =
+    let behind : Behind confirm items h new = hears-holds confirm items r h reply new is on same holds gives in
+    let rest : Spelt confirm (items ++ behind.more) (heard_in new _ out later) out.receiver = run-spelt new _ out later confirm (items ++ behind.more) behind.confirm_is behind.holds in
+    record {
+      more = behind.more ++ rest.more;
+      among = among-came t h behind.more rest.more (heard_in new _ out later) some behind.heard_as rest.among;
+      holds = subst (λ x. Holds confirm x out.receiver.receiver.stage out.receiver.kept) (append_assoc items behind.more rest.more) rest.holds;
+    }
+
+-- the items of the committed files are in front
+front-among : (confirm : Confirm) (items front : List Item) (stage : Stage) (kept : Kept) (all : List Heard) → OpenHolds confirm items front stage kept → AreAmong items all → AreAmong front all
+front-among confirm items front AwaitHeader kept all in_hand among = subst (λ x. AreAmong x all) in_hand among
+front-among confirm items front (InFile file) kept all in_hand among = among-front front _ all (subst (λ x. AreAmong x all) in_hand.1.items_are among)
+
+pub commits-heard : (r : ReceiverParts) (t : Tape) (out : Outcome) (run : Receives r t out) → r.receiver ≡ new_receiver r.receiver.confirm → IsNew r.kept →
+    CommitsTheHeard r.receiver.confirm (heard_in r t out run) out.receiver.kept
+commits-heard r t out run fresh new =
+    let confirm : Confirm = r.receiver.confirm in
+    let awaits : r.receiver.stage ≡ AwaitHeader = ap (λ (x : Receiver). x.stage) fresh in
+    let start : Holds confirm [] AwaitHeader r.kept = record {
+      files = [];
+      spelled = λ k d less. absurd (omega (arith, less));
+      headers = new.headers;
+      bytes = λ told is. (subst TellsNone is new.told).1;
+      in_hand = refl;
+    } in
+    let spelt : Spelt confirm [] (heard_in r t out run) out.receiver = run-spelt r t out run confirm [] refl (subst (λ s. Holds confirm [] s r.kept) (sym awaits) start) in
+    record {
+      files = spelt.holds.files;
+      spelled = spelt.holds.spelled;
+      among = front-among confirm spelt.more (spelling confirm spelt.holds.files) out.receiver.receiver.stage out.receiver.kept (heard_in r t out run) spelt.holds.in_hand spelt.among;
+      headers = spelt.holds.headers;
+      bytes = spelt.holds.bytes;
+    }

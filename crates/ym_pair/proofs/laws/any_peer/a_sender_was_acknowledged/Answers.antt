@@ -1,0 +1,8 @@
+use Rattle.ym_pair.proofs.Acknowledged.{all-before, all-done}
+use Rattle.ym_pair.proofs.laws.any_peer.a_sender_was_acknowledged.Goals as goal
+
+pub returns-clause-done : goal.returns-clause-done
+returns-clause-done c = all-done
+
+pub returns-clause-place : goal.returns-clause-place
+returns-clause-place c = all-before

@@ -1,0 +1,2 @@
+pub mod AnyPeer
+pub mod Logs

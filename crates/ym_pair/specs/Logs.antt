@@ -1,0 +1,75 @@
+-- What an engine wrote in a call, and what came to it, delivery by delivery: read off its run (this profile).
+use Rattle.std.specs.Prelude.{ℕ, List, [], ◌∷◌, map, Result, Ok, Err}
+use Rattle.std.specs.List.{concat}
+use Rattle.ym_frame.specs.Control.{reply_bytes}
+use Rattle.ym_frame.specs.declared.control.Reply.{Reply}
+use Rattle.ym_frame.specs.declared.control.Reply.TheVariants.{Silence}
+use Rattle.ym_core.specs.Hearing.{heard_of}
+use Rattle.ym_core.specs.declared.delivery.Heard.{Heard}
+use Rattle.ym_link.specs.Port.{Tape}
+use Rattle.ym_link.specs.ReceiveOver.{delivery_at}
+use Rattle.ym_link.specs.ReceiveOver as receiving
+use Rattle.ym_link.specs.ReceiverInto.{ReceiverParts}
+use Rattle.ym_link.specs.Sender.{SenderParts, spoken}
+use Rattle.ym_link.specs.SendOver.{written_for}
+use Rattle.ym_link.specs.SendOver as sending
+use Rattle.ym_link.specs.declared.end_fault.EndFault.{EndFault}
+
+-- ---- A sender
+
+-- what it wrote, and the delivery that came then
+pub record Spoke : Type 0 where
+  pub wrote : List ℕ
+  pub came : List ℕ
+
+abbrev pub spoke_in : (s : SenderParts) (t : Tape) (out : sending.Outcome) → sending.Sends s t out → List Spoke
+spoke_in s t out (sending.ended _ _ over) = []
+spoke_in s t out (sending.unwritten _ _ is some) = []
+spoke_in s t out (sending.unread _ _ f is on none) = []
+spoke_in s t out (sending.heard _ _ bytes new _ is on some gives later) = record { wrote = written_for (spoken s); came = bytes } ∷ spoke_in new _ out later
+
+-- what it wrote last, and no delivery came behind it: the CAN CAN that it owed, or a frame behind which its port was closed or failed
+abbrev pub last_words : (s : SenderParts) (t : Tape) (out : sending.Outcome) → sending.Sends s t out → List ℕ
+last_words s t out (sending.ended _ _ over) = written_for (spoken s)
+last_words s t out (sending.unwritten _ _ is some) = []
+last_words s t out (sending.unread _ _ f is on none) = written_for (spoken s)
+last_words s t out (sending.heard _ _ bytes new _ is on some gives later) = last_words new _ out later
+
+-- ---- A receiver
+
+-- the delivery that came, and the reply that it then wrote: none where its port failed
+pub record Answered : Type 0 where
+  pub came : List ℕ
+  pub wrote : Reply
+
+-- what was heard in it
+abbrev pub heard_by : Answered → Heard
+heard_by one = heard_of one.came
+
+-- the bytes of the next delivery
+abbrev pub came_in : Result (List ℕ) EndFault → List ℕ
+came_in (Ok bytes) = bytes
+came_in (Err fault) = []
+
+abbrev pub came_at : Tape → List ℕ
+came_at t = came_in (delivery_at t).delivery
+
+-- a delivery for which the receiver wanted memory is left out: it changed nothing
+abbrev pub answered_in : (r : ReceiverParts) (t : Tape) (out : receiving.Outcome) → receiving.Receives r t out → List Answered
+answered_in r t out (receiving.ended _ _ over) = []
+answered_in r t out (receiving.unread _ _ f is on none) = []
+answered_in r t out (receiving.unheard _ _ h e is on some gives) = []
+answered_in r t out (receiving.unwritten _ _ h reply new is on some gives spoken) = record { came = came_at t; wrote = Silence } ∷ []
+answered_in r t out (receiving.heard _ _ h reply new _ is on some gives later) = record { came = came_at t; wrote = reply } ∷ answered_in new _ out later
+
+-- what it heard, delivery by delivery
+abbrev pub heard_in : (r : ReceiverParts) (t : Tape) (out : receiving.Outcome) → receiving.Receives r t out → List Heard
+heard_in r t out run = map heard_by (answered_in r t out run)
+
+-- ---- The bytes written
+
+abbrev pub words_of : List Spoke → List ℕ
+words_of spoke = concat (map (λ (one : Spoke). one.wrote) spoke)
+
+abbrev pub replies_of : List Answered → List ℕ
+replies_of answered = concat (map (λ (one : Answered). reply_bytes one.wrote) answered)
