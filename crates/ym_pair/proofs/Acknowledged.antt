@@ -11,9 +11,10 @@ use Rattle.ym_file.specs.declared.plan.Shape.{Shape}
 use Rattle.ym_frame.specs.declared.frame.Item.{Item}
 use Rattle.ym_frame.specs.declared.frame.Item.TheVariants as item
 use Rattle.ym_pair.specs.AnyPeer.{SaysAck, AreAcknowledged, block_places, files_places, places_before}
-use Rattle.ym_pair.specs.Logs.{Spoke, spoke_in}
+use Rattle.ym_pair.specs.Logs.{Spoke, spoke_in, spoke_along}
 use Rattle.ym_core.specs.Place.{IsPlace, count_at, next_of, first_of, done_at}
 use Rattle.ym_link.specs.FrameAt.{IsFrameAt, IsItemAt}
+use Rattle.ym_link.specs.Course.{SenderHears, sender_none, sender_more}
 use Rattle.ym_link.specs.Port.{Tape}
 use Rattle.ym_core.specs.Reading.{controls_in, reads}
 use Rattle.ym_link.specs.Sender.{SenderParts, IsSender, IsStep, IsFilled, FilledAt, FailedAt, counts, spoken, spoken_in}
@@ -228,68 +229,108 @@ acknowledged-front shape files (place ∷ front) more [] are = absurd are
 acknowledged-front shape files (place ∷ front) more (one ∷ all) (inl here) = inl (here.0, here.1, acknowledged-front shape files front more all here.2)
 acknowledged-front shape files (place ∷ front) more (one ∷ all) (inr later) = inr (acknowledged-front shape files (place ∷ front) more all later)
 
+acknowledged-behind : (shape : Shape) (files : List FileParts) (places : List Place) (front all : List Spoke) → AreAcknowledged shape files places all → AreAcknowledged shape files places (front ++ all)
+acknowledged-behind shape files places [] all are = are
+acknowledged-behind shape files places (one ∷ front) all are = acknowledged-skip shape files places one (front ++ all) (acknowledged-behind shape files places front all are)
+
+acknowledged-append : (shape : Shape) (files : List FileParts) (first later : List Place) (front all : List Spoke) → AreAcknowledged shape files first front → AreAcknowledged shape files later all →
+    AreAcknowledged shape files (first ++ later) (front ++ all)
+acknowledged-append shape files [] later front all are rest = acknowledged-behind shape files later front all rest
+acknowledged-append shape files (place ∷ first) later [] all are rest = absurd are
+acknowledged-append shape files (place ∷ first) later (one ∷ front) all (inl here) rest = inl (here.0, here.1, acknowledged-append shape files first later front all here.2 rest)
+acknowledged-append shape files (place ∷ first) later (one ∷ front) all (inr behind) rest = inr (acknowledged-append shape files (place ∷ first) later front all behind rest)
+
 -- ---- A run
 
 -- what was written is the frame
 spoken-frame : (now : SendState) (mode : Mode) (farewell : Bool) (frame : List ℕ) → now ≡ Running → mode ≡ Sent → written_for (spoken_in now mode farewell frame) ≡ frame
 spoken-frame now mode farewell frame on sent = ap (λ s. written_for (spoken_in s mode farewell frame)) on ∙ ap (λ m. written_for (spoken_in Running m farewell frame)) sent
 
+-- of what the sender wrote and heard from the one to the other: the frames passed, in order, and the files are the same
 record Passes (s : SenderParts) (all : List Spoke) (new : SenderParts) : Type 0 where
   more : List Place
   acknowledged : AreAcknowledged s.shape s.files more all
   before : places_before (counts s) new.standing.place ≡ places_before (counts s) s.standing.place ++ more
+  shape : new.shape ≡ s.shape
+  same : SameFiles s.files new.files
+  counted : counts new ≡ counts s
 
 passes-none : (s : SenderParts) → Passes s [] s
-passes-none s = record { more = []; acknowledged = tt; before = sym (append-nil (places_before (counts s) s.standing.place)) }
+passes-none s = record {
+  more = [];
+  acknowledged = tt;
+  before = sym (append-nil (places_before (counts s) s.standing.place));
+  shape = refl;
+  same = λ i. record { header = refl; bytes = refl };
+  counted = refl;
+}
 
-passes-one : (s new end : SenderParts) (one : Spoke) (all : List Spoke) (failed : Bool) → IsSender s → s.standing.state ≡ Running → one.wrote ≡ written_for (spoken s) →
-    IsStep s (hears (counts s) s.standing (controls_in one.came)) failed new → Passes new all end → Passes s (one ∷ all) end
-passes-one s new end one all failed is on wrote step rest = by (step-moves s (controls_in one.came) failed new on step)
+passes-one : (s new : SenderParts) (one : Spoke) (failed : Bool) → IsSender s → s.standing.state ≡ Running → one.wrote ≡ written_for (spoken s) →
+    IsStep s (hears (counts s) s.standing (controls_in one.came)) failed new → Passes s (one ∷ []) new
+passes-one s new one failed is on wrote step = by (step-moves s (controls_in one.came) failed new on step)
   where
-    files_counts : counts new ≡ counts s
-    files_counts = ap (λ shape. counts_of shape new.files) step.shape ∙ filled_counts s.shape failed (hears (counts s) s.standing (controls_in one.came)).fills s.files new.files step.files
+    fills : Option Place
+    fills = (hears (counts s) s.standing (controls_in one.came)).fills
 
-    later : AreAcknowledged s.shape s.files rest.more all
-    later = acknowledged-same s.shape new.shape s.files new.files rest.more all step.shape (filled-same failed (hears (counts s) s.standing (controls_in one.came)).fills s.files new.files step.files) rest.acknowledged
+    same_files : SameFiles s.files new.files
+    same_files = filled-same failed fills s.files new.files step.files
 
-    behind : places_before (counts s) end.standing.place ≡ places_before (counts s) new.standing.place ++ rest.more
-    behind = subst (λ c. places_before c end.standing.place ≡ places_before c new.standing.place ++ rest.more) files_counts rest.before
+    counts_same : counts new ≡ counts s
+    counts_same = ap (λ shape. counts_of shape new.files) step.shape ∙ filled_counts s.shape failed fills s.files new.files step.files
 
-    by : Moves (counts s) s.standing.place s.standing.mode (controls_in one.came) new.standing.place → Passes s (one ∷ all) end
-    by (inl same) = record {
-      more = rest.more;
-      acknowledged = acknowledged-skip s.shape s.files rest.more one all later;
-      before = behind ∙ ap (λ p. places_before (counts s) p ++ rest.more) same;
+    by : Moves (counts s) s.standing.place s.standing.mode (controls_in one.came) new.standing.place → Passes s (one ∷ []) new
+    by (inl stayed) = record {
+      more = [];
+      acknowledged = tt;
+      before = ap (places_before (counts s)) stayed ∙ sym (append-nil (places_before (counts s) s.standing.place));
+      shape = step.shape;
+      same = same_files;
+      counted = counts_same;
     }
     by (inr moved) =
         let frame : one.wrote ≡ s.frame = wrote ∙ spoken-frame s.standing.state s.standing.mode s.standing.farewell s.frame on moved.0 in
         record {
-          more = s.standing.place ∷ rest.more;
-          acknowledged = inl (subst (IsFrameAt s.shape s.files s.standing.place) (sym frame) (is.frame on moved.0), moved.2, later);
-          before = behind ∙ (ap (λ p. places_before (counts s) p ++ rest.more) moved.3
-              ∙ (ap (λ front. front ++ rest.more) (sym (before-next (counts s) s.standing.place is.place moved.1))
-              ∙ append_assoc (places_before (counts s) s.standing.place) (s.standing.place ∷ []) rest.more));
+          more = s.standing.place ∷ [];
+          acknowledged = inl (subst (IsFrameAt s.shape s.files s.standing.place) (sym frame) (is.frame on moved.0), moved.2, tt);
+          before = ap (places_before (counts s)) moved.3 ∙ sym (before-next (counts s) s.standing.place is.place moved.1);
+          shape = step.shape;
+          same = same_files;
+          counted = counts_same;
         }
+
+passes-then : (s between new : SenderParts) (first later : List Spoke) → Passes s first between → Passes between later new → Passes s (first ++ later) new
+passes-then s between new first later one rest =
+    let behind : places_before (counts s) new.standing.place ≡ places_before (counts s) between.standing.place ++ rest.more =
+    subst (λ c. places_before c new.standing.place ≡ places_before c between.standing.place ++ rest.more) one.counted rest.before in
+    record {
+      more = one.more ++ rest.more;
+      acknowledged = acknowledged-append s.shape s.files one.more rest.more first later one.acknowledged
+          (acknowledged-same s.shape between.shape s.files between.files rest.more later one.shape one.same rest.acknowledged);
+      before = behind ∙ (ap (λ front. front ++ rest.more) one.before ∙ append_assoc (places_before (counts s) s.standing.place) one.more rest.more);
+      shape = rest.shape ∙ one.shape;
+      same = λ i. record { header = (rest.same i).header ∙ (one.same i).header; bytes = (rest.same i).bytes ∙ (one.same i).bytes };
+      counted = rest.counted ∙ one.counted;
+    }
 
 passes : (s : SenderParts) (t : Tape) (out : Outcome) (run : Sends s t out) → Passes s (spoke_in s t out run) out.sender
 passes s t out (ended _ _ over) = passes-none s
 passes s t out (unwritten _ _ is some) = passes-none s
 passes s t out (unread _ _ f is on none) = passes-none s
 passes s t out (heard _ _ bytes new _ is on some gives later) =
-    passes-one s new out.sender (record { wrote = written_for (spoken s); came = bytes }) (spoke_in new _ out later) gives.0 is on refl gives.1 (passes new _ out later)
+    let one : Spoke = record { wrote = written_for (spoken s); came = bytes } in
+    passes-then s new out.sender (one ∷ []) (spoke_in new _ out later) (passes-one s new one gives.0 is on refl gives.1) (passes new _ out later)
+
+passes-along : (s : SenderParts) (deliveries : List (List ℕ)) (progress : ℕ) (new : SenderParts) (hears : SenderHears s deliveries progress new) → Passes s (spoke_along s deliveries progress new hears) new
+passes-along s deliveries progress new (sender_none _) = passes-none s
+passes-along s deliveries progress new (sender_more _ before steps between bytes _ hears is on short gives) =
+    let one : Spoke = record { wrote = written_for (spoken between); came = bytes } in
+    passes-then s between new (spoke_along s before steps between hears) (one ∷ []) (passes-along s before steps between hears) (passes-one between new one gives.0 is on refl gives.1)
 
 -- ---- From the first place on
 
 none-before : (counts : List ℕ) → places_before counts (first_of counts) ≡ []
 none-before [] = refl
 none-before (count ∷ more) = refl
-
-pub all-before : (s : SenderParts) (t : Tape) (out : Outcome) (run : Sends s t out) → s.standing ≡ new_standing (counts s) →
-    AreAcknowledged s.shape s.files (places_before (counts s) out.sender.standing.place) (spoke_in s t out run)
-all-before s t out run fresh =
-    let all : Passes s (spoke_in s t out run) out.sender = passes s t out run in
-    let first : places_before (counts s) s.standing.place ≡ [] = ap (λ (x : Standing). places_before (counts s) x.place) fresh ∙ none-before (counts s) in
-    subst (λ places. AreAcknowledged s.shape s.files places (spoke_in s t out run)) (sym (all.before ∙ ap (λ front. front ++ all.more) first)) all.acknowledged
 
 -- the frames of the files that are done are in front
 done-front : (counts : List ℕ) (files : ℕ) (place : Place) → files ≡ length counts → (more : List Place) × (places_before counts place ≡ files_places counts (done_at files place) ++ more)
@@ -298,10 +339,27 @@ done-front counts files (Block file k) same = (Header file ∷ block_places file
 done-front counts files (Eot file) same = (Header file ∷ block_places file (count_at counts file), refl)
 done-front counts files End same = ([], ap (files_places counts) (sym same) ∙ sym (append-nil (files_places counts files)))
 
+passed-before : (s new : SenderParts) (all : List Spoke) → s.standing ≡ new_standing (counts s) → Passes s all new → AreAcknowledged s.shape s.files (places_before (counts s) new.standing.place) all
+passed-before s new all fresh passed =
+    let first : places_before (counts s) s.standing.place ≡ [] = ap (λ (x : Standing). places_before (counts s) x.place) fresh ∙ none-before (counts s) in
+    subst (λ places. AreAcknowledged s.shape s.files places all) (sym (passed.before ∙ ap (λ front. front ++ passed.more) first)) passed.acknowledged
+
+passed-done : (s new : SenderParts) (all : List Spoke) → s.standing ≡ new_standing (counts s) → Passes s all new →
+    AreAcknowledged s.shape s.files (files_places (counts s) (done_at (length s.files) new.standing.place)) all
+passed-done s new all fresh passed =
+    let long : length s.files ≡ length (counts s) = sym (length-map s.files _) in
+    let front = done-front (counts s) (length s.files) new.standing.place long in
+    acknowledged-front s.shape s.files (files_places (counts s) (done_at (length s.files) new.standing.place)) front.0 all
+    (subst (λ places. AreAcknowledged s.shape s.files places all) front.1 (passed-before s new all fresh passed))
+
+pub all-before : (s : SenderParts) (t : Tape) (out : Outcome) (run : Sends s t out) → s.standing ≡ new_standing (counts s) →
+    AreAcknowledged s.shape s.files (places_before (counts s) out.sender.standing.place) (spoke_in s t out run)
+all-before s t out run fresh = passed-before s out.sender (spoke_in s t out run) fresh (passes s t out run)
+
 pub all-done : (s : SenderParts) (t : Tape) (out : Outcome) (run : Sends s t out) → s.standing ≡ new_standing (counts s) →
     AreAcknowledged s.shape s.files (files_places (counts s) (done_at (length s.files) out.sender.standing.place)) (spoke_in s t out run)
-all-done s t out run fresh =
-    let long : length s.files ≡ length (counts s) = sym (length-map s.files _) in
-    let front = done-front (counts s) (length s.files) out.sender.standing.place long in
-    acknowledged-front s.shape s.files (files_places (counts s) (done_at (length s.files) out.sender.standing.place)) front.0 (spoke_in s t out run)
-    (subst (λ places. AreAcknowledged s.shape s.files places (spoke_in s t out run)) front.1 (all-before s t out run fresh))
+all-done s t out run fresh = passed-done s out.sender (spoke_in s t out run) fresh (passes s t out run)
+
+pub course-done : (s new : SenderParts) (deliveries : List (List ℕ)) (progress : ℕ) (hears : SenderHears s deliveries progress new) → s.standing ≡ new_standing (counts s) →
+    AreAcknowledged s.shape s.files (files_places (counts s) (done_at (length s.files) new.standing.place)) (spoke_along s deliveries progress new hears)
+course-done s new deliveries progress hears fresh = passed-done s new (spoke_along s deliveries progress new hears) fresh (passes-along s deliveries progress new hears)

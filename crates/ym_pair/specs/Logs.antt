@@ -1,11 +1,12 @@
 -- What an engine wrote in a call, and what came to it, delivery by delivery: read off its run (this profile).
-use Rattle.std.specs.Prelude.{ℕ, List, [], ◌∷◌, map, Result, Ok, Err}
+use Rattle.std.specs.Prelude.{ℕ, List, [], ◌∷◌, ◌++◌, map, Result, Ok, Err}
 use Rattle.std.specs.List.{concat}
 use Rattle.ym_frame.specs.Control.{reply_bytes}
 use Rattle.ym_frame.specs.declared.control.Reply.{Reply}
 use Rattle.ym_frame.specs.declared.control.Reply.TheVariants.{Silence}
 use Rattle.ym_core.specs.Hearing.{heard_of}
 use Rattle.ym_core.specs.declared.delivery.Heard.{Heard}
+use Rattle.ym_link.specs.Course.{SenderHears, sender_none, sender_more}
 use Rattle.ym_link.specs.Port.{Tape}
 use Rattle.ym_link.specs.ReceiveOver.{delivery_at}
 use Rattle.ym_link.specs.ReceiveOver as receiving
@@ -34,6 +35,12 @@ last_words s t out (sending.ended _ _ over) = written_for (spoken s)
 last_words s t out (sending.unwritten _ _ is some) = []
 last_words s t out (sending.unread _ _ f is on none) = written_for (spoken s)
 last_words s t out (sending.heard _ _ bytes new _ is on some gives later) = last_words new _ out later
+
+-- The same along a course, which is known of every port: at each delivery the sender had this to say.
+abbrev pub spoke_along : (s : SenderParts) (deliveries : List (List ℕ)) (progress : ℕ) (new : SenderParts) → SenderHears s deliveries progress new → List Spoke
+spoke_along s deliveries progress new (sender_none _) = []
+spoke_along s deliveries progress new (sender_more _ before steps between bytes _ hears is on short gives) =
+    spoke_along s before steps between hears ++ record { wrote = written_for (spoken between); came = bytes } ∷ []
 
 -- ---- A receiver
 
