@@ -77,7 +77,7 @@ before-next counts End within before = absurd before
 -- ---- A delivery
 
 -- the place stays, or it is the next one, behind an ACK of what was sent
-abbrev Moves : List ℕ → Place → Mode → List Control → Place → Type 0
+abbrev pub Moves : List ℕ → Place → Mode → List Control → Place → Type 0
 Moves counts place mode cs new = (new ≡ place) ⊎ ((mode ≡ Sent) × IsBefore place × SaysAck cs × (new ≡ next_of counts place))
 
 acked : (counts : List ℕ) (place : Place) (cs : List Control) → ((reads counts place Sent cs).place ≡ place) ⊎ SaysAck cs
@@ -143,7 +143,7 @@ hears-move counts s cs on =
     ] in
     subst (λ now. Moves counts s.place s.mode cs (hears_in now counts s cs).standing.place) (sym on) moved
 
-step-moves : (s : SenderParts) (cs : List Control) (failed : Bool) (new : SenderParts) → s.standing.state ≡ Running → IsStep s (hears (counts s) s.standing cs) failed new →
+pub step-moves : (s : SenderParts) (cs : List Control) (failed : Bool) (new : SenderParts) → s.standing.state ≡ Running → IsStep s (hears (counts s) s.standing cs) failed new →
     Moves (counts s) s.standing.place s.standing.mode cs new.standing.place
 step-moves s cs failed new on step =
     let taken : Step = hears (counts s) s.standing cs in

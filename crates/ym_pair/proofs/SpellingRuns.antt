@@ -32,7 +32,7 @@ among-more h (i ∷ []) items all heard_as among = inl (heard_as, among)
 among-more h (i ∷ j ∷ first) items all heard_as among = absurd heard_as
 
 -- what was heard is read off the delivery that came
-came-heard : (came : Result (List ℕ) EndFault) (h : Heard) → receiving.heard_in came ≡ Ok h → heard_of (came_in came) ≡ h
+pub came-heard : (came : Result (List ℕ) EndFault) (h : Heard) → receiving.heard_in came ≡ Ok h → heard_of (came_in came) ≡ h
 came-heard (Ok bytes) h is = cc
 came-heard (Err fault) h is = absurd (cc)
 

@@ -1,2 +1,3 @@
 pub mod AnyPeer
 pub mod Logs
+pub mod Pairing

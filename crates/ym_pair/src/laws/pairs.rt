@@ -1,0 +1,48 @@
+//! Laws of two engines, one at each end of a line.
+
+ghost use Rattle.std.specs.Prelude.{List};
+ghost use Rattle.ym_link.specs.Port.{Tape};
+ghost use Rattle.ym_link.specs.ReceiveOver as receiving;
+ghost use Rattle.ym_link.specs.ReceiverInto.{ReceiverParts};
+ghost use Rattle.ym_link.specs.Sender.{SenderParts};
+ghost use Rattle.ym_link.specs.SendOver as sending;
+ghost use Rattle.ym_line.specs.Promise.{AreNew, CommitsAPrefix};
+ghost use Rattle.ym_line.specs.declared.delivery.Round.{Round};
+ghost use Rattle.ym_pair.specs.Pairing.{RunsPairUp, ends};
+
+use ym_file::laws::one_pieces;
+use ym_frame::laws::{frame_found, one_verdict};
+use ym_line::laws::{
+    a_standing_pair_commits_the_first_files, new_ends_stand, rounds_are_turns,
+    turns_of_a_standing_pair,
+};
+use ym_link::laws::{
+    Headers, a_planned_file_is_sent, a_sender_follows_the_machine,
+    a_standing_receiver_follows_the_machine,
+};
+use ym_machine::laws::{
+    committed_is_reported_or_one_more, halves_keep_machine_states, halves_keep_the_other_end,
+    what_comes_back,
+};
+
+/// Where the deliveries of two engines pair up, over any two ports and however each call returns, the files that the receiver has committed are the first
+/// ones of the batch, each with its name, length, stamp and bytes, and the sender reports no more of them.
+pub fn two_engines_commit_a_prefix()
+    ensures { (s : SenderParts) (t : Tape) (out : sending.Outcome) (sends : sending.Sends s t out) (r : ReceiverParts) (u : Tape) (end : receiving.Outcome) (receives : receiving.Receives r u end) (rounds : List Round) →
+        AreNew (ends s r) → RunsPairUp s t out sends r u end receives rounds → CommitsAPrefix s.files (ends out.sender end.receiver) }
+{
+    one_pieces();
+    one_verdict();
+    frame_found();
+    what_comes_back();
+    a_planned_file_is_sent();
+    a_sender_follows_the_machine();
+    a_standing_receiver_follows_the_machine();
+    halves_keep_machine_states::<Headers>();
+    halves_keep_the_other_end::<Headers>();
+    committed_is_reported_or_one_more::<Headers>();
+    rounds_are_turns();
+    turns_of_a_standing_pair();
+    a_standing_pair_commits_the_first_files();
+    new_ends_stand();
+}
