@@ -99,7 +99,7 @@ receiver-going ReceiverEnd.Running s is goes = inl is
 receiver-going ReceiverEnd.Finished s is goes = inr is
 receiver-going _ s is goes = absurd goes
 
-sender-runs : (end : SenderEnd) → sender.state_of end ≡ send_state.Running → end ≡ SenderEnd.Running
+pub sender-runs : (end : SenderEnd) → sender.state_of end ≡ send_state.Running → end ≡ SenderEnd.Running
 sender-runs SenderEnd.Running is = refl
 sender-runs _ is = absurd (cc)
 

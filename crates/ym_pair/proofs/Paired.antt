@@ -123,6 +123,23 @@ answers r t out (receiving.unheard _ _ h e is on some gives) = refl
 answers r t out (receiving.unwritten _ _ h reply new is on some gives spoken) = (new, reply, on, heard-gives r new t h reply some gives, inr refl, refl)
 answers r t out (receiving.heard _ _ h reply new _ is on some gives later) = (new, reply, on, heard-gives r new t h reply some gives, inl refl, answers new _ out later)
 
+-- Where a call answers Ok, its end has ended; and of a receiver's each reply was written.
+pub sent-over : (s : SenderParts) (t : Tape) (out : sending.Outcome) (run : sending.Sends s t out) → out.answer ≡ Ok tt → out.sender.standing.state ≢ send_state.Running
+sent-over s t out (sending.ended _ _ over) ok = over
+sent-over s t out (sending.unwritten _ _ is some) ok = absurd (cc)
+sent-over s t out (sending.unread _ _ f is on none) ok = absurd (cc)
+sent-over s t out (sending.heard _ _ bytes new _ is on some gives later) ok = sent-over new _ out later ok
+
+pub answers-all : (r : ReceiverParts) (t : Tape) (out : receiving.Outcome) (run : receiving.Receives r t out) → out.answer ≡ Ok tt →
+    AnswersTo true r (answered_in r t out run) out.receiver × (out.receiver.receiver.state ≢ recv_state.Running)
+answers-all r t out (receiving.ended _ _ over) ok = (refl, over)
+answers-all r t out (receiving.unread _ _ f is on none) ok = absurd (cc)
+answers-all r t out (receiving.unheard _ _ h e is on some gives) ok = absurd (cc)
+answers-all r t out (receiving.unwritten _ _ h reply new is on some gives spoken) ok = absurd (cc)
+answers-all r t out (receiving.heard _ _ h reply new _ is on some gives later) ok =
+    let rest = answers-all new _ out later ok in
+    ((new, reply, on, heard-gives r new t h reply some gives, refl, rest.0), rest.1)
+
 -- ---- A sender that has ended
 
 next-place : (counts : List ℕ) (place : Place) → IsPlace counts place → IsPlace counts (next_of counts place)
@@ -183,7 +200,7 @@ nothing-there computed Whole came there = there.heard_is
 nothing-there computed Lost came there = there.heard_is
 nothing-there computed (Damaged bytes) came there = there.heard_is ∙ heard-bad computed (Damaged bytes) there.bytes there.shows
 
-bad-lost : (wrote came : List ℕ) → heard_of came ≡ Bad → ArrivesThere Lost wrote came
+pub bad-lost : (wrote came : List ℕ) → heard_of came ≡ Bad → ArrivesThere Lost wrote came
 unfolding verdict_of
 bad-lost wrote came bad = record { bytes = tt; shows = tt; short = tt; heard_is = bad }
 

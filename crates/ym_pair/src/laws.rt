@@ -7,4 +7,4 @@ pub use any_peer::{
     a_delivery_brings_its_frame, a_receiver_commits_what_it_heard, a_sender_was_acknowledged,
     what_was_written_is_on_the_tape,
 };
-pub use pairs::two_engines_commit_a_prefix;
+pub use pairs::{two_engines_commit_a_prefix, two_engines_complete};

@@ -1,14 +1,16 @@
 //! Laws of two engines, one at each end of a line.
 
-ghost use Rattle.std.specs.Prelude.{List};
+ghost use Rattle.std.specs.Prelude.{◌≡◌, ◌≤◌, List, Ok};
 ghost use Rattle.ym_link.specs.Port.{Tape};
 ghost use Rattle.ym_link.specs.ReceiveOver as receiving;
 ghost use Rattle.ym_link.specs.ReceiverInto.{ReceiverParts};
 ghost use Rattle.ym_link.specs.Sender.{SenderParts};
 ghost use Rattle.ym_link.specs.SendOver as sending;
+ghost use Rattle.ym_machine.specs.declared.limits.TheConstants.{BURST};
+ghost use Rattle.ym_line.specs.Completion.{NoneRose, longest_bad_run};
 ghost use Rattle.ym_line.specs.Promise.{AreNew, CommitsAPrefix};
 ghost use Rattle.ym_line.specs.declared.delivery.Round.{Round};
-ghost use Rattle.ym_pair.specs.Pairing.{RunsPairUp, ends};
+ghost use Rattle.ym_pair.specs.Pairing.{RunsPairUp, HaveBothFinished, ends};
 
 use ym_file::laws::one_pieces;
 use ym_frame::laws::{frame_found, one_verdict};
@@ -41,6 +43,22 @@ pub fn two_engines_commit_a_prefix()
     halves_keep_machine_states::<Headers>();
     halves_keep_the_other_end::<Headers>();
     committed_is_reported_or_one_more::<Headers>();
+    rounds_are_turns();
+    turns_of_a_standing_pair();
+    a_standing_pair_commits_the_first_files();
+    new_ends_stand();
+}
+
+/// Where moreover both calls return well, no failure count rose, and no bad run of the rounds is longer than a burst, of four today, both ends have finished,
+/// and the whole batch is committed and reported.
+pub fn two_engines_complete()
+    ensures { (s : SenderParts) (t : Tape) (out : sending.Outcome) (sends : sending.Sends s t out) (r : ReceiverParts) (u : Tape) (end : receiving.Outcome) (receives : receiving.Receives r u end) (rounds : List Round) →
+        AreNew (ends s r) → RunsPairUp s t out sends r u end receives rounds → out.answer ≡ Ok tt → end.answer ≡ Ok tt →
+        NoneRose (ends s r) (ends out.sender end.receiver) → longest_bad_run 0 rounds ≤ BURST → HaveBothFinished s.files (ends out.sender end.receiver) }
+{
+    one_pieces();
+    one_verdict();
+    a_planned_file_is_sent();
     rounds_are_turns();
     turns_of_a_standing_pair();
     a_standing_pair_commits_the_first_files();

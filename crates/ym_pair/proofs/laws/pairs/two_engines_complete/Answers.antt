@@ -1,0 +1,30 @@
+use Rattle.std.proofs.Common.{ap}
+use Rattle.ym_core.specs.declared.standing.Standing.{Standing}
+use Rattle.ym_line.proofs.Promised.{Laws}
+use Rattle.ym_pair.proofs.Engines.{files-within}
+use Rattle.ym_pair.proofs.Finishing.{engines-finish}
+use Rattle.ym_pair.proofs.Fronts.{TurnLaws}
+use Rattle.ym_pair.proofs.Paired.{speaks, leaves, sent-over, answers-all}
+use Rattle.ym_pair.proofs.laws.pairs.two_engines_complete.Goals as goal
+
+pub returns : goal.returns
+returns c =
+    let laws : Laws = record {
+      bytes = c.a_planned_file_is_sent.ensures.bytes;
+      pieces = c.one_pieces.ensures.computed;
+      go_on = c.rounds_are_turns.ensures.go_on;
+      stop = c.rounds_are_turns.ensures.stop;
+      stand = c.turns_of_a_standing_pair.ensures.stand;
+      first = c.a_standing_pair_commits_the_first_files.ensures;
+      new_stand = c.new_ends_stand.ensures;
+    } in
+    let turns : TurnLaws = record {
+      computed = c.one_verdict.ensures.computed;
+      go = c.rounds_are_turns.ensures.go;
+      damage = c.turns_of_a_standing_pair.ensures.damage;
+    } in
+    λ s t out sends r u end receives rounds fresh pairs sent received none short.
+    let said = speaks s t out sends in
+    let left = leaves s t out sends (λ over. absurd (over (ap (λ (x : Standing). x.state) fresh.sender))) in
+    let answered = answers-all r u end receives received in
+    engines-finish laws turns s out.sender r end.receiver _ _ _ rounds fresh (files-within s out.sender _ _ said left) said answered.0 (sent-over s t out sends sent) answered.1 pairs none short
