@@ -10,7 +10,7 @@ use Rattle.ym_machine.specs.Halves as machine
 use Rattle.ym_machine.specs.Machine.{State, start, IsMachine, Answer, there, back, committed, reported}
 use Rattle.ym_machine.specs.State.{ReceiverEnd}
 use Rattle.ym_machine.specs.Run.{after_turn}
-use Rattle.ym_core.specs.Hearing.{heard_of}
+use Rattle.ym_core.specs.declared.delivery.Heard.{Heard}
 use Rattle.ym_core.specs.Reading.{controls_in}
 use Rattle.ym_link.specs.ReceiverInto.{ReceiverParts, HearsGives}
 use Rattle.ym_link.specs.ReceiverStands.{KeepsFirst}
@@ -99,12 +99,12 @@ sender-alone endings confirm files st s new r (one ∷ spoke) (round ∷ rounds)
 -- ---- A receiver alone
 
 -- what arrives of what there was to send
-half-paired : Endings → (confirm : Confirm) (files : Batch) (st : State) (s : SenderParts) (r next : ReceiverParts) (wrote came : List ℕ) (delivery : Delivery) (reply : Reply) →
-    PairStands confirm files st (ends s r) → IsSender s → (wrote ≡ sent_by s) ⊎ (wrote ≡ []) → ArrivesThere delivery wrote came → HearsGives r (heard_of came) (Ok reply) next →
+half-paired : Endings → (confirm : Confirm) (files : Batch) (st : State) (s : SenderParts) (r next : ReceiverParts) (wrote : List ℕ) (h : Heard) (delivery : Delivery) (reply : Reply) →
+    PairStands confirm files st (ends s r) → IsSender s → (wrote ≡ sent_by s) ⊎ (wrote ≡ []) → ArrivesThere delivery wrote h → HearsGives r h (Ok reply) next →
     (st_new : State) × PairStands confirm files st_new (ends s next)
-half-paired endings confirm files st s r next wrote came delivery reply stands is spoken arrives gives =
-    let there = there-of endings.computed s wrote delivery came spoken arrives in
-    let half = half-turn endings.laws confirm files st there.0 (ends s r) reply (ends s next) stands (paired-half endings.computed s r next came reply there.0 is there.1 gives) in
+half-paired endings confirm files st s r next wrote h delivery reply stands is spoken arrives gives =
+    let there = there-of endings.computed s wrote delivery h spoken arrives in
+    let half = half-turn endings.laws confirm files st there.0 (ends s r) reply (ends s next) stands (paired-half endings.computed s r next h reply there.0 is there.1 gives) in
     (_, half.0.stands)
 
 receiver-alone : Endings → (confirm : Confirm) (files : Batch) (st : State) (s : SenderParts) (r end : ReceiverParts) (last : List ℕ) (answered : List Answered) (rounds : List Round) →
@@ -112,7 +112,7 @@ receiver-alone : Endings → (confirm : Confirm) (files : Batch) (st : State) (s
 receiver-alone endings confirm files st s r end last [] rounds stands leaves answers pairs = (st, subst (λ x. PairStands confirm files st (ends s x)) (sym answers) stands)
 receiver-alone endings confirm files st s r end last (one ∷ answered) [] stands leaves answers pairs = absurd pairs
 receiver-alone endings confirm files st s r end last (one ∷ answered) (round ∷ rounds) stands leaves answers pairs =
-    let first = half-paired endings confirm files st s r answers.0 last one.came round.there answers.1 stands leaves.is leaves.words pairs.0 answers.3 in
+    let first = half-paired endings confirm files st s r answers.0 last one.heard round.there answers.1 stands leaves.is leaves.words pairs.0 answers.3 in
     receiver-alone endings confirm files first.0 s answers.0 end last answered rounds first.1 leaves answers.5 pairs.2
 
 -- ---- Both
@@ -143,14 +143,14 @@ engines-stand endings confirm files st s new r end (one ∷ spoke) last (answer 
 engines-stand endings confirm files st s new r end (one ∷ spoke) last (answer ∷ answered) (round ∷ rounds) stands speaks leaves answers (there_pairs, inl (back_pairs, later)) =
     let next : SenderParts = speaks.0 in
     let after : ReceiverParts = answers.0 in
-    let there = there-of endings.computed s one.wrote round.there answer.came (inl speaks.3) there_pairs in
+    let there = there-of endings.computed s one.wrote round.there answer.heard (inl speaks.3) there_pairs in
     let came = back-of endings answers.1 answer.wrote round.back one.came answers.4 back_pairs in
     let made : Round = record { there = there.0; back = came.0 } in
-    let goes = paired-round endings.computed s next r after one.came answer.came answers.1 there.0 came.0 speaks.1 speaks.4 answers.3 there.1 came.1 in
+    let goes = paired-round endings.computed s next r after one.came answer.heard answers.1 there.0 came.0 speaks.1 speaks.4 answers.3 there.1 came.1 in
     let first = goes-turn endings.laws confirm files st made (ends s r) (ends next after) (seen_of made s answers.1) stands goes in
     engines-stand endings confirm files (after_turn (frames_of files) confirm first.0 st) next new after end spoke last answered rounds first.1.stands speaks.5 leaves answers.5 later
 engines-stand endings confirm files st s new r end (one ∷ spoke) last (answer ∷ answered) (round ∷ rounds) stands speaks leaves answers (there_pairs, inr (lost, later)) =
-    let first = half-paired endings confirm files st s r answers.0 one.wrote answer.came round.there answers.1 stands speaks.1 (inl speaks.3) there_pairs answers.3 in
+    let first = half-paired endings confirm files st s r answers.0 one.wrote answer.heard round.there answers.1 stands speaks.1 (inl speaks.3) there_pairs answers.3 in
     engines-stand endings confirm files first.0 s new answers.0 end (one ∷ spoke) last answered rounds first.1 speaks leaves answers.5 later
 
 -- ---- What is committed

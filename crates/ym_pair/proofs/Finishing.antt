@@ -2,7 +2,6 @@
 use Rattle.std.proofs.Common.{◌≡◌, ◌≢◌, ◌∙◌, ◌≤◌, inl, inr, ℕ, true, false, List, [], ◌∷◌, length, map, Ok, Result, All, refl, sym, ap, subst, arith}
 use Rattle.std.proofs.lemmas.List.{length-map}
 use Rattle.std.proofs.lemmas.Simd.{map-map}
-use Rattle.ym_frame.specs.Frame.{verdict_of}
 use Rattle.ym_frame.specs.declared.control.Reply.{Reply}
 use Rattle.ym_frame.specs.declared.control.Reply.TheVariants.{Silence}
 use Rattle.ym_header.specs.Header.{HeaderParts}
@@ -16,7 +15,6 @@ use Rattle.ym_machine.specs.Frames.{File, frames_of, files_within}
 use Rattle.ym_machine.specs.Machine.{State, start, committed, reported}
 use Rattle.ym_machine.proofs.Places.{all-within, frames-end}
 use Rattle.ym_machine.proofs.ShortBursts.{got-all, start-fine}
-use Rattle.ym_core.specs.Hearing.{heard_of}
 use Rattle.ym_core.specs.Receiver.{Receiver, Step, No_call, hears_at}
 use Rattle.ym_core.specs.declared.delivery.Heard.TheVariants.{Bad}
 use Rattle.ym_core.specs.declared.state.RecvState.{RecvState}
@@ -56,8 +54,7 @@ silent-step (recv_state.BadHeader fault) r zero over = refl
 silent-step recv_state.TooManyFiles r zero over = refl
 silent-step recv_state.SinkFailed r zero over = refl
 
-silent : (r : ReceiverParts) → r.receiver.state ≢ recv_state.Running → HearsGives r (heard_of []) (Ok Silence) r
-unfolding verdict_of
+silent : (r : ReceiverParts) → r.receiver.state ≢ recv_state.Running → HearsGives r Bad (Ok Silence) r
 silent r over =
     let zero : Result Zero HeaderFault = Ok End in
     let same = silent-step r.receiver.state r.receiver zero over in (
@@ -75,9 +72,8 @@ silent r over =
       ),
     )
 
-nothing-lost : (wrote : List ℕ) → ArrivesThere Lost wrote []
-unfolding verdict_of
-nothing-lost wrote = bad-lost wrote [] refl
+nothing-lost : (wrote : List ℕ) → ArrivesThere Lost wrote Bad
+nothing-lost wrote = bad-lost wrote Bad refl
 
 reply-lost : (reply : Reply) → ArrivesBack Lost reply []
 reply-lost reply = record { shows = tt; short = tt; heard_is = refl }
@@ -100,7 +96,7 @@ module _ (laws : TurnLaws) (confirm : Confirm) (files : Batch) where
       let next : SenderParts = speaks.0 in
       let comes : Comes front.misses s _ next = comes-along front.misses s _ next front.few speaks.2 speaks.4 in
       let made : Round = record { there = Lost; back = round.back } in
-      let goes = paired-round laws.computed (ghost front.misses s) comes.new end end one.came [] Silence Lost round.back (front-is confirm files on.before s end front speaks.1) comes.heard (silent end over) (nothing-lost (sent_by s)) pairs.1 in
+      let goes = paired-round laws.computed (ghost front.misses s) comes.new end end one.came Bad Silence Lost round.back (front-is confirm files on.before s end front speaks.1) comes.heard (silent end over) (nothing-lost (sent_by s)) pairs.1 in
       let truth = source-truth speaks.4.0 _ s.files next.files speaks.4.1.files in
       let onward : Onward confirm files rounds next end = front-goes laws confirm files on.before made rounds s next end end _ (seen_of made (ghost front.misses s) Silence) front comes goes
       (λ failed tells. sink-true failed end.failures end.failures end.failures tells (omega arith) calm.sink)
@@ -134,8 +130,8 @@ module _ (laws : TurnLaws) (confirm : Confirm) (files : Batch) where
       let after : ReceiverParts = answers.0 in
       let reply : Reply = answers.1 in
       let comes : Comes front.misses s _ next = comes-along front.misses s _ next front.few speaks.2 speaks.4 in
-      let goes = paired-round laws.computed (ghost front.misses s) comes.new r after one.came answer.came reply round.there round.back (front-is confirm files on.before s r front speaks.1) comes.heard answers.3
-      (subst (λ wrote. ArrivesThere round.there wrote answer.came) speaks.3 there_pairs) (subst (λ wrote. ArrivesBack round.back wrote one.came) answers.4 back_pairs) in
+      let goes = paired-round laws.computed (ghost front.misses s) comes.new r after one.came answer.heard reply round.there round.back (front-is confirm files on.before s r front speaks.1) comes.heard answers.3
+      (subst (λ wrote. ArrivesThere round.there wrote answer.heard) speaks.3 there_pairs) (subst (λ wrote. ArrivesBack round.back wrote one.came) answers.4 back_pairs) in
       let truth = source-truth speaks.4.0 _ s.files next.files speaks.4.1.files in
       let onward : Onward confirm files rounds next after = front-goes laws confirm files on.before round rounds s next r after _ (seen_of round (ghost front.misses s) reply) front comes goes
       (λ failed tells. sink-true failed r.failures after.failures end.failures tells (answers-grew after end answered answers.5) calm.sink)
@@ -149,8 +145,8 @@ module _ (laws : TurnLaws) (confirm : Confirm) (files : Batch) where
       let reply : Reply = answers.1 in
       let made : Round = record { there = round.there; back = Lost } in
       let comes : Comes front.misses s [] s = comes-waiting front.misses s front.few speaks.2 in
-      let goes = paired-round laws.computed (ghost front.misses s) comes.new r after [] answer.came reply round.there Lost (front-is confirm files on.before s r front speaks.1) comes.heard answers.3
-      (subst (λ wrote. ArrivesThere round.there wrote answer.came) speaks.3 there_pairs) (reply-lost reply) in
+      let goes = paired-round laws.computed (ghost front.misses s) comes.new r after [] answer.heard reply round.there Lost (front-is confirm files on.before s r front speaks.1) comes.heard answers.3
+      (subst (λ wrote. ArrivesThere round.there wrote answer.heard) speaks.3 there_pairs) (reply-lost reply) in
       let onward : Onward confirm files rounds s after = front-goes laws confirm files on.before made rounds s s r after [] (seen_of made (ghost front.misses s) reply) front comes goes
       (λ failed tells. sink-true failed r.failures after.failures end.failures tells (answers-grew after end answered answers.5) calm.sink)
       (λ failed found. source-true failed s.files s.files new.files found (speaks-grew s new (one ∷ spoke) speaks) calm.sources)

@@ -1,5 +1,5 @@
 -- The runs of two engines, step by step: a round in which their deliveries pair up is a round of the pair.
-use Rattle.std.proofs.Common.{◌≡◌, ◌≢◌, ◌∙◌, ◌⊎◌, ◌+◌, inl, inr, nat_lt, ℕ, Bool, true, false, List, [], ◌∷◌, length, Option, None, Some, Result, Ok, Err, unwrap_or, refl, sym, ap, subst, arith}
+use Rattle.std.proofs.Common.{◌≡◌, ◌≢◌, ◌∙◌, ◌⊎◌, ◌+◌, inl, inr, nat_lt, ℕ, Bool, true, false, List, [], ◌∷◌, ◌++◌, length, Option, None, Some, Result, Ok, Err, unwrap_or, refl, sym, ap, subst, arith}
 use Rattle.std.proofs.lemmas.Bool.{cond_both, ltb-true}
 use Rattle.ym_frame.specs.Frame.{IsBytes, IsVerdict, HasFrame, verdict_of}
 use Rattle.ym_frame.specs.declared.control.Control.{Control}
@@ -10,7 +10,7 @@ use Rattle.ym_frame.specs.declared.frame.Item.{Item}
 use Rattle.ym_frame.specs.declared.frame.Broken.{Broken}
 use Rattle.ym_machine.specs.Halves as machine
 use Rattle.ym_machine.specs.Run.{came_back}
-use Rattle.ym_core.specs.Hearing.{heard_of, heard_at}
+use Rattle.ym_core.specs.Hearing.{heard_at}
 use Rattle.ym_core.specs.Place.{IsPlace, count_at, next_of}
 use Rattle.ym_core.specs.Reading.{controls_in, reads}
 use Rattle.ym_core.specs.Standing.{after_reading, hears, hears_in}
@@ -25,6 +25,7 @@ use Rattle.ym_core.specs.declared.standing.Standing.{Standing}
 use Rattle.ym_core.specs.declared.state.SendState.{SendState}
 use Rattle.ym_core.specs.declared.state.SendState.TheVariants as send_state
 use Rattle.ym_core.specs.declared.state.RecvState.TheVariants as recv_state
+use Rattle.ym_link.specs.Course.{SenderHears, sender_none, sender_more, ReceiverHears, receiver_none, receiver_more}
 use Rattle.ym_link.specs.Port.{Tape}
 use Rattle.ym_link.specs.ReceiveOver as receiving
 use Rattle.ym_link.specs.ReceiverInto.{ReceiverParts, HearsGives}
@@ -39,10 +40,9 @@ use Rattle.ym_line.specs.Turns.{came_of}
 use Rattle.ym_line.specs.declared.delivery.Delivery.{Delivery}
 use Rattle.ym_line.specs.declared.delivery.Delivery.TheVariants.{Whole, Lost, Damaged}
 use Rattle.ym_line.proofs.Turns.{WithinReply, came-within, controls-arrive}
-use Rattle.ym_pair.specs.Logs.{Spoke, Answered, came_at, spoke_in, last_words, answered_in}
+use Rattle.ym_pair.specs.Logs.{Spoke, Answered, spoke_in, spoke_along, last_words, answered_in, answered_along}
 use Rattle.ym_pair.specs.Pairing.{AreBytes, ArrivesThere, ArrivesBack, ends, up_to_start}
 use Rattle.ym_pair.proofs.Acknowledged.{Moves, step-moves}
-use Rattle.ym_pair.proofs.SpellingRuns.{came-heard}
 
 -- ---- Nothing is read behind the first C
 
@@ -97,7 +97,7 @@ IsWritten false reply wrote = (wrote ≡ reply) ⊎ (wrote ≡ Silence)
 abbrev pub AnswersTo : Bool → ReceiverParts → List Answered → ReceiverParts → Type 0
 AnswersTo all r [] new = new ≡ r
 AnswersTo all r (one ∷ answered) new =
-    (next : ReceiverParts) × (reply : Reply) × (r.receiver.state ≡ recv_state.Running) × HearsGives r (heard_of one.came) (Ok reply) next × IsWritten all reply one.wrote × AnswersTo all next answered new
+    (next : ReceiverParts) × (reply : Reply) × (r.receiver.state ≡ recv_state.Running) × HearsGives r one.heard (Ok reply) next × IsWritten all reply one.wrote × AnswersTo all next answered new
 
 -- what is to be sent, as both definitions have it
 written-sent : (said : Option (List ℕ)) → written_for said ≡ unwrap_or said []
@@ -113,15 +113,41 @@ speaks s t out (sending.unwritten _ _ is some) = refl
 speaks s t out (sending.unread _ _ f is on none) = refl
 speaks s t out (sending.heard _ _ bytes new _ is on some gives later) = (new, is, on, written-sent (spoken s), hears-step s new bytes gives, speaks new _ out later)
 
-heard-gives : (r new : ReceiverParts) (t : Tape) (h : Heard) (reply : Reply) → receiving.heard_at t ≡ Ok h → HearsGives r h (Ok reply) new → HearsGives r (heard_of (came_at t)) (Ok reply) new
-heard-gives r new t h reply some gives = subst (λ x. HearsGives r x (Ok reply) new) (sym (came-heard (receiving.delivery_at t).delivery h some)) gives
-
 pub answers : (r : ReceiverParts) (t : Tape) (out : receiving.Outcome) (run : receiving.Receives r t out) → AnswersTo false r (answered_in r t out run) out.receiver
 answers r t out (receiving.ended _ _ over) = refl
 answers r t out (receiving.unread _ _ f is on none) = refl
 answers r t out (receiving.unheard _ _ h e is on some gives) = refl
-answers r t out (receiving.unwritten _ _ h reply new is on some gives spoken) = (new, reply, on, heard-gives r new t h reply some gives, inr refl, refl)
-answers r t out (receiving.heard _ _ h reply new _ is on some gives later) = (new, reply, on, heard-gives r new t h reply some gives, inl refl, answers new _ out later)
+answers r t out (receiving.unwritten _ _ h reply new is on some gives spoken) = (new, reply, on, gives, inr refl, refl)
+answers r t out (receiving.heard _ _ h reply new _ is on some gives later) = (new, reply, on, gives, inl refl, answers new _ out later)
+
+-- along a course
+speaks-more : (s between new : SenderParts) (spoke : List Spoke) (one : Spoke) → SpeaksTo s spoke between → IsSender between → between.standing.state ≡ send_state.Running → one.wrote ≡ sent_by between →
+    HearsControls between (up_to_start (controls_in one.came)) new → SpeaksTo s (spoke ++ one ∷ []) new
+speaks-more s between new [] one speaks is on wrote heard =
+    subst (λ x. SpeaksTo x (one ∷ []) new) speaks (new, is, on, wrote, heard, refl)
+speaks-more s between new (first ∷ spoke) one speaks is on wrote heard =
+    (speaks.0, speaks.1, speaks.2, speaks.3, speaks.4, speaks-more speaks.0 between new spoke one speaks.5 is on wrote heard)
+
+pub speaks-along : (s : SenderParts) (deliveries : List (List ℕ)) (progress : ℕ) (new : SenderParts) (hears : SenderHears s deliveries progress new) → SpeaksTo s (spoke_along s deliveries progress new hears) new
+speaks-along s deliveries progress new (sender_none _) = refl
+speaks-along s deliveries progress new (sender_more _ before steps between bytes _ hears is on short gives) =
+    speaks-more s between new (spoke_along s before steps between hears) _ (speaks-along s before steps between hears) is on (written-sent (spoken between)) (hears-step between new bytes gives)
+
+answers-more : (all : Bool) (r between new : ReceiverParts) (answered : List Answered) (one : Answered) (reply : Reply) → AnswersTo all r answered between → between.receiver.state ≡ recv_state.Running →
+    HearsGives between one.heard (Ok reply) new → IsWritten all reply one.wrote → AnswersTo all r (answered ++ one ∷ []) new
+answers-more all r between new [] one reply answers on gives wrote = subst (λ x. AnswersTo all x (one ∷ []) new) answers (new, reply, on, gives, wrote, refl)
+answers-more all r between new (first ∷ answered) one reply answers on gives wrote =
+    (answers.0, answers.1, answers.2, answers.3, answers.4, answers-more all answers.0 between new answered one reply answers.5 on gives wrote)
+
+same-written : (all : Bool) (reply : Reply) → IsWritten all reply reply
+same-written true reply = refl
+same-written false reply = inl refl
+
+pub answers-along : (all : Bool) (r : ReceiverParts) (deliveries : List Heard) (progress : ℕ) (new : ReceiverParts) (hears : ReceiverHears r deliveries progress new) →
+    AnswersTo all r (answered_along r deliveries progress new hears) new
+answers-along all r deliveries progress new (receiver_none _) = refl
+answers-along all r deliveries progress new (receiver_more _ before steps between h reply _ hears is on large gives) =
+    answers-more all r between new (answered_along r before steps between hears) _ reply (answers-along all r before steps between hears) on gives (same-written all reply)
 
 -- Where a call answers Ok, its end has ended; and of a receiver's each reply was written.
 pub sent-over : (s : SenderParts) (t : Tape) (out : sending.Outcome) (run : sending.Sends s t out) → out.answer ≡ Ok tt → out.sender.standing.state ≢ send_state.Running
@@ -138,7 +164,7 @@ answers-all r t out (receiving.unheard _ _ h e is on some gives) ok = absurd (cc
 answers-all r t out (receiving.unwritten _ _ h reply new is on some gives spoken) ok = absurd (cc)
 answers-all r t out (receiving.heard _ _ h reply new _ is on some gives later) ok =
     let rest = answers-all new _ out later ok in
-    ((new, reply, on, heard-gives r new t h reply some gives, refl, rest.0), rest.1)
+    ((new, reply, on, gives, refl, rest.0), rest.1)
 
 -- ---- A sender that has ended
 
@@ -194,22 +220,22 @@ heard-bad computed Lost are shows = tt
 heard-bad computed (Damaged bytes) are shows = verdict-bad bytes (verdict_of bytes) (computed bytes are) shows
 
 -- of nothing the receiver hears nothing
-nothing-there : Computed → (delivery : Delivery) (came : List ℕ) → ArrivesThere delivery [] came → heard_of came ≡ Bad
+nothing-there : Computed → (delivery : Delivery) (h : Heard) → ArrivesThere delivery [] h → h ≡ Bad
 unfolding verdict_of
-nothing-there computed Whole came there = there.heard_is
-nothing-there computed Lost came there = there.heard_is
-nothing-there computed (Damaged bytes) came there = there.heard_is ∙ heard-bad computed (Damaged bytes) there.bytes there.shows
+nothing-there computed Whole h there = there.heard_is
+nothing-there computed Lost h there = there.heard_is
+nothing-there computed (Damaged bytes) h there = there.heard_is ∙ heard-bad computed (Damaged bytes) there.bytes there.shows
 
-pub bad-lost : (wrote came : List ℕ) → heard_of came ≡ Bad → ArrivesThere Lost wrote came
+pub bad-lost : (wrote : List ℕ) (h : Heard) → h ≡ Bad → ArrivesThere Lost wrote h
 unfolding verdict_of
-bad-lost wrote came bad = record { bytes = tt; shows = tt; short = tt; heard_is = bad }
+bad-lost wrote h bad = record { bytes = tt; shows = tt; short = tt; heard_is = bad }
 
 -- the delivery there, of what there was to send: where it was not written, it is lost
-pub there-of : Computed → (s : SenderParts) (wrote : List ℕ) (delivery : Delivery) (came : List ℕ) → (wrote ≡ sent_by s) ⊎ (wrote ≡ []) → ArrivesThere delivery wrote came →
-    (there : Delivery) × ArrivesThere there (sent_by s) came
-there-of computed s wrote delivery came (inl same) arrives = (delivery, subst (λ w. ArrivesThere delivery w came) same arrives)
-there-of computed s wrote delivery came (inr none) arrives =
-    (Lost, bad-lost (sent_by s) came (nothing-there computed delivery came (subst (λ w. ArrivesThere delivery w came) none arrives)))
+pub there-of : Computed → (s : SenderParts) (wrote : List ℕ) (delivery : Delivery) (h : Heard) → (wrote ≡ sent_by s) ⊎ (wrote ≡ []) → ArrivesThere delivery wrote h →
+    (there : Delivery) × ArrivesThere there (sent_by s) h
+there-of computed s wrote delivery h (inl same) arrives = (delivery, subst (λ w. ArrivesThere delivery w h) same arrives)
+there-of computed s wrote delivery h (inr none) arrives =
+    (Lost, bad-lost (sent_by s) h (nothing-there computed delivery h (subst (λ w. ArrivesThere delivery w h) none arrives)))
 
 none-within : (came : List Control) → machine.is_within came [] ≡ true → came ≡ []
 none-within [] within = refl
@@ -225,9 +251,9 @@ nothing-back within whole delivery came back =
 -- ---- A round
 
 -- the half there: what there was to send arrives
-pub paired-half : Computed → (s : SenderParts) (r after : ReceiverParts) (came : List ℕ) (reply : Reply) (there : Delivery) → IsSender s → ArrivesThere there (sent_by s) came →
-    HearsGives r (heard_of came) (Ok reply) after → GoesThere there (ends s r) reply (ends s after)
-paired-half computed s r after came reply there is arrives_there gives = record {
+pub paired-half : Computed → (s : SenderParts) (r after : ReceiverParts) (heard : Heard) (reply : Reply) (there : Delivery) → IsSender s → ArrivesThere there (sent_by s) heard →
+    HearsGives r heard (Ok reply) after → GoesThere there (ends s r) reply (ends s after)
+paired-half computed s r after heard reply there is arrives_there gives = record {
   shows = arrives_there.shows;
   short = arrives_there.short;
   bad = heard-bad computed there arrives_there.bytes arrives_there.shows;
@@ -237,13 +263,13 @@ paired-half computed s r after came reply there is arrives_there gives = record 
 }
 
 -- two deliveries that pair up are a round of the pair
-pub paired-round : Computed → (s next : SenderParts) (r after : ReceiverParts) (came there_came : List ℕ) (reply : Reply) (there back : Delivery) →
-    IsSender s → HearsControls s (up_to_start (controls_in came)) next → HearsGives r (heard_of there_came) (Ok reply) after →
-    ArrivesThere there (sent_by s) there_came → ArrivesBack back reply came →
+pub paired-round : Computed → (s next : SenderParts) (r after : ReceiverParts) (came : List ℕ) (h : Heard) (reply : Reply) (there back : Delivery) →
+    IsSender s → HearsControls s (up_to_start (controls_in came)) next → HearsGives r h (Ok reply) after →
+    ArrivesThere there (sent_by s) h → ArrivesBack back reply came →
     Goes (record { there = there; back = back }) (ends s r) (seen_of (record { there = there; back = back }) s reply) (ends next after)
-paired-round computed s next r after came there_came reply there back is heard gives arrives_there arrives_back = record {
+paired-round computed s next r after came h reply there back is heard gives arrives_there arrives_back = record {
   between = ends s after;
-  there = paired-half computed s r after there_came reply there is arrives_there gives;
+  there = paired-half computed s r after h reply there is arrives_there gives;
   back = record {
     shows = arrives_back.shows;
     short = arrives_back.short;

@@ -1,10 +1,10 @@
 -- Whatever comes, what a receiver has committed was spelled by what it heard in the call.
-use Rattle.std.proofs.Common.{◌≡◌, inl, inr, ℕ, List, [], ◌∷◌, ◌++◌, Result, Ok, Err, refl, sym, ap, subst, arith, append_assoc, append-nil}
+use Rattle.std.proofs.Common.{◌≡◌, inl, inr, ℕ, List, [], ◌∷◌, ◌++◌, refl, sym, ap, subst, arith, append_assoc, append-nil}
 use Rattle.ym_frame.specs.declared.frame.Item.{Item}
 use Rattle.ym_file.specs.Kept.{Kept, IsNew, TellsNone}
 use Rattle.ym_machine.specs.declared.confirm.Confirm.{Confirm}
 use Rattle.ym_pair.specs.AnyPeer.{CommitsTheHeard, AreAmong, spelling}
-use Rattle.ym_pair.specs.Logs.{heard_in, came_at, came_in}
+use Rattle.ym_pair.specs.Logs.{heard_in}
 use Rattle.ym_core.specs.declared.delivery.Heard.{Heard}
 use Rattle.ym_core.specs.declared.delivery.Heard.TheVariants as heard
 use Rattle.ym_core.specs.declared.stage.Stage.{Stage}
@@ -14,9 +14,7 @@ use Rattle.ym_link.specs.ReceiverInto.{ReceiverParts}
 use Rattle.ym_link.specs.Port.{Tape}
 use Rattle.ym_link.specs.ReceiveOver.{Outcome, Receives, ended, unread, unheard, unwritten, heard_at, delivery_at}
 use Rattle.ym_link.specs.ReceiveOver as receiving
-use Rattle.ym_core.specs.Hearing.{heard_of}
 use Rattle.ym_link.specs.Course.{ReceiverHears, receiver_none, receiver_more}
-use Rattle.ym_link.specs.declared.end_fault.EndFault.{EndFault}
 use Rattle.ym_pair.proofs.Spelling.{Holds, OpenHolds, IsHeardAs, nothing}
 use Rattle.ym_pair.proofs.SpellingTable.{Behind, hears-holds}
 
@@ -30,16 +28,6 @@ among-more : (h : Heard) (first items : List Item) (all : List Heard) → IsHear
 among-more h [] items all heard_as among = among-skip h items all among
 among-more h (i ∷ []) items all heard_as among = inl (heard_as, among)
 among-more h (i ∷ j ∷ first) items all heard_as among = absurd heard_as
-
--- what was heard is read off the delivery that came
-pub came-heard : (came : Result (List ℕ) EndFault) (h : Heard) → receiving.heard_in came ≡ Ok h → heard_of (came_in came) ≡ h
-came-heard (Ok bytes) h is = cc
-came-heard (Err fault) h is = absurd (cc)
-
-among-came : (t : Tape) (h : Heard) (first items : List Item) (all : List Heard) → heard_at t ≡ Ok h → IsHeardAs h first → AreAmong items all →
-    AreAmong (first ++ items) (heard_of (came_at t) ∷ all)
-among-came t h first items all some heard_as among =
-    subst (λ x. AreAmong (first ++ items) (x ∷ all)) (sym (came-heard (delivery_at t).delivery h some)) (among-more h first items all heard_as among)
 
 among-front : (front more : List Item) (all : List Heard) → AreAmong (front ++ more) all → AreAmong front all
 among-front [] more all among = tt
@@ -64,7 +52,7 @@ run-spelt r t out (unwritten _ _ h reply new is on some gives spoken) confirm it
     let behind : Behind confirm items h new = hears-holds confirm items r h reply new is on same holds gives in
     record {
       more = behind.more;
-      among = subst (λ x. AreAmong x (heard_of (came_at t) ∷ [])) (append-nil behind.more) (among-came t h behind.more [] [] some behind.heard_as tt);
+      among = subst (λ x. AreAmong x (h ∷ [])) (append-nil behind.more) (among-more h behind.more [] [] behind.heard_as tt);
       holds = behind.holds;
     }
 run-spelt r t out (receiving.heard _ _ h reply new _ is on some gives later) confirm items same holds =
@@ -72,7 +60,7 @@ run-spelt r t out (receiving.heard _ _ h reply new _ is on some gives later) con
     let rest : Spelt confirm (items ++ behind.more) (heard_in new _ out later) out.receiver = run-spelt new _ out later confirm (items ++ behind.more) behind.confirm_is behind.holds in
     record {
       more = behind.more ++ rest.more;
-      among = among-came t h behind.more rest.more (heard_in new _ out later) some behind.heard_as rest.among;
+      among = among-more h behind.more rest.more (heard_in new _ out later) behind.heard_as rest.among;
       holds = subst (λ x. Holds confirm x out.receiver.receiver.stage out.receiver.kept) (append_assoc items behind.more rest.more) rest.holds;
     }
 

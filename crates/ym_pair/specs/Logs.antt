@@ -1,20 +1,17 @@
 -- What an engine wrote in a call, and what came to it, delivery by delivery: read off its run (this profile).
-use Rattle.std.specs.Prelude.{ℕ, List, [], ◌∷◌, ◌++◌, map, Result, Ok, Err}
+use Rattle.std.specs.Prelude.{ℕ, List, [], ◌∷◌, ◌++◌, map}
 use Rattle.std.specs.List.{concat}
 use Rattle.ym_frame.specs.Control.{reply_bytes}
 use Rattle.ym_frame.specs.declared.control.Reply.{Reply}
 use Rattle.ym_frame.specs.declared.control.Reply.TheVariants.{Silence}
-use Rattle.ym_core.specs.Hearing.{heard_of}
 use Rattle.ym_core.specs.declared.delivery.Heard.{Heard}
-use Rattle.ym_link.specs.Course.{SenderHears, sender_none, sender_more}
+use Rattle.ym_link.specs.Course.{SenderHears, sender_none, sender_more, ReceiverHears, receiver_none, receiver_more}
 use Rattle.ym_link.specs.Port.{Tape}
-use Rattle.ym_link.specs.ReceiveOver.{delivery_at}
 use Rattle.ym_link.specs.ReceiveOver as receiving
 use Rattle.ym_link.specs.ReceiverInto.{ReceiverParts}
 use Rattle.ym_link.specs.Sender.{SenderParts, spoken}
 use Rattle.ym_link.specs.SendOver.{written_for}
 use Rattle.ym_link.specs.SendOver as sending
-use Rattle.ym_link.specs.declared.end_fault.EndFault.{EndFault}
 
 -- ---- A sender
 
@@ -44,34 +41,28 @@ spoke_along s deliveries progress new (sender_more _ before steps between bytes 
 
 -- ---- A receiver
 
--- the delivery that came, and the reply that it then wrote: none where its port failed
+-- what it heard in a delivery, and the reply that it then wrote: none where its port failed
 pub record Answered : Type 0 where
-  pub came : List ℕ
+  pub heard : Heard
   pub wrote : Reply
-
--- what was heard in it
-abbrev pub heard_by : Answered → Heard
-heard_by one = heard_of one.came
-
--- the bytes of the next delivery
-abbrev pub came_in : Result (List ℕ) EndFault → List ℕ
-came_in (Ok bytes) = bytes
-came_in (Err fault) = []
-
-abbrev pub came_at : Tape → List ℕ
-came_at t = came_in (delivery_at t).delivery
 
 -- a delivery for which the receiver wanted memory is left out: it changed nothing
 abbrev pub answered_in : (r : ReceiverParts) (t : Tape) (out : receiving.Outcome) → receiving.Receives r t out → List Answered
 answered_in r t out (receiving.ended _ _ over) = []
 answered_in r t out (receiving.unread _ _ f is on none) = []
 answered_in r t out (receiving.unheard _ _ h e is on some gives) = []
-answered_in r t out (receiving.unwritten _ _ h reply new is on some gives spoken) = record { came = came_at t; wrote = Silence } ∷ []
-answered_in r t out (receiving.heard _ _ h reply new _ is on some gives later) = record { came = came_at t; wrote = reply } ∷ answered_in new _ out later
+answered_in r t out (receiving.unwritten _ _ h reply new is on some gives spoken) = record { heard = h; wrote = Silence } ∷ []
+answered_in r t out (receiving.heard _ _ h reply new _ is on some gives later) = record { heard = h; wrote = reply } ∷ answered_in new _ out later
+
+-- The same along a course, which is known of every port: at each delivery the receiver had this to reply.
+abbrev pub answered_along : (r : ReceiverParts) (deliveries : List Heard) (progress : ℕ) (new : ReceiverParts) → ReceiverHears r deliveries progress new → List Answered
+answered_along r deliveries progress new (receiver_none _) = []
+answered_along r deliveries progress new (receiver_more _ before steps between h reply _ hears is on large gives) =
+    answered_along r before steps between hears ++ record { heard = h; wrote = reply } ∷ []
 
 -- what it heard, delivery by delivery
 abbrev pub heard_in : (r : ReceiverParts) (t : Tape) (out : receiving.Outcome) → receiving.Receives r t out → List Heard
-heard_in r t out run = map heard_by (answered_in r t out run)
+heard_in r t out run = map (λ (one : Answered). one.heard) (answered_in r t out run)
 
 -- ---- The bytes written
 

@@ -13,6 +13,7 @@ use Rattle.ym_file.specs.Kept.{Told}
 use Rattle.ym_core.specs.Hearing.{heard_of}
 use Rattle.ym_core.specs.Place.{done_at}
 use Rattle.ym_core.specs.Reading.{controls_in}
+use Rattle.ym_core.specs.declared.delivery.Heard.{Heard}
 use Rattle.ym_core.specs.declared.state.SendState.TheVariants as sender
 use Rattle.ym_core.specs.declared.state.RecvState.TheVariants as receiver
 use Rattle.ym_link.specs.Port.{Tape}
@@ -36,12 +37,12 @@ AreBytes Whole = Unit {0}
 AreBytes Lost = Unit {0}
 AreBytes (Damaged bytes) = IsBytes bytes
 
--- What came to the receiver is heard as what arrives of these bytes; damage shows, and is short.
-pub record ArrivesThere (delivery : Delivery) (wrote : List ℕ) (came : List ℕ) : Type 0 where
+-- The receiver heard what arrives of these bytes; damage shows, and is short.
+pub record ArrivesThere (delivery : Delivery) (wrote : List ℕ) (heard : Heard) : Type 0 where
   pub bytes : AreBytes delivery
   pub shows : ShowsThere delivery
   pub short : IsShort delivery
-  pub heard_is : heard_of came ≡ heard_of (arrives delivery wrote)
+  pub heard_is : heard ≡ heard_of (arrives delivery wrote)
 
 -- of what comes, a sender reads nothing behind the first C
 abbrev pub up_to_start : List Control → List Control
@@ -60,7 +61,7 @@ pub record ArrivesBack (delivery : Delivery) (wrote : Reply) (came : List ℕ) :
 -- The sender's engine has returned: to the receiver there comes what arrives of its last words, and what it replies is lost.
 abbrev pub ReceiverAlone : List ℕ → List Answered → List Round → Type 0
 ReceiverAlone last [] [] = Unit {0}
-ReceiverAlone last (a ∷ answered) (round ∷ rounds) = ArrivesThere round.there last a.came × (round.back ≡ Lost) × ReceiverAlone last answered rounds
+ReceiverAlone last (a ∷ answered) (round ∷ rounds) = ArrivesThere round.there last a.heard × (round.back ≡ Lost) × ReceiverAlone last answered rounds
 ReceiverAlone last _ _ = ⊥
 
 -- The receiver's engine has returned: what the sender writes is lost, and no reply comes.
@@ -76,7 +77,7 @@ PairUp [] last answered rounds = ReceiverAlone last answered rounds
 PairUp (s ∷ spoke) last [] rounds = SenderAlone (s ∷ spoke) rounds
 PairUp (s ∷ spoke) last (a ∷ answered) [] = ⊥
 PairUp (s ∷ spoke) last (a ∷ answered) (round ∷ rounds) =
-    ArrivesThere round.there s.wrote a.came
+    ArrivesThere round.there s.wrote a.heard
     × ((ArrivesBack round.back a.wrote s.came × PairUp spoke last answered rounds) ⊎ ((round.back ≡ Lost) × PairUp (s ∷ spoke) last answered rounds))
 
 -- so do those of two calls
