@@ -100,7 +100,7 @@ AnswersTo all r (one ∷ answered) new =
     (next : ReceiverParts) × (reply : Reply) × (r.receiver.state ≡ recv_state.Running) × HearsGives r one.heard (Ok reply) next × IsWritten all reply one.wrote × AnswersTo all next answered new
 
 -- what is to be sent, as both definitions have it
-written-sent : (said : Option (List ℕ)) → written_for said ≡ unwrap_or said []
+pub written-sent : (said : Option (List ℕ)) → written_for said ≡ unwrap_or said []
 written-sent None = refl
 written-sent (Some bytes) = refl
 

@@ -16,10 +16,12 @@ use Rattle.ym_core.specs.Reading.{controls_in}
 use Rattle.ym_core.specs.declared.delivery.Heard.{Heard}
 use Rattle.ym_core.specs.declared.state.SendState.TheVariants as sender
 use Rattle.ym_core.specs.declared.state.RecvState.TheVariants as receiver
+use Rattle.ym_link.specs.Course.{SenderHears, ReceiverHears}
 use Rattle.ym_link.specs.Port.{Tape}
 use Rattle.ym_link.specs.ReceiveOver as receiving
 use Rattle.ym_link.specs.ReceiverInto.{ReceiverParts}
-use Rattle.ym_link.specs.Sender.{SenderParts}
+use Rattle.ym_link.specs.Sender.{SenderParts, spoken}
+use Rattle.ym_link.specs.SendOver.{written_for}
 use Rattle.ym_link.specs.SendOver as sending
 use Rattle.ym_link.specs.SourceFile.{FileParts}
 use Rattle.ym_line.specs.Damage.{arrives, ShowsThere, ShowsBack, IsShort}
@@ -27,7 +29,7 @@ use Rattle.ym_line.specs.Rounds.{Pair}
 use Rattle.ym_line.specs.declared.delivery.Delivery.{Delivery}
 use Rattle.ym_line.specs.declared.delivery.Delivery.TheVariants.{Whole, Lost, Damaged}
 use Rattle.ym_line.specs.declared.delivery.Round.{Round}
-use Rattle.ym_pair.specs.Logs.{Spoke, Answered, spoke_in, last_words, answered_in}
+use Rattle.ym_pair.specs.Logs.{Spoke, Answered, spoke_in, spoke_along, last_words, answered_in, answered_along}
 
 -- ---- What arrives
 
@@ -84,6 +86,22 @@ PairUp (s ∷ spoke) last (a ∷ answered) (round ∷ rounds) =
 abbrev pub RunsPairUp : (s : SenderParts) (t : Tape) (out : sending.Outcome) → sending.Sends s t out →
     (r : ReceiverParts) (u : Tape) (end : receiving.Outcome) → receiving.Receives r u end → List Round → Type 0
 RunsPairUp s t out sends r u end receives rounds = PairUp (spoke_in s t out sends) (last_words s t out sends) (answered_in r u end receives) rounds
+
+-- ---- The same on any two ports
+
+-- the courses of two calls: what each end heard while it ran, delivery by delivery
+pub record AreCalls (s new : SenderParts) (r end : ReceiverParts) : Type 0 where
+  pub deliveries : List (List ℕ)
+  pub progress : ℕ
+  pub speaks : SenderHears s deliveries progress new
+  pub heard : List Heard
+  pub steps : ℕ
+  pub hears : ReceiverHears r heard steps end
+
+-- Their deliveries pair up, where each end wrote what it had to say; what it had to say and could not write is lost.
+abbrev pub CallsPairUp : (s new : SenderParts) (r end : ReceiverParts) → AreCalls s new r end → List Round → Type 0
+CallsPairUp s new r end calls rounds =
+    PairUp (spoke_along s calls.deliveries calls.progress new calls.speaks) (written_for (spoken new)) (answered_along r calls.heard calls.steps end calls.hears) rounds
 
 -- ---- What is promised of them
 

@@ -1,6 +1,6 @@
 //! Calls of the engines, with what is known of them against any peer: nothing is supposed of who is at the other end, or of what the port brings.
 
-ghost use Rattle.std.specs.Prelude.{◌≡◌, ℕ, List, length};
+ghost use Rattle.std.specs.Prelude.{◌≡◌, ◌≤◌, ℕ, List, length, is_ok, true};
 ghost use Rattle.ym_file.specs.Kept.{IsNew};
 ghost use Rattle.ym_core.specs.Place.{done_at};
 ghost use Rattle.ym_core.specs.Receiver.{new_receiver};
@@ -13,9 +13,17 @@ ghost use Rattle.ym_link.specs.ReceiveOver as receiving;
 ghost use Rattle.ym_link.specs.Sender.{counts};
 ghost use Rattle.ym_link.specs.SendOver as sending;
 ghost use Rattle.ym_pair.specs.AnyPeer.{CommitsTheHeard, AreAcknowledged, files_places};
+ghost use Rattle.ym_machine.specs.declared.limits.TheConstants.{BURST};
+ghost use Rattle.ym_line.specs.Completion.{NoneRose, longest_bad_run};
+ghost use Rattle.ym_line.specs.Promise.{AreNew, CommitsAPrefix};
+ghost use Rattle.ym_line.specs.declared.delivery.Round.{Round};
+ghost use Rattle.ym_pair.specs.Pairing.{AreCalls, CallsPairUp, HaveBothFinished, ends};
 ghost use Rattle.ym_pair.specs.Logs.{heard_in, spoke_in, spoke_along};
 
-use crate::laws::{a_receiver_commits_what_it_heard, a_sender_was_acknowledged};
+use crate::laws::{
+    a_receiver_commits_what_it_heard, a_sender_was_acknowledged, two_engines_commit_a_prefix,
+    two_engines_complete,
+};
 use ym_file::{Sink, Source};
 use ym_link::{EndFault, Port, ReceiverInto, SenderFrom, receive_over, send_over};
 
@@ -51,4 +59,27 @@ pub fn send_to_any_peer<P: Port, S: Source>(
 {
     a_sender_was_acknowledged();
     send_over(port, sender)
+}
+
+/// A call of each engine, each over a port of its own, as two processes make them at the two ends of one line. Where their deliveries pair up, new ends commit
+/// a prefix of the batch, however each call returns, and complete where both return well, no failure count rose and no bad run is longer than a burst.
+pub fn send_and_receive<P: Port, S: Source, Q: Port, K: Sink>(
+    near: &mut P,
+    sender: &mut SenderFrom<S>,
+    far: &mut Q,
+    receiver: &mut ReceiverInto<K>,
+) -> (Result<(), EndFault>, Result<(), EndFault>)
+    ensures prefix { AreNew (ends sender.old receiver.old) → (calls : AreCalls sender.old sender.new receiver.old receiver.new)
+        × ((rounds : List Round) → CallsPairUp sender.old sender.new receiver.old receiver.new calls rounds → CommitsAPrefix sender.old.files (ends sender.new receiver.new)) }
+    ensures complete { AreNew (ends sender.old receiver.old) → is_ok result.0 ≡ true → is_ok result.1 ≡ true → NoneRose (ends sender.old receiver.old) (ends sender.new receiver.new) →
+        (calls : AreCalls sender.old sender.new receiver.old receiver.new)
+        × ((rounds : List Round) → CallsPairUp sender.old sender.new receiver.old receiver.new calls rounds → longest_bad_run 0 rounds ≤ BURST → HaveBothFinished sender.old.files (ends sender.new receiver.new)) }
+{
+    two_engines_commit_a_prefix();
+    two_engines_complete();
+    let sent = send_over(near, sender);
+    let received = receive_over(far, receiver);
+    // what a sender keeps to is known once it is looked at
+    let _frame = sender.frame();
+    (sent, received)
 }

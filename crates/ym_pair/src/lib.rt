@@ -4,4 +4,4 @@
 mod calls;
 pub mod laws;
 
-pub use calls::{receive_from_any_peer, send_to_any_peer};
+pub use calls::{receive_from_any_peer, send_and_receive, send_to_any_peer};

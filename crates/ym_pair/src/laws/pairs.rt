@@ -1,16 +1,18 @@
 //! Laws of two engines, one at each end of a line.
 
-ghost use Rattle.std.specs.Prelude.{◌≡◌, ◌≤◌, List, Ok};
+ghost use Rattle.std.specs.Prelude.{◌≡◌, ◌≢◌, ◌≤◌, List, Ok};
+ghost use Rattle.ym_core.specs.declared.state.RecvState.TheVariants as receiver_is;
+ghost use Rattle.ym_core.specs.declared.state.SendState.TheVariants as sender_is;
 ghost use Rattle.ym_link.specs.Port.{Tape};
 ghost use Rattle.ym_link.specs.ReceiveOver as receiving;
 ghost use Rattle.ym_link.specs.ReceiverInto.{ReceiverParts};
-ghost use Rattle.ym_link.specs.Sender.{SenderParts};
+ghost use Rattle.ym_link.specs.Sender.{SenderParts, IsSender};
 ghost use Rattle.ym_link.specs.SendOver as sending;
 ghost use Rattle.ym_machine.specs.declared.limits.TheConstants.{BURST};
 ghost use Rattle.ym_line.specs.Completion.{NoneRose, longest_bad_run};
 ghost use Rattle.ym_line.specs.Promise.{AreNew, CommitsAPrefix};
 ghost use Rattle.ym_line.specs.declared.delivery.Round.{Round};
-ghost use Rattle.ym_pair.specs.Pairing.{RunsPairUp, HaveBothFinished, ends};
+ghost use Rattle.ym_pair.specs.Pairing.{RunsPairUp, AreCalls, CallsPairUp, HaveBothFinished, ends};
 
 use ym_file::laws::one_pieces;
 use ym_frame::laws::{frame_found, one_verdict};
@@ -27,11 +29,13 @@ use ym_machine::laws::{
     what_comes_back,
 };
 
-/// Where the deliveries of two engines pair up, over any two ports and however each call returns, the files that the receiver has committed are the first
+/// Where the deliveries of two engines pair up, over any two ports, whether or not they tell their events, and however each call returns, the files that the receiver has committed are the first
 /// ones of the batch, each with its name, length, stamp and bytes, and the sender reports no more of them.
 pub fn two_engines_commit_a_prefix()
-    ensures { (s : SenderParts) (t : Tape) (out : sending.Outcome) (sends : sending.Sends s t out) (r : ReceiverParts) (u : Tape) (end : receiving.Outcome) (receives : receiving.Receives r u end) (rounds : List Round) →
+    ensures told { (s : SenderParts) (t : Tape) (out : sending.Outcome) (sends : sending.Sends s t out) (r : ReceiverParts) (u : Tape) (end : receiving.Outcome) (receives : receiving.Receives r u end) (rounds : List Round) →
         AreNew (ends s r) → RunsPairUp s t out sends r u end receives rounds → CommitsAPrefix s.files (ends out.sender end.receiver) }
+    ensures course { (s new : SenderParts) (r end : ReceiverParts) (calls : AreCalls s new r end) (rounds : List Round) →
+        AreNew (ends s r) → IsSender new → CallsPairUp s new r end calls rounds → CommitsAPrefix s.files (ends new end) }
 {
     one_pieces();
     one_verdict();
@@ -52,9 +56,12 @@ pub fn two_engines_commit_a_prefix()
 /// Where moreover both calls return well, no failure count rose, and no bad run of the rounds is longer than a burst, of four today, both ends have finished,
 /// and the whole batch is committed and reported.
 pub fn two_engines_complete()
-    ensures { (s : SenderParts) (t : Tape) (out : sending.Outcome) (sends : sending.Sends s t out) (r : ReceiverParts) (u : Tape) (end : receiving.Outcome) (receives : receiving.Receives r u end) (rounds : List Round) →
+    ensures told { (s : SenderParts) (t : Tape) (out : sending.Outcome) (sends : sending.Sends s t out) (r : ReceiverParts) (u : Tape) (end : receiving.Outcome) (receives : receiving.Receives r u end) (rounds : List Round) →
         AreNew (ends s r) → RunsPairUp s t out sends r u end receives rounds → out.answer ≡ Ok tt → end.answer ≡ Ok tt →
         NoneRose (ends s r) (ends out.sender end.receiver) → longest_bad_run 0 rounds ≤ BURST → HaveBothFinished s.files (ends out.sender end.receiver) }
+    ensures course { (s new : SenderParts) (r end : ReceiverParts) (calls : AreCalls s new r end) (rounds : List Round) →
+        AreNew (ends s r) → IsSender new → CallsPairUp s new r end calls rounds → new.standing.state ≢ sender_is.Running → end.receiver.state ≢ receiver_is.Running →
+        NoneRose (ends s r) (ends new end) → longest_bad_run 0 rounds ≤ BURST → HaveBothFinished s.files (ends new end) }
 {
     one_pieces();
     one_verdict();

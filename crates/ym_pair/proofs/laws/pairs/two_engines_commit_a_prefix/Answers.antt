@@ -1,10 +1,12 @@
-use Rattle.std.proofs.Common.{ap}
+use Rattle.std.proofs.Common.{ap, false, inl}
 use Rattle.ym_machine.specs.Frames.{frames_of}
 use Rattle.ym_core.specs.declared.standing.Standing.{Standing}
+use Rattle.ym_link.specs.Sender.{spoken}
+use Rattle.ym_link.specs.SendOver.{written_for}
 use Rattle.ym_line.proofs.Halves.{Laws}
 use Rattle.ym_line.proofs.Promised as promised
 use Rattle.ym_pair.proofs.Engines.{Endings, engines-commit, files-within}
-use Rattle.ym_pair.proofs.Paired.{speaks, leaves, answers}
+use Rattle.ym_pair.proofs.Paired.{Leaves, speaks, leaves, answers, speaks-along, answers-along, written-sent}
 use Rattle.ym_pair.proofs.laws.pairs.two_engines_commit_a_prefix.Goals as goal
 
 pub returns : goal.returns
@@ -39,7 +41,13 @@ returns c =
       first = c.a_standing_pair_commits_the_first_files.ensures;
       new_stand = c.new_ends_stand.ensures;
     } in
-    λ s t out sends r u end receives rounds fresh pairs.
-    let said = speaks s t out sends in
-    let left = leaves s t out sends (λ over. absurd (over (ap (λ (x : Standing). x.state) fresh.sender))) in
-    engines-commit endings promises s out.sender r end.receiver _ _ _ rounds fresh (files-within s out.sender _ _ said left) said left (answers r u end receives) pairs
+    record {
+      told = λ s t out sends r u end receives rounds fresh pairs.
+          let said = speaks s t out sends in
+          let left = leaves s t out sends (λ over. absurd (over (ap (λ (x : Standing). x.state) fresh.sender))) in
+          engines-commit endings promises s out.sender r end.receiver _ _ _ rounds fresh (files-within s out.sender _ _ said left) said left (answers r u end receives) pairs;
+      course = λ s new r end calls rounds fresh is pairs.
+          let said = speaks-along s calls.deliveries calls.progress new calls.speaks in
+          let left : Leaves new (written_for (spoken new)) = record { is = is; words = inl (written-sent (spoken new)) } in
+          engines-commit endings promises s new r end _ _ _ rounds fresh (files-within s new _ _ said left) said left (answers-along false r calls.heard calls.steps end calls.hears) pairs;
+    }
