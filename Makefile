@@ -14,7 +14,7 @@
 PREFIX ?= /usr/local
 PROGRAM = crates/ymodem/out/ymodem
 
-.PHONY: play build check test memory interop install deb dist charts bench clean
+.PHONY: play build check test replay memory interop install deb dist charts bench clean
 
 play:
 	@tools/prove.py play
@@ -26,11 +26,15 @@ build:
 check:
 	@tools/prove.py check
 
-test: build
+test: build replay
 	tests/transfer.py
 	tests/shipped.py
 	tests/memory.py
 	rt ci
+
+# The program that plays recorded reads to the engines, for tests/transfer.py.
+replay:
+	cd crates/replay && rt run < stdin
 
 memory:
 	tests/memory.py
