@@ -61,11 +61,14 @@ clean:
 # ---- The library for C
 
 # make lib               proves and builds it: out/lib/TARGET/libymodem.a for each of TARGETS
-# make test-lib          the checks of the library, which `make test` runs too
+# make test-lib          the checks of the library, which `make test` runs too: on this machine, on a board without an operating system (QEMU), and
+#                        of `ymodem send` to U-Boot
 # make install-lib       puts the archive of TARGET, the header and the file for pkg-config below $(DESTDIR)$(PREFIX)
 
 TARGETS = x86_64-unknown-linux-gnu aarch64-unknown-linux-gnu wasm64-unknown-unknown
 TARGET = x86_64-unknown-linux-gnu
+# of the board in tests/bare.py
+BOARD = aarch64-unknown-linux-gnu
 
 .PHONY: lib test-lib install-lib
 
@@ -78,8 +81,10 @@ lib:
 test: test-lib
 
 test-lib: build
-	@$(MAKE) --no-print-directory lib TARGETS=$(TARGET)
+	@$(MAKE) --no-print-directory lib TARGETS="$(TARGET) $(BOARD)"
 	tests/library.py
+	tests/bare.py
+	tests/uboot.py
 
 install-lib: lib
 	install -D -m 644 out/lib/$(TARGET)/libymodem.a $(DESTDIR)$(PREFIX)/lib/libymodem.a
