@@ -6,7 +6,7 @@
 # make memory            each growth of memory refused in turn, alone
 # make interop           the program against lrzsz, which has to be installed
 # make install           puts the program, ymodem-tty, the manual pages and the completion below $(DESTDIR)$(PREFIX)
-# make deb, make dist    the same as a Debian package, and as a tar file, in out/
+# make deb, make dist    the same as a Debian package, with one of the library for C beside it, and as a tar file, in out/
 # make charts            draws the charts of docs/pictures from the traces that the program prints
 # make bench             measures the program
 # All need the toolchain: `rt` on the path, and Python 3.
@@ -43,6 +43,8 @@ install: build
 
 deb: build
 	packaging/package.py deb $(PROGRAM) out
+	@$(MAKE) --no-print-directory lib TARGETS=x86_64-unknown-linux-gnu
+	packaging/package.py dev out/lib/x86_64-unknown-linux-gnu/libymodem.a out
 
 dist: build
 	packaging/package.py dist $(PROGRAM) out
@@ -90,4 +92,4 @@ install-lib: lib
 	install -D -m 644 out/lib/$(TARGET)/libymodem.a $(DESTDIR)$(PREFIX)/lib/libymodem.a
 	install -D -m 644 include/ymodem.h $(DESTDIR)$(PREFIX)/include/ymodem.h
 	install -d $(DESTDIR)$(PREFIX)/lib/pkgconfig
-	sed 's|@PREFIX@|$(PREFIX)|' include/ymodem.pc.in > $(DESTDIR)$(PREFIX)/lib/pkgconfig/ymodem.pc
+	sed 's|@PREFIX@|$(PREFIX)|; s|@LIBDIR@|$${prefix}/lib|' include/ymodem.pc.in > $(DESTDIR)$(PREFIX)/lib/pkgconfig/ymodem.pc
