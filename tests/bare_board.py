@@ -108,7 +108,7 @@ def from_program(paths, line=None, status=0, told=None):
             relay.join(LIMIT)
             if relay.fault:
                 raise AssertionError("the relay: %r" % relay.fault)
-            if line.bad_frames + line.bad_replies != line.most:
+            if line.bad_frames + line.bad_replies < line.most:
                 raise AssertionError("only %d frames and %d replies were damaged" % (line.bad_frames, line.bad_replies))
 
     return send

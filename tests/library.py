@@ -1,6 +1,6 @@
 #!/usr/bin/env python3
 """Tries the library for C: its header, the example programs against `ymodem`, `sb` and `rb`, on a line that is damaged too, calls with rubbish,
-the receiver of the library beside that of the program, and its Debian package.
+each end of the library beside that of the program, and its Debian package.
 
 Prints a line for each check, and ends with the line 'N passed, M failed, K skipped'; the status is 1 where a check failed. It needs Python and a C
 compiler; a check that needs clang, valgrind, g++, lrzsz or a tool for packages is skipped where that is missing, and says so.
@@ -23,7 +23,6 @@ sys.dont_write_bytecode = True
 sys.path.insert(0, os.path.dirname(os.path.abspath(__file__)))
 
 import library_package
-from frames import END, block, header, mixed
 from program import LIMIT, PROGRAM, ROOT, folders, free_port, running, stored, wants_stored, write_files
 from relay import Relay, Seeded
 from shipped import outcome
@@ -35,8 +34,9 @@ LIBRARY = os.path.abspath(os.environ.get("YM_LIBRARY", os.path.join(ROOT, "out",
 STRICT = ["-Wall", "-Wextra", "-Wpedantic", "-Werror"]
 BUILT = tempfile.TemporaryDirectory(prefix="ymodem-c-")
 
-# Streams of deliveries that both receivers hear.
-STREAMS = 150
+# Streams of deliveries that an end of the library and the program's hear, for each end, and how many are under way at once.
+STREAMS = 10_000
+WORKERS = 250
 
 
 def wants(holds, text):
@@ -162,7 +162,7 @@ def from_program(line=None):
                     send.ended().wants(0, "sender done %d finished\n" % len(batch))
                     wants_end(receiver, "receive")
             wants_stored(there, batch)
-            wants(not line or line.bad_frames + line.bad_replies == line.most, "too little was damaged")
+            wants(not line or line.bad_frames + line.bad_replies >= line.most, "too little was damaged")
 
     return check
 
@@ -185,7 +185,7 @@ def to_program(line=None):
                     wants(ended.status == 0 and ended.out.endswith("receiver files %d finished\n" % len(batch)), "receive: %r %r" % (ended.out, ended.err))
                     wants_end(sender, "send")
             wants_stored(there, batch)
-            wants(not line or line.bad_frames + line.bad_replies == line.most, "too little was damaged")
+            wants(not line or line.bad_frames + line.bad_replies >= line.most, "too little was damaged")
 
     return check
 
@@ -220,80 +220,29 @@ def calls():
     command(built("tests/library_calls.c", "calls-alone"), "200000", "3")
 
 
-# ---- The same deliveries to both receivers
+# ---- The same deliveries to an end of the library and to the program's
+
+# How an end can end.
+ENDS = {
+    "sender": ("running", "finished", "no-reply", "cancelled"),
+    "receiver": ("running", "finished", "too-many-errors", "cancelled", "out-of-step", None, "sink-failed", "bad-header"),
+}
 
 
-def next_delivery(chance, name, data, at, blocks):
-    """What a sender that errs might send: mostly the next frame, else one of any place, a damaged one, or junk of the size of a whole delivery."""
-    if chance.random() < 0.04:
-        return chance.choice((b"\x18\x18", b"\x04", END, block(chance.randrange(256), chance.randbytes(128)), header(b"../up", b"3")))
-    if chance.random() < 0.03:
-        return b"\x00" + chance.randbytes(2047)
-    frames = [header(name, b"%d" % len(data)), *(block(number + 1, body) for number, body in enumerate(blocks)), b"\x04", b"\x04"]
-    return frames[at]
+def beside(end):
+    """Each delivery is answered alike, and both ends end alike; of every way to end there are some. A stream that went otherwise is made again,
+    since an end that had to wait for this machine has heard that nothing came."""
 
+    def check():
+        with tempfile.TemporaryDirectory(prefix="ymodem-") as top:
+            done = subprocess.run([BESIDE, end, PROGRAM, top, "0", str(STREAMS), str(WORKERS)], capture_output=True, text=True, timeout=LIMIT, check=False)
+        wants(done.returncode == 0, "status %d: %s" % (done.returncode, done.stderr[:900]))
+        *ends, _, _ = map(int, done.stdout.split())
+        wants(sum(ends) == STREAMS, "only %d streams" % sum(ends))
+        never = [name for name, count in zip(ENDS[end], ends) if name not in (None, "running") and not count]
+        wants(not never, "none ended %s" % never)
 
-def same_replies(seed):
-    """A list of deliveries to both: each reply is the same, and so are the files."""
-    chance = random.Random(seed)
-    confirm = seed % 2
-    with folders() as (here, there):
-        port = free_port()
-        words = [DELIVERIES, here, str(confirm)]
-        heard = subprocess.Popen(words, stdin=subprocess.PIPE, stdout=subprocess.PIPE)
-        try:
-            with running("receive", "--port", port, *(["--single"] if confirm else []), there) as receive, line_to(port) as end:
-                end.settimeout(LIMIT)
-                state = follow(chance, heard, end)
-                end.close()
-                receive.ended()
-        finally:
-            heard.kill()
-            heard.communicate()
-        wants(stored(here) == stored(there), "seed %d: other files" % seed)
-        return state
-
-
-def answer(heard, delivery):
-    heard.stdin.write(len(delivery).to_bytes(4, "little") + delivery)
-    heard.stdin.flush()
-    state, length = heard.stdout.read(2)
-    return state, heard.stdout.read(length)
-
-
-def follow(chance, heard, end):
-    state, reply = answer(heard, b"")
-    number = 0
-    while not state and number < 60:
-        data = chance.randbytes(chance.choice((0, 1, 128, 1500, 5000)))
-        blocks = mixed(data)
-        name = b"file-%d" % chance.randrange(6)
-        at, same = 0, 0
-        while not state and at < len(blocks) + 3:
-            got = b""
-            while len(got) < len(reply):
-                more = end.recv(len(reply) - len(got))
-                wants(more, "the program closed, and the library answers %r" % reply)
-                got += more
-            wants(got == reply, "the program answers %r and the library %r" % (got, reply))
-            is_last = at == 0 and chance.random() < 0.15
-            delivery = END if is_last else next_delivery(chance, name, data, at, blocks)
-            end.sendall(delivery)
-            state, reply = answer(heard, delivery)
-            number += 1
-            same += 1
-            if reply[:1] in (b"\x06", b"\x15") or same > 3:
-                at, same = at + 1, 0
-    if reply:
-        got = end.recv(len(reply))
-        wants(got == reply, "the program answers at last %r and the library %r" % (got, reply))
-    return state
-
-
-def both_receivers():
-    with ThreadPoolExecutor(STREAMS) as pool:
-        ends = list(pool.map(same_replies, range(STREAMS)))
-    wants(len(set(ends)) >= 5, "the streams end alike: %s" % sorted(set(ends)))
+    return check
 
 
 def from_package():
@@ -325,7 +274,7 @@ CHECKS = [
     ("receive from ymodem send, five deliveries damaged", from_program(Seeded(41, 0.2, 5))),
     ("send to ymodem receive, five deliveries damaged", to_program(Seeded(42, 0.2, 5))),
     ("calls with rubbish", calls),
-    ("the library's receiver and the program's, %d streams" % STREAMS, both_receivers),
+    *(("the library's %s and the program's, %d streams" % (end, STREAMS), beside(end)) for end in ENDS),
     ("calls with rubbish under sanitizers", sanitized),
     ("calls with rubbish under valgrind", checked_by_valgrind),
     ("receive from sb", with_lrzsz(pair(c_receive, lambda names: ["sb", "-q", *names]))),
@@ -338,13 +287,13 @@ CHECKS = [
 
 
 def main(words):
-    global RECEIVE, SEND, DELIVERIES
+    global RECEIVE, SEND, BESIDE
     for path in (LIBRARY, PROGRAM):
         if not os.access(path, os.R_OK):
             print("there is no %s\n0 passed, 1 failed, 0 skipped" % path)
             return 1
     RECEIVE, SEND = built("examples/c/receive.c", "receive"), built("examples/c/send.c", "send")
-    DELIVERIES = built("tests/library_deliveries.c", "deliveries")
+    BESIDE = built("tests/library_beside.c", "beside")
     chosen = [it for it in CHECKS if not words or any(word in it[0] for word in words)]
     counts = {"ok": 0, "FAILED": 0, "skipped": 0}
     with ThreadPoolExecutor(len(chosen) or 1) as pool:
