@@ -6,7 +6,7 @@
 # make memory            each growth of memory refused in turn, alone
 # make interop           the program against lrzsz, which has to be installed
 # make install           puts the program, ymodem-tty, the manual pages and the completion below $(DESTDIR)$(PREFIX)
-# make deb, make dist    the same as a Debian package, and as a tar file, in out/
+# make deb, make dist    the same as a Debian package, with one of the library for C beside it, and as a tar file, in out/
 # make charts            draws the charts of docs/pictures from the traces that the program prints
 # make bench             measures the program
 # All need the toolchain: `rt` on the path, and Python 3.
@@ -47,6 +47,8 @@ install: build
 
 deb: build
 	packaging/package.py deb $(PROGRAM) out
+	@$(MAKE) --no-print-directory lib TARGETS=x86_64-unknown-linux-gnu
+	packaging/package.py dev out/lib/x86_64-unknown-linux-gnu/libymodem.a out
 
 dist: build
 	packaging/package.py dist $(PROGRAM) out
@@ -65,11 +67,14 @@ clean:
 # ---- The library for C
 
 # make lib               proves and builds it: out/lib/TARGET/libymodem.a for each of TARGETS
-# make test-lib          the checks of the library, which `make test` runs too
+# make test-lib          the checks of the library, which `make test` runs too: on this machine, on a board without an operating system (QEMU), and
+#                        of `ymodem send` to U-Boot
 # make install-lib       puts the archive of TARGET, the header and the file for pkg-config below $(DESTDIR)$(PREFIX)
 
 TARGETS = x86_64-unknown-linux-gnu aarch64-unknown-linux-gnu wasm64-unknown-unknown
 TARGET = x86_64-unknown-linux-gnu
+# of the board in tests/bare.py
+BOARD = aarch64-unknown-linux-gnu
 
 .PHONY: lib test-lib install-lib
 
@@ -82,11 +87,13 @@ lib:
 test: test-lib
 
 test-lib: build
-	@$(MAKE) --no-print-directory lib TARGETS=$(TARGET)
+	@$(MAKE) --no-print-directory lib TARGETS="$(TARGET) $(BOARD)"
 	tests/library.py
+	tests/bare.py
+	tests/uboot.py
 
 install-lib: lib
 	install -D -m 644 out/lib/$(TARGET)/libymodem.a $(DESTDIR)$(PREFIX)/lib/libymodem.a
 	install -D -m 644 include/ymodem.h $(DESTDIR)$(PREFIX)/include/ymodem.h
 	install -d $(DESTDIR)$(PREFIX)/lib/pkgconfig
-	sed 's|@PREFIX@|$(PREFIX)|' include/ymodem.pc.in > $(DESTDIR)$(PREFIX)/lib/pkgconfig/ymodem.pc
+	sed 's|@PREFIX@|$(PREFIX)|; s|@LIBDIR@|$${prefix}/lib|' include/ymodem.pc.in > $(DESTDIR)$(PREFIX)/lib/pkgconfig/ymodem.pc
