@@ -64,11 +64,13 @@ def accept(listener):
 
 
 class Bridge(threading.Thread):
-    """Carries one WebSocket to the socket that `far` gives, and back, until either is closed. `cut` closes both at once."""
+    """Carries one WebSocket to the socket that `far` gives, and back, until either is closed or `is_cut` is set. `damage` makes of each piece
+    what goes on."""
 
-    def __init__(self, far):
+    def __init__(self, far, damage=None):
         super().__init__(daemon=True)
         self.far = far
+        self.damage = damage or (lambda data: data)
         self.listener = socket.create_server(("127.0.0.1", 0))
         self.listener.settimeout(LIMIT)
         self.port = self.listener.getsockname()[1]
@@ -100,7 +102,7 @@ class Bridge(threading.Thread):
                         hand(here, framed(b"", CLOSE))
                         return
                     self.carried += len(came)
-                    hand(here, framed(came))
+                    hand(here, framed(self.damage(came)))
                     continue
                 came = read(here)
                 if not came:
@@ -115,7 +117,7 @@ class Bridge(threading.Thread):
                         hand(here, framed(data, PONG))
                     else:
                         self.carried += len(data)
-                        hand(there, data)
+                        hand(there, self.damage(data))
 
 
 def read(end):

@@ -43,7 +43,11 @@ class Browser:
             os.dup2(one, 3)
             os.dup2(two, 4)
 
-        flags = ("--headless=new", "--no-sandbox", "--disable-gpu", "--disable-dev-shm-usage", "--no-first-run", "--remote-debugging-pipe", "--hide-scrollbars")
+        flags = (
+            *("--headless=new", "--no-sandbox", "--disable-gpu", "--disable-dev-shm-usage", "--no-first-run", "--hide-scrollbars", "--remote-debugging-pipe"),
+            # each page counts as the one that is looked at
+            *("--disable-background-timer-throttling", "--disable-renderer-backgrounding", "--disable-backgrounding-occluded-windows"),
+        )
         self.child = subprocess.Popen(
             [path, *flags, "--user-data-dir=" + self.folder.name, "about:blank"],
             stdin=subprocess.DEVNULL,
@@ -81,9 +85,10 @@ class Browser:
         with self.changed:
             self.number += 1
             number = self.number
-        text = {"id": number, "method": method, "params": what, **({"sessionId": session} if session else {})}
-        os.write(self.words, json.dumps(text).encode() + b"\0")
-        with self.changed:
+            text = {"id": number, "method": method, "params": what, **({"sessionId": session} if session else {})}
+            left = json.dumps(text).encode() + b"\0"
+            while left:
+                left = left[os.write(self.words, left) :]
             self.changed.wait_for(lambda: number in self.done or None in self.done, timeout=LIMIT)
             it = self.done.pop(number, None)
         if it is None:
