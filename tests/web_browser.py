@@ -113,7 +113,7 @@ class Page:
 
     def __init__(self, browser, address, before="", width=1180, height=900):
         self.browser = browser
-        self.target = browser.call("Target.createTarget", url="about:blank")["targetId"]
+        self.target = browser.call("Target.createTarget", url="about:blank", newWindow=True)["targetId"]
         self.session = browser.call("Target.attachToTarget", targetId=self.target, flatten=True)["sessionId"]
         for domain in ("Page", "Runtime", "Log", "DOM"):
             self.call(domain + ".enable")
@@ -140,7 +140,7 @@ class Page:
             raise AssertionError("in the page: " + details.get("exception", {}).get("description", details["text"]))
         return it["result"].get("value")
 
-    def until(self, script, limit=LIMIT):
+    def until(self, script, limit=int(os.environ.get("YM_LIMIT", LIMIT))):
         """Waits until an expression holds."""
         end = time.monotonic() + limit
         while True:

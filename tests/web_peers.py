@@ -43,7 +43,7 @@ def lrzsz(words, folder, damage=None):
 
 
 @contextlib.contextmanager
-def program_sends(paths, line=None):
+def program_sends(paths, line=None, damage=None):
     """`ymodem send`, and the bridge to it."""
     with socket.create_server(("127.0.0.1", 0)) as listener:
         listener.settimeout(LIMIT)
@@ -52,7 +52,7 @@ def program_sends(paths, line=None):
             relay = Relay(line, port)
             relay.start()
             port = relay.port
-        bridge = Bridge(lambda: listener.accept()[0])
+        bridge = Bridge(lambda: listener.accept()[0], damage)
         try:
             with running("send", "--port", port, *paths) as child:
                 yield bridge, child.ended
@@ -91,6 +91,12 @@ class Loader(threading.Thread):
         self.start()
 
     def run(self):
+        try:
+            self.serve()
+        except OSError:
+            pass  # the check has closed the line
+
+    def serve(self):
         self.end.sendall(self.BANNER)
         while came := self.end.recv(1):
             self.typed += came

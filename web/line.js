@@ -18,10 +18,8 @@ export class Line {
   #since = null;
   #fault = null;
   #ended = false;
-  #onAbort = () => {
-    this.isStopped = true;
-    this.#wake?.();
-  };
+  #stopAt = Infinity;
+  #onAbort = () => this.#stop();
 
   /** With what was heard before, and belongs to the transfer. */
   constructor(port, waits, signal, heard) {
@@ -37,7 +35,19 @@ export class Line {
     }
     this.signal = signal;
     signal?.addEventListener("abort", this.#onAbort);
-    if (signal?.aborted) this.#onAbort();
+    if (signal?.aborted) this.#stop();
+  }
+
+  // A delivery that is under way may come to its end: an end may drop what it is told before it has answered.
+  #stop() {
+    this.isStopped = true;
+    this.#stopAt = performance.now() + this.waits.within;
+    this.#wake?.();
+  }
+
+  /** Reads on after a stop, for a while. */
+  linger() {
+    this.#stopAt = performance.now() + 5 * this.waits.within;
   }
 
   #fetch() {
@@ -56,7 +66,7 @@ export class Line {
     );
   }
 
-  /** What came, at most so many bytes; or QUIET, where nothing did within the wait, or the transfer is to stop. */
+  /** What came, at most so many bytes; or QUIET, where nothing did within the wait, or within that of a stop. */
   async read(millis, most, isReply) {
     if (isReply) this.#since = null;
     if (this.#since !== null && performance.now() - this.#since > 10 * this.waits.reply) return QUIET;
@@ -64,8 +74,8 @@ export class Line {
     while (this.#came.length === 0) {
       if (this.#ended) throw new YmodemError("closed", "the line was closed");
       if (this.#fault) throw new YmodemError("device", "the line failed while it was read", { cause: this.#fault });
-      const left = until - performance.now();
-      if (this.isStopped || left <= 0) return this.#quiet();
+      const left = Math.min(until, this.#stopAt) - performance.now();
+      if (left <= 0) return this.#quiet();
       this.#fetch();
       await this.#woken(left);
     }
@@ -132,9 +142,9 @@ function joined(pieces) {
   return all;
 }
 
-/** After CAN CAN: what the other end had under way is dropped, so that it does not stand in a terminal. */
+/** After a receiver's CAN CAN: what the sender had under way is dropped, so that it does not stand in a terminal. */
 export async function settle(line) {
-  line.isStopped = false;
+  line.linger();
   try {
     for (let reads = 0; reads < 64; reads++) {
       if ((await line.read(line.waits.within / 2, DELIVERY, false)) === QUIET) break;
@@ -142,5 +152,4 @@ export async function settle(line) {
   } catch {
     // the line is gone, and with it what it had
   }
-  line.isStopped = true;
 }

@@ -180,7 +180,9 @@ async function disconnect() {
 async function lost(fault) {
   if (line === null || stop !== null) return;
   await disconnect();
-  show(false, failure({ code: fault ? "device" : "closed", cause: fault }));
+  terminal.note("the line was closed");
+  // what is said of a transfer stays: its other end often goes once it is done
+  if (at("result").hidden) show(false, failure({ code: fault ? "device" : "closed", cause: fault }));
 }
 
 // ---- A transfer

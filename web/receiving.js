@@ -31,7 +31,9 @@ class Collected {
   close() {
     this.#fold();
     const { name, time } = this.about;
-    this.about.file = new File(this.#parts, name, time === undefined ? {} : { lastModified: time * 1000 });
+    // a file of another type may get another name where it is saved
+    const type = "application/octet-stream";
+    this.about.file = new File(this.#parts, name, time === undefined ? { type } : { type, lastModified: time * 1000 });
   }
 
   abort() {}

@@ -3,7 +3,7 @@
 import { CANCEL, Clearing } from "./clearing.js";
 import { FAULTS, FILL, LAYOUT, OUT, PLACE_END, SENT } from "./codes.js";
 import { MESSAGES, YmodemError } from "./errors.js";
-import { DELIVERY, QUIET, settle } from "./line.js";
+import { DELIVERY, QUIET } from "./line.js";
 import { Log } from "./log.js";
 
 // Bytes of a file that are read at once.
@@ -105,7 +105,6 @@ export class Sending {
       await this.#hear(held);
       if (this.line.isStopped) this.#fail();
       await this.#out();
-      if (this.line.isStopped && this.state === "source-failed") await settle(this.line);
     }
     if (this.state !== "finished") throw this.#failed();
   }
