@@ -97,3 +97,26 @@ install-lib: lib
 	install -D -m 644 include/ymodem.h $(DESTDIR)$(PREFIX)/include/ymodem.h
 	install -d $(DESTDIR)$(PREFIX)/lib/pkgconfig
 	sed 's|@PREFIX@|$(PREFIX)|; s|@LIBDIR@|$${prefix}/lib|' include/ymodem.pc.in > $(DESTDIR)$(PREFIX)/lib/pkgconfig/ymodem.pc
+
+# ---- The page
+
+# make web               proves and builds it: out/web, the page and the module for other pages
+# make web-serve         shows it on 127.0.0.1, at PORT
+# make test-web          the checks of the page in a browser, which `make test` runs too
+
+PORT = 8000
+WASM = wasm64-unknown-unknown
+
+.PHONY: web web-serve test-web
+
+web:
+	@$(MAKE) --no-print-directory lib TARGETS=$(WASM)
+	@web/build.py out/lib/$(WASM)/libymodem.a out/web
+
+web-serve: web
+	cd out/web && python3 -m http.server --bind 127.0.0.1 $(PORT)
+
+test: test-web
+
+test-web: build web
+	tests/web.py
