@@ -34,6 +34,7 @@ use Rattle.ym_core.specs.declared.state.SendState.{SendState}
 use Rattle.ym_core.specs.declared.state.SendState.TheVariants.{Running}
 use Rattle.ym_link.proofs.Files.{filled_counts}
 use Rattle.ym_link.proofs.Steps.{IsBefore, Reaches, stays, cancels, again, finishes, sends, waits_next, sends_next, cancels_next, reaches}
+use Rattle.ym_machine.specs.declared.limits.TheConstants.{GIVE_UP}
 
 -- ---- One place more
 
@@ -110,7 +111,7 @@ reads-move counts place mode cs (sends_next m before e) = moves-next counts plac
 reads-move counts place mode cs (cancels_next m before e) = moves-next counts place mode cs m before (ap (λ (r : Reading). r.place) e)
 
 missed-place : (s : Standing) → (missed s).standing.place ≡ s.place
-missed-place s = cond_both (nat_lt (s.misses + 1) 10) _ _ (λ (x : Step). x.standing.place ≡ s.place) (λ e. refl) (λ e. refl)
+missed-place s = cond_both (nat_lt (s.misses + 1) GIVE_UP) _ _ (λ (x : Step). x.standing.place ≡ s.place) (λ e. refl) (λ e. refl)
 
 through-place : (s : Standing) (place : Place) (old new : Mode) → ((read_through s place old new).standing.place ≡ s.place) ⊎ ((read_through s place old new).standing.place ≡ place)
 through-place s place Sent Sent = inl (missed-place s)

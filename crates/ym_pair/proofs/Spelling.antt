@@ -23,6 +23,7 @@ use Rattle.ym_core.specs.declared.stage.Stage.TheVariants.{AwaitHeader, InFile}
 use Rattle.ym_core.specs.declared.state.RecvState.{RecvState}
 use Rattle.ym_core.specs.Receiver.{Receiver, No_call, Begins, Adds, Step, goes_on, stays, ends, opened, commits}
 use Rattle.ym_link.specs.ReceiverInto.{called}
+use Rattle.ym_machine.specs.declared.limits.TheConstants.{GIVE_UP}
 
 -- ---- What a sink tells
 
@@ -123,7 +124,7 @@ module _ (confirm : Confirm) (items : List Item) (h : Heard) (kept : Kept) where
 
   pub after-stays : (r : Receiver) (reply : Reply) → r.confirm ≡ confirm → Holds confirm items r.stage kept → After confirm items h kept (stays r reply)
   after-stays r reply same holds =
-      either (nat_lt (r.count + 1) 10) _ _
+      either (nat_lt (r.count + 1) GIVE_UP) _ _
       (λ e. record { confirm_is = same; more = []; heard_as = tt; holds = nothing r.stage holds })
       (λ e. record { confirm_is = same; more = []; heard_as = tt; holds = nothing r.stage holds })
 

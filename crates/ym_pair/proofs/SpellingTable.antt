@@ -24,6 +24,7 @@ use Rattle.ym_core.specs.Receiver.{Receiver, Step, zero_heard, awaiting_hears, b
 use Rattle.ym_link.specs.ReceiverInto.{ReceiverParts, IsReceiver, HearsGives, IsOpenFile, outcome}
 use Rattle.ym_core.specs.Step.{StandsFor}
 use Rattle.ym_pair.proofs.Spelling.{Holds, IsHeardAs, After, first_eots, not-true, either, after-ends, after-stays, after-begins, after-adds, after-drops, after-first, after-commits}
+use Rattle.ym_machine.specs.declared.limits.TheConstants.{MOST_FILES}
 
 -- ---- The table
 
@@ -39,7 +40,7 @@ there-holds confirm items stage r kept runs = subst (λ s. Holds confirm items s
 zero-after : (confirm : Confirm) (items : List Item) (h : Heard) (kept : Kept) (r : Receiver) (body : List ℕ) (zero : Result Zero HeaderFault) → Runs confirm items AwaitHeader r kept →
     StandsFor body zero → h ≡ heard.Item (block 0 body) → After confirm items h kept (zero_heard r zero)
 zero-after confirm items h kept r body (Ok (File header)) runs reads was =
-    either confirm items h kept (nat_lt r.files 65535) _ _
+    either confirm items h kept (nat_lt r.files MOST_FILES) _ _
     (λ e. after-begins confirm items h kept r header body AckStart runs.same (there-holds confirm items AwaitHeader r kept runs) reads was)
     (λ e. after-ends confirm items h kept r state.TooManyFiles Cancel runs.same runs.here)
 zero-after confirm items h kept r body (Ok End) runs reads was = after-ends confirm items h kept r state.Finished Ack runs.same runs.here
