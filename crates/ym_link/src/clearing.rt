@@ -1,10 +1,11 @@
 //! A port that lets the line clear before it writes, where more answers may be under way than one.
 
-ghost use Rattle.std.specs.Prelude.{◌≡◌, ◌<◌, ◌≤◌, ℕ, List, Ok, Err, OnOk, OnErr, length, is_ok};
+ghost use Rattle.std.specs.Prelude.{◌≡◌, ◌<◌, ◌≤◌, ◌++◌, ◌∷◌, [], ℕ, List, Ok, Err, OnOk, OnErr, length, is_ok};
 ghost use Rattle.ym_file.specs.Counts.{Rose};
 ghost use Rattle.ym_link.specs.Clearing as table;
 ghost use Rattle.ym_link.specs.Exchange.{front_of, must_clear};
 ghost use Rattle.ym_link.specs.Port.{Tape, seen_of, read_gives, read_leaves, after_write};
+ghost use Rattle.ym_link.specs.declared.port.Wait.{Wait as Asked};
 
 use crate::exchange::{Exchange, Front, Role};
 use crate::port::{Got, Port, PortFault, Wait};
@@ -66,7 +67,7 @@ pub struct Clearing<P: Port + Drop> {
 }
 
 impl<P: Port + Drop> Clearing<P> {
-    ghost use Rattle.ym_link.specs.Clearing.{new_talk, IsRead, once, fresh, patient, read_by};
+    ghost use Rattle.ym_link.specs.Clearing.{new_talk, AskedLast, IsRead, once, fresh, patient, read_by};
     ghost use Rattle.ym_link.specs.Sweep.{most_reads};
 
     /// The port as this end has it.
@@ -91,6 +92,7 @@ impl<P: Port + Drop> Clearing<P> {
         ensures count { (n : ℕ) → result ≡ Ok (Got.Bytes n) → (0 < n) × (n ≤ length buf.old) }
         ensures exact { (u : Tape) → P.tells self.new.port u → (t : Tape) × P.tells self.old.port t
             × IsRead (once (length buf.old) self.old.talk t.coming) (seen_of result buf.new) self.new.talk t u }
+        ensures asked { (w : List Asked) → P.asked self.new.port w → (v : List Asked) × P.asked self.old.port v × (w ≡ v ++ wait ∷ []) }
         ensures ok { OnOk result (P.failures self.new.port ≡ P.failures self.old.port) }
         ensures failed { OnErr result (Rose (P.failures self.old.port) (P.failures self.new.port)) }
     {
@@ -106,6 +108,7 @@ impl<P: Port + Drop> Clearing<P> {
         ensures count { (n : ℕ) → result ≡ Ok (Got.Bytes n) → (0 < n) × (n ≤ length buf.old) }
         ensures exact { (u : Tape) → P.tells self.new.port u → (t : Tape) × P.tells self.old.port t
             × IsRead (fresh most_reads (length buf.old) self.old.talk t.coming) (seen_of result buf.new) self.new.talk t u }
+        ensures asked { (w : List Asked) → P.asked self.new.port w → (v : List Asked) × P.asked self.old.port v × AskedLast Wait.Within v w }
         ensures ok { OnOk result (P.failures self.new.port ≡ P.failures self.old.port) }
         ensures failed { OnErr result (Rose (P.failures self.old.port) (P.failures self.new.port)) }
     {
@@ -126,6 +129,7 @@ impl<P: Port + Drop> Clearing<P> {
         ensures count { (n : ℕ) → result ≡ Ok (Got.Bytes n) → (0 < n) × (n ≤ length buf.old) }
         ensures exact { (u : Tape) → P.tells self.new.port u → (t : Tape) × P.tells self.old.port t
             × IsRead (patient wait (length buf.old) self.old.talk t.coming) (seen_of result buf.new) self.new.talk t u }
+        ensures quiet { result ≡ Ok Got.Quiet → (w : List Asked) → P.asked self.new.port w → (v : List Asked) × P.asked self.old.port v × AskedLast wait v w }
         ensures ok { OnOk result (P.failures self.new.port ≡ P.failures self.old.port) }
         ensures failed { OnErr result (Rose (P.failures self.old.port) (P.failures self.new.port)) }
     {
@@ -146,6 +150,7 @@ impl<P: Port + Drop> Clearing<P> {
         ensures count { (n : ℕ) → result ≡ Ok (Got.Bytes n) → (0 < n) × (n ≤ length buf.old) }
         ensures exact { (u : Tape) → P.tells self.new.port u → (t : Tape) × P.tells self.old.port t
             × IsRead (read_by wait (length buf.old) self.old.talk t.coming) (seen_of result buf.new) self.new.talk t u }
+        ensures quiet { result ≡ Ok Got.Quiet → (w : List Asked) → P.asked self.new.port w → (v : List Asked) × P.asked self.old.port v × AskedLast wait v w }
         ensures ok { OnOk result (P.failures self.new.port ≡ P.failures self.old.port) }
         ensures failed { OnErr result (Rose (P.failures self.old.port) (P.failures self.new.port)) }
     {
@@ -182,7 +187,7 @@ impl<P: Port + Drop> Clearing<P> {
 }
 
 impl<P: Port + Drop> Port for Clearing<P> {
-    ghost use Rattle.ym_link.specs.Clearing.{Passes, IsRead, read_by, cleared, Writes};
+    ghost use Rattle.ym_link.specs.Clearing.{AskedLast, Passes, IsRead, read_by, cleared, Writes};
 
     ghost tells = { λ c u. (t : Tape) × P.tells c.port t × (u.written ≡ t.written) × Passes c.talk t.coming u.coming };
 
@@ -200,6 +205,7 @@ impl<P: Port + Drop> Port for Clearing<P> {
             → (x : Tape) × ((t : Tape) × P.tells self.old.port t × (x.written ≡ t.written) × Passes self.old.talk t.coming x.coming)
             × (seen_of result buf.new ≡ read_gives (length buf.old) x.coming)
             × (u ≡ record x { coming = read_leaves (length buf.old) x.coming }) }
+        ensures quiet { result ≡ Ok Got.Quiet → (w : List Asked) → P.asked self.new.port w → (v : List Asked) × P.asked self.old.port v × AskedLast wait v w }
         ensures ok { OnOk result (P.failures self.new.port ≡ P.failures self.old.port) }
         ensures failed { OnErr result (Rose (P.failures self.old.port) (P.failures self.new.port)) }
     {
