@@ -73,8 +73,6 @@ clean:
 
 TARGETS = x86_64-unknown-linux-gnu aarch64-unknown-linux-gnu wasm64-unknown-unknown
 TARGET = x86_64-unknown-linux-gnu
-# of the board in tests/bare.py
-BOARD = aarch64-unknown-linux-gnu
 
 .PHONY: lib test-lib install-lib
 
@@ -87,7 +85,7 @@ lib:
 test: test-lib
 
 test-lib: build
-	@$(MAKE) --no-print-directory lib TARGETS="$(TARGET) $(BOARD)"
+	@$(MAKE) --no-print-directory lib
 	tests/library.py
 	tests/bare.py
 	tests/uboot.py

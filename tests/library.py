@@ -1,9 +1,9 @@
 #!/usr/bin/env python3
 """Tries the library for C: its header, the example programs against `ymodem`, `sb` and `rb`, on a line that is damaged too, calls with rubbish,
-each end of the library beside that of the program, and its Debian package.
+each end of the library beside that of the program, both ends in WebAssembly, and its Debian package.
 
 Prints a line for each check, and ends with the line 'N passed, M failed, K skipped'; the status is 1 where a check failed. It needs Python and a C
-compiler; a check that needs clang, valgrind, g++, lrzsz or a tool for packages is skipped where that is missing, and says so.
+compiler; a check that needs clang, valgrind, g++, lrzsz, node or a tool for packages is skipped where that is missing, and says so.
 
 usage: library.py [WORD..]     only the checks whose names have one of these words
 The library is the archive that YM_LIBRARY names, else out/lib/x86_64-unknown-linux-gnu/libymodem.a; the program as for transfer.py.
@@ -26,11 +26,12 @@ import library_package
 from program import LIMIT, PROGRAM, ROOT, folders, free_port, running, stored, wants_stored, write_files
 from relay import Relay, Seeded
 from shipped import outcome
-from skipping import needs
+from skipping import Skipped, needs
 
 TESTS = os.path.join(ROOT, "tests")
 INCLUDE = os.path.join(ROOT, "include")
 LIBRARY = os.path.abspath(os.environ.get("YM_LIBRARY", os.path.join(ROOT, "out", "lib", "x86_64-unknown-linux-gnu", "libymodem.a")))
+WASM = "wasm64-unknown-unknown"
 STRICT = ["-Wall", "-Wextra", "-Wpedantic", "-Werror"]
 BUILT = tempfile.TemporaryDirectory(prefix="ymodem-c-")
 
@@ -263,6 +264,24 @@ def with_lrzsz(check):
     return checked
 
 
+def in_node():
+    """Both ends in one WebAssembly module, which the toolchain's linker makes of the archive, in node."""
+    needs("node", "rt")
+    kit = os.path.dirname(command("rt", "doc").strip())
+    linker = os.path.join(kit, "bin", "rattle-link")
+    if not os.access(linker, os.X_OK):
+        raise Skipped("there is no %s" % linker)
+    module = os.path.join(BUILT.name, "ymodem.wasm")
+    command(linker, "--target", WASM, "--toolchain", os.path.join(kit, "toolchain"), "-o", module, os.path.join(ROOT, "out", "lib", WASM, "libymodem.a"))
+    # Older ones want this flag, and newer ones may not know it.
+    flag = "--experimental-wasm-memory64"
+    flags = [flag] if subprocess.run(["node", flag, "--version"], capture_output=True, check=False).returncode == 0 else []
+    ran = subprocess.run(["node", *flags, "--no-warnings", os.path.join(TESTS, "library_wasm.mjs"), module], capture_output=True, text=True, timeout=LIMIT, check=False)
+    if ran.returncode == 77:
+        raise Skipped("node knows no memory of 64 bits: %s" % ran.stdout.strip())
+    wants(ran.returncode == 0, ran.stdout + ran.stderr)
+
+
 COMPILERS = (("gcc", "c", "c99"), ("gcc", "c", "c11"), ("clang", "c", "c99"), ("clang", "c", "c11"), ("g++", "c++", "c++17"), ("clang++", "c++", "c++17"))
 CHECKS = [
     *(("ymodem.h alone: %s, %s" % (compiler, standard), header_alone(compiler, language, standard)) for compiler, language, standard in COMPILERS),
@@ -280,6 +299,7 @@ CHECKS = [
     ("receive from sb", with_lrzsz(pair(c_receive, lambda names: ["sb", "-q", *names]))),
     ("receive from sb -k", with_lrzsz(pair(c_receive, lambda names: ["sb", "-q", "-k", *names]))),
     ("send to rb", with_lrzsz(pair(lambda there: ["rb", "-q"], c_send))),
+    ("both ends in WebAssembly, in node", in_node),
     ("two Debian packages of the library are the same", library_package.is_same_twice(LIBRARY)),
     ("lintian finds no error and no warning in the library's package", library_package.lintian_is_silent(LIBRARY)),
     ("the examples, built by what the library's package has", from_package),

@@ -188,7 +188,7 @@ pub extern "C" fn ym_sender_init(sender: &mut YmSender, blocks: &[u64])
 }
 
 /// Makes the frame of the block of this number and this body.
-fn seal_frame(frame: &mut [u8], number: u8, body: &[u8])
+pub fn seal_frame(frame: &mut [u8], number: u8, body: &[u8])
     requires sized { (length body.now ≡ 128) ⊎ (length body.now ≡ 1024) }
     requires room { length frame.old ≡ length body.now + 5 }
     ensures { IsBlockFrame number body.now frame.new }
@@ -288,7 +288,7 @@ pub extern "C" fn ym_sender_settled(sender: &YmSender, blocks: &[u64], bytes: &[
 }
 
 /// The stamp of these numbers.
-fn stamp_from(kind: u32, time: u64, mode: u32) -> Stamp
+pub fn stamp_from(kind: u32, time: u64, mode: u32) -> Stamp
     ensures { result ≡ stamp_of kind time mode }
 {
     match kind {
