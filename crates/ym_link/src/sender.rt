@@ -20,8 +20,8 @@ use std::marker::Model;
 use ym_core::{Mode, Place, Reading, SendState, SendStep, Standing, first_place, read_delivery};
 use ym_file::{MemSource, Shape, Source, SourceFault};
 use ym_frame::{Item, Reply, encode};
-use ym_machine::MOST_FILES;
 use ym_header::{Header, write, write_end};
+use ym_machine::MOST_FILES;
 
 /// Sends a batch of files, whose bytes come from sources.
 #[derive(Drop)]
