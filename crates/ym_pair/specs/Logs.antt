@@ -1,17 +1,20 @@
 -- What an engine wrote in a call, and what came to it, delivery by delivery: read off its run (this profile).
-use Rattle.std.specs.Prelude.{ℕ, List, [], ◌∷◌, ◌++◌, map}
+use Rattle.std.specs.Prelude.{◌≡◌, ℕ, Bool, Ok, List, [], ◌∷◌, ◌++◌, map}
 use Rattle.std.specs.List.{concat}
 use Rattle.ym_frame.specs.Control.{reply_bytes}
 use Rattle.ym_frame.specs.declared.control.Reply.{Reply}
 use Rattle.ym_frame.specs.declared.control.Reply.TheVariants.{Silence}
 use Rattle.ym_core.specs.declared.delivery.Heard.{Heard}
 use Rattle.ym_link.specs.Course.{SenderHears, sender_none, sender_more, ReceiverHears, receiver_none, receiver_more}
+use Rattle.ym_link.specs.Delivery.{taken}
 use Rattle.ym_link.specs.Port.{Tape}
+use Rattle.ym_link.specs.ReceiveOver.{has_item}
 use Rattle.ym_link.specs.ReceiveOver as receiving
 use Rattle.ym_link.specs.ReceiverInto.{ReceiverParts}
 use Rattle.ym_link.specs.Sender.{SenderParts, spoken}
 use Rattle.ym_link.specs.SendOver.{written_for}
 use Rattle.ym_link.specs.SendOver as sending
+use Rattle.ym_link.specs.declared.event.Event.{Event}
 
 -- ---- A sender
 
@@ -63,6 +66,19 @@ answered_along r deliveries progress new (receiver_more _ before steps between h
 -- what it heard, delivery by delivery
 abbrev pub heard_in : (r : ReceiverParts) (t : Tape) (out : receiving.Outcome) → receiving.Receives r t out → List Heard
 heard_in r t out run = map (λ (one : Answered). one.heard) (answered_in r t out run)
+
+-- ---- What came
+
+-- These deliveries are made up by the events, each of what the one before it left.
+abbrev pub AreTaken : List Event → List (List ℕ) → Type 0
+AreTaken events [] = Unit {0}
+AreTaken events (bytes ∷ more) =
+    (ends : List ℕ → Bool) × ((taken ends [] events).delivery ≡ Ok bytes) × AreTaken (taken ends [] events).rest more
+
+-- So are those in which these were heard.
+abbrev pub AreHeard : List Event → List Heard → Type 0
+AreHeard events [] = Unit {0}
+AreHeard events (h ∷ more) = (receiving.heard_in (taken has_item [] events).delivery ≡ Ok h) × AreHeard (taken has_item [] events).rest more
 
 -- ---- The bytes written
 

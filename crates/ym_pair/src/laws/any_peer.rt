@@ -1,6 +1,6 @@
 //! Laws of what an end promises against any peer.
 
-ghost use Rattle.std.specs.Prelude.{◌≡◌, ◌++◌, List, ℕ, length};
+ghost use Rattle.std.specs.Prelude.{◌≡◌, ◌++◌, List, ℕ, length, map};
 ghost use Rattle.ym_frame.specs.Frame.{BeginsWith, IsBytes, IsFrame};
 ghost use Rattle.ym_frame.specs.declared.frame.Item.{Item};
 ghost use Rattle.ym_file.specs.Kept.{IsNew};
@@ -17,7 +17,7 @@ ghost use Rattle.ym_link.specs.ReceiverInto.{ReceiverParts};
 ghost use Rattle.ym_link.specs.Sender.{SenderParts, counts};
 ghost use Rattle.ym_link.specs.SendOver as sending;
 ghost use Rattle.ym_pair.specs.AnyPeer.{CommitsTheHeard, AreAcknowledged, files_places, places_before};
-ghost use Rattle.ym_pair.specs.Logs.{heard_in, spoke_in, last_words, answered_in, spoke_along, words_of, replies_of};
+ghost use Rattle.ym_pair.specs.Logs.{Spoke, AreTaken, AreHeard, heard_in, spoke_in, last_words, answered_in, spoke_along, words_of, replies_of};
 
 use ym_frame::laws::{frame_found, one_verdict};
 
@@ -50,6 +50,14 @@ pub fn a_sender_was_acknowledged()
         AreAcknowledged s.shape s.files (places_before (counts s) out.sender.standing.place) (spoke_in s t out run) }
     ensures course { (s new : SenderParts) (deliveries : List (List ℕ)) (progress : ℕ) (hears : SenderHears s deliveries progress new) → s.standing ≡ new_standing (counts s) →
         AreAcknowledged s.shape s.files (files_places (counts s) (done_at (length s.files) new.standing.place)) (spoke_along s deliveries progress new hears) }
+{}
+
+/// What an engine is said to have heard is what the events of its tape make up, delivery by delivery: none of it twice, and none left out between.
+pub fn what_was_heard_is_on_the_tape()
+    ensures sender { (s : SenderParts) (t : Tape) (out : sending.Outcome) (run : sending.Sends s t out) →
+        AreTaken t.coming (map (λ (one : Spoke). one.came) (spoke_in s t out run)) }
+    ensures receiver { (r : ReceiverParts) (t : Tape) (out : receiving.Outcome) (run : receiving.Receives r t out) →
+        AreHeard t.coming (heard_in r t out run) }
 {}
 
 /// What an engine is said to have written, in order, is what its tape has more behind the call.
