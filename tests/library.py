@@ -209,7 +209,7 @@ def line_to(port):
 def sanitized():
     needs("clang")
     path = built("tests/library_calls.c", "calls-sanitized", "-g", "-fsanitize=address,undefined", "-fno-sanitize-recover=all", compiler="clang")
-    command(path, "100000", "1")
+    command(path, "50000", "1")
 
 
 def checked_by_valgrind():
@@ -218,7 +218,7 @@ def checked_by_valgrind():
 
 
 def calls():
-    command(built("tests/library_calls.c", "calls-alone"), "200000", "3")
+    command(built("tests/library_calls.c", "calls-alone"), "100000", "3")
 
 
 # ---- The same deliveries to an end of the library and to the program's

@@ -17,12 +17,13 @@
 #include <stdlib.h>
 #include <string.h>
 #include <sys/mman.h>
+#include <sys/prctl.h>
 #include <sys/socket.h>
 #include <sys/stat.h>
 #include <sys/wait.h>
 #include <unistd.h>
 
-enum { DELIVERY = 2048, LIMIT = 300000, MOST = 60, STATES = 9, TRIES = 4 };
+enum { DELIVERY = 2048, LIMIT = 60000, MOST = 60, STATES = 9, TRIES = 4 };
 
 /* What the workers count together. */
 static struct { unsigned ended[STATES], deliveries, again, failed, next; } *counts;
@@ -490,6 +491,7 @@ int main(int count, char **word) {
         pid_t child = fork();
         wants(child >= 0, "fork");
         if (child == 0) {
+            prctl(PR_SET_PDEATHSIG, SIGKILL);
             work(is_sender, word[2], word[3], i, first + streams);
             return 0;
         }

@@ -12,10 +12,10 @@ use Rattle.ym_frame.specs.declared.frame.Why.TheVariants.{SecondCan}
 use Rattle.ym_c.specs.Fronts.{IsFront, IsFound}
 use Rattle.ym_c.specs.declared.frames.YmFront.{YmFront}
 
-abbrev Verdict : Type 0
+abbrev pub Verdict : Type 0
 Verdict = Result (Item × ℕ) Broken
 
-abbrev a_block : BlockParts → ℕ → Verdict
+abbrev pub a_block : BlockParts → ℕ → Verdict
 a_block b len = Ok (Block b, len)
 
 abbrev an_eot : ℕ → Verdict
@@ -47,10 +47,10 @@ same_body p q m n e =
     ap (λ b. b.body) is
 
 -- a block that was found: its body, and that all of its frame is there
-record Found (bytes : List ℕ) (b : BlockParts) : Type 0 where
-  size : ℕ
-  body : b.body ≡ body_of size bytes
-  whole : size + 5 ≤ length bytes
+pub record Found (bytes : List ℕ) (b : BlockParts) : Type 0 where
+  pub size : ℕ
+  pub body : b.body ≡ body_of size bytes
+  pub whole : size + 5 ≤ length bytes
 
 in_block : (size : ℕ) (bytes : List ℕ) (b : BlockParts) (len : ℕ) → block_verdict size bytes ≡ a_block b len → Found bytes b
 in_block size bytes b len h =
@@ -97,3 +97,6 @@ found_block m held b len front e is =
     let there = body_there m held b (by_first (take m held) b len (first_case (take m held)) e) in
     let body : take front.size (drop 3 held) ≡ b.body = ap (λ n. take n (drop 3 held)) is.3 ∙ there in
     subst (λ v. IsFound v front held) (sym e) (is, body)
+
+pub found_at : (bytes : List ℕ) (b : BlockParts) (len : ℕ) → verdict_of bytes ≡ a_block b len → Found bytes b
+found_at bytes b len e = by_first bytes b len (first_case bytes) e
