@@ -130,6 +130,7 @@ function showReceived(files) {
     }),
   );
   at("save-row").hidden = files.length < 2 || !("showDirectoryPicker" in window);
+  at("save-all").textContent = "Save all into a folder…";
   at("save-all").onclick = () => saveAll(files);
 }
 
