@@ -162,7 +162,7 @@ def to_program(line=None):
 
 def layout(_):
     """The fields stand where a C compiler has them."""
-    with open(os.path.join(WEB, "ymodem.js"), encoding="utf-8") as it:
+    with open(os.path.join(ROOT, "web", "codes.js"), encoding="utf-8") as it:
         text = re.search(r"const LAYOUT = \{(.*?)\n\};", it.read(), re.S).group(1)
     asked = {name: dict(re.findall(r"(\w+): (\d+)", fields)) for name, fields in re.findall(r"(\w+): \{([^}]*)\}", text)}
     inside = {"ym_receiver": {"length": "stand.length", "taken": "stand.taken", "files": "stand.files", "state": "stand.state", "fault": "stand.fault", "in_file": "stand.in_file"}, "ym_front": {"width": "size"}}
