@@ -6,8 +6,9 @@ import random
 import time
 
 from program import ROOT, folders, stored, wants_same, wants_stored, write_files
+from relay import Seeded
 from web_browser import Page
-from web_peers import Flips, Loader, lrzsz, program_sends
+from web_peers import Flips, Loader, lrzsz, program_receives, program_sends
 
 PAGE = "file://" + os.path.join(ROOT, "out", "web", "index.html")
 PICTURES = os.path.join(ROOT, "out", "pictures")
@@ -137,6 +138,47 @@ def receives(room):
         picture(page, "6-received")
         save(page, there)
         wants_same(stored(there), dict(batch))
+
+
+def thirty():
+    chance = random.Random(19)
+    return [("file %02d.bin" % at, chance.randbytes(at * at * 17)) for at in range(30)]
+
+
+def sends_thirty(room):
+    """By the page, on a line that is damaged."""
+    with folders() as (here, there), Shown(room) as page:
+        with program_receives(there, Seeded(53, 0.05, 4)) as (bridge, ended):
+            dial(page, bridge.address)
+            page.give("#pick", write_files(here, thirty()))
+            click(page, "#send")
+            until_ended(page)
+            wants("30 files" in text(page, "#result"), "the page says " + text(page, "#result"))
+            wants(ended().status == 0, "ymodem receive failed")
+        wants_stored(there, thirty())
+
+
+# A folder that the user chose, which keeps what is written as hexadecimal digits.
+FOLDER = """
+globalThis.kept = {};
+const digits = (bytes) => Array.from(bytes, (byte) => byte.toString(16).padStart(2, '0')).join('');
+const writable = (name) => { kept[name] = ''; return new WritableStream({ write: (bytes) => { kept[name] += digits(bytes); } }); };
+globalThis.showDirectoryPicker = async () => ({ getFileHandle: async (name) => ({ createWritable: async () => writable(name) }) });
+"""
+
+
+def receives_thirty(room):
+    with folders() as (here, _), Shown(room, FOLDER) as page:
+        with program_sends(write_files(here, thirty()), Seeded(54, 0.05, 4)) as (bridge, ended):
+            dial(page, bridge.address)
+            click(page, "[name=way2][value=receive]")
+            click(page, "#receive")
+            until_ended(page)
+            wants("Received" in text(page, "#result") and "30 files" in text(page, "#result"), "the page says " + text(page, "#result"))
+            wants(ended().status == 0, "ymodem send failed")
+        click(page, "#save-all")
+        page.until("document.getElementById('save-all').innerText === 'Saved'")
+        wants_same({name: bytes.fromhex(data) for name, data in page.run("kept").items()}, dict(thirty()))
 
 
 def cancels_sending(room):
@@ -424,6 +466,8 @@ def page_checks():
         ("page: a browser that lacks what it needs", lacking),
         ("page: no connection", no_connection),
         ("page: cancelled while it receives", cancels_receiving),
+        ("page: sends thirty files, four deliveries damaged", sends_thirty),
+        ("page: receives thirty files, four deliveries damaged, and saves them", receives_thirty),
         ("page: the line vanishes while nothing goes on", vanishes_idle),
     ]
     with_lrzsz = [

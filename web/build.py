@@ -121,11 +121,9 @@ def page(module):
 
 
 def module_text():
-    """ymodem.js for other pages: readable, without the comments, whose place is the types."""
-    text = joined(LIBRARY)
+    """ymodem.js for other pages. Who wants to read it reads this folder."""
     head = re.match(r"/\*.*?\*/\n", read("ymodem.js"), re.S).group()
-    text = re.sub(r"^(?:  )+", lambda found: "\t" * (len(found.group()) // 2), COMMENT.sub("", text), flags=re.M)
-    return head + "\n" + re.sub(r"\n{3,}", "\n\n", text).lstrip()
+    return head + shortened(joined(LIBRARY))
 
 
 def main():

@@ -15,11 +15,11 @@ function make(name, attributes, text) {
 }
 
 /** What is written at an arrow, and how it is coloured. */
-function told({ kind, text, length }) {
+function told({ kind, text, length, isUsual }) {
   if (kind === "quiet") return ["nothing came", "quiet"];
   if (kind === "noise") return [`damaged, or no answer (${length} bytes)`, "bad"];
   if (kind === "block") return [`${text} (${length - 5} bytes)`, "frame"];
-  return [text, text === "NAK" ? "bad" : kind === "cancel" || text.startsWith("CAN") ? "cancel" : kind === "eot" ? "frame" : "reply"];
+  return [text, text === "NAK" && !isUsual ? "bad" : kind === "cancel" || text.startsWith("CAN") ? "cancel" : kind === "eot" ? "frame" : "reply"];
 }
 
 export class Chart {

@@ -130,6 +130,7 @@ function showReceived(files) {
     }),
   );
   at("save-row").hidden = files.length < 2 || !("showDirectoryPicker" in window);
+  at("save-all").textContent = "Save all into a folder…";
   at("save-all").onclick = () => saveAll(files);
 }
 
@@ -153,10 +154,13 @@ async function connect(event) {
   event.preventDefault();
   at("result").hidden = true;
   const address = isBySerial() ? undefined : at("address").value.trim();
+  at("choose").disabled = at("dial").disabled = true;
   try {
     line = address === undefined ? await openSerial(at("speed").valueAsNumber) : await openAddress(address);
   } catch (fault) {
     return show(false, noLine(fault, address));
+  } finally {
+    at("choose").disabled = at("dial").disabled = false;
   }
   terminal.attach(line);
   refresh();
@@ -217,9 +221,12 @@ class Watch {
     return {
       onProgress: (progress) => this.meter.take(progress),
       onFrame: (frame) => {
-        chart.add(frame);
+        // the first end of a file is asked for again, so that none is taken for another byte
+        const isUsual = frame.text === "NAK" && this.last === "eot";
+        this.last = frame.kind;
+        chart.add({ ...frame, isUsual });
         if (frame.kind === "block") this.blocks++;
-        if (frame.kind === "noise" || frame.text === "NAK") this.bad++;
+        if (frame.kind === "noise" || (frame.text === "NAK" && !isUsual)) this.bad++;
       },
     };
   }
@@ -230,7 +237,8 @@ class Watch {
     at("bar").value = meter.share;
     at("now-file").textContent = meter.file ? `${meter.file.name}` : "Waiting for the device…";
     at("now-percent").textContent = meter.file ? `${Math.floor(meter.share * 100)} %` : "";
-    at("figures").textContent = meter.file ? `${meter.text()} · ${count(meter.files, "file")} done` : "It has not answered yet.";
+    const done = meter.files > 0 ? ` · ${count(meter.files, "file")} done` : "";
+    at("figures").textContent = meter.file ? meter.text() + done : "It has not answered yet.";
     at("counts").textContent = `${count(this.blocks, "block")} so far; ${this.bad === 0 ? "none" : this.bad} damaged or asked for again.`;
     const quarter = Math.floor(meter.share * 4);
     if (quarter > this.told && quarter < 4) say(`${quarter * 25} percent`);

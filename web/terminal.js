@@ -61,6 +61,7 @@ export class Terminal {
   #reader = null;
   #reading = null;
   #isDue = false;
+  #typing = Promise.resolve();
   #tail = "";
   #when = 0;
 
@@ -83,6 +84,7 @@ export class Terminal {
 
   /** Lets go of the port, so that a transfer can take it. */
   async detach() {
+    await this.#typing;
     const reading = this.#reading;
     this.#reader?.releaseLock();
     this.#reader = this.#reading = null;
@@ -151,8 +153,13 @@ export class Terminal {
     this.#tail = "";
   }
 
-  /** Types at the line. */
-  async type(text) {
+  /** Types at the line, behind what is being typed already. */
+  type(text) {
+    this.#typing = this.#typing.then(() => this.#write(text));
+    return this.#typing;
+  }
+
+  async #write(text) {
     if (!this.#port || !this.#reader) return;
     const writer = this.#port.writable.getWriter();
     try {
