@@ -8,6 +8,7 @@ mod looped;
 mod program;
 mod receiving;
 mod sending;
+mod store;
 
 use program::command;
 use std::io::ErrorKind;

@@ -1,21 +1,32 @@
 //! `receive`: files, from whoever connects first.
 
-ghost use Rattle.std.specs.Prelude.{◌≡◌, ◌≤◌, IfOk};
+ghost use Rattle.std.specs.Prelude.{◌≡◌, ◌≢◌, ℕ, Result, OnOk, OnErr, IfOk};
+ghost use Rattle.std.specs.Io.KnownBytes.{Appends};
+ghost use Rattle.ym_file.specs.Counts.{Rose};
 ghost use Rattle.ym_file.specs.Kept.{IsNew};
+ghost use Rattle.ym_file.specs.declared.sink.SinkFault.{SinkFault as Shut};
 ghost use Rattle.ym_host.specs.DirSink.{kept_of};
+ghost use Rattle.ym_link.specs.ReceiverInto.{ReceiverParts};
+ghost use Rattle.ym_link.specs.declared.end_fault.EndFault.{EndFault as Why};
+ghost use Rattle.ymodem.specs.Lines.{file_lines, receiver_lines};
+ghost use Rattle.ymodem.specs.Page.{Prints};
+ghost use Rattle.ymodem.specs.Program.{confirm_of};
+ghost use Rattle.ymodem.specs.Receiving.{ReceiverRuns, Closes, TellsReceiver, ReceiveGives, receive_gives};
 ghost use Rattle.ymodem.specs.Status.{receive_answer};
 
 use crate::command_fault::CommandFault;
 use crate::lines::{FileLine, ReceiverLine};
+use crate::store::Store;
 use std::alloc::{AllocError, Global};
 use std::fs::{File, Files};
 use std::io;
-use std::io::Write;
 use std::net::{Ipv4Addr, Net, SocketAddr, TcpListener, TcpStream};
 use std::time::Clock;
+use ym_file::SinkFault;
 use ym_header::Header;
 use ym_host::{DirSink, Durability, Leftover, SocketPort};
-use ym_link::{Clearing, Confirm, ReceiverInto, RecvState, Role, receive_over};
+use ym_link::{Clearing, Confirm, EndFault, Port, ReceiverInto, RecvState, Role, receive_over};
+use ym_play::{Output, StreamFault};
 use ym_words::ReceiveFlags;
 
 /// How many milliseconds a receiver waits for a frame.
@@ -34,14 +45,23 @@ fn accept_one<R: Net<Listener = TcpListener, Stream = TcpStream>>(
     Ok(stream)
 }
 
-/// Prints a line for each file, and one for the receiver.
-fn print<W: Write>(out: &mut W, headers: &[Header], line: ReceiverLine) -> io::Result<()> {
+/// Prints a line for each file.
+fn print_files<O: Output>(out: &mut O, headers: &[Header]) -> Result<(), StreamFault>
+    ensures { Prints (record { holds = O.contents out.old; failed = O.failures out.old }) (file_lines headers.now) result (record { holds = O.contents out.new; failed = O.failures out.new }) }
+{
     for header in headers {
-        let file = FileLine(header);
-        writeln!(out, "{file}")?;
+        out.put_line(FileLine(header))?;
     }
-    writeln!(out, "{line}")?;
-    out.flush()
+    Ok(())
+}
+
+/// Prints a line for each file, and one for the receiver.
+fn print<O: Output>(out: &mut O, headers: &[Header], state: RecvState) -> Result<(), StreamFault>
+    ensures { Prints (record { holds = O.contents out.old; failed = O.failures out.old }) (receiver_lines headers.now state) result (record { holds = O.contents out.new; failed = O.failures out.new }) }
+{
+    print_files(out, headers)?;
+    let files = headers.len();
+    out.put_line(ReceiverLine { files, state })
 }
 
 /// The status of a receiver that no port stopped.
@@ -53,6 +73,21 @@ fn status_of(state: RecvState) -> Result<u8, CommandFault>
         RecvState::SinkFailed => Err(CommandFault::Device),
         _ => Ok(1),
     }
+}
+
+/// What a receiver's end comes to. Of several faults that of the engine is told, then that of the folder, then that of the output.
+fn answer_of(
+    ended: Result<(), EndFault>,
+    closed: Result<(), SinkFault>,
+    printed: Result<(), StreamFault>,
+    state: RecvState,
+) -> Result<u8, CommandFault>
+    ensures { result ≡ receive_gives ended closed printed state }
+{
+    ended?;
+    closed?;
+    printed?;
+    status_of(state)
 }
 
 /// The sink that the flags ask for, which stores files in a folder.
@@ -77,44 +112,56 @@ fn open_sink<'a, R: Files<File = File>>(
     DirSink::new(rt, alloc, dir, durability, leftover)
 }
 
-/// When a receiver acknowledges an EOT, by the flags.
-fn confirm_of(flags: ReceiveFlags) -> Confirm {
-    if flags.single {
+/// When a receiver acknowledges an EOT, by the flag `--single`.
+fn confirm_of(is_single: bool) -> Confirm
+    ensures { result ≡ confirm_of is_single }
+{
+    if is_single {
         Confirm::Once
     } else {
         Confirm::Twice
     }
 }
 
+/// Runs a receiver over a port, lets its sink go of what is open, also after a fault, and prints the files that were committed and how the
+/// receiver has ended. The sink comes back, with its status: 0 where the receiver has finished.
+pub fn receive_batch<P: Port, K: Store + Drop, O: Output>(
+    port: &mut P,
+    mut receiver: ReceiverInto<K>,
+    out: &mut O,
+) -> (K, Result<u8, CommandFault>)
+    ensures { (r : ReceiverParts) × (ended : Result Unit Why) × (closed : Result Unit Shut)
+        × ReceiverRuns (P.tells port.old) (P.tells port.new) receiver (P.failures port.old) (P.failures port.new) ended r
+        × Closes r.kept r.failures closed (K.kept result.0) (K.failures result.0)
+        × TellsReceiver ended closed r (record { holds = O.contents out.old; failed = O.failures out.old }) result.1 (record { holds = O.contents out.new; failed = O.failures out.new }) }
+{
+    let ended = receive_over(port, &mut receiver);
+    let state = receiver.state();
+    let mut sink = receiver.into_sink();
+    let closed = sink.close();
+    let printed = print(out, sink.headers(), state);
+    (sink, answer_of(ended, closed, printed, state))
+}
+
 /// Receives files into a folder from whoever connects first to 127.0.0.1 at this port, and prints them and how the receiver has ended.
-pub fn receive<R, W>(
+pub fn receive<R, O>(
     rt: &R,
     alloc: Global,
     port: u16,
     flags: ReceiveFlags,
     dir: &str,
-    out: &mut W,
+    out: &mut O,
 ) -> Result<u8, CommandFault>
 where
     R: Files<File = File> + Net<Listener = TcpListener, Stream = TcpStream> + Clock,
-    W: Write,
-    ensures { IfOk result (λ status. status ≤ 1) }
+    O: Output,
+    ensures { ReceiveGives (confirm_of flags.single) (record { holds = O.contents out.old; failed = O.failures out.old }) result (record { holds = O.contents out.new; failed = O.failures out.new }) }
 {
     let sink = open_sink(rt, alloc, flags, dir)?;
-    let mut receiver = ReceiverInto::with_sink(alloc, sink, confirm_of(flags));
-    let port = SocketPort::new(rt, accept_one(rt, port)?, REPLY_MS - WITHIN_MS, WITHIN_MS);
+    let receiver = ReceiverInto::with_sink(alloc, sink, confirm_of(flags.single));
+    let stream = accept_one(rt, port)?;
+    let port = SocketPort::new(rt, stream, REPLY_MS - WITHIN_MS, WITHIN_MS);
     let mut port = Clearing::new(port, Role::Receiver);
-    let ended = receive_over(&mut port, &mut receiver);
-    let line = ReceiverLine {
-        files: receiver.committed(),
-        state: receiver.state(),
-    };
-    let mut sink = receiver.into_sink();
-    let closed = sink.close();
-    let printed = print(out, sink.headers(), line);
-    // Of several faults the engine's is told, and then that of the folder.
-    ended?;
-    closed?;
-    printed?;
-    status_of(line.state)
+    let (_sink, answer) = receive_batch(&mut port, receiver, out);
+    answer
 }

@@ -1,4 +1,6 @@
+mod ends;
 mod fixtures;
 mod jobs;
+mod memory;
 mod sockets;
 mod words;
