@@ -1,13 +1,13 @@
 //! Calls over ports that play a script.
 
-use crate::{receive_from_any_peer, send_and_receive, send_to_any_peer};
+use crate::send_to_any_peer;
 use std::alloc::{AllocError, Global};
 use std::test::Fail;
-use ym_core::{RecvState, SendState};
+use ym_core::SendState;
 use ym_file::Shape;
 use ym_frame::{Block, Bytes, FrameBuf, Item, encode};
 use ym_header::{Header, Stamp, write, write_end};
-use ym_link::{Event, Receiver, ScriptPort, SendFile, Sender};
+use ym_link::{Event, ScriptPort, SendFile, Sender};
 
 const EOT: &[u8] = &[0x04];
 
@@ -61,37 +61,6 @@ fn frames(alloc: Global) -> Result<(FrameBuf, FrameBuf, FrameBuf), Fail> {
     ))
 }
 
-/// Whether this is the file that was sent.
-fn is_hello(receiver: &Receiver) -> bool {
-    match receiver.files() {
-        [file] => file.name() == "a" && file.bytes() == b"hello".as_slice(),
-        _ => false,
-    }
-}
-
-#[test]
-fn a_block_that_comes_again_is_kept_once(rt: HostRuntime) -> Result<(), Fail> {
-    let alloc = rt.alloc();
-    let (opening, block, end) = frames(alloc)?;
-    let coming = [
-        &[],
-        opening.as_bytes(),
-        block.as_bytes(),
-        block.as_bytes(),
-        EOT,
-        EOT,
-        end.as_bytes(),
-    ];
-    let mut port = port_of(alloc, &coming)?;
-    let mut receiver = Receiver::new(alloc);
-    assert_eq!(rt; receive_from_any_peer(&mut port, &mut receiver), Ok(()));
-    assert_eq!(rt; receiver.state(), RecvState::Finished);
-    assert!(rt; is_hello(&receiver));
-    let replies = [START, ACK_START, ACK, ACK, NAK, ACK_START, ACK];
-    assert_eq!(rt; port.written(), joined(alloc, &replies)?.as_slice());
-    Ok(())
-}
-
 #[test]
 fn a_block_that_is_refused_is_sent_again(rt: HostRuntime) -> Result<(), Fail> {
     let alloc = rt.alloc();
@@ -110,49 +79,5 @@ fn a_block_that_is_refused_is_sent_again(rt: HostRuntime) -> Result<(), Fail> {
         end.as_bytes(),
     ];
     assert_eq!(rt; port.written(), joined(alloc, &written)?.as_slice());
-    Ok(())
-}
-
-#[test]
-fn two_calls_complete(rt: HostRuntime) -> Result<(), Fail> {
-    let alloc = rt.alloc();
-    let (opening, block, end) = frames(alloc)?;
-    // the receiver has asked three times before its peer is there, and its ACK of block 1 is lost
-    let replies = [
-        &[0x43, 0x43, 0x43],
-        ACK_START,
-        &[],
-        ACK,
-        NAK,
-        ACK_START,
-        ACK,
-    ];
-    let written = [
-        &[],
-        &[],
-        &[],
-        opening.as_bytes(),
-        block.as_bytes(),
-        block.as_bytes(),
-        EOT,
-        EOT,
-        end.as_bytes(),
-    ];
-    let mut near = port_of(alloc, &replies)?;
-    let mut far = port_of(alloc, &written)?;
-    let mut sender = sender_of(alloc)?;
-    let mut receiver = Receiver::new(alloc);
-    let (sent, received) = send_and_receive(&mut near, &mut sender, &mut far, &mut receiver);
-    assert_eq!(rt; sent, Ok(()));
-    assert_eq!(rt; received, Ok(()));
-    assert_eq!(rt; sender.state(), SendState::Finished);
-    assert_eq!(rt; sender.done(), 1);
-    assert_eq!(rt; receiver.state(), RecvState::Finished);
-    assert!(rt; is_hello(&receiver));
-    assert_eq!(rt; near.written(), joined(alloc, &written)?.as_slice());
-    let answers = [
-        START, START, START, ACK_START, ACK, ACK, NAK, ACK_START, ACK,
-    ];
-    assert_eq!(rt; far.written(), joined(alloc, &answers)?.as_slice());
     Ok(())
 }
