@@ -4,7 +4,9 @@
 Prints a line for each check, and ends with the line 'N passed, M failed'; the status is 1 where a check failed. It needs Chromium of version 133 or later,
 and is skipped without; what needs lrzsz is left out where that is missing. Pictures of the page in each of its states are left in out/pictures.
 
-usage: web.py [WORD..]     only the checks whose names have one of these words
+usage: web.py [--rates] [WORD..]
+  --rates   the page has to be as fast as is wanted of it too, which only a machine that has nothing else to do can show
+  WORD      only the checks whose names have one of these words
 The page is that of out/web, as `make web` builds it; the program as for transfer.py.
 """
 
@@ -269,8 +271,8 @@ def stalls(room):
 
 
 def wants_rate(rates, least):
-    """So many MiB a second, unless the machine has more to do than it has processors: then a rate says nothing of the page."""
-    wants(max(rates) >= least or os.getloadavg()[0] > os.cpu_count(), "%s MiB/s" % rates)
+    """So many MiB a second, where that is asked for: on a machine that has other work a rate says nothing of the page."""
+    wants(max(rates) >= least or "--rates" not in sys.argv, "%s MiB/s" % rates)
 
 
 def throughput(room):
@@ -388,6 +390,7 @@ def main(words):
     has_lrzsz = all(shutil.which(name) for name in ("sb", "rb"))
     checks += [*on_page, *(with_lrzsz if has_lrzsz else ()), *(page_with_lrzsz if has_lrzsz else ())]
     alone = [("throughput of both ends in one page", throughput), *([("throughput from sb over a WebSocket", throughput_over_socket)] if has_lrzsz else [])]
+    words = [word for word in words if not word.startswith("--")]
     chosen = lambda them: [it for it in them if not words or any(word in it[0] for word in words)]
     checks, alone = chosen(checks), chosen(alone)
     try:
