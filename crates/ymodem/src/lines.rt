@@ -7,6 +7,7 @@ ghost use Rattle.ymodem.specs.Lines.{sender_words, receiver_words};
 use std::fmt;
 use ym_header::{Header, HeaderFault, Stamp};
 use ym_link::{RecvState, SendState};
+use ym_show::Shown;
 
 /// How a sender has ended, by the word that a trace has for it.
 #[derive(Clone, Copy)]
@@ -120,6 +121,16 @@ impl fmt::Display for Octal {
     }
 }
 
+/// The time and the mode of a stamp, where it has them.
+fn fields_of(stamp: Stamp) -> (Octal, Octal) {
+    let (time, mode) = match stamp {
+        Stamp::Nothing => (None, None),
+        Stamp::Time(time) => (Some(time), None),
+        Stamp::TimeMode(time, mode) => (Some(time), Some(u64::from(mode))),
+    };
+    (Octal(time), Octal(mode))
+}
+
 /// A file that was committed: `file NAME LENGTH TIME MODE`, time and mode in octal.
 #[derive(Clone, Copy)]
 pub struct FileLine<'a>(pub &'a Header);
@@ -128,13 +139,20 @@ impl fmt::Display for FileLine<'_> {
     fn fmt<W: fmt::Write>(&self, f: &mut fmt::Formatter<W>) -> fmt::Result {
         let name = self.0.name();
         let length = self.0.length();
-        let (time, mode) = match self.0.stamp() {
-            Stamp::Nothing => (None, None),
-            Stamp::Time(time) => (Some(time), None),
-            Stamp::TimeMode(time, mode) => (Some(time), Some(u64::from(mode))),
-        };
-        let time = Octal(time);
-        let mode = Octal(mode);
+        let (time, mode) = fields_of(self.0.stamp());
+        write!(f, "file {name} {length} {time} {mode}")
+    }
+}
+
+/// The same, with the name made safe for a terminal.
+#[derive(Clone, Copy)]
+pub struct ShownFileLine<'a>(pub &'a Header);
+
+impl fmt::Display for ShownFileLine<'_> {
+    fn fmt<W: fmt::Write>(&self, f: &mut fmt::Formatter<W>) -> fmt::Result {
+        let name = Shown(self.0.name());
+        let length = self.0.length();
+        let (time, mode) = fields_of(self.0.stamp());
         write!(f, "file {name} {length} {time} {mode}")
     }
 }

@@ -3,16 +3,19 @@
 #![tactic(auto)]
 
 mod command_fault;
+mod folder;
 mod lines;
 mod looped;
 mod program;
 mod receiving;
 mod sending;
+mod telling;
 
 use program::command;
-use std::io::ErrorKind;
+use std::io::{ErrorKind, IsTerminal};
 use std::process::ExitCode;
 use std::{env, io};
+use ym_show::Teller;
 
 /// The status where a word is not UTF-8.
 const REFUSED: u8 = 2;
@@ -28,6 +31,11 @@ fn words(rt: &HostRuntime) -> io::Result<Vec<String>> {
 
 /// Does what the words ask for. The answer is the status.
 fn run(rt: &HostRuntime) -> u8 {
+    let mut teller = Teller {
+        err: rt.stderr(),
+        is_loud: rt.stderr().is_terminal(),
+        is_out_shown: rt.stdout().is_terminal(),
+    };
     match words(rt) {
         Ok(words) => command(
             rt,
@@ -36,6 +44,7 @@ fn run(rt: &HostRuntime) -> u8 {
             &mut rt.stdin(),
             &mut rt.stdout(),
             &mut rt.stderr(),
+            &mut teller,
         ),
         Err(error) if error.kind() == ErrorKind::InvalidData => {
             let _ = rt.eprintln("error: a word is not UTF-8");

@@ -6,16 +6,20 @@ ghost use Rattle.ym_host.specs.DirSink.{kept_of};
 ghost use Rattle.ymodem.specs.Status.{receive_answer};
 
 use crate::command_fault::CommandFault;
-use crate::lines::{FileLine, ReceiverLine};
+use crate::folder::{LastFile, check_folder, tell_not_stored};
+use crate::lines::{FileLine, ReceiverLine, ShownFileLine};
+use crate::telling::tell_end;
 use std::alloc::{AllocError, Global};
 use std::fs::{File, Files};
 use std::io;
 use std::io::Write;
 use std::net::{Ipv4Addr, Net, SocketAddr, TcpListener, TcpStream};
 use std::time::Clock;
+use ym_file::SinkFault;
 use ym_header::Header;
 use ym_host::{DirSink, Durability, Leftover, SocketPort};
-use ym_link::{Clearing, Confirm, ReceiverInto, RecvState, Role, receive_over};
+use ym_link::{Clearing, Confirm, EndFault, ReceiverInto, RecvState, Role, receive_over};
+use ym_show::{Eager, EndMessage, FileMessage, LineMessage, Reason, Teller, Watched};
 use ym_words::ReceiveFlags;
 
 /// How many milliseconds a receiver waits for a frame.
@@ -24,22 +28,46 @@ const REPLY_MS: u32 = 3000;
 /// How many milliseconds it waits for more of a frame that has begun.
 const WITHIN_MS: u32 = 1000;
 
-/// The first connection to 127.0.0.1 at this port. It waits for it as long as it takes.
-fn accept_one<R: Net<Listener = TcpListener, Stream = TcpStream>>(
+/// Listens on 127.0.0.1 at this port.
+fn listen<R: Net<Listener = TcpListener, Stream = TcpStream>, E: Write + Drop>(
     rt: &R,
     port: u16,
+    teller: &mut Teller<E>,
+) -> io::Result<TcpListener> {
+    let bound = TcpListener::bind(rt, SocketAddr::from((Ipv4Addr::LOCALHOST, port)));
+    match &bound {
+        Ok(_) => teller.tell(LineMessage::Listening(port)),
+        Err(error) => teller.tell(LineMessage::of_error(port, error)),
+    }
+    bound
+}
+
+/// The next connection. It waits for it as long as it takes.
+fn accept<E: Write + Drop>(
+    listener: &TcpListener,
+    teller: &mut Teller<E>,
 ) -> io::Result<TcpStream> {
-    let address = SocketAddr::from((Ipv4Addr::LOCALHOST, port));
-    let (stream, _) = TcpListener::bind(rt, address)?.accept()?;
+    let (stream, _) = listener.accept()?;
+    teller.tell(LineMessage::Connected);
     Ok(stream)
 }
 
-/// Prints a line for each file, and one for the receiver.
-fn print<W: Write>(out: &mut W, headers: &[Header], line: ReceiverLine) -> io::Result<()> {
+/// Prints a line for each file, with its name made safe where a terminal shows it.
+fn print_files<W: Write>(out: &mut W, headers: &[Header], is_shown: bool) -> io::Result<()> {
     for header in headers {
-        let file = FileLine(header);
-        writeln!(out, "{file}")?;
+        if is_shown {
+            let file = ShownFileLine(header);
+            writeln!(out, "{file}")?;
+        } else {
+            let file = FileLine(header);
+            writeln!(out, "{file}")?;
+        }
     }
+    Ok(())
+}
+
+/// Prints the line of the receiver.
+fn print_end<W: Write>(out: &mut W, line: ReceiverLine) -> io::Result<()> {
     writeln!(out, "{line}")?;
     out.flush()
 }
@@ -53,6 +81,21 @@ fn status_of(state: RecvState) -> Result<u8, CommandFault>
         RecvState::SinkFailed => Err(CommandFault::Device),
         _ => Ok(1),
     }
+}
+
+/// What a receiver's end comes to. Of several faults that of the engine is told, then that of the folder, then that of the output.
+fn answer_of(
+    ended: Result<(), EndFault>,
+    closed: Result<(), SinkFault>,
+    printed: io::Result<()>,
+    state: RecvState,
+) -> Result<u8, CommandFault>
+    ensures { IfOk result (λ status. status ≤ 1) }
+{
+    ended?;
+    closed?;
+    printed?;
+    status_of(state)
 }
 
 /// The sink that the flags ask for, which stores files in a folder.
@@ -86,35 +129,115 @@ fn confirm_of(flags: ReceiveFlags) -> Confirm {
     }
 }
 
-/// Receives files into a folder from whoever connects first to 127.0.0.1 at this port, and prints them and how the receiver has ended.
-pub fn receive<R, W>(
+/// Sees that files can be stored in the folder at this path, or tells why not.
+fn look_at<R: Files<File = File>, E: Write + Drop>(
     rt: &R,
     alloc: Global,
-    port: u16,
-    flags: ReceiveFlags,
     dir: &str,
+    teller: &mut Teller<E>,
+) -> io::Result<()> {
+    let looked = check_folder(rt, alloc, dir);
+    if let Err(error) = &looked {
+        teller.tell(FileMessage::CannotStoreIn(dir, Reason::of(error)));
+    }
+    looked
+}
+
+/// What a receiver is asked for, and where.
+#[derive(Clone, Copy)]
+pub struct Order<'a> {
+    /// How it answers and stores.
+    pub flags: ReceiveFlags,
+    /// The folder that it stores in.
+    pub dir: &'a str,
+}
+
+/// Receives the files of one connection, and prints them and how the receiver has ended.
+fn receive_from<R, W, E>(
+    rt: &R,
+    alloc: Global,
+    stream: TcpStream,
+    order: Order<'_>,
     out: &mut W,
+    teller: &mut Teller<E>,
 ) -> Result<u8, CommandFault>
 where
-    R: Files<File = File> + Net<Listener = TcpListener, Stream = TcpStream> + Clock,
+    R: Files<File = File> + Clock,
     W: Write,
+    E: Write + Drop,
     ensures { IfOk result (λ status. status ≤ 1) }
 {
-    let sink = open_sink(rt, alloc, flags, dir)?;
+    let Order { flags, dir } = order;
+    let sink = Watched {
+        sink: open_sink(rt, alloc, flags, dir)?,
+        watch: LastFile::new(alloc, teller.is_loud),
+    };
     let mut receiver = ReceiverInto::with_sink(alloc, sink, confirm_of(flags));
-    let port = SocketPort::new(rt, accept_one(rt, port)?, REPLY_MS - WITHIN_MS, WITHIN_MS);
-    let mut port = Clearing::new(port, Role::Receiver);
+    let port = SocketPort::new(rt, stream, REPLY_MS - WITHIN_MS, WITHIN_MS);
+    let mut port = Eager::new(Clearing::new(port, Role::Receiver), flags.eager);
     let ended = receive_over(&mut port, &mut receiver);
     let line = ReceiverLine {
         files: receiver.committed(),
         state: receiver.state(),
     };
-    let mut sink = receiver.into_sink();
+    let Watched { mut sink, watch } = receiver.into_sink();
     let closed = sink.close();
-    let printed = print(out, sink.headers(), line);
-    // Of several faults the engine's is told, and then that of the folder.
-    ended?;
-    closed?;
-    printed?;
-    status_of(line.state)
+    tell_end(teller, ended, EndMessage::of_receiver(line.state));
+    if teller.is_loud && line.state == RecvState::SinkFailed {
+        tell_not_stored(rt, alloc, dir, flags.discard_parts, &watch, teller);
+    }
+    let printed = print_files(out, sink.headers(), teller.is_out_shown).and_then(|()| print_end(
+        out, line,
+    ));
+    answer_of(ended, closed, printed, line.state)
+}
+
+/// Receives files into a folder from whoever connects first to 127.0.0.1 at this port, and prints them and how the receiver has ended.
+pub fn receive<R, W, E>(
+    rt: &R,
+    alloc: Global,
+    port: u16,
+    order: Order<'_>,
+    out: &mut W,
+    teller: &mut Teller<E>,
+) -> Result<u8, CommandFault>
+where
+    R: Files<File = File> + Net<Listener = TcpListener, Stream = TcpStream> + Clock,
+    W: Write,
+    E: Write + Drop,
+    ensures { IfOk result (λ status. status ≤ 1) }
+{
+    look_at(rt, alloc, order.dir, teller)?;
+    let listener = listen(rt, port, teller)?;
+    let stream = accept(&listener, teller)?;
+    receive_from(rt, alloc, stream, order, out, teller)
+}
+
+/// Receives files into a folder from one connection after another, and prints them and how each receiver has ended, also where it ended in a fault,
+/// whose line goes to `err`. It ends where no connection can be taken any more.
+pub fn receive_on<R, W, F, E>(
+    rt: &R,
+    alloc: Global,
+    port: u16,
+    order: Order<'_>,
+    out: &mut W,
+    err: &mut F,
+    teller: &mut Teller<E>,
+) -> Result<u8, CommandFault>
+where
+    R: Files<File = File> + Net<Listener = TcpListener, Stream = TcpStream> + Clock,
+    W: Write,
+    F: Write,
+    E: Write + Drop,
+    ensures { IfOk result (λ status. status ≤ 1) }
+{
+    look_at(rt, alloc, order.dir, teller)?;
+    let listener = listen(rt, port, teller)?;
+    for _session in 0..u64::MAX {
+        let stream = accept(&listener, teller)?;
+        if let Err(fault) = receive_from(rt, alloc, stream, order, out, teller) {
+            writeln!(err, "{fault}").and_then(|()| err.flush())?;
+        }
+    }
+    Ok(0)
 }
