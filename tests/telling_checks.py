@@ -4,13 +4,15 @@ they start."""
 import contextlib
 import fcntl
 import os
+import re
 import signal
 import socket
 import subprocess
+import threading
 import time
 
-from frames import CANCEL, END, START, header
-from peers import receive_from, send_to
+from frames import ACK, CANCEL, END, EOT, NAK, START, frames_of, header
+from peers import PlainReceiver, called, frames_at, receive_from, send_to
 from program import LIMIT, PROGRAM, connected, file_lines, folders, free_port, run, running, wants_stored, write_files
 from skipping import Skipped, needs
 from terminal import UnderTerminal
@@ -260,6 +262,126 @@ def names_on_a_terminal():
             wants_stored(there, files)
 
 
+# ---- How far a file is
+
+# How long a peer takes for each answer: longer than a terminal waits between two showings.
+PACE = 0.15
+
+# The whole file, in as many seconds and at such a rate.
+WHOLE = rb"first\.bin: 5120 bytes in \d+\.\d s, \d+ k?B/s"
+
+
+def paced(damaged=None):
+    """A receiver that takes its time for each answer, and refuses the frame of one number once."""
+
+    def peer(end):
+        receiver, refused = PlainReceiver(), set()
+        end.sendall(bytes((START,)))
+        for at, frame in enumerate(frames_at(end)):
+            time.sleep(PACE)
+            if at == damaged and not refused:
+                refused.add(at)
+                end.sendall(bytes((NAK,)))
+            else:
+                end.sendall(receiver.answer(frame))
+            if receiver.is_finished:
+                return
+
+    return peer
+
+
+def paced_sender(end):
+    """A sender that takes its time for each frame, and writes the second block twice, the first time damaged."""
+    for at, frame in enumerate(frames_of(FILE)):
+        if at == 0:
+            end.recv(1)
+        time.sleep(PACE)
+        if at == 2:
+            end.sendall(frame[:-1] + bytes((frame[-1] ^ 1,)))
+            wants("the answer to a damaged block", end.recv(1), bytes((NAK,)))
+        end.sendall(frame)
+        if frame[0] == EOT:
+            wants("the answer to the first EOT", end.recv(1), bytes((NAK,)))
+            end.sendall(frame)
+        wants("an answer", end.recv(1), bytes((ACK,)))
+        if frame[0] == EOT or at == 0:
+            wants("the call for more", end.recv(1), bytes((START,)))
+
+
+def shows_progress(child):
+    """What a terminal shows of the file, of which one block was repeated: its lines in place, and the one that stays."""
+    child.sees(b"\rfirst.bin: 20%, 1024 of 5120 bytes, ")
+    child.sees(b"\rfirst.bin: 60%, 3072 of 5120 bytes, ")
+    child.sees(b" left, 1 repeated")
+    child.sees(b"\rfirst.bin: 5120 bytes in ")
+    child.sees(b"B/s, 1 repeated\r\n")
+
+
+def progress_of_send():
+    with folders() as (here, _), socket.create_server(("127.0.0.1", 0)) as listener:
+        paths = write_files(here, FILE)
+        with under_terminal("send", "-p", listener.getsockname()[1], *paths) as send:
+            end = called(listener)
+            with end:
+                peer = threading.Thread(target=paced(damaged=2), args=(end,), daemon=True)
+                peer.start()
+                shows_progress(send)
+                send.sees(line("sender done 1 finished"))
+                peer.join(LIMIT)
+
+
+def progress_of_receive():
+    with folders() as (_, there):
+        port = free_port()
+        with under_terminal("receive", "-p", port, "--eager", there) as receive:
+            receive.sees(b"listening")
+            with connected(port) as end:
+                peer = threading.Thread(target=paced_sender, args=(end,), daemon=True)
+                peer.start()
+                shows_progress(receive)
+                receive.sees(line("receiver files 1 finished"))
+                peer.join(LIMIT)
+        wants_stored(there, FILE)
+
+
+def width_of_a_terminal():
+    """No line that is shown in place is as wide as the terminal."""
+    name = "a name that is as long as names seldom are.bin"
+    with folders() as (here, _), socket.create_server(("127.0.0.1", 0)) as listener:
+        (path,) = write_files(here, [(name, DATA)])
+        words = ["send", "-p", listener.getsockname()[1], path]
+        send = UnderTerminal([PROGRAM, *map(str, words)], env={**os.environ, "COLUMNS": "60"})
+        try:
+            with called(listener) as end:
+                peer = threading.Thread(target=paced(), args=(end,), daemon=True)
+                peer.start()
+                send.sees(b"\r")
+                shown = b""
+                while b"sender done" not in shown:
+                    shown += os.read(send.end, 65536)
+                peer.join(LIMIT)
+        finally:
+            send.stop()
+        shown = shown.partition(b"\r\n")[0]
+        found = [it for it in re.split(b"[\r]", shown) if b"%" in it]
+        if not found or max(len(it) for it in found) > 59:
+            raise AssertionError("the lines are %r" % found)
+
+
+def whole_files_in_lines():
+    """Where no terminal is, --verbose tells a line for each file, and nothing in place."""
+    with folders() as (here, there):
+        paths, port = write_files(here, FILE), free_port()
+        with running("receive", "-p", port, "--eager", "--verbose", there) as receive:
+            connected_to = re.escape(listening(port).encode()) + b"connected\n"
+            wants("its first line", receive.child.stderr.readline().decode(), listening(port))
+            send = run("send", "-p", port, "--verbose", *paths)
+            ended = receive.ended()
+        for got, began in ((send.err.encode(), re.escape(connecting(port).encode())), (listening(port).encode() + ended.err.encode(), connected_to)):
+            if not re.fullmatch(began + WHOLE + b"\n", got):
+                raise AssertionError("it told %r" % got)
+
+
 # ---- How they start
 
 
@@ -362,6 +484,10 @@ CHECKS = [
     ("tells that a name is not safe", received_from(sends(NOT_SAFE), 1, "bad-header name-unsafe", "the name in block 0 is not safe\n")),
     ("tells on a terminal what it does", transfer_under_terminals),
     ("tells nothing on a terminal with --quiet", quiet_on_a_terminal),
+    ("shows how far a file is that is sent", progress_of_send),
+    ("shows how far a file is that is received", progress_of_receive),
+    ("shows no line as wide as the terminal", width_of_a_terminal),
+    ("tells a line for each whole file with --verbose", whole_files_in_lines),
     ("shows escapes in names on a terminal alone", names_on_a_terminal),
     ("asks at once with --eager", asks_at_once),
     ("takes a file of sb at once with --eager", sb_to_eager),

@@ -5,19 +5,29 @@ mod eager;
 mod end_message;
 mod file_message;
 mod line_message;
+mod meter;
+mod progress;
 mod reason;
+mod send_watch;
 mod shown;
+mod store_watch;
 mod teller;
 mod watched;
+mod watched_port;
 
 pub use eager::Eager;
 pub use end_message::EndMessage;
 pub use file_message::FileMessage;
 pub use line_message::LineMessage;
+pub use meter::Meter;
+pub use progress::{Progress, Took, Whole, progress_line};
 pub use reason::Reason;
+pub use send_watch::SendWatch;
 pub use shown::Shown;
-pub use teller::Teller;
+pub use store_watch::{LastFile, Replies, StoreWatch};
+pub use teller::{Look, Teller};
 pub use watched::{SinkWatch, Watched};
+pub use watched_port::{PortWatch, WatchedPort};
 
 #[cfg(test)]
 mod tests;

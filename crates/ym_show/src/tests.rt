@@ -1,1 +1,3 @@
 mod messages;
+mod progress;
+mod watches;

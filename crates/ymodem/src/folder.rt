@@ -5,8 +5,7 @@ use std::fs::{File, Files};
 use std::io::{ErrorKind, Write};
 use std::path::Path;
 use std::{fs, io};
-use ym_header::Header;
-use ym_show::{FileMessage, Reason, SinkWatch, Teller};
+use ym_show::{FileMessage, LastFile, Reason, Teller};
 
 /// The name of an empty file that is made and removed again, to see that files can be made.
 const PROBE: &str = ".ymodem.part";
@@ -23,46 +22,6 @@ pub fn check_folder<R: Files<File = File>>(rt: &R, alloc: Global, dir: &str) -> 
         Err(error) if error.kind() == ErrorKind::AlreadyExists => Ok(()),
         Err(error) => Err(error),
     }
-}
-
-/// Remembers the name of the file that a sink was last given, where that is wanted, and whether the sink opened it.
-#[derive(Drop)]
-pub struct LastFile {
-    alloc: Global,
-    is_wanted: bool,
-    name: Option<String>,
-    is_open: bool,
-}
-
-impl LastFile {
-    /// It remembers names where `is_wanted` says so.
-    pub fn new(alloc: Global, is_wanted: bool) -> LastFile {
-        LastFile {
-            alloc,
-            is_wanted,
-            name: None,
-            is_open: false,
-        }
-    }
-}
-
-impl SinkWatch for LastFile {
-    fn begins(&mut self, header: &Header) {
-        self.is_open = false;
-        if self.is_wanted {
-            self.name = String::from_str(self.alloc, header.name()).ok();
-        }
-    }
-
-    fn begun(&mut self) {
-        self.is_open = true;
-    }
-
-    fn added(&mut self, _count: usize) {}
-
-    fn committed(&mut self) {}
-
-    fn refused(&mut self) {}
 }
 
 /// Whether something stands at a name in the folder.

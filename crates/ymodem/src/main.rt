@@ -15,7 +15,7 @@ use program::command;
 use std::io::{ErrorKind, IsTerminal};
 use std::process::ExitCode;
 use std::{env, io};
-use ym_show::Teller;
+use ym_show::{Look, Teller};
 
 /// The status where a word is not UTF-8.
 const REFUSED: u8 = 2;
@@ -29,13 +29,24 @@ fn words(rt: &HostRuntime) -> io::Result<Vec<String>> {
     Ok(words)
 }
 
+/// How many characters of a line a terminal shows: one less than it has, so that the cursor stays in the line. The variable COLUMNS says how many it
+/// has, else it counts as 80.
+fn columns(rt: &HostRuntime) -> usize {
+    let told = match env::var(rt, "COLUMNS") {
+        Ok(text) => text.as_str().parse::<usize>().ok(),
+        Err(_) => None,
+    };
+    told.unwrap_or(80).saturating_sub(1)
+}
+
 /// Does what the words ask for. The answer is the status.
 fn run(rt: &HostRuntime) -> u8 {
-    let mut teller = Teller {
-        err: rt.stderr(),
-        is_loud: rt.stderr().is_terminal(),
-        is_out_shown: rt.stdout().is_terminal(),
+    let look = Look {
+        at_err: rt.stderr().is_terminal(),
+        at_out: rt.stdout().is_terminal(),
+        columns: columns(rt),
     };
+    let mut teller = Teller::new(rt.stderr(), look);
     match words(rt) {
         Ok(words) => command(
             rt,

@@ -6,20 +6,24 @@ ghost use Rattle.ym_host.specs.DirSink.{kept_of};
 ghost use Rattle.ymodem.specs.Status.{receive_answer};
 
 use crate::command_fault::CommandFault;
-use crate::folder::{LastFile, check_folder, tell_not_stored};
+use crate::folder::{check_folder, tell_not_stored};
 use crate::lines::{FileLine, ReceiverLine, ShownFileLine};
 use crate::telling::tell_end;
 use std::alloc::{AllocError, Global};
+use std::cell::Cell;
 use std::fs::{File, Files};
 use std::io;
 use std::io::Write;
 use std::net::{Ipv4Addr, Net, SocketAddr, TcpListener, TcpStream};
 use std::time::Clock;
-use ym_file::SinkFault;
+use ym_file::{Sink, SinkFault};
 use ym_header::Header;
 use ym_host::{DirSink, Durability, Leftover, SocketPort};
-use ym_link::{Clearing, Confirm, EndFault, ReceiverInto, RecvState, Role, receive_over};
-use ym_show::{Eager, EndMessage, FileMessage, LineMessage, Reason, Teller, Watched};
+use ym_link::{Clearing, Confirm, EndFault, Port, ReceiverInto, RecvState, Role, receive_over};
+use ym_show::{
+    Eager, EndMessage, FileMessage, LineMessage, Meter, Reason, Replies, StoreWatch, Teller,
+    Watched, WatchedPort,
+};
 use ym_words::ReceiveFlags;
 
 /// How many milliseconds a receiver waits for a frame.
@@ -152,6 +156,64 @@ pub struct Order<'a> {
     pub dir: &'a str,
 }
 
+/// How a receiver has ended, and its sink.
+#[derive(Drop)]
+struct Ending<K: Sink + Drop> {
+    ended: Result<(), EndFault>,
+    line: ReceiverLine,
+    sink: K,
+}
+
+/// Runs a receiver into a new sink over a port.
+fn run<P: Port, K: Sink + Drop>(alloc: Global, port: &mut P, sink: K, confirm: Confirm) -> Ending<K>
+    requires { IsNew (K.kept sink) }
+{
+    let mut receiver = ReceiverInto::with_sink(alloc, sink, confirm);
+    let ended = receive_over(port, &mut receiver);
+    let line = ReceiverLine {
+        files: receiver.committed(),
+        state: receiver.state(),
+    };
+    Ending {
+        ended,
+        line,
+        sink: receiver.into_sink(),
+    }
+}
+
+/// The same, with how far each file is shown, and why one was not stored and why the receiver has ended told.
+fn run_shown<'a, P: Port + Drop, R: Files<File = File> + Clock, E: Write + Drop>(
+    rt: &'a R,
+    alloc: Global,
+    port: P,
+    sink: DirSink<&'a R>,
+    order: Order<'_>,
+    teller: &mut Teller<E>,
+) -> Ending<DirSink<&'a R>>
+    requires { IsNew (kept_of sink) }
+{
+    let Order { flags, dir } = order;
+    let replies = Cell::new(0);
+    let besides = if flags.single { 1 } else { 2 };
+    let mut port = WatchedPort {
+        port,
+        watch: Replies { count: &replies },
+    };
+    let sink = Watched {
+        sink,
+        watch: StoreWatch::new(alloc, Meter::new(alloc, rt, teller), &replies, besides),
+    };
+    let Ending { ended, line, sink } = run(alloc, &mut port, sink, confirm_of(flags));
+    let Watched { mut sink, watch } = sink;
+    let last = watch.into_last();
+    tell_end(teller, ended, EndMessage::of_receiver(line.state));
+    if line.state == RecvState::SinkFailed {
+        let _ = sink.close();
+        tell_not_stored(rt, alloc, dir, flags.discard_parts, &last, teller);
+    }
+    Ending { ended, line, sink }
+}
+
 /// Receives the files of one connection, and prints them and how the receiver has ended.
 fn receive_from<R, W, E>(
     rt: &R,
@@ -168,25 +230,21 @@ where
     ensures { IfOk result (λ status. status ≤ 1) }
 {
     let Order { flags, dir } = order;
-    let sink = Watched {
-        sink: open_sink(rt, alloc, flags, dir)?,
-        watch: LastFile::new(alloc, teller.is_loud),
-    };
-    let mut receiver = ReceiverInto::with_sink(alloc, sink, confirm_of(flags));
+    let sink = open_sink(rt, alloc, flags, dir)?;
     let port = SocketPort::new(rt, stream, REPLY_MS - WITHIN_MS, WITHIN_MS);
     let mut port = Eager::new(Clearing::new(port, Role::Receiver), flags.eager);
-    let ended = receive_over(&mut port, &mut receiver);
-    let line = ReceiverLine {
-        files: receiver.committed(),
-        state: receiver.state(),
+    let ending = if teller.is_loud {
+        run_shown(rt, alloc, port, sink, order, teller)
+    } else {
+        run(alloc, &mut port, sink, confirm_of(flags))
     };
-    let Watched { mut sink, watch } = receiver.into_sink();
+    let Ending {
+        ended,
+        line,
+        mut sink,
+    } = ending;
     let closed = sink.close();
-    tell_end(teller, ended, EndMessage::of_receiver(line.state));
-    if teller.is_loud && line.state == RecvState::SinkFailed {
-        tell_not_stored(rt, alloc, dir, flags.discard_parts, &watch, teller);
-    }
-    let printed = print_files(out, sink.headers(), teller.is_out_shown).and_then(|()| print_end(
+    let printed = print_files(out, sink.headers(), teller.look.at_out).and_then(|()| print_end(
         out, line,
     ));
     answer_of(ended, closed, printed, line.state)

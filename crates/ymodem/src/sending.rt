@@ -13,11 +13,13 @@ use std::net::{Ipv4Addr, Net, SocketAddr, TcpStream};
 use std::path::Path;
 use std::time::{Clock, Duration};
 use std::{io, thread};
-use ym_file::Shape;
+use ym_file::{Shape, Source};
 use ym_header::Stamp;
 use ym_host::{FileSource, SocketPort};
-use ym_link::{Clearing, Role, SendState, SenderFrom, SourceFile, send_over};
-use ym_show::{EndMessage, FileMessage, LineMessage, Reason, Teller};
+use ym_link::{Clearing, EndFault, Port, Role, SendState, SenderFrom, SourceFile, send_over};
+use ym_show::{
+    EndMessage, FileMessage, LineMessage, Meter, Reason, SendWatch, Teller, WatchedPort,
+};
 
 /// How many milliseconds a sender waits for a reply, and for somebody to answer its call.
 const REPLY_MS: u32 = 10_000;
@@ -121,6 +123,23 @@ fn status_of(state: SendState) -> Result<u8, CommandFault>
     }
 }
 
+/// Runs a sender over a port, with how far each file is shown.
+fn send_shown<P: Port + Drop, S: Source, C: Clock, E: Write + Drop>(
+    rt: &C,
+    alloc: Global,
+    port: P,
+    sender: &mut SenderFrom<S>,
+    teller: &mut Teller<E>,
+) -> Result<(), EndFault> {
+    let mut port = WatchedPort {
+        port,
+        watch: SendWatch::new(Meter::new(alloc, rt, teller)),
+    };
+    let ended = send_over(&mut port, sender);
+    port.watch.end();
+    ended
+}
+
 /// Sends the files at these paths, in order, to whoever listens on 127.0.0.1 at this port, and prints how the sender has ended.
 pub fn send<R, W, E>(
     rt: &R,
@@ -144,7 +163,11 @@ where
     let stream = connect_telling(rt, port, teller)?;
     let port = SocketPort::new(rt, stream, REPLY_MS - WITHIN_MS, WITHIN_MS);
     let mut port = Clearing::new(port, Role::Sender);
-    let ended = send_over(&mut port, &mut sender);
+    let ended = if teller.is_loud {
+        send_shown(rt, alloc, port, &mut sender, teller)
+    } else {
+        send_over(&mut port, &mut sender)
+    };
     let line = SenderLine {
         done: sender.done(),
         state: sender.state(),

@@ -1,6 +1,6 @@
 //! What is told, in words.
 
-use crate::{EndMessage, FileMessage, LineMessage, Reason, Shown, Teller};
+use crate::{EndMessage, FileMessage, LineMessage, Look, Reason, Shown, Teller};
 use std::io;
 use std::io::ErrorKind;
 use std::test::Fail;
@@ -105,11 +105,12 @@ fn names_on_a_terminal(rt: HostRuntime) -> Result<(), Fail> {
 #[test]
 fn told_or_not(rt: HostRuntime) -> Result<(), Fail> {
     for (is_loud, want) in [(false, b"".as_slice()), (true, b"connected\n".as_slice())] {
-        let mut teller = Teller {
-            err: Vec::new(rt.alloc()),
-            is_loud,
-            is_out_shown: false,
+        let look = Look {
+            at_err: is_loud,
+            at_out: false,
+            columns: 80,
         };
+        let mut teller = Teller::new(Vec::new(rt.alloc()), look);
         teller.tell(LineMessage::Connected);
         assert_eq!(rt; teller.err.as_slice(), want);
     }

@@ -3,7 +3,7 @@
 use crate::program::command;
 use std::fmt::Write;
 use std::test::Fail;
-use ym_show::Teller;
+use ym_show::{Look, Teller};
 
 /// What a command did.
 #[derive(Drop)]
@@ -25,11 +25,12 @@ pub(super) fn ran(rt: &HostRuntime, line: &str, input: &[u8]) -> Result<Ending, 
     let mut input = input;
     let mut out = Vec::new(alloc);
     let mut err = Vec::new(alloc);
-    let mut teller = Teller {
-        err: Vec::new(alloc),
-        is_loud: false,
-        is_out_shown: false,
+    let look = Look {
+        at_err: false,
+        at_out: false,
+        columns: 80,
     };
+    let mut teller = Teller::new(Vec::new(alloc), look);
     let status = command(
         rt,
         alloc,
