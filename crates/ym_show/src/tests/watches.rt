@@ -37,7 +37,7 @@ fn a_sender(rt: HostRuntime) -> Result<(), Fail> {
         watch.wrote(frame.as_bytes());
     }
     watch.end();
-    let _ = watch;
+    drop(watch);
     assert!(rt; told(&teller, b"a.txt: 130 bytes in ", b"B/s, 1 repeated\n"));
     Ok(())
 }
