@@ -28,7 +28,7 @@ pub trait Input {
         ensures failed { OnErr result (Rose (failures self.old) (failures self.new)) };
 }
 
-/// Where a session's text goes, or the line of its fault.
+/// Where the text of a command goes, or the line of its fault.
 pub trait Output {
     /// The bytes that it holds, where they are known.
     ghost contents: { Self → Option (List ℕ) };
@@ -42,7 +42,13 @@ pub trait Output {
         ensures ok { OnOk result (failures self.new ≡ failures self.old) }
         ensures failed { OnErr result (Rose (failures self.old) (failures self.new)) };
 
-    /// The same of a text and the end of its line. It takes no memory.
+    /// The same of a text. It takes no memory.
+    fn put_text<D: Display + Drop>(&mut self, text: D) -> Result<(), StreamFault>
+        ensures bytes { OnOk result (IfSome (D.output text) (Appends (contents self.old) (contents self.new))) }
+        ensures ok { OnOk result (failures self.new ≡ failures self.old) }
+        ensures failed { OnErr result (Rose (failures self.old) (failures self.new)) };
+
+    /// The same of a text and the end of its line.
     fn put_line<D: Display + Drop>(&mut self, text: D) -> Result<(), StreamFault>
         ensures bytes { OnOk result (IfSome (with_newline (D.output text)) (Appends (contents self.old) (contents self.new))) }
         ensures ok { OnOk result (failures self.new ≡ failures self.old) }
@@ -71,6 +77,17 @@ impl<W: Write> Output for W {
 
     fn put(&mut self, bytes: &[u8]) -> Result<(), StreamFault> {
         match self.write_all(bytes) {
+            Ok(()) => {}
+            Err(_) => return Err(StreamFault),
+        }
+        match self.flush() {
+            Ok(()) => Ok(()),
+            Err(_) => Err(StreamFault),
+        }
+    }
+
+    fn put_text<D: Display + Drop>(&mut self, text: D) -> Result<(), StreamFault> {
+        match self.write_fmt(text) {
             Ok(()) => {}
             Err(_) => return Err(StreamFault),
         }

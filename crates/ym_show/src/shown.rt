@@ -17,15 +17,36 @@ fn is_hidden(c: char) -> bool {
         )
 }
 
+/// The same of a text of several lines: their ends stay.
+#[derive(Clone, Copy, Debug)]
+pub(crate) struct ShownLines<'a>(pub(crate) &'a str);
+
+/// Writes a character, or its escape.
+fn write_shown<W: fmt::Write>(f: &mut fmt::Formatter<W>, c: char) -> fmt::Result {
+    if is_hidden(c) {
+        let code = u32::from(c);
+        return write!(f, "\\u{{{code:x}}}");
+    }
+    write!(f, "{c}")
+}
+
+impl fmt::Display for ShownLines<'_> {
+    fn fmt<W: fmt::Write>(&self, f: &mut fmt::Formatter<W>) -> fmt::Result {
+        for c in self.0.chars() {
+            if c == '\n' {
+                writeln!(f)?;
+            } else {
+                write_shown(f, c)?;
+            }
+        }
+        Ok(())
+    }
+}
+
 impl fmt::Display for Shown<'_> {
     fn fmt<W: fmt::Write>(&self, f: &mut fmt::Formatter<W>) -> fmt::Result {
         for c in self.0.chars() {
-            if is_hidden(c) {
-                let code = u32::from(c);
-                write!(f, "\\u{{{code:x}}}")?;
-            } else {
-                write!(f, "{c}")?;
-            }
+            write_shown(f, c)?;
         }
         Ok(())
     }

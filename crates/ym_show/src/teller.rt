@@ -16,8 +16,6 @@ const LINES_MS: u64 = 10_000;
 pub struct Look {
     /// Standard error is a terminal.
     pub at_err: bool,
-    /// Standard output is one.
-    pub at_out: bool,
     /// So many characters of a line are shown there.
     pub columns: usize,
 }

@@ -6,7 +6,9 @@ use Rattle.std.specs.List.{list_all}
 use Rattle.std.proofs.lemmas.Str.Parse.{IsNumeralModel, numerals_by_fold}
 use Rattle.std.proofs.lemmas.Bool.{le-leb, leb-true}
 use Rattle.std.proofs.lemmas.Option.{none-some, same_Some}
-use Rattle.clap.specs.Words.{first_of, first_value, rows_of, is_simple, all_of, Row, Text}
+use Rattle.clap.specs.Words.{first_of, first_value, rows_of, is_simple, is_simple_and_free, fault_of, App, IsAmong, Kinds, all_of, Row, Text}
+use Rattle.clap.specs.declared.error.kind.ErrorKind.{ErrorKind}
+use Rattle.std.proofs.Common.{subst, Result, Ok, Err, IfOk}
 use Rattle.clap.specs.declared.parser.matches.Found.{Found}
 use Rattle.clap.proofs.WalkLemmas.{first_value-rows}
 use Rattle.clap.proofs.OnLiterals.{clap_on_literals}
@@ -16,7 +18,7 @@ use Rattle.ym_words.specs.Port.{read_on, IsPort, port_value}
 use Rattle.ym_words.specs.Command.{the_app}
 use Rattle.ym_words.specs.declared.job.ReceiveFlags.{ReceiveFlags}
 use Rattle.ym_words.specs.declared.job.TellFlags.{TellFlags}
-use Rattle.ym_words.specs.Job.{FaultSays, Asked, asked_for, loop_of, receive_of, send_of, flag_of, receive_flags_of, tell_flags_of}
+use Rattle.ym_words.specs.Job.{FaultSays, IsKind, Asked, asked_for, loop_of, receive_of, send_of, flag_of, receive_flags_of, tell_flags_of}
 use Rattle.std.specs.Str.{bytes_eq}
 
 pub own : IsNumeralModel (λ ds. all_ascii_digits ds ≡ true) (read_on 0)
@@ -66,6 +68,25 @@ says_any fault.Memory job taken h = h
 pub is_simple_app : is_simple the_app ≡ true
 unfolding the_app clap_on_literals
 is_simple_app = refl
+
+pub is_free_app : is_simple_and_free the_app ≡ true
+unfolding the_app clap_on_literals
+is_free_app = refl
+
+-- the rule of the same command line
+pub same_rule : (kind : ErrorKind) (a b : App) (words : List Text) → a ≡ b → IsAmong kind (fault_of a words) → IsAmong kind (fault_of b words)
+same_rule kind a b words e h = let P : App → Type 0 = λ app. IsAmong kind (fault_of app words) in subst P e h
+
+-- what holds, whatever the job
+pub of_any_job : {X Y : Type 0} (answer : Result X Y) (P : Type 0) → P → IfOk answer (λ _. P)
+of_any_job (Ok x) P h = h
+of_any_job (Err e) P h = tt
+
+-- where the words are clap's, a fault is that of a value
+pub kind_of_value : (e : JobFault) (job : Option Asked) (kinds : Kinds) → kinds ≡ [] → FaultSays e job true → IsKind e kinds
+kind_of_value (fault.Words e) job kinds none h = absurd (true≢false h)
+kind_of_value fault.Value job kinds none h = none
+kind_of_value fault.Memory job kinds none h = tt
 
 -- an option of a pair by its two halves
 pub both_halves : {A B : Type 0} (o : Option (A × B)) (a : A) (b : B) → option_map (λ (p : A × B). p.0) o ≡ Some a

@@ -1,6 +1,6 @@
 -- The job that the matches of the command line stand for.
-use Rattle.std.specs.Prelude.{◌≡◌, ℕ, Bool, false, List, map, Option, Some, None, codes, if◌then◌else◌}
-use Rattle.clap.specs.Words.{Row, Text, all_of, first_of}
+use Rattle.std.specs.Prelude.{◌≡◌, ℕ, Bool, false, List, [], map, Option, Some, None, codes, if◌then◌else◌}
+use Rattle.clap.specs.Words.{Row, Text, Kinds, IsAmong, kind_of, all_of, first_of}
 use Rattle.std.specs.Str.{bytes_eq}
 use Rattle.ym_words.specs.Port.{port_value}
 use Rattle.ym_words.specs.declared.job.ReceiveFlags.{ReceiveFlags}
@@ -77,3 +77,9 @@ abbrev pub FaultSays : JobFault → Option Asked → Bool → Type 0
 FaultSays (fault.Words e) job taken = taken ≡ false
 FaultSays fault.Value job taken = job ≡ None
 FaultSays fault.Memory job taken = Unit {0}
+
+-- the kind of clap's error is among those of the rule's first fault; and there is none where the words are clap's, but for a value
+abbrev pub IsKind : JobFault → Kinds → Type 0
+IsKind (fault.Words e) kinds = IsAmong (kind_of e) kinds
+IsKind fault.Value kinds = kinds ≡ []
+IsKind fault.Memory kinds = Unit {0}

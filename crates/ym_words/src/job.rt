@@ -1,10 +1,10 @@
 //! What the words of the command line ask for.
 
-ghost use Rattle.std.specs.Prelude.{◌≡◌, IfOk, IfErr, Some, None, true, map, codes, string_bytes};
-ghost use Rattle.clap.specs.Words.{takes, subcommand_of, rows_of, found_of, first_of};
+ghost use Rattle.std.specs.Prelude.{◌≡◌, [], IfOk, IfErr, Some, None, true, map, codes, string_bytes};
+ghost use Rattle.clap.specs.Words.{takes, fault_of, subcommand_of, rows_of, found_of, first_of};
 ghost use Rattle.ym_words.specs.Command.{the_app};
 ghost use Rattle.ym_words.specs.Port.{port_value};
-ghost use Rattle.ym_words.specs.Job.{asked, asked_for, asked_of, FaultSays, flag_of, receive_flags_of, tell_flags_of};
+ghost use Rattle.ym_words.specs.Job.{asked, asked_for, asked_of, FaultSays, IsKind, flag_of, receive_flags_of, tell_flags_of};
 
 use crate::command::the_command;
 use crate::port::port_number;
@@ -164,6 +164,9 @@ fn job_for<'a>(alloc: Global, name: &str, matches: &ArgMatches<'a>) -> Result<Jo
 pub fn job_of<'a>(alloc: Global, words: &'a [String]) -> Result<Job<'a>, JobFault>
     ensures ok { IfOk result (λ job. asked (subcommand_of the_app (map string_bytes words.now)) ≡ Some (asked_of job)) }
     ensures err { IfErr result (λ e. FaultSays e (asked (subcommand_of the_app (map string_bytes words.now))) (takes the_app (map string_bytes words.now))) }
+    // By the rule that says how the words are wrong, if they are.
+    ensures took { IfOk result (λ _. fault_of the_app (map string_bytes words.now) ≡ []) }
+    ensures kinds { IfErr result (λ e. IsKind e (fault_of the_app (map string_bytes words.now))) }
 {
     let Ok(command) = the_command(alloc) else {
         return Err(JobFault::Memory);

@@ -1,6 +1,6 @@
--- The status that a command ends with: 0 where its end has finished, 1 where it ended otherwise, 2 where what it was given is refused, and
+-- The line of a fault, and the status that a command ends with: 0 where its end has finished, 1 where it ended otherwise, 2 where what it was given is refused, and
 -- 3 where a device failed, the connection was closed, or memory ran out.
-use Rattle.std.specs.Prelude.{ℕ, Result, Ok, Err}
+use Rattle.std.specs.Prelude.{ℕ, List, codes, Result, Ok, Err}
 use Rattle.ym_file.specs.declared.sink.SinkFault.{SinkFault}
 use Rattle.ym_file.specs.declared.sink.SinkFault.TheVariants as sink
 use Rattle.ym_header.specs.declared.fault.HeaderFault.{HeaderFault}
@@ -22,6 +22,16 @@ fault_status fault.TooManyFiles = 2
 fault_status fault.Closed = 3
 fault_status fault.Device = 3
 fault_status fault.Memory = 3
+
+-- the line that tells it, without its end
+abbrev pub fault_words : CommandFault → List ℕ
+fault_words fault.Port = codes "fault: port"
+fault_words fault.Name = codes "fault: name"
+fault_words fault.Length = codes "fault: length"
+fault_words fault.TooManyFiles = codes "fault: too many files"
+fault_words fault.Closed = codes "fault: closed"
+fault_words fault.Device = codes "fault: device"
+fault_words fault.Memory = codes "fault: memory"
 
 -- a file's name or its length is refused
 abbrev pub header_fault : HeaderFault → CommandFault
@@ -59,3 +69,13 @@ receive_answer recv.OutOfStep = Ok 1
 receive_answer (recv.BadHeader e) = Ok 1
 receive_answer recv.TooManyFiles = Ok 1
 receive_answer recv.SinkFailed = Err fault.Device
+
+-- what the host's system answers is told as: a device that failed, or want of memory
+abbrev pub IsHostFault : CommandFault → Type 0
+IsHostFault fault.Port = ⊥
+IsHostFault fault.Name = ⊥
+IsHostFault fault.Length = ⊥
+IsHostFault fault.TooManyFiles = ⊥
+IsHostFault fault.Closed = ⊥
+IsHostFault fault.Device = Unit {0}
+IsHostFault fault.Memory = Unit {0}

@@ -1,40 +1,53 @@
 //! Why a command ends in a fault line.
 
-ghost use Rattle.std.specs.Prelude.{◌≡◌};
+ghost use Rattle.std.specs.Prelude.{◌≡◌, Some};
+ghost use Rattle.ymodem.specs.Status.{fault_words};
 
 use std::alloc::AllocError;
-use std::io;
+use std::error::Error;
 use std::io::ErrorKind;
-use thiserror::Error;
+use std::{fmt, io};
 use ym_file::SinkFault;
 use ym_header::HeaderFault;
 use ym_link::EndFault;
+use ym_play::StreamFault;
 
 /// Why a command ends in a fault line. Its `Display` is that line, without its end.
-#[derive(Clone, Copy, Debug, PartialEq, Eq, Error)]
+#[derive(Clone, Copy, Debug, PartialEq, Eq)]
 pub enum CommandFault {
     /// P is no number from 1 to 65535.
-    #[error("fault: port")]
     Port,
     /// A file has a name that no header can have.
-    #[error("fault: name")]
     Name,
     /// A file is longer than a header can say.
-    #[error("fault: length")]
     Length,
     /// More than 65,535 files.
-    #[error("fault: too many files")]
     TooManyFiles,
     /// The other end closed the connection.
-    #[error("fault: closed")]
     Closed,
     /// A file, a folder, a socket, the output or the input failed.
-    #[error("fault: device")]
     Device,
     /// Out of memory.
-    #[error("fault: memory")]
     Memory,
 }
+
+impl fmt::Display for CommandFault {
+    ghost output = { λ fault. Some (fault_words fault) };
+
+    fn fmt<W: fmt::Write>(&self, f: &mut fmt::Formatter<W>) -> fmt::Result {
+        match self {
+            CommandFault::Port => write!(f, "fault: port"),
+            CommandFault::Name => write!(f, "fault: name"),
+            CommandFault::Length => write!(f, "fault: length"),
+            CommandFault::TooManyFiles => write!(f, "fault: too many files"),
+            CommandFault::Closed => write!(f, "fault: closed"),
+            CommandFault::Device => write!(f, "fault: device"),
+            CommandFault::Memory => write!(f, "fault: memory"),
+        }
+    }
+}
+
+impl Error for CommandFault {}
 
 impl CommandFault {
     ghost use Rattle.ymodem.specs.Status.{fault_status};
@@ -54,12 +67,21 @@ impl CommandFault {
 }
 
 impl From<AllocError> for CommandFault {
+    ghost use Rattle.std.specs.Prelude.{◌≡◌};
+    ghost use Rattle.ymodem.specs.declared.command_fault.CommandFault.{CommandFault};
+
+    ghost from_gives = { λ fault e. e ≡ CommandFault.Memory };
+
     fn from(_: AllocError) -> CommandFault {
         CommandFault::Memory
     }
 }
 
 impl From<io::Error> for CommandFault {
+    ghost use Rattle.ymodem.specs.Status.{IsHostFault};
+
+    ghost from_gives = { λ fault e. IsHostFault e };
+
     fn from(error: io::Error) -> CommandFault {
         match error.kind() {
             ErrorKind::OutOfMemory => CommandFault::Memory,
@@ -111,5 +133,16 @@ impl From<SinkFault> for CommandFault {
             SinkFault::Failed => CommandFault::Device,
             SinkFault::Memory => CommandFault::Memory,
         }
+    }
+}
+
+impl From<StreamFault> for CommandFault {
+    ghost use Rattle.std.specs.Prelude.{◌≡◌};
+    ghost use Rattle.ymodem.specs.declared.command_fault.CommandFault.{CommandFault};
+
+    ghost from_gives = { λ fault e. e ≡ CommandFault.Device };
+
+    fn from(_: StreamFault) -> CommandFault {
+        CommandFault::Device
     }
 }

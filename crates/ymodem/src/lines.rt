@@ -1,13 +1,12 @@
 //! The lines that `send` and `receive` print.
 
-ghost use Rattle.std.specs.Prelude.{Some};
+ghost use Rattle.std.specs.Prelude.{◌≡◌, Some};
 ghost use Rattle.ym_line.specs.Text.{send_text, fault_text, recv_text};
-ghost use Rattle.ymodem.specs.Lines.{sender_words, receiver_words};
+ghost use Rattle.ymodem.specs.Lines.{sender_words, receiver_words, octal_words, time_in, mode_in, file_words};
 
 use std::fmt;
 use ym_header::{Header, HeaderFault, Stamp};
 use ym_link::{RecvState, SendState};
-use ym_show::Shown;
 
 /// How a sender has ended, by the word that a trace has for it.
 #[derive(Clone, Copy)]
@@ -113,6 +112,8 @@ impl fmt::Display for ReceiverLine {
 struct Octal(Option<u64>);
 
 impl fmt::Display for Octal {
+    ghost output = { λ number. Some (octal_words number.0) };
+
     fn fmt<W: fmt::Write>(&self, f: &mut fmt::Formatter<W>) -> fmt::Result {
         match self.0 {
             Some(number) => write!(f, "{number:o}"),
@@ -121,14 +122,24 @@ impl fmt::Display for Octal {
     }
 }
 
-/// The time and the mode of a stamp, where it has them.
-fn fields_of(stamp: Stamp) -> (Octal, Octal) {
-    let (time, mode) = match stamp {
-        Stamp::Nothing => (None, None),
-        Stamp::Time(time) => (Some(time), None),
-        Stamp::TimeMode(time, mode) => (Some(time), Some(u64::from(mode))),
-    };
-    (Octal(time), Octal(mode))
+/// The time of a stamp, where it has one.
+fn time_in(stamp: Stamp) -> Option<u64>
+    ensures { result ≡ time_in stamp }
+{
+    match stamp {
+        Stamp::Nothing => None,
+        Stamp::Time(time) | Stamp::TimeMode(time, _) => Some(time),
+    }
+}
+
+/// The mode of a stamp, where it has one.
+fn mode_in(stamp: Stamp) -> Option<u64>
+    ensures { result ≡ mode_in stamp }
+{
+    match stamp {
+        Stamp::Nothing | Stamp::Time(_) => None,
+        Stamp::TimeMode(_, mode) => Some(u64::from(mode)),
+    }
 }
 
 /// A file that was committed: `file NAME LENGTH TIME MODE`, time and mode in octal.
@@ -136,23 +147,13 @@ fn fields_of(stamp: Stamp) -> (Octal, Octal) {
 pub struct FileLine<'a>(pub &'a Header);
 
 impl fmt::Display for FileLine<'_> {
+    ghost output = { λ line. Some (file_words line.0.now) };
+
     fn fmt<W: fmt::Write>(&self, f: &mut fmt::Formatter<W>) -> fmt::Result {
         let name = self.0.name();
         let length = self.0.length();
-        let (time, mode) = fields_of(self.0.stamp());
-        write!(f, "file {name} {length} {time} {mode}")
-    }
-}
-
-/// The same, with the name made safe for a terminal.
-#[derive(Clone, Copy)]
-pub struct ShownFileLine<'a>(pub &'a Header);
-
-impl fmt::Display for ShownFileLine<'_> {
-    fn fmt<W: fmt::Write>(&self, f: &mut fmt::Formatter<W>) -> fmt::Result {
-        let name = Shown(self.0.name());
-        let length = self.0.length();
-        let (time, mode) = fields_of(self.0.stamp());
+        let time = Octal(time_in(self.0.stamp()));
+        let mode = Octal(mode_in(self.0.stamp()));
         write!(f, "file {name} {length} {time} {mode}")
     }
 }

@@ -9,13 +9,14 @@ mod looped;
 mod program;
 mod receiving;
 mod sending;
+mod store;
 mod telling;
 
 use program::command;
 use std::io::{ErrorKind, IsTerminal};
 use std::process::ExitCode;
 use std::{env, io};
-use ym_show::{Look, Teller};
+use ym_show::{Look, ShownOut, Teller};
 
 /// The status where a word is not UTF-8.
 const REFUSED: u8 = 2;
@@ -43,11 +44,22 @@ fn columns(rt: &HostRuntime) -> usize {
 fn run(rt: &HostRuntime) -> u8 {
     let look = Look {
         at_err: rt.stderr().is_terminal(),
-        at_out: rt.stdout().is_terminal(),
         columns: columns(rt),
     };
     let mut teller = Teller::new(rt.stderr(), look);
     match words(rt) {
+        Ok(words) if rt.stdout().is_terminal() => {
+            let mut out = ShownOut::new(rt.alloc(), rt.stdout());
+            command(
+                rt,
+                rt.alloc(),
+                words,
+                &mut rt.stdin(),
+                &mut out,
+                &mut rt.stderr(),
+                &mut teller,
+            )
+        }
         Ok(words) => command(
             rt,
             rt.alloc(),

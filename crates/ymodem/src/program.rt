@@ -1,25 +1,26 @@
 //! What the program's words ask for, done.
 
-ghost use Rattle.std.specs.Prelude.{◌≡◌, ◌≢◌, ◌≤◌, ◌⊎◌, ℕ, List, Some, None, IfOk, is_ok, true, map, string_bytes};
-ghost use Rattle.ym_words.specs.Job.{Asked, asked_of};
-ghost use Rattle.ymodem.specs.Program.{AsksFor, IsPlayed};
-ghost use Rattle.ymodem.specs.Status.{fault_status};
+ghost use Rattle.std.specs.Prelude.{◌≡◌, ◌≢◌, ◌≤◌, ◌⊎◌, ℕ, List, [], Some, None, map, string_bytes};
+ghost use Rattle.clap.specs.Words.{fault_of};
+ghost use Rattle.ym_words.specs.Command.{the_app};
+ghost use Rattle.ym_words.specs.Job.{Asked, Play, asked_of};
+ghost use Rattle.ymodem.specs.Page.{TellsFault};
+ghost use Rattle.ymodem.specs.Program.{AsksFor, IsPlayed, JobGives, shape_of, OnlyTells, Does, IsNoJob};
 
 use crate::command_fault::CommandFault;
-use crate::looped::looped_carrier;
-use crate::receiving::{Order, receive, receive_on};
+use crate::looped::looped_session;
+use crate::receiving::{Order, receive_as_asked};
 use crate::sending::send;
-use clap::Error;
 use clap::error::ErrorKind;
 use std::alloc::Global;
 use std::fmt::Display;
 use std::fs::{File, Files};
-use std::io::{Read, Write};
+use std::io::Write;
 use std::net::{Net, TcpListener, TcpStream};
 use std::time::Clock;
 use ym_file::Shape;
 use ym_line::Direct;
-use ym_play::session;
+use ym_play::{Input, Output, StreamFault, session_over};
 use ym_show::Teller;
 use ym_words::{Job, JobFault, TellFlags, job_of};
 
@@ -29,31 +30,54 @@ const REFUSED: u8 = 2;
 /// The status where a line could not be written.
 const FAILED: u8 = 3;
 
-/// Writes a text to standard error. The answer is this status, or that of a failed device where it could not be written.
-fn tell<E: Write, D: Display + Drop>(err: &mut E, text: D, status: u8) -> u8
-    ensures { (result ≡ status) ⊎ (result ≡ 3) }
+/// Writes the text of refused words. The answer is their status, or that of a failed device where it could not be written.
+fn tell_words<E: Output, D: Display + Drop>(err: &mut E, text: D) -> u8
+    ensures { ((result ≡ 2) × (E.failures err.new ≡ E.failures err.old)) ⊎ (result ≡ 3) }
 {
-    match write!(err, "{text}").and_then(|()| err.flush()) {
-        Ok(()) => status,
-        Err(_) => FAILED,
+    match err.put_text(text) {
+        Ok(()) => REFUSED,
+        Err(StreamFault) => FAILED,
+    }
+}
+
+/// Writes the version. The answer is 0, or the status of a failed device where it could not be written.
+fn tell_version<O: Output, D: Display + Drop>(out: &mut O, text: D) -> u8
+    ensures { ((result ≡ 0) × (O.failures out.new ≡ O.failures out.old)) ⊎ (result ≡ 3) }
+{
+    match out.put_text(text) {
+        Ok(()) => 0,
+        Err(StreamFault) => FAILED,
     }
 }
 
 /// Writes the line of a fault. The answer is its status, or that of a failed device where it could not be written.
-fn tell_fault<E: Write>(err: &mut E, fault: CommandFault) -> u8
-    ensures { (result ≡ fault_status fault) ⊎ (result ≡ 3) }
+fn tell_fault<E: Output>(err: &mut E, fault: CommandFault) -> u8
+    ensures { TellsFault fault (record { holds = E.contents err.old; failed = E.failures err.old }) result (record { holds = E.contents err.new; failed = E.failures err.new }) }
 {
-    tell(err, format_args!("{fault}\n"), fault.status())
+    match err.put_line(fault) {
+        Ok(()) => fault.status(),
+        Err(StreamFault) => FAILED,
+    }
 }
 
 /// Plays a script, carried in memory.
-fn play<I: Read, W: Write, E: Write>(alloc: Global, input: &mut I, out: &mut W, err: &mut E) -> u8
-    ensures plays { (text before wrong : List ℕ) → I.remaining input.old ≡ Some text → W.contents out.old ≡ Some before
-        → E.contents err.old ≡ Some wrong → result ≢ 3 → IsPlayed text before wrong result (W.contents out.new) (E.contents err.new) }
-    ensures status { result ≤ 3 }
+fn play<I: Input, O: Output, E: Output>(
+    alloc: Global,
+    input: &mut I,
+    out: &mut O,
+    err: &mut E,
+) -> u8
+    ensures { JobGives Play (record { text = I.remaining input.old; reads_failed = I.failures input.old; out = record { holds = O.contents out.old; failed = O.failures out.old }; err = record { holds = E.contents err.old; failed = E.failures err.old } }) (Ok result) (record { text = I.remaining input.new; reads_failed = I.failures input.new; out = record { holds = O.contents out.new; failed = O.failures out.new }; err = record { holds = E.contents err.new; failed = E.failures err.new } }) }
 {
     let mut carrier = Direct::new(alloc);
-    session(alloc, input, out, err, &mut carrier)
+    session_over(alloc, input, out, err, &mut carrier)
+}
+
+/// The blocks of a batch, by the flag `--short`.
+fn shape_of(is_short: bool) -> Shape
+    ensures { result ≡ shape_of is_short }
+{
+    if is_short { Shape::Short } else { Shape::Mixed }
 }
 
 /// How much is told, by the flags of a job.
@@ -68,41 +92,40 @@ fn tell_flags(job: &Job<'_>) -> TellFlags {
 }
 
 /// Does a job. The answer is the status, unless it ends in a fault that is still to be told.
-fn do_job<R, I, W, E, T>(
+fn do_job<R, I, O, E, T>(
     rt: &R,
     alloc: Global,
     job: Job<'_>,
     input: &mut I,
-    out: &mut W,
+    out: &mut O,
     err: &mut E,
     teller: &mut Teller<T>,
 ) -> Result<u8, CommandFault>
 where
     R: Files<File = File> + Net<Listener = TcpListener, Stream = TcpStream> + Clock,
-    I: Read,
-    W: Write,
-    E: Write,
+    I: Input,
+    O: Output,
+    E: Output,
     T: Write + Drop,
-    ensures ends { asked_of job.entry ≡ Asked.Play → is_ok result ≡ true }
-    ensures plays { asked_of job.entry ≡ Asked.Play → (text before wrong : List ℕ) → I.remaining input.old ≡ Some text → W.contents out.old ≡ Some before
-        → E.contents err.old ≡ Some wrong → IfOk result (λ status. status ≢ 3 → IsPlayed text before wrong status (W.contents out.new) (E.contents err.new)) }
-    ensures status { IfOk result (λ status. status ≤ 3) }
+    ensures { JobGives (asked_of job.entry) (record { text = I.remaining input.old; reads_failed = I.failures input.old; out = record { holds = O.contents out.old; failed = O.failures out.old }; err = record { holds = E.contents err.old; failed = E.failures err.old } }) result (record { text = I.remaining input.new; reads_failed = I.failures input.new; out = record { holds = O.contents out.new; failed = O.failures out.new }; err = record { holds = E.contents err.new; failed = E.failures err.new } }) }
 {
     match job {
         Job::Play => Ok(play(alloc, input, out, err)),
-        Job::Loop { port, .. } => {
-            let mut carrier = looped_carrier(rt, port, teller)?;
-            Ok(session(alloc, input, out, err, &mut carrier))
-        }
+        Job::Loop { port, .. } => looped_session(rt, alloc, port, input, out, err, teller),
         Job::Send {
             port,
             short,
             files,
             ..
-        } => {
-            let shape = if short { Shape::Short } else { Shape::Mixed };
-            send(rt, alloc, port, shape, files.as_slice(), out, teller)
-        }
+        } => send(
+            rt,
+            alloc,
+            port,
+            shape_of(short),
+            files.as_slice(),
+            out,
+            teller,
+        ),
         Job::Receive {
             port,
             flags,
@@ -110,23 +133,9 @@ where
             ..
         } => {
             let order = Order { flags, dir };
-            if flags.keep {
-                receive_on(rt, alloc, port, order, out, err, teller)
-            } else {
-                receive(rt, alloc, port, order, out, teller)
-            }
+            receive_as_asked(rt, alloc, port, order, out, err, teller)
         }
     }
-}
-
-/// Writes what clap says of words that ask for no job: the version to `out`, and else why they are refused, or help, to `err`.
-fn tell_words<W: Write, E: Write>(out: &mut W, err: &mut E, error: Error) -> u8
-    ensures { (result ≡ 2) ⊎ (result ≡ 3) ⊎ (result ≡ 0) }
-{
-    if error.kind() == ErrorKind::DisplayVersion {
-        return tell(out, error, 0);
-    }
-    tell(err, error, REFUSED)
 }
 
 /// Does what the words ask for, of which the first is the program's name, and answers the status of the program: 0 where both ends have finished
@@ -134,25 +143,36 @@ fn tell_words<W: Write, E: Write>(out: &mut W, err: &mut E, error: Error) -> u8
 /// refused or help was asked for, and 3 where a device failed, the connection was closed or memory ran out. What ends in a fault prints one line
 /// that tells it to `err`, and words that are refused the text that says how they are written. The version goes to `out`, with status 0. To somebody who
 /// looks `teller` tells besides what is done and why it failed.
-pub fn command<R, I, W, E, T>(
+pub fn command<R, I, O, E, T>(
     rt: &R,
     alloc: Global,
     words: Vec<String>,
     input: &mut I,
-    out: &mut W,
+    out: &mut O,
     err: &mut E,
     teller: &mut Teller<T>,
 ) -> u8
 where
     R: Files<File = File> + Net<Listener = TcpListener, Stream = TcpStream> + Clock,
-    I: Read,
-    W: Write,
-    E: Write,
+    I: Input,
+    O: Output,
+    E: Output,
     T: Write + Drop,
+    // The job that the words ask for, unless there was no memory to read the words.
+    ensures does { (job : Asked) → AsksFor (map string_bytes words.items) (Some job)
+        → Does job (record { text = I.remaining input.old; reads_failed = I.failures input.old; out = record { holds = O.contents out.old; failed = O.failures out.old }; err = record { holds = E.contents err.old; failed = E.failures err.old } }) result (record { text = I.remaining input.new; reads_failed = I.failures input.new; out = record { holds = O.contents out.new; failed = O.failures out.new }; err = record { holds = E.contents err.new; failed = E.failures err.new } })
+        ⊎ OnlyTells CommandFault.Memory (record { text = I.remaining input.old; reads_failed = I.failures input.old; out = record { holds = O.contents out.old; failed = O.failures out.old }; err = record { holds = E.contents err.old; failed = E.failures err.old } }) result (record { text = I.remaining input.new; reads_failed = I.failures input.new; out = record { holds = O.contents out.new; failed = O.failures out.new }; err = record { holds = E.contents err.new; failed = E.failures err.new } }) }
+    // Words whose port is none, with the same exception.
+    ensures port { AsksFor (map string_bytes words.items) None
+        → OnlyTells CommandFault.Port (record { text = I.remaining input.old; reads_failed = I.failures input.old; out = record { holds = O.contents out.old; failed = O.failures out.old }; err = record { holds = E.contents err.old; failed = E.failures err.old } }) result (record { text = I.remaining input.new; reads_failed = I.failures input.new; out = record { holds = O.contents out.new; failed = O.failures out.new }; err = record { holds = E.contents err.new; failed = E.failures err.new } })
+        ⊎ OnlyTells CommandFault.Memory (record { text = I.remaining input.old; reads_failed = I.failures input.old; out = record { holds = O.contents out.old; failed = O.failures out.old }; err = record { holds = E.contents err.old; failed = E.failures err.old } }) result (record { text = I.remaining input.new; reads_failed = I.failures input.new; out = record { holds = O.contents out.new; failed = O.failures out.new }; err = record { holds = E.contents err.new; failed = E.failures err.new } }) }
+    // Words in which clap's rule finds a fault; one of help is such a fault too.
+    ensures words { fault_of the_app (map string_bytes words.items) ≢ []
+        → IsNoJob (fault_of the_app (map string_bytes words.items)) (record { text = I.remaining input.old; reads_failed = I.failures input.old; out = record { holds = O.contents out.old; failed = O.failures out.old }; err = record { holds = E.contents err.old; failed = E.failures err.old } }) result (record { text = I.remaining input.new; reads_failed = I.failures input.new; out = record { holds = O.contents out.new; failed = O.failures out.new }; err = record { holds = E.contents err.new; failed = E.failures err.new } }) }
     // Where no read and no write fails: a session that meets one has status 3.
     ensures plays { AsksFor (map string_bytes words.items) (Some Asked.Play) → (text before wrong : List ℕ) → I.remaining input.old ≡ Some text
-        → W.contents out.old ≡ Some before → E.contents err.old ≡ Some wrong → result ≢ 3
-        → IsPlayed text before wrong result (W.contents out.new) (E.contents err.new) }
+        → O.contents out.old ≡ Some before → E.contents err.old ≡ Some wrong → result ≢ 3
+        → IsPlayed text before wrong result (O.contents out.new) (E.contents err.new) }
     ensures refused { AsksFor (map string_bytes words.items) None → (result ≡ 2) ⊎ (result ≡ 3) }
     ensures status { result ≤ 3 }
 {
@@ -165,7 +185,10 @@ where
                 Err(fault) => tell_fault(err, fault),
             }
         }
-        Err(JobFault::Words(error)) => tell_words(out, err, error),
+        Err(JobFault::Words(error)) if error.kind() == ErrorKind::DisplayVersion => {
+            tell_version(out, error)
+        }
+        Err(JobFault::Words(error)) => tell_words(err, error),
         Err(JobFault::Value) => tell_fault(err, CommandFault::Port),
         Err(JobFault::Memory) => tell_fault(err, CommandFault::Memory),
     }

@@ -1,13 +1,23 @@
 //! `receive`: files, from whoever connects first.
 
-ghost use Rattle.std.specs.Prelude.{◌≡◌, ◌≤◌, IfOk};
+ghost use Rattle.std.specs.Prelude.{◌≡◌, ◌≢◌, ◌≤◌, ℕ, Result, OnOk, OnErr, IfOk};
+ghost use Rattle.std.specs.Io.KnownBytes.{Appends};
+ghost use Rattle.ym_file.specs.Counts.{Rose};
 ghost use Rattle.ym_file.specs.Kept.{IsNew};
+ghost use Rattle.ym_file.specs.declared.sink.SinkFault.{SinkFault as Shut};
 ghost use Rattle.ym_host.specs.DirSink.{kept_of};
+ghost use Rattle.ym_link.specs.ReceiverInto.{ReceiverParts};
+ghost use Rattle.ym_link.specs.declared.end_fault.EndFault.{EndFault as Why};
+ghost use Rattle.ymodem.specs.Lines.{file_lines, receiver_lines};
+ghost use Rattle.ymodem.specs.Page.{Prints};
+ghost use Rattle.ymodem.specs.Program.{confirm_of};
+ghost use Rattle.ymodem.specs.Receiving.{ReceiverRuns, Closes, TellsReceiver, ReceiveGives, ReceivesSo, receive_gives};
 ghost use Rattle.ymodem.specs.Status.{receive_answer};
 
 use crate::command_fault::CommandFault;
 use crate::folder::{check_folder, tell_not_stored};
-use crate::lines::{FileLine, ReceiverLine, ShownFileLine};
+use crate::lines::{FileLine, ReceiverLine};
+use crate::store::Store;
 use crate::telling::tell_end;
 use std::alloc::{AllocError, Global};
 use std::cell::Cell;
@@ -16,13 +26,14 @@ use std::io;
 use std::io::Write;
 use std::net::{Ipv4Addr, Net, SocketAddr, TcpListener, TcpStream};
 use std::time::Clock;
-use ym_file::{Sink, SinkFault};
+use ym_file::SinkFault;
 use ym_header::Header;
 use ym_host::{DirSink, Durability, Leftover, SocketPort};
 use ym_link::{Clearing, Confirm, EndFault, Port, ReceiverInto, RecvState, Role, receive_over};
+use ym_play::{Output, StreamFault};
 use ym_show::{
-    Eager, EndMessage, FileMessage, LineMessage, Meter, Reason, Replies, StoreWatch, Teller,
-    Watched, WatchedPort,
+    Eager, EndMessage, FileMessage, LastFile, LineMessage, Meter, Reason, Replies, StoreWatch,
+    Teller, Watched, WatchedPort,
 };
 use ym_words::ReceiveFlags;
 
@@ -56,24 +67,23 @@ fn accept<E: Write + Drop>(
     Ok(stream)
 }
 
-/// Prints a line for each file, with its name made safe where a terminal shows it.
-fn print_files<W: Write>(out: &mut W, headers: &[Header], is_shown: bool) -> io::Result<()> {
+/// Prints a line for each file.
+fn print_files<O: Output>(out: &mut O, headers: &[Header]) -> Result<(), StreamFault>
+    ensures { Prints (record { holds = O.contents out.old; failed = O.failures out.old }) (file_lines headers.now) result (record { holds = O.contents out.new; failed = O.failures out.new }) }
+{
     for header in headers {
-        if is_shown {
-            let file = ShownFileLine(header);
-            writeln!(out, "{file}")?;
-        } else {
-            let file = FileLine(header);
-            writeln!(out, "{file}")?;
-        }
+        out.put_line(FileLine(header))?;
     }
     Ok(())
 }
 
-/// Prints the line of the receiver.
-fn print_end<W: Write>(out: &mut W, line: ReceiverLine) -> io::Result<()> {
-    writeln!(out, "{line}")?;
-    out.flush()
+/// Prints a line for each file, and one for the receiver.
+fn print<O: Output>(out: &mut O, headers: &[Header], state: RecvState) -> Result<(), StreamFault>
+    ensures { Prints (record { holds = O.contents out.old; failed = O.failures out.old }) (receiver_lines headers.now state) result (record { holds = O.contents out.new; failed = O.failures out.new }) }
+{
+    print_files(out, headers)?;
+    let files = headers.len();
+    out.put_line(ReceiverLine { files, state })
 }
 
 /// The status of a receiver that no port stopped.
@@ -91,10 +101,10 @@ fn status_of(state: RecvState) -> Result<u8, CommandFault>
 fn answer_of(
     ended: Result<(), EndFault>,
     closed: Result<(), SinkFault>,
-    printed: io::Result<()>,
+    printed: Result<(), StreamFault>,
     state: RecvState,
 ) -> Result<u8, CommandFault>
-    ensures { IfOk result (λ status. status ≤ 1) }
+    ensures { result ≡ receive_gives ended closed printed state }
 {
     ended?;
     closed?;
@@ -124,13 +134,36 @@ fn open_sink<'a, R: Files<File = File>>(
     DirSink::new(rt, alloc, dir, durability, leftover)
 }
 
-/// When a receiver acknowledges an EOT, by the flags.
-fn confirm_of(flags: ReceiveFlags) -> Confirm {
-    if flags.single {
+/// When a receiver acknowledges an EOT, by the flag `--single`.
+fn confirm_of(is_single: bool) -> Confirm
+    ensures { result ≡ confirm_of is_single }
+{
+    if is_single {
         Confirm::Once
     } else {
         Confirm::Twice
     }
+}
+
+/// Runs a receiver over a port, lets its sink go of what is open, also after a fault, and prints the files that were committed and how the
+/// receiver has ended. The sink comes back, with how the receiver has ended, and its status: 0 where it has finished.
+pub fn receive_batch<P: Port, K: Store + Drop, O: Output>(
+    port: &mut P,
+    mut receiver: ReceiverInto<K>,
+    out: &mut O,
+) -> (K, RecvState, Result<u8, CommandFault>)
+    ensures { (r : ReceiverParts) × (ended : Result Unit Why) × (closed : Result Unit Shut)
+        × ReceiverRuns (P.tells port.old) (P.tells port.new) receiver (P.failures port.old) (P.failures port.new) ended r
+        × Closes r.kept r.failures closed (K.kept result.0) (K.failures result.0)
+        × (result.1 ≡ r.receiver.state)
+        × TellsReceiver ended closed r (record { holds = O.contents out.old; failed = O.failures out.old }) result.2 (record { holds = O.contents out.new; failed = O.failures out.new }) }
+{
+    let ended = receive_over(port, &mut receiver);
+    let state = receiver.state();
+    let mut sink = receiver.into_sink();
+    let closed = sink.close();
+    let printed = print(out, sink.headers(), state);
+    (sink, state, answer_of(ended, closed, printed, state))
 }
 
 /// Sees that files can be stored in the folder at this path, or tells why not.
@@ -156,114 +189,103 @@ pub struct Order<'a> {
     pub dir: &'a str,
 }
 
-/// How a receiver has ended, and its sink.
-#[derive(Drop)]
-struct Ending<K: Sink + Drop> {
-    ended: Result<(), EndFault>,
-    line: ReceiverLine,
-    sink: K,
-}
-
-/// Runs a receiver into a new sink over a port.
-fn run<P: Port, K: Sink + Drop>(alloc: Global, port: &mut P, sink: K, confirm: Confirm) -> Ending<K>
-    requires { IsNew (K.kept sink) }
-{
-    let mut receiver = ReceiverInto::with_sink(alloc, sink, confirm);
-    let ended = receive_over(port, &mut receiver);
-    let line = ReceiverLine {
-        files: receiver.committed(),
-        state: receiver.state(),
-    };
-    Ending {
-        ended,
-        line,
-        sink: receiver.into_sink(),
-    }
-}
-
-/// The same, with how far each file is shown, and why one was not stored and why the receiver has ended told.
-fn run_shown<'a, P: Port + Drop, R: Files<File = File> + Clock, E: Write + Drop>(
+/// Receives files over a port into a new sink, with how far each file is shown, and why one was not stored and why the receiver has ended told.
+fn receive_shown<'a, P, R, O, E>(
     rt: &'a R,
     alloc: Global,
     port: P,
     sink: DirSink<&'a R>,
     order: Order<'_>,
+    out: &mut O,
     teller: &mut Teller<E>,
-) -> Ending<DirSink<&'a R>>
+) -> Result<u8, CommandFault>
+where
+    P: Port + Drop,
+    R: Files<File = File> + Clock,
+    O: Output,
+    E: Write + Drop,
     requires { IsNew (kept_of sink) }
+    ensures { ReceiveGives (confirm_of order.flags.single) (record { holds = O.contents out.old; failed = O.failures out.old }) result (record { holds = O.contents out.new; failed = O.failures out.new }) }
 {
-    let Order { flags, dir } = order;
     let replies = Cell::new(0);
-    let besides = if flags.single { 1 } else { 2 };
-    let mut port = WatchedPort {
-        port,
-        watch: Replies { count: &replies },
-    };
-    let sink = Watched {
-        sink,
-        watch: StoreWatch::new(alloc, Meter::new(alloc, rt, teller), &replies, besides),
-    };
-    let Ending { ended, line, sink } = run(alloc, &mut port, sink, confirm_of(flags));
-    let Watched { mut sink, watch } = sink;
+    let besides = if order.flags.single { 1 } else { 2 };
+    let meter = Meter::new(alloc, rt, teller);
+    let watch = StoreWatch::new(alloc, meter, &replies, besides);
+    let watched = Watched { sink, watch };
+    let receiver = ReceiverInto::with_sink(alloc, watched, confirm_of(order.flags.single));
+    let watch = Replies { count: &replies };
+    let mut port = WatchedPort { port, watch };
+    let (watched, state, answer) = receive_batch(&mut port, receiver, out);
+    let Watched { sink: _sink, watch } = watched;
     let last = watch.into_last();
-    tell_end(teller, ended, EndMessage::of_receiver(line.state));
-    if line.state == RecvState::SinkFailed {
-        let _ = sink.close();
-        tell_not_stored(rt, alloc, dir, flags.discard_parts, &last, teller);
+    tell_outcome(rt, alloc, order, &last, state, &answer, teller);
+    answer
+}
+
+/// Tells why a receiver has ended, and why the last file was not stored.
+fn tell_outcome<R: Files<File = File>, E: Write + Drop>(
+    rt: &R,
+    alloc: Global,
+    order: Order<'_>,
+    last: &LastFile,
+    state: RecvState,
+    answer: &Result<u8, CommandFault>,
+    teller: &mut Teller<E>,
+) {
+    let is_running = state == RecvState::Running;
+    tell_end(teller, answer, is_running, EndMessage::of_receiver(state));
+    if state == RecvState::SinkFailed {
+        tell_not_stored(
+            rt,
+            alloc,
+            order.dir,
+            order.flags.discard_parts,
+            last,
+            teller,
+        );
     }
-    Ending { ended, line, sink }
 }
 
 /// Receives the files of one connection, and prints them and how the receiver has ended.
-fn receive_from<R, W, E>(
+fn receive_from<R, O, E>(
     rt: &R,
     alloc: Global,
     stream: TcpStream,
     order: Order<'_>,
-    out: &mut W,
+    out: &mut O,
     teller: &mut Teller<E>,
 ) -> Result<u8, CommandFault>
 where
     R: Files<File = File> + Clock,
-    W: Write,
+    O: Output,
     E: Write + Drop,
-    ensures { IfOk result (λ status. status ≤ 1) }
+    ensures { ReceiveGives (confirm_of order.flags.single) (record { holds = O.contents out.old; failed = O.failures out.old }) result (record { holds = O.contents out.new; failed = O.failures out.new }) }
 {
-    let Order { flags, dir } = order;
-    let sink = open_sink(rt, alloc, flags, dir)?;
+    let sink = open_sink(rt, alloc, order.flags, order.dir)?;
     let port = SocketPort::new(rt, stream, REPLY_MS - WITHIN_MS, WITHIN_MS);
-    let mut port = Eager::new(Clearing::new(port, Role::Receiver), flags.eager);
-    let ending = if teller.is_loud {
-        run_shown(rt, alloc, port, sink, order, teller)
-    } else {
-        run(alloc, &mut port, sink, confirm_of(flags))
-    };
-    let Ending {
-        ended,
-        line,
-        mut sink,
-    } = ending;
-    let closed = sink.close();
-    let printed = print_files(out, sink.headers(), teller.look.at_out).and_then(|()| print_end(
-        out, line,
-    ));
-    answer_of(ended, closed, printed, line.state)
+    let mut port = Eager::new(Clearing::new(port, Role::Receiver), order.flags.eager);
+    if teller.is_loud {
+        return receive_shown(rt, alloc, port, sink, order, out, teller);
+    }
+    let receiver = ReceiverInto::with_sink(alloc, sink, confirm_of(order.flags.single));
+    let (_sink, _state, answer) = receive_batch(&mut port, receiver, out);
+    answer
 }
 
 /// Receives files into a folder from whoever connects first to 127.0.0.1 at this port, and prints them and how the receiver has ended.
-pub fn receive<R, W, E>(
+pub fn receive<R, O, E>(
     rt: &R,
     alloc: Global,
     port: u16,
     order: Order<'_>,
-    out: &mut W,
+    out: &mut O,
     teller: &mut Teller<E>,
 ) -> Result<u8, CommandFault>
 where
     R: Files<File = File> + Net<Listener = TcpListener, Stream = TcpStream> + Clock,
-    W: Write,
+    O: Output,
     E: Write + Drop,
-    ensures { IfOk result (λ status. status ≤ 1) }
+    ensures { ReceiveGives (confirm_of order.flags.single) (record { holds = O.contents out.old; failed = O.failures out.old }) result (record { holds = O.contents out.new; failed = O.failures out.new }) }
 {
     look_at(rt, alloc, order.dir, teller)?;
     let listener = listen(rt, port, teller)?;
@@ -273,19 +295,19 @@ where
 
 /// Receives files into a folder from one connection after another, and prints them and how each receiver has ended, also where it ended in a fault,
 /// whose line goes to `err`. It ends where no connection can be taken any more.
-pub fn receive_on<R, W, F, E>(
+pub fn receive_on<R, O, F, E>(
     rt: &R,
     alloc: Global,
     port: u16,
     order: Order<'_>,
-    out: &mut W,
+    out: &mut O,
     err: &mut F,
     teller: &mut Teller<E>,
 ) -> Result<u8, CommandFault>
 where
     R: Files<File = File> + Net<Listener = TcpListener, Stream = TcpStream> + Clock,
-    W: Write,
-    F: Write,
+    O: Output,
+    F: Output,
     E: Write + Drop,
     ensures { IfOk result (λ status. status ≤ 1) }
 {
@@ -294,8 +316,32 @@ where
     for _session in 0..u64::MAX {
         let stream = accept(&listener, teller)?;
         if let Err(fault) = receive_from(rt, alloc, stream, order, out, teller) {
-            writeln!(err, "{fault}").and_then(|()| err.flush())?;
+            err.put_line(fault)?;
         }
     }
     Ok(0)
+}
+
+/// Receives as the flag `--keep` says: from one connection, or from one after another.
+pub fn receive_as_asked<R, O, F, E>(
+    rt: &R,
+    alloc: Global,
+    port: u16,
+    order: Order<'_>,
+    out: &mut O,
+    err: &mut F,
+    teller: &mut Teller<E>,
+) -> Result<u8, CommandFault>
+where
+    R: Files<File = File> + Net<Listener = TcpListener, Stream = TcpStream> + Clock,
+    O: Output,
+    F: Output,
+    E: Write + Drop,
+    ensures { ReceivesSo order.flags.keep (confirm_of order.flags.single) (record { holds = O.contents out.old; failed = O.failures out.old }) (record { holds = F.contents err.old; failed = F.failures err.old }) result (record { holds = O.contents out.new; failed = O.failures out.new }) (record { holds = F.contents err.new; failed = F.failures err.new }) }
+{
+    if order.flags.keep {
+        receive_on(rt, alloc, port, order, out, err, teller)
+    } else {
+        receive(rt, alloc, port, order, out, teller)
+    }
 }

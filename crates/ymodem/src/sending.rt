@@ -1,6 +1,11 @@
 //! `send`: files, to whoever listens.
 
-ghost use Rattle.std.specs.Prelude.{◌≡◌, ◌≤◌, IfOk};
+ghost use Rattle.std.specs.Prelude.{◌≡◌, ◌<◌, ◌^◌, ℕ, Result, IfOk, IfErr, length, map};
+ghost use Rattle.ym_header.specs.Header.{IsName, IsRefused, length_limit};
+ghost use Rattle.ym_link.specs.declared.end_fault.EndFault.{EndFault as Why};
+ghost use Rattle.ym_core.specs.Standing.{new_standing};
+ghost use Rattle.ym_link.specs.Sender.{counts};
+ghost use Rattle.ymodem.specs.Sending.{last_part, IsBatch, MayRefuse, RefusesFile, SenderRuns, TellsSender, SendsOn, SendGives, send_gives};
 ghost use Rattle.ymodem.specs.Status.{send_answer};
 
 use crate::command_fault::CommandFault;
@@ -14,9 +19,12 @@ use std::path::Path;
 use std::time::{Clock, Duration};
 use std::{io, thread};
 use ym_file::{Shape, Source};
-use ym_header::Stamp;
+use ym_header::{HeaderFault, Stamp};
 use ym_host::{FileSource, SocketPort};
-use ym_link::{Clearing, EndFault, Port, Role, SendState, SenderFrom, SourceFile, send_over};
+use ym_link::{
+    BatchFault, Clearing, EndFault, Port, Role, SendState, SenderFrom, SourceFile, send_over,
+};
+use ym_play::{Output, StreamFault};
 use ym_show::{
     EndMessage, FileMessage, LineMessage, Meter, Reason, SendWatch, Teller, WatchedPort,
 };
@@ -32,28 +40,60 @@ const CALLS: u32 = 40;
 
 const CALL_MS: u64 = 50;
 
+/// The last part of a path, or nothing where it has none.
+fn last_part(path: &str) -> &str
+    ensures { result.now ≡ last_part path.now }
+{
+    Path::new(path).file_name().unwrap_or("")
+}
+
+/// The source of the file at this path, or why there is none told.
+fn open_source<'a, R: Files<File = File>, E: Write + Drop>(
+    rt: &'a R,
+    alloc: Global,
+    path: &'a str,
+    teller: &mut Teller<E>,
+) -> io::Result<FileSource<'a, &'a R>> {
+    let opened = FileSource::new(rt, alloc, path);
+    if let Err(error) = &opened {
+        teller.tell(FileMessage::CannotOpen(path, Reason::of(error)));
+    }
+    opened
+}
+
+/// The source with the header that it is sent under, or why there is none told.
+fn with_header<S: Source + Drop, E: Write + Drop>(
+    alloc: Global,
+    path: &str,
+    source: S,
+    teller: &mut Teller<E>,
+) -> Result<SourceFile<S>, HeaderFault>
+    ensures ok { IfOk result (λ file. file.header ≡ record { name = last_part path.now; length = S.size source; stamp = Stamp.Nothing }) }
+    ensures within { IfOk result (λ file. IsName (last_part path.now)) }
+    ensures refused { IfErr result (λ fault. IsRefused length_limit (last_part path.now) (S.size source) fault) }
+{
+    let made = SourceFile::from_source(alloc, last_part(path), source, Stamp::Nothing);
+    if let Err(fault) = &made {
+        teller.tell(FileMessage::CannotSend(path, *fault));
+    }
+    made
+}
+
 /// The file at this path, under the last part of the path. No stamp is sent.
 fn open_file<'a, R: Files<File = File>, E: Write + Drop>(
     rt: &'a R,
     alloc: Global,
     path: &'a str,
     teller: &mut Teller<E>,
-) -> Result<SourceFile<FileSource<'a, &'a R>>, CommandFault> {
-    let source = match FileSource::new(rt, alloc, path) {
-        Ok(source) => source,
-        Err(error) => {
-            teller.tell(FileMessage::CannotOpen(path, Reason::of(&error)));
-            return Err(CommandFault::from(error));
-        }
-    };
-    let name = Path::new(path).file_name().unwrap_or("");
-    match SourceFile::from_source(alloc, name, source, Stamp::Nothing) {
-        Ok(file) => Ok(file),
-        Err(fault) => {
-            teller.tell(FileMessage::CannotSend(path, fault));
-            Err(CommandFault::from(fault))
-        }
-    }
+) -> Result<SourceFile<FileSource<'a, &'a R>>, CommandFault>
+    ensures named { IfOk result (λ file. file.header.name ≡ last_part path.entry.now) }
+    ensures stamp { IfOk result (λ file. file.header.stamp ≡ Stamp.Nothing) }
+    ensures within { IfOk result (λ file. IsName (last_part path.entry.now)) }
+    ensures refused { IfErr result (λ why. MayRefuse (last_part path.entry.now) why) }
+{
+    let source = open_source(rt, alloc, path, teller)?;
+    let file = with_header(alloc, path, source, teller)?;
+    Ok(file)
 }
 
 /// The files at these paths, looked at in order, or the first fault.
@@ -62,7 +102,10 @@ fn open_batch<'a, R: Files<File = File>, E: Write + Drop>(
     alloc: Global,
     paths: &[&'a str],
     teller: &mut Teller<E>,
-) -> Result<Vec<SourceFile<FileSource<'a, &'a R>>>, CommandFault> {
+) -> Result<Vec<SourceFile<FileSource<'a, &'a R>>>, CommandFault>
+    ensures batch { IfOk result (λ batch. IsBatch (map (λ path. path.now) paths.now) batch.items) }
+    ensures refused { IfErr result (λ why. RefusesFile (map (λ path. path.now) paths.now) why) }
+{
     let mut batch = Vec::new(alloc);
     for path in paths {
         let file = open_file(rt, alloc, path, teller)?;
@@ -71,6 +114,20 @@ fn open_batch<'a, R: Files<File = File>, E: Write + Drop>(
         }
     }
     Ok(batch)
+}
+
+/// A sender of these files, of which there may be too many.
+fn sender_of<S: Source + Drop>(
+    batch: Vec<SourceFile<S>>,
+    shape: Shape,
+) -> Result<SenderFrom<S>, CommandFault>
+    ensures new { IfOk result (λ sender. (sender.shape ≡ shape) × (sender.files ≡ batch.items) × (sender.standing ≡ new_standing (counts sender))) }
+    ensures refused { IfErr result (λ why. (why ≡ CommandFault.TooManyFiles) × (65535 < length batch.items)) }
+{
+    match SenderFrom::new(batch, shape) {
+        Ok(sender) => Ok(sender),
+        Err(BatchFault::TooMany(_)) => Err(CommandFault::TooManyFiles),
+    }
 }
 
 /// A connection to whoever listens at this address now.
@@ -123,59 +180,107 @@ fn status_of(state: SendState) -> Result<u8, CommandFault>
     }
 }
 
-/// Runs a sender over a port, with how far each file is shown.
-fn send_shown<P: Port + Drop, S: Source, C: Clock, E: Write + Drop>(
+/// What a sender's end comes to. Of several faults that of the engine is told, and then that of the output.
+fn answer_of(
+    ended: Result<(), EndFault>,
+    printed: Result<(), StreamFault>,
+    state: SendState,
+) -> Result<u8, CommandFault>
+    ensures { result ≡ send_gives ended printed state }
+{
+    ended?;
+    printed?;
+    status_of(state)
+}
+
+/// Prints how a sender has ended, and answers its status.
+fn tell_sender<S: Source, O: Output>(
+    ended: Result<(), EndFault>,
+    sender: &SenderFrom<S>,
+    out: &mut O,
+) -> Result<u8, CommandFault>
+    ensures { TellsSender ended sender.now (record { holds = O.contents out.old; failed = O.failures out.old }) result (record { holds = O.contents out.new; failed = O.failures out.new }) }
+{
+    let done = sender.done();
+    let state = sender.state();
+    let printed = out.put_line(SenderLine { done, state });
+    answer_of(ended, printed, state)
+}
+
+/// Runs a sender over a port, and prints how it has ended. The answer is its status: 0 where it has finished.
+pub fn send_batch<P: Port, S: Source, O: Output>(
+    port: &mut P,
+    sender: &mut SenderFrom<S>,
+    out: &mut O,
+) -> Result<u8, CommandFault>
+    ensures { (ended : Result Unit Why) × SenderRuns (P.tells port.old) (P.tells port.new) sender.old (P.failures port.old) (P.failures port.new) ended sender.new
+        × TellsSender ended sender.new (record { holds = O.contents out.old; failed = O.failures out.old }) result (record { holds = O.contents out.new; failed = O.failures out.new }) }
+{
+    let ended = send_over(port, sender);
+    tell_sender(ended, sender, out)
+}
+
+/// The same over a port of the program's own, with how far each file is shown, and why it has ended told.
+fn send_shown<P: Port + Drop, S: Source, O: Output, C: Clock, E: Write + Drop>(
     rt: &C,
     alloc: Global,
     port: P,
     sender: &mut SenderFrom<S>,
+    out: &mut O,
     teller: &mut Teller<E>,
-) -> Result<(), EndFault> {
+) -> Result<u8, CommandFault>
+    ensures { SendsOn sender.old sender.new (record { holds = O.contents out.old; failed = O.failures out.old }) result (record { holds = O.contents out.new; failed = O.failures out.new }) }
+{
     let mut port = WatchedPort {
         port,
         watch: SendWatch::new(Meter::new(alloc, rt, teller)),
     };
-    let ended = send_over(&mut port, sender);
+    let answer = send_batch(&mut port, sender, out);
     port.watch.end();
-    ended
+    drop(port);
+    let state = sender.state();
+    let is_running = state == SendState::Running;
+    tell_end(teller, &answer, is_running, EndMessage::of_sender(state));
+    answer
+}
+
+/// Runs a sender over a port, shown where somebody looks.
+fn send_on<P: Port + Drop, S: Source, O: Output, C: Clock, E: Write + Drop>(
+    rt: &C,
+    alloc: Global,
+    mut port: P,
+    sender: &mut SenderFrom<S>,
+    out: &mut O,
+    teller: &mut Teller<E>,
+) -> Result<u8, CommandFault>
+    ensures { SendsOn sender.old sender.new (record { holds = O.contents out.old; failed = O.failures out.old }) result (record { holds = O.contents out.new; failed = O.failures out.new }) }
+{
+    if teller.is_loud {
+        return send_shown(rt, alloc, port, sender, out, teller);
+    }
+    send_batch(&mut port, sender, out)
 }
 
 /// Sends the files at these paths, in order, to whoever listens on 127.0.0.1 at this port, and prints how the sender has ended.
-pub fn send<R, W, E>(
+pub fn send<R, O, E>(
     rt: &R,
     alloc: Global,
     port: u16,
     shape: Shape,
     paths: &[&str],
-    out: &mut W,
+    out: &mut O,
     teller: &mut Teller<E>,
 ) -> Result<u8, CommandFault>
 where
     R: Files<File = File> + Net<Stream = TcpStream> + Clock,
-    W: Write,
+    O: Output,
     E: Write + Drop,
-    ensures { IfOk result (λ status. status ≤ 1) }
+    ensures { SendGives shape (map (λ path. path.now) paths.now) (record { holds = O.contents out.old; failed = O.failures out.old }) result (record { holds = O.contents out.new; failed = O.failures out.new }) }
 {
     let batch = open_batch(rt, alloc, paths, teller)?;
-    let Ok(mut sender) = SenderFrom::new(batch, shape) else {
-        return Err(CommandFault::TooManyFiles);
-    };
+    let mut sender = sender_of(batch, shape)?;
     let stream = connect_telling(rt, port, teller)?;
     let port = SocketPort::new(rt, stream, REPLY_MS - WITHIN_MS, WITHIN_MS);
-    let mut port = Clearing::new(port, Role::Sender);
-    let ended = if teller.is_loud {
-        send_shown(rt, alloc, port, &mut sender, teller)
-    } else {
-        send_over(&mut port, &mut sender)
-    };
-    let line = SenderLine {
-        done: sender.done(),
-        state: sender.state(),
-    };
-    tell_end(teller, ended, EndMessage::of_sender(line.state));
-    let printed = writeln!(out, "{line}").and_then(|()| out.flush());
-    // The engine's fault is told before that of the output.
-    ended?;
-    printed?;
-    status_of(line.state)
+    let port = Clearing::new(port, Role::Sender);
+    send_on(rt, alloc, port, &mut sender, out, teller)
 }

@@ -1,20 +1,20 @@
 //! What `send` and `receive` tell of how they have ended.
 
+use crate::command_fault::CommandFault;
 use std::io::Write;
-use ym_link::EndFault;
 use ym_show::{EndMessage, Teller};
 
-/// Tells why an engine has stopped: a fault of its port, or else what its end's state says.
+/// Tells why an end has ended: the fault of its port, where it was still running, or else what its state says.
 pub fn tell_end<E: Write + Drop>(
     teller: &mut Teller<E>,
-    ended: Result<(), EndFault>,
+    answer: &Result<u8, CommandFault>,
+    is_running: bool,
     state: Option<EndMessage>,
 ) {
-    let message = match ended {
-        Err(EndFault::Closed) => Some(EndMessage::PeerClosed),
-        Err(EndFault::Device) => Some(EndMessage::LineFailed),
-        Err(EndFault::Memory) => None,
-        Ok(()) => state,
+    let message = match answer {
+        Err(CommandFault::Closed) => Some(EndMessage::PeerClosed),
+        Err(CommandFault::Device) if is_running => Some(EndMessage::LineFailed),
+        _ => state,
     };
     if let Some(message) = message {
         teller.tell(message);

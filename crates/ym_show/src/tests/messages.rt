@@ -107,7 +107,6 @@ fn told_or_not(rt: HostRuntime) -> Result<(), Fail> {
     for (is_loud, want) in [(false, b"".as_slice()), (true, b"connected\n".as_slice())] {
         let look = Look {
             at_err: is_loud,
-            at_out: false,
             columns: 80,
         };
         let mut teller = Teller::new(Vec::new(rt.alloc()), look);

@@ -79,7 +79,6 @@ fn whole_files(rt: HostRuntime) -> Result<(), Fail> {
 fn in_place(rt: HostRuntime) -> Result<(), Fail> {
     let look = Look {
         at_err: true,
-        at_out: false,
         columns: 80,
     };
     let mut teller = Teller::new(Vec::new(rt.alloc()), look);

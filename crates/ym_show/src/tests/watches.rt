@@ -10,7 +10,6 @@ use ym_header::{Header, Stamp, write, write_end};
 fn teller(rt: &HostRuntime) -> Teller<Vec<u8>> {
     let look = Look {
         at_err: false,
-        at_out: false,
         columns: 80,
     };
     let mut teller = Teller::new(Vec::new(rt.alloc()), look);

@@ -27,7 +27,6 @@ pub(super) fn ran(rt: &HostRuntime, line: &str, input: &[u8]) -> Result<Ending, 
     let mut err = Vec::new(alloc);
     let look = Look {
         at_err: false,
-        at_out: false,
         columns: 80,
     };
     let mut teller = Teller::new(Vec::new(alloc), look);

@@ -29,6 +29,18 @@ const TWO_EMPTY_FILES: &str = "1 > - whole < C whole\n\
     sender done 2 finished\n\
     receiver files 2 finished\n";
 
+const LOST_LAST_ACKS_AND_TWO_MORE: &str = "1 > - whole < C whole\n\
+    2 > block 0 128 whole < ACK C whole\n\
+    3 > eot whole < NAK whole\n\
+    4 > eot whole < ACK C lost\n\
+    5 > eot whole < ACK C lost\n\
+    6 > eot whole < ACK C lost\n\
+    7 > eot whole < ACK C lost\n\
+    8 > eot whole < ACK C whole\n\
+    9 > block 0 128 whole < ACK whole\n\
+    sender done 1 finished\n\
+    receiver files 1 finished\n";
+
 const LOST_LAST_ACKS: &str = "1 > - whole < C whole\n\
     2 > block 0 128 whole < ACK C whole\n\
     3 > eot whole < NAK whole\n\
@@ -51,6 +63,7 @@ fn play_and_loop(rt: HostRuntime) -> Result<(), Fail> {
     let one_file = with_file(&rt, "ok 6\n")?;
     let lost = "round whole lost\n";
     let lost_last_acks = format!(in rt.alloc(); "file a -\nok 3\n{lost}{lost}{lost}{lost}")?;
+    let two_more = format!(in rt.alloc(); "{lost_last_acks}ok 2\n")?;
     let port = free_port(&rt)?;
     let looped = format!(in rt.alloc(); "ymodem loop --port {port}")?;
     for line in ["ymodem", "ymodem play", looped.as_str()] {
@@ -58,6 +71,7 @@ fn play_and_loop(rt: HostRuntime) -> Result<(), Fail> {
             (one_file.as_str(), 0, ONE_FILE),
             ("file a -\nfile b -\nok 8\n", 0, TWO_EMPTY_FILES),
             (lost_last_acks.as_str(), 1, LOST_LAST_ACKS),
+            (two_more.as_str(), 0, LOST_LAST_ACKS_AND_TWO_MORE),
         ] {
             assert!(rt;
                 ends(&rt, line, script.as_bytes(), status, out, "")?,
