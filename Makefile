@@ -6,7 +6,7 @@
 # make memory            each growth of memory refused in turn, alone
 # make interop           the program against lrzsz, which has to be installed
 # make install           puts the program, ymodem-tty, the manual pages and the completion below $(DESTDIR)$(PREFIX)
-# make deb, make dist    the same as a Debian package, and as a tar file, in out/
+# make deb, make dist    the same as a Debian package, with one of the library for C beside it, and as a tar file, in out/
 # make charts            draws the charts of docs/pictures from the traces that the program prints
 # make bench             measures the program
 # All need the toolchain: `rt` on the path, and Python 3.
@@ -14,7 +14,7 @@
 PREFIX ?= /usr/local
 PROGRAM = crates/ymodem/out/ymodem
 
-.PHONY: play build check test memory interop install deb dist charts bench clean
+.PHONY: play build check test replay memory interop install deb dist charts bench clean
 
 play:
 	@tools/prove.py play
@@ -26,11 +26,15 @@ build:
 check:
 	@tools/prove.py check
 
-test: build
+test: build replay
 	tests/transfer.py
 	tests/shipped.py
 	tests/memory.py
 	rt ci
+
+# The program that plays recorded reads to the engines, for tests/transfer.py.
+replay:
+	cd crates/replay && rt run < stdin
 
 memory:
 	tests/memory.py
@@ -43,6 +47,8 @@ install: build
 
 deb: build
 	packaging/package.py deb $(PROGRAM) out
+	@$(MAKE) --no-print-directory lib TARGETS=x86_64-unknown-linux-gnu
+	packaging/package.py dev out/lib/x86_64-unknown-linux-gnu/libymodem.a out
 
 dist: build
 	packaging/package.py dist $(PROGRAM) out
@@ -61,7 +67,8 @@ clean:
 # ---- The library for C
 
 # make lib               proves and builds it: out/lib/TARGET/libymodem.a for each of TARGETS
-# make test-lib          the checks of the library, which `make test` runs too
+# make test-lib          the checks of the library, which `make test` runs too: on this machine, on a board without an operating system (QEMU), and
+#                        of `ymodem send` to U-Boot
 # make install-lib       puts the archive of TARGET, the header and the file for pkg-config below $(DESTDIR)$(PREFIX)
 
 TARGETS = x86_64-unknown-linux-gnu aarch64-unknown-linux-gnu wasm64-unknown-unknown
@@ -78,11 +85,36 @@ lib:
 test: test-lib
 
 test-lib: build
-	@$(MAKE) --no-print-directory lib TARGETS=$(TARGET)
+	@$(MAKE) --no-print-directory lib
 	tests/library.py
+	tests/bare.py
+	tests/uboot.py
 
 install-lib: lib
 	install -D -m 644 out/lib/$(TARGET)/libymodem.a $(DESTDIR)$(PREFIX)/lib/libymodem.a
 	install -D -m 644 include/ymodem.h $(DESTDIR)$(PREFIX)/include/ymodem.h
 	install -d $(DESTDIR)$(PREFIX)/lib/pkgconfig
-	sed 's|@PREFIX@|$(PREFIX)|' include/ymodem.pc.in > $(DESTDIR)$(PREFIX)/lib/pkgconfig/ymodem.pc
+	sed 's|@PREFIX@|$(PREFIX)|; s|@LIBDIR@|$${prefix}/lib|' include/ymodem.pc.in > $(DESTDIR)$(PREFIX)/lib/pkgconfig/ymodem.pc
+
+# ---- The page
+
+# make web               proves and builds it: out/web, the page and the module for other pages
+# make web-serve         shows it on 127.0.0.1, at PORT
+# make test-web          the checks of the page in a browser, which `make test` runs too
+
+PORT = 8000
+WASM = wasm64-unknown-unknown
+
+.PHONY: web web-serve test-web
+
+web:
+	@$(MAKE) --no-print-directory lib TARGETS=$(WASM)
+	@web/build.py out/lib/$(WASM)/libymodem.a out/web
+
+web-serve: web
+	cd out/web && python3 -m http.server --bind 127.0.0.1 $(PORT)
+
+test: test-web
+
+test-web: build web
+	tests/web.py

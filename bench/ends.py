@@ -1,5 +1,6 @@
 #!/usr/bin/env python3
-"""Measures both ends alone, in memory: instructions per block, and bytes per second.
+"""Measures both ends alone, in memory: instructions per block, and bytes per second; and the check beside what gcc -O2 makes of slicing by eight
+(slices.c), in turns.
 
 The measuring program is ends.rt.in beside this file. It is built, proved like any other, in a scratch copy of the libraries, so that the
 repository has no crate for it. Instructions are callgrind's, the difference of two runs, so that what a run does once does not count.
@@ -61,30 +62,53 @@ def instructions(program, work, size, blocks):
     return int(found.group(1))
 
 
-def seconds(program, work, size, blocks):
-    """The seconds of a run over so many blocks, the best of three."""
-    best = None
-    for _ in range(3):
-        before = time.monotonic()
-        subprocess.run([program, work, size, str(blocks)], stdout=subprocess.DEVNULL, check=True)
-        took = time.monotonic() - before
-        best = took if best is None else min(best, took)
-    return best
+def timed(words):
+    """The seconds of a run. Its status is its own: a measuring program tells a sum, or that a session has not ended."""
+    before = time.monotonic()
+    subprocess.run(words, stdout=subprocess.DEVNULL, check=False)
+    return time.monotonic() - before
+
+
+def speeds(commands, body):
+    """Bytes per second of each of these commands, which take a number of blocks: from the best of five runs each over many blocks and over few, in turns."""
+    whole = 256 * 2**20 // body
+    best = {}
+    for _ in range(5):
+        for name, command in commands.items():
+            for blocks in (whole, whole // 4):
+                took = timed([*command, str(blocks)])
+                best[name, blocks] = min(took, best.get((name, blocks), took))
+    return {name: whole * 3 / 4 * body / (best[name, whole] - best[name, whole // 4]) for name in commands}
+
+
+def compiled(folder):
+    """The check in C by slicing by eight, where there is a compiler."""
+    compiler = shutil.which("gcc") or shutil.which("cc")
+    if not compiler:
+        return None
+    program = os.path.join(folder, "slices")
+    subprocess.run([compiler, "-O2", "-o", program, os.path.join(HERE, "slices.c")], check=True)
+    return program
 
 
 def main():
     with tempfile.TemporaryDirectory() as folder:
-        program = build(folder)
+        program, slices = build(folder), compiled(folder)
         for work, meaning in WORK.items():
             for size, body in SIZES.items():
                 few, many = 2048, 8192
                 line = "%-45s %4d bytes:" % (meaning, body)
                 if shutil.which("valgrind"):
                     each = (instructions(program, work, size, many) - instructions(program, work, size, few)) / (many - few)
-                    line += " %8.0f instructions per block" % each
-                whole = 64 * 2**20 // body
-                took = seconds(program, work, size, whole) - seconds(program, work, size, whole // 4)
-                print(line + ", %6.0f MB per second" % (whole * 3 / 4 * body / took / 1e6), flush=True)
+                    line += " %8.0f instructions per block, %5.2f a byte" % (each, each / body)
+                commands = {"ours": [program, work, size]}
+                if work == "check" and slices:
+                    commands["slices"] = [slices, str(body)]
+                told = speeds(commands, body)
+                line += ", %6.0f MB per second" % (told["ours"] / 1e6)
+                if "slices" in told:
+                    line += "; C by slicing by eight %6.0f, ratio %.2f" % (told["slices"] / 1e6, told["ours"] / told["slices"])
+                print(line, flush=True)
 
 
 main()

@@ -6,7 +6,8 @@ calls only after it has waited three seconds. They are to be read as ratios to b
 that is run in turns with the program: with its check byte by byte, with slicing by eight, and with no check, which is the floor. Where `sb`
 and `rb` of lrzsz are installed, they send the same file to each other over two pipes, from the moment at which `rb` has made the file to
 the one at which it has all its bytes; about a second of that is waits of their own. Instructions (callgrind) and system calls (strace) are
-differences between two sizes, so that what does not grow with the file is left out. Figures, not promises.
+differences between two sizes, so that what does not grow with the file is left out. As many files as the protocol allows, each empty, go
+where 64 descriptors are allowed at either end: time, peak memory and descriptors. Figures, not promises.
 
 usage: bench/sockets.py [PROGRAM]     (default: the environment variable YMODEM, else crates/ymodem/out/ymodem)
 """
@@ -15,6 +16,7 @@ import ctypes
 import os
 import random
 import re
+import resource
 import shutil
 import struct
 import subprocess
@@ -33,6 +35,8 @@ CHECKS = {"bytes": "C, by bytes", "slices": "C, by slices", "none": "C, no check
 TURNS = 3
 PORTS = iter(random.Random(os.getpid()).sample(range(20000, 32000), 500))
 NAME = "file"
+# The most files of a batch, and the descriptors that an end may have open while it sends or takes them.
+MOST_FILES, DESCRIPTORS = 65_535, 64
 IN_CREATE = 0x100
 C = ctypes.CDLL(None, use_errno=True)
 
@@ -207,6 +211,54 @@ def system_calls(here, there):
         print("system calls of %-8s %5.2f per block (%s)" % (end, each["total"], names))
 
 
+def most_open(pid, found):
+    """Keeps how many descriptors a process had open at most, as far as looks at it tell, for as long as it runs."""
+    try:
+        while True:
+            found[pid] = max(found.get(pid, 0), len(os.listdir("/proc/%d/fd" % pid)))
+            time.sleep(0.005)
+    except (FileNotFoundError, ProcessLookupError, PermissionError):
+        pass
+
+
+def many_files(top, flags):
+    """A batch of as many files as there may be, all of them empty."""
+    here, there = os.path.join(top, "many"), os.path.join(top, "stored")
+    os.mkdir(here)
+    os.mkdir(there)
+    names = ["%x" % number for number in range(MOST_FILES)]
+    for name in names:
+        open(os.path.join(here, name), "w").close()
+    port = next(PORTS)
+
+    def start(folder, *words):
+        allowed = lambda: resource.setrlimit(resource.RLIMIT_NOFILE, (DESCRIPTORS, DESCRIPTORS))
+        return subprocess.Popen([PROGRAM, *words], cwd=folder, preexec_fn=allowed, stdout=subprocess.PIPE, stderr=subprocess.PIPE)
+
+    receiver = start(there, "receive", "--port", str(port), *flags, ".")
+    while not listens(port):
+        if receiver.poll() is not None:
+            sys.exit("receive said: " + receiver.stderr.read().decode())
+        time.sleep(0.02)
+    began = time.monotonic()
+    sender = start(here, "send", "--port", str(port), *names)
+    peaks, descriptors = {}, {}
+    for child in (sender, receiver):
+        for look, found in ((peak_of, peaks), (most_open, descriptors)):
+            threading.Thread(target=look, args=(child.pid, found), daemon=True).start()
+    heard = threading.Thread(target=receiver.communicate, daemon=True)
+    heard.start()
+    told = sender.communicate()[0].decode()
+    took = time.monotonic() - began
+    heard.join()
+    if sender.returncode or receiver.returncode or told != "sender done %d finished\n" % MOST_FILES or len(os.listdir(there)) != MOST_FILES:
+        sys.exit("the batch of %d files failed: %s" % (MOST_FILES, told))
+    each = ["%.1f MiB and %d descriptors" % (peaks[it.pid] / 1024, descriptors[it.pid]) for it in (sender, receiver)]
+    print("%d empty files%s: %.1f s; send had %s at most, receive %s" % (MOST_FILES, "".join(" " + it for it in flags), took, *each))
+    shutil.rmtree(here)
+    shutil.rmtree(there)
+
+
 def main():
     with tempfile.TemporaryDirectory(prefix="ymodem-bench-") as top:
         here, there = os.path.join(top, "here"), os.path.join(top, "there")
@@ -215,6 +267,8 @@ def main():
         times(here, there, compiled(top))
         instructions(here, there)
         system_calls(here, there)
+        for flags in ([], ["--no-sync"]):
+            many_files(top, flags)
 
 
 main()

@@ -155,6 +155,51 @@ uint32_t ym_check(const uint8_t *bytes, size_t len);
 /* Tells what stands at the front of some bytes. */
 void ym_frame_read(const uint8_t *bytes, size_t len, ym_front *front);
 
+/* Makes the frame of the block of this number, modulo 256, and this body at the front of `frame`, and answers its length, 133 or 1029. 0
+   where the body has neither 128 nor 1024 bytes, or the frame has no room. */
+size_t ym_frame_write(uint32_t number, const uint8_t *body, size_t len, uint8_t *frame, size_t room);
+
+/* ---- Frames in pieces ---- */
+
+/* Why no frame can come any more. */
+enum ym_why { YM_WHY_FIRST_BYTE = 1, YM_WHY_COMPLEMENT, YM_WHY_CHECK, YM_WHY_SECOND_CAN };
+
+/* A reader, and the bytes of the frame that is coming. Read it, and let the functions write it. */
+typedef struct ym_reader {
+    uint64_t place;     /* where why is not 0: the place of the first byte that no frame can have there */
+    uint32_t len;       /* how many bytes are held; 0 behind a whole frame */
+    uint32_t why;       /* 0, or an enum ym_why */
+    uint8_t held[1029];
+} ym_reader;
+
+/* Makes a reader to which nothing came, whatever stood there. */
+void ym_reader_init(ym_reader *reader);
+
+/* Takes bytes, tells how many, and what they make of those before; call it again with the rest. Behind a whole frame the reader is new, and
+   the frame's bytes stand in `held` until it is fed again. At YM_FRONT_NONE it takes all, until ym_reader_init. */
+size_t ym_reader_feed(ym_reader *reader, const uint8_t *bytes, size_t len, ym_front *front);
+
+/* ---- Block 0 ---- */
+
+enum ym_header_kind { YM_HEADER_NONE, YM_HEADER_FILE, YM_HEADER_END };
+
+typedef struct ym_header {
+    uint64_t length;    /* YM_HEADER_FILE: the length of the file */
+    uint64_t time;      /* YM_HEADER_FILE, where stamp is 1 or 2: seconds since 1970 */
+    uint32_t kind;      /* enum ym_header_kind */
+    uint32_t fault;     /* YM_HEADER_NONE: enum ym_fault; 0 where the body has neither 128 nor 1024 bytes */
+    uint32_t name_len;  /* YM_HEADER_FILE: how many bytes the name has, which stands at the front of the body */
+    uint32_t stamp;     /* YM_HEADER_FILE: 0 none, 1 a time, 2 a time and a mode */
+    uint32_t mode;      /* YM_HEADER_FILE, where stamp is 2 */
+} ym_header;
+
+/* Tells what the body of a block 0 stands for. */
+void ym_header_read(const uint8_t *body, size_t len, ym_header *header);
+
+/* Writes the body of a file's block 0 to the front of `body`, which has room for 1024 bytes. Answers how many it has, 128 or 1024; or why
+   there is no such header, an enum ym_fault; or 0 where there is less room. The body that ends a batch is 128 bytes 00. */
+uint32_t ym_header_write(const uint8_t *name, size_t name_len, uint64_t length, uint32_t stamp, uint64_t time, uint32_t mode, uint8_t *body, size_t room);
+
 #ifdef __cplusplus
 }
 #endif

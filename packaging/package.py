@@ -1,10 +1,12 @@
 #!/usr/bin/env python3
-"""Makes a Debian package or a tar file of the program, ymodem-tty, the manual pages, the completion and the documents.
+"""Makes a Debian package or a tar file of the program, ymodem-tty, the manual pages, the completion and the documents, or a Debian package of the
+library for C: the archive, the header, the file for pkg-config, the examples and their document.
 
 Two packages of one commit are the same, byte for byte: all times are that of the commit, or the environment variable SOURCE_DATE_EPOCH, and the
 version is made of the commit, or the environment variable VERSION.
 
 usage: package.py deb|dist PROGRAM FOLDER
+       package.py dev ARCHIVE FOLDER
 """
 
 import gzip
@@ -43,6 +45,27 @@ Description: proved program that sends and receives files by YMODEM
  has committed are a front of the batch that was sent, each exact.
 """
 
+DEV_CONTROL = """Package: libymodem-dev
+Source: ymodem
+Version: {version}
+Architecture: amd64
+Multi-Arch: same
+Maintainer: {maintainer}
+Installed-Size: {size}
+Suggests: ymodem, pkgconf | pkg-config
+Section: libdevel
+Priority: optional
+Description: proved YMODEM for callers in C (static library and header)
+ A receiver and a sender of batches of files by YMODEM as state machines that
+ the caller drives, for boot loaders, test benches and programs. It allocates
+ nothing, keeps nothing between calls and calls nobody back; of a C library it
+ needs memcpy, memmove, memset and memcmp.
+ .
+ It is written in Rattle, which is Rust with contracts, and proved: each call
+ returns, stays within what it is given, and takes the step of the protocol's
+ table.
+"""
+
 COPYRIGHT = """ymodem: sends and receives files by YMODEM.
 
 Copyright {year} the Nishkubo maintainers.
@@ -68,8 +91,8 @@ def said(*words, default=None):
 class Build:
     """What a package is made of."""
 
-    def __init__(self, program):
-        self.program = program
+    def __init__(self, subject):
+        self.subject = subject
         self.epoch = int(os.environ.get("SOURCE_DATE_EPOCH") or said("git", "log", "-1", "--format=%ct"))
         self.version = os.environ.get("VERSION") or self.version_by_commit()
 
@@ -82,12 +105,28 @@ class Build:
         """Puts everything below a folder. The program comes without what only a debugger reads."""
         os.makedirs(prefix, exist_ok=True)
         stripped = os.path.join(prefix, "program")
-        subprocess.run(["strip", "--strip-all", "--remove-section=.comment", "--remove-section=.note", "-o", stripped, self.program], check=True)
+        subprocess.run(["strip", "--strip-all", "--remove-section=.comment", "--remove-section=.note", "-o", stripped, self.subject], check=True)
         subprocess.run([os.path.join(ROOT, "tools", "install.sh"), stripped, prefix], check=True)
         os.remove(stripped)
         documents = os.path.join(prefix, "share", "doc", "ymodem")
         shutil.copytree(os.path.join(ROOT, "docs"), os.path.join(documents, "docs"), ignore=shutil.ignore_patterns("*.py", "*.script", "__pycache__"))
         shutil.copy(os.path.join(ROOT, "README.md"), documents)
+        return documents
+
+    def install_library(self, prefix):
+        """The same for the library, which comes without what only a debugger reads."""
+        libraries = os.path.join(prefix, "lib", "x86_64-linux-gnu")
+        documents = os.path.join(prefix, "share", "doc", "libymodem-dev")
+        for folder in (os.path.join(libraries, "pkgconfig"), os.path.join(prefix, "include"), documents):
+            os.makedirs(folder)
+        words = ["strip", "--strip-debug", "--enable-deterministic-archives", "--remove-section=.comment", "--remove-section=.note"]
+        subprocess.run([*words, "-o", os.path.join(libraries, "libymodem.a"), self.subject], check=True)
+        shutil.copy(os.path.join(ROOT, "include", "ymodem.h"), os.path.join(prefix, "include"))
+        with open(os.path.join(ROOT, "include", "ymodem.pc.in"), encoding="utf-8") as it:
+            text = it.read().replace("@PREFIX@", "/usr").replace("@LIBDIR@", "${prefix}/lib/x86_64-linux-gnu")
+        write(os.path.join(libraries, "pkgconfig", "ymodem.pc"), text)
+        shutil.copy(os.path.join(ROOT, "docs", "library.md"), documents)
+        shutil.copytree(os.path.join(ROOT, "examples"), os.path.join(documents, "examples"), ignore=shutil.ignore_patterns("out"))
         return documents
 
 
@@ -131,31 +170,41 @@ def compress(file):
 
 
 def deb(build, to):
-    beyond = linked_to(build.program) - ALLOWED
+    beyond = linked_to(build.subject) - ALLOWED
     if beyond:
         sys.exit("the program is linked to more than the C library: %s" % ", ".join(sorted(beyond)))
     with tempfile.TemporaryDirectory(prefix="ymodem-deb-") as top:
         documents = build.install(os.path.join(top, "usr"))
         share = os.path.join(top, "usr", "share")
         os.rename(os.path.join(share, "zsh", "site-functions"), os.path.join(share, "zsh", "vendor-completions"))
-        values = {"version": build.version, "maintainer": MAINTAINER, "libc": oldest_libc(build.program)}
-        values["date"] = time.strftime("%a, %d %b %Y %H:%M:%S +0000", time.gmtime(build.epoch))
-        values["year"] = time.gmtime(build.epoch).tm_year
-        write(os.path.join(documents, "copyright"), COPYRIGHT.format(**values))
-        write(os.path.join(documents, "changelog"), CHANGELOG.format(**values))
         pages = os.path.join(share, "man", "man1")
-        for file in [os.path.join(documents, "changelog"), *(os.path.join(pages, it) for it in sorted(os.listdir(pages)))]:
-            compress(file)
-        files = [os.path.join(folder, it) for folder, _, names in os.walk(top) for it in names]
-        values["size"] = sum((os.path.getsize(it) + 1023) // 1024 for it in files)
-        os.mkdir(os.path.join(top, "DEBIAN"))
-        write(os.path.join(top, "DEBIAN", "control"), CONTROL.format(**values))
-        write(os.path.join(top, "DEBIAN", "md5sums"), "".join("%s  %s\n" % (md5_of(it), os.path.relpath(it, top)) for it in sorted(files)))
-        settle(top, build.epoch)
-        made = os.path.join(to, "ymodem_%s_amd64.deb" % build.version)
-        environment = {**os.environ, "SOURCE_DATE_EPOCH": str(build.epoch), "LC_ALL": "C"}
-        words = ["dpkg-deb", "--root-owner-group", "--threads-max=1", "-Zxz", "--build", top, made]
-        subprocess.run(words, env=environment, stdout=subprocess.DEVNULL, check=True)
+        for file in sorted(os.listdir(pages)):
+            compress(os.path.join(pages, file))
+        return packed(build, top, documents, CONTROL, os.path.join(to, "ymodem_%s_amd64.deb" % build.version), libc=oldest_libc(build.subject))
+
+
+def dev(build, to):
+    with tempfile.TemporaryDirectory(prefix="ymodem-deb-") as top:
+        documents = build.install_library(os.path.join(top, "usr"))
+        return packed(build, top, documents, DEV_CONTROL, os.path.join(to, "libymodem-dev_%s_amd64.deb" % build.version))
+
+
+def packed(build, top, documents, control, made, **values):
+    """The Debian package of what stands below a folder, with its copyright and its changelog."""
+    values |= {"version": build.version, "maintainer": MAINTAINER, "year": time.gmtime(build.epoch).tm_year}
+    values["date"] = time.strftime("%a, %d %b %Y %H:%M:%S +0000", time.gmtime(build.epoch))
+    write(os.path.join(documents, "copyright"), COPYRIGHT.format(**values))
+    write(os.path.join(documents, "changelog"), CHANGELOG.format(**values))
+    compress(os.path.join(documents, "changelog"))
+    files = [os.path.join(folder, it) for folder, _, names in os.walk(top) for it in names]
+    values["size"] = sum((os.path.getsize(it) + 1023) // 1024 for it in files)
+    os.mkdir(os.path.join(top, "DEBIAN"))
+    write(os.path.join(top, "DEBIAN", "control"), control.format(**values))
+    write(os.path.join(top, "DEBIAN", "md5sums"), "".join("%s  %s\n" % (md5_of(it), os.path.relpath(it, top)) for it in sorted(files)))
+    settle(top, build.epoch)
+    environment = {**os.environ, "SOURCE_DATE_EPOCH": str(build.epoch), "LC_ALL": "C"}
+    words = ["dpkg-deb", "--root-owner-group", "--threads-max=1", "-Zxz", "--build", top, made]
+    subprocess.run(words, env=environment, stdout=subprocess.DEVNULL, check=True)
     return made
 
 
@@ -180,10 +229,10 @@ def dist(build, to):
 
 
 def main(words):
-    kinds = {"deb": deb, "dist": dist}
+    kinds = {"deb": deb, "dist": dist, "dev": dev}
     if len(words) != 3 or words[0] not in kinds:
         sys.exit(__doc__)
-    for tool in ("strip", "readelf", *(["dpkg-deb"] if words[0] == "deb" else [])):
+    for tool in ("strip", "readelf", *(["dpkg-deb"] if words[0] != "dist" else [])):
         if not shutil.which(tool):
             sys.exit("%s is missing" % tool)
     os.makedirs(words[2], exist_ok=True)

@@ -1,9 +1,9 @@
 #!/usr/bin/env python3
 """Tries the library for C: its header, the example programs against `ymodem`, `sb` and `rb`, on a line that is damaged too, calls with rubbish,
-and the receiver of the library beside that of the program.
+each end of the library beside that of the program, both ends in WebAssembly, and its Debian package.
 
-Prints a line for each check, and ends with the line 'N passed, M failed'; the status is 1 where a check failed. It needs Python and a C
-compiler; what needs clang, valgrind, g++ or lrzsz is left out where they are missing.
+Prints a line for each check, and ends with the line 'N passed, M failed, K skipped'; the status is 1 where a check failed. It needs Python and a C
+compiler; a check that needs clang, valgrind, g++, lrzsz, node or a tool for packages is skipped where that is missing, and says so.
 
 usage: library.py [WORD..]     only the checks whose names have one of these words
 The library is the archive that YM_LIBRARY names, else out/lib/x86_64-unknown-linux-gnu/libymodem.a; the program as for transfer.py.
@@ -12,7 +12,6 @@ The library is the archive that YM_LIBRARY names, else out/lib/x86_64-unknown-li
 import contextlib
 import os
 import random
-import shutil
 import socket
 import subprocess
 import sys
@@ -23,18 +22,22 @@ from concurrent.futures import ThreadPoolExecutor
 sys.dont_write_bytecode = True
 sys.path.insert(0, os.path.dirname(os.path.abspath(__file__)))
 
-from frames import END, block, header, mixed
+import library_package
 from program import LIMIT, PROGRAM, ROOT, folders, free_port, running, stored, wants_stored, write_files
 from relay import Relay, Seeded
+from shipped import outcome
+from skipping import Skipped, needs
 
 TESTS = os.path.join(ROOT, "tests")
 INCLUDE = os.path.join(ROOT, "include")
 LIBRARY = os.path.abspath(os.environ.get("YM_LIBRARY", os.path.join(ROOT, "out", "lib", "x86_64-unknown-linux-gnu", "libymodem.a")))
+WASM = "wasm64-unknown-unknown"
 STRICT = ["-Wall", "-Wextra", "-Wpedantic", "-Werror"]
 BUILT = tempfile.TemporaryDirectory(prefix="ymodem-c-")
 
-# Streams of deliveries that both receivers hear.
-STREAMS = 150
+# Streams of deliveries that an end of the library and the program's hear, for each end, and how many are under way at once.
+STREAMS = 10_000
+WORKERS = 250
 
 
 def wants(holds, text):
@@ -58,7 +61,11 @@ def built(source, name, *flags, compiler="cc"):
 
 
 def header_alone(compiler, language, standard):
-    return lambda: command(compiler, "-x", language, "-std=" + standard, *STRICT, "-fsyntax-only", os.path.join(INCLUDE, "ymodem.h"))
+    def check():
+        needs(compiler)
+        command(compiler, "-x", language, "-std=" + standard, *STRICT, "-fsyntax-only", os.path.join(INCLUDE, "ymodem.h"))
+
+    return check
 
 
 def sizes():
@@ -77,6 +84,7 @@ MAY_BE_MISSING = {"memcpy", "memmove", "memset", "memcmp"}
 
 def archive():
     """Nothing is undefined but the four, and nothing can be written."""
+    needs("nm")
     missing = {line.split()[-1] for line in command("nm", "--undefined-only", LIBRARY).splitlines() if " U " in line}
     defined = {line.split()[-1] for line in command("nm", "--defined-only", LIBRARY).splitlines() if len(line.split()) == 3}
     wants(missing - defined <= MAY_BE_MISSING, "undefined: %s" % " ".join(sorted(missing - defined - MAY_BE_MISSING)))
@@ -155,7 +163,7 @@ def from_program(line=None):
                     send.ended().wants(0, "sender done %d finished\n" % len(batch))
                     wants_end(receiver, "receive")
             wants_stored(there, batch)
-            wants(not line or line.bad_frames + line.bad_replies == line.most, "too little was damaged")
+            wants(not line or line.bad_frames + line.bad_replies >= line.most, "too little was damaged")
 
     return check
 
@@ -178,7 +186,7 @@ def to_program(line=None):
                     wants(ended.status == 0 and ended.out.endswith("receiver files %d finished\n" % len(batch)), "receive: %r %r" % (ended.out, ended.err))
                     wants_end(sender, "send")
             wants_stored(there, batch)
-            wants(not line or line.bad_frames + line.bad_replies == line.most, "too little was damaged")
+            wants(not line or line.bad_frames + line.bad_replies >= line.most, "too little was damaged")
 
     return check
 
@@ -199,158 +207,122 @@ def line_to(port):
 
 
 def sanitized():
+    needs("clang")
     path = built("tests/library_calls.c", "calls-sanitized", "-g", "-fsanitize=address,undefined", "-fno-sanitize-recover=all", compiler="clang")
-    command(path, "100000", "1")
+    command(path, "50000", "1")
 
 
 def checked_by_valgrind():
+    needs("valgrind")
     command("valgrind", "-q", "--error-exitcode=9", built("tests/library_calls.c", "calls"), "3000", "2")
 
 
 def calls():
-    command(built("tests/library_calls.c", "calls-alone"), "200000", "3")
+    command(built("tests/library_calls.c", "calls-alone"), "100000", "3")
 
 
-# ---- The same deliveries to both receivers
+# ---- The same deliveries to an end of the library and to the program's
+
+# How an end can end.
+ENDS = {
+    "sender": ("running", "finished", "no-reply", "cancelled"),
+    "receiver": ("running", "finished", "too-many-errors", "cancelled", "out-of-step", None, "sink-failed", "bad-header"),
+}
 
 
-def next_delivery(chance, name, data, at, blocks):
-    """What a sender that errs might send: mostly the next frame, else one of any place, a damaged one, or junk of the size of a whole delivery."""
-    if chance.random() < 0.04:
-        return chance.choice((b"\x18\x18", b"\x04", END, block(chance.randrange(256), chance.randbytes(128)), header(b"../up", b"3")))
-    if chance.random() < 0.03:
-        return b"\x00" + chance.randbytes(2047)
-    frames = [header(name, b"%d" % len(data)), *(block(number + 1, body) for number, body in enumerate(blocks)), b"\x04", b"\x04"]
-    return frames[at]
+def beside(end):
+    """Each delivery is answered alike, and both ends end alike; of every way to end there are some. A stream that went otherwise is made again,
+    since an end that had to wait for this machine has heard that nothing came."""
+
+    def check():
+        with tempfile.TemporaryDirectory(prefix="ymodem-") as top:
+            done = subprocess.run([BESIDE, end, PROGRAM, top, "0", str(STREAMS), str(WORKERS)], capture_output=True, text=True, timeout=LIMIT, check=False)
+        wants(done.returncode == 0, "status %d: %s" % (done.returncode, done.stderr[:900]))
+        *ends, _, _ = map(int, done.stdout.split())
+        wants(sum(ends) == STREAMS, "only %d streams" % sum(ends))
+        never = [name for name, count in zip(ENDS[end], ends) if name not in (None, "running") and not count]
+        wants(not never, "none ended %s" % never)
+
+    return check
 
 
-def same_replies(seed):
-    """A list of deliveries to both: each reply is the same, and so are the files."""
-    chance = random.Random(seed)
-    confirm = seed % 2
-    with folders() as (here, there):
-        port = free_port()
-        words = [DELIVERIES, here, str(confirm)]
-        heard = subprocess.Popen(words, stdin=subprocess.PIPE, stdout=subprocess.PIPE)
-        try:
-            with running("receive", "--port", port, *(["--single"] if confirm else []), there) as receive, line_to(port) as end:
-                end.settimeout(LIMIT)
-                state = follow(chance, heard, end)
-                end.close()
-                receive.ended()
-        finally:
-            heard.kill()
-            heard.communicate()
-        wants(stored(here) == stored(there), "seed %d: other files" % seed)
-        return state
+def from_package():
+    """The examples, built by what the Debian package has alone, at the two ends of a line."""
+    with tempfile.TemporaryDirectory(prefix="ymodem-") as top:
+        usr = library_package.unpacked(top, LIBRARY)
+        for name in ("receive", "send"):
+            source = os.path.join(usr, "share", "doc", "libymodem-dev", "examples", "c", name + ".c")
+            command("cc", "-std=gnu11", *STRICT, source, *library_package.flags(usr), "-o", os.path.join(top, name))
+        pair(lambda there: [top + "/receive", there], lambda names: [top + "/send", *names])()
 
 
-def answer(heard, delivery):
-    heard.stdin.write(len(delivery).to_bytes(4, "little") + delivery)
-    heard.stdin.flush()
-    state, length = heard.stdout.read(2)
-    return state, heard.stdout.read(length)
-
-
-def follow(chance, heard, end):
-    state, reply = answer(heard, b"")
-    number = 0
-    while not state and number < 60:
-        data = chance.randbytes(chance.choice((0, 1, 128, 1500, 5000)))
-        blocks = mixed(data)
-        name = b"file-%d" % chance.randrange(6)
-        at, same = 0, 0
-        while not state and at < len(blocks) + 3:
-            got = b""
-            while len(got) < len(reply):
-                more = end.recv(len(reply) - len(got))
-                wants(more, "the program closed, and the library answers %r" % reply)
-                got += more
-            wants(got == reply, "the program answers %r and the library %r" % (got, reply))
-            is_last = at == 0 and chance.random() < 0.15
-            delivery = END if is_last else next_delivery(chance, name, data, at, blocks)
-            end.sendall(delivery)
-            state, reply = answer(heard, delivery)
-            number += 1
-            same += 1
-            if reply[:1] in (b"\x06", b"\x15") or same > 3:
-                at, same = at + 1, 0
-    if reply:
-        got = end.recv(len(reply))
-        wants(got == reply, "the program answers at last %r and the library %r" % (got, reply))
-    return state
-
-
-def both_receivers():
-    with ThreadPoolExecutor(STREAMS) as pool:
-        ends = list(pool.map(same_replies, range(STREAMS)))
-    wants(len(set(ends)) >= 5, "the streams end alike: %s" % sorted(set(ends)))
-
-
-def all_checks():
-    notes = []
-    there = {name: shutil.which(name) for name in ("gcc", "clang", "g++", "clang++", "valgrind", "sb", "rb", "nm")}
-    checks = []
-    for compiler, language, standard in (("gcc", "c", "c99"), ("gcc", "c", "c11"), ("clang", "c", "c99"), ("clang", "c", "c11"), ("g++", "c++", "c++17"), ("clang++", "c++", "c++17")):
-        if there[compiler]:
-            checks.append(("ymodem.h alone: %s, %s" % (compiler, standard), header_alone(compiler, language, standard)))
-    checks.append(("the sizes of the structs", sizes))
-    if there["nm"]:
-        checks.append(("what the archive leaves undefined", archive))
-    checks += [
-        ("receive from send", pair(c_receive, c_send)),
-        ("receive from ymodem send", from_program()),
-        ("send to ymodem receive", to_program()),
-        ("receive from ymodem send, five deliveries damaged", from_program(Seeded(41, 0.2, 5))),
-        ("send to ymodem receive, five deliveries damaged", to_program(Seeded(42, 0.2, 5))),
-        ("calls with rubbish", calls),
-        ("the library's receiver and the program's, %d streams" % STREAMS, both_receivers),
-    ]
-    if there["clang"]:
-        checks.append(("calls with rubbish under sanitizers", sanitized))
-    if there["valgrind"]:
-        checks.append(("calls with rubbish under valgrind", checked_by_valgrind))
-    if there["sb"] and there["rb"]:
-        checks += [
-            ("receive from sb", pair(c_receive, lambda names: ["sb", "-q", *names])),
-            ("receive from sb -k", pair(c_receive, lambda names: ["sb", "-q", "-k", *names])),
-            ("send to rb", pair(lambda there: ["rb", "-q"], c_send)),
-        ]
-    else:
-        notes.append("left out: lrzsz is not installed")
-    return checks, notes
-
-
-def outcome(check):
-    began = time.monotonic()
-    try:
+def with_lrzsz(check):
+    def checked():
+        needs("sb", "rb")
         check()
-        wrong = None
-    except Exception as fault:  # a fault of a check is a failed check
-        wrong = str(fault) if isinstance(fault, AssertionError) else repr(fault)
-    return wrong, time.monotonic() - began
+
+    return checked
+
+
+def in_node():
+    """Both ends in one WebAssembly module, which the toolchain's linker makes of the archive, in node."""
+    needs("node", "rt")
+    kit = os.path.dirname(command("rt", "doc").strip())
+    linker = os.path.join(kit, "bin", "rattle-link")
+    if not os.access(linker, os.X_OK):
+        raise Skipped("there is no %s" % linker)
+    module = os.path.join(BUILT.name, "ymodem.wasm")
+    command(linker, "--target", WASM, "--toolchain", os.path.join(kit, "toolchain"), "-o", module, os.path.join(ROOT, "out", "lib", WASM, "libymodem.a"))
+    # Older ones want this flag, and newer ones may not know it.
+    flag = "--experimental-wasm-memory64"
+    flags = [flag] if subprocess.run(["node", flag, "--version"], capture_output=True, check=False).returncode == 0 else []
+    ran = subprocess.run(["node", *flags, "--no-warnings", os.path.join(TESTS, "library_wasm.mjs"), module], capture_output=True, text=True, timeout=LIMIT, check=False)
+    if ran.returncode == 77:
+        raise Skipped("node knows no memory of 64 bits: %s" % ran.stdout.strip())
+    wants(ran.returncode == 0, ran.stdout + ran.stderr)
+
+
+COMPILERS = (("gcc", "c", "c99"), ("gcc", "c", "c11"), ("clang", "c", "c99"), ("clang", "c", "c11"), ("g++", "c++", "c++17"), ("clang++", "c++", "c++17"))
+CHECKS = [
+    *(("ymodem.h alone: %s, %s" % (compiler, standard), header_alone(compiler, language, standard)) for compiler, language, standard in COMPILERS),
+    ("the sizes of the structs", sizes),
+    ("what the archive leaves undefined", archive),
+    ("receive from send", pair(c_receive, c_send)),
+    ("receive from ymodem send", from_program()),
+    ("send to ymodem receive", to_program()),
+    ("receive from ymodem send, five deliveries damaged", from_program(Seeded(41, 0.2, 5))),
+    ("send to ymodem receive, five deliveries damaged", to_program(Seeded(42, 0.2, 5))),
+    ("calls with rubbish", calls),
+    *(("the library's %s and the program's, %d streams" % (end, STREAMS), beside(end)) for end in ENDS),
+    ("calls with rubbish under sanitizers", sanitized),
+    ("calls with rubbish under valgrind", checked_by_valgrind),
+    ("receive from sb", with_lrzsz(pair(c_receive, lambda names: ["sb", "-q", *names]))),
+    ("receive from sb -k", with_lrzsz(pair(c_receive, lambda names: ["sb", "-q", "-k", *names]))),
+    ("send to rb", with_lrzsz(pair(lambda there: ["rb", "-q"], c_send))),
+    ("both ends in WebAssembly, in node", in_node),
+    ("two Debian packages of the library are the same", library_package.is_same_twice(LIBRARY)),
+    ("lintian finds no error and no warning in the library's package", library_package.lintian_is_silent(LIBRARY)),
+    ("the examples, built by what the library's package has", from_package),
+]
 
 
 def main(words):
-    global RECEIVE, SEND, DELIVERIES
+    global RECEIVE, SEND, BESIDE
     for path in (LIBRARY, PROGRAM):
         if not os.access(path, os.R_OK):
-            print("there is no %s\n0 passed, 1 failed" % path)
+            print("there is no %s\n0 passed, 1 failed, 0 skipped" % path)
             return 1
     RECEIVE, SEND = built("examples/c/receive.c", "receive"), built("examples/c/send.c", "send")
-    DELIVERIES = built("tests/library_deliveries.c", "deliveries")
-    checks, notes = all_checks()
-    checks = [it for it in checks if not words or any(word in it[0] for word in words)]
-    failed = 0
-    with ThreadPoolExecutor(len(checks) or 1) as pool:
-        for name, begun in [(name, pool.submit(outcome, check)) for name, check in checks]:
-            wrong, seconds = begun.result()
-            failed += wrong is not None
-            print("%-6s  %s (%.1f s)%s" % ("ok" if wrong is None else "FAILED", name, seconds, "" if wrong is None else ": " + wrong), flush=True)
-    for note in notes:
-        print(note)
-    print("%d passed, %d failed" % (len(checks) - failed, failed))
-    return 1 if failed else 0
+    BESIDE = built("tests/library_beside.c", "beside")
+    chosen = [it for it in CHECKS if not words or any(word in it[0] for word in words)]
+    counts = {"ok": 0, "FAILED": 0, "skipped": 0}
+    with ThreadPoolExecutor(len(chosen) or 1) as pool:
+        for name, begun in [(name, pool.submit(outcome, check)) for name, check in chosen]:
+            word, why, seconds = begun.result()
+            counts[word] += 1
+            print("%-7s  %s (%.1f s)%s" % (word, name, seconds, why), flush=True)
+    print("%d passed, %d failed, %d skipped" % (counts["ok"], counts["FAILED"], counts["skipped"]))
+    return 1 if counts["FAILED"] else 0
 
 
 sys.exit(main(sys.argv[1:]))

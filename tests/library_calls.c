@@ -20,7 +20,7 @@ static uint64_t chance(void) {
 
 static uint64_t below(uint64_t bound) { return chance() % bound; }
 
-enum place { RECEIVER, SENDER, ASK, FILL, BYTES, REPLY, BLOCKS, PLACES };
+enum place { RECEIVER, SENDER, ASK, FILL, BYTES, REPLY, BLOCKS, READER, HEADER, FRAME, PLACES };
 
 /* So many bytes before a page that faults, at a multiple of 8 where `len` is one. */
 static uint8_t *room(enum place place, size_t len) {
@@ -165,6 +165,56 @@ static void read_frame(void) {
     wants(ym_check(bytes, len) < 65536, "a check");
 }
 
+/* A frame of a header that was written, or of any body: fed in pieces it is found, and read again it is what it was. */
+static void whole_frame(ym_reader *reader) {
+    uint8_t body[1024], frame[1029];
+    ym_front front = { 0 };
+    ym_header *header = (ym_header *)(void *)room(HEADER, sizeof *header);
+    uint32_t stamp = (uint32_t)below(3), mode = (uint32_t)chance(), size;
+    uint64_t length = chance() >> 1, time = chance();
+    int is_header = below(2) != 0;
+    rubbish(body, sizeof body);
+    size = is_header ? ym_header_write((const uint8_t *)"some name", 9, length, stamp, time, mode, body, sizeof body) : below(2) ? 128 : 1024;
+    wants(size == 128 || size == 1024, "a header is written");
+    wants(ym_frame_write(300, body, size, frame, size + 5) == size + 5 && ym_frame_write(300, body, size, frame, size + 4) == 0, "a frame is written");
+    ym_reader_init(reader);
+    for (size_t used = 0, len = size + 5; used < len;) {
+        size_t piece = 1 + below(below(2) ? 4 : len), taken;
+        if (piece > len - used) piece = len - used;
+        taken = ym_reader_feed(reader, frame + used, piece, &front);
+        wants(taken > 0 && taken <= piece, "a reader takes");
+        used += taken;
+        wants((front.kind == YM_FRONT_BLOCK) == (used == len), "a reader finds the frame at its end");
+    }
+    wants(front.number == 300 % 256 && front.size == size && front.length == size + 5 && memcmp(reader->held + 3, body, size) == 0, "a reader finds the block");
+    if (!is_header) return;
+    ym_header_read(reader->held + 3, size, header);
+    wants(header->kind == YM_HEADER_FILE && header->length == length && header->name_len == 9 && memcmp(reader->held + 3, "some name", 9) == 0, "a header is read");
+    wants(header->stamp == stamp && (!stamp || header->time == time) && (stamp != 2 || header->mode == mode), "its stamp is read");
+}
+
+static void read_pieces(ym_reader *reader, ym_header *header) {
+    ym_front front;
+    size_t len = below(8) ? below(40) : below(1100), space = below(3) ? 1024 : below(1030);
+    uint8_t *bytes = room(BYTES, len), *body = room(FRAME, space);
+    rubbish(reader, sizeof *reader);
+    if (below(2)) reader->why = (uint32_t)below(6);
+    if (below(2)) reader->len = (uint32_t)below(1040);
+    rubbish(bytes, len);
+    if (below(2)) reader->held[0] = (uint8_t)below(5);
+    wants(ym_reader_feed(reader, bytes, len, &front) <= len && front.kind <= YM_FRONT_NONE, "a reader of rubbish");
+    ym_header_read(bytes, len, header);
+    wants(header->kind <= YM_HEADER_END && header->fault <= YM_LENGTH_LARGE, "a header of rubbish");
+    rubbish(body, space);
+    if (space) body[below(space)] = 0;
+    ym_header_read(body, space, header);
+    wants(header->kind <= YM_HEADER_END && (header->kind != YM_HEADER_FILE || header->name_len <= 255), "a header of a block of rubbish");
+    uint32_t made = ym_header_write(bytes, len, number(), (uint32_t)below(4), number(), (uint32_t)chance(), body, space);
+    wants((made == 0) == (space < 1024) && (made <= YM_LENGTH_LARGE || made == 128 || made == 1024), "a header of a name of rubbish");
+    size_t framed = (len == 128 || len == 1024) && len + 5 <= space ? len + 5 : 0;
+    wants(ym_frame_write((uint32_t)chance(), bytes, len, body, space) == framed, "a body of any size");
+}
+
 int main(int words, char **word) {
     long rounds = words > 1 ? atol(word[1]) : 100000;
     state = words > 2 ? strtoull(word[2], NULL, 10) | 1 : 88172645463325253ull;
@@ -172,11 +222,15 @@ int main(int words, char **word) {
     ym_sender *sender = (ym_sender *)(void *)room(SENDER, sizeof *sender);
     ym_ask *ask = (ym_ask *)(void *)room(ASK, sizeof *ask);
     ym_fill *fill = (ym_fill *)(void *)room(FILL, sizeof *fill);
+    ym_reader *reader = (ym_reader *)(void *)room(READER, sizeof *reader);
+    ym_header *header = (ym_header *)(void *)room(HEADER, sizeof *header);
     memset(sender, 0, sizeof *sender);
     for (long i = 0; i < rounds; i++) {
         receive(receiver, sender, ask);
         send(sender, fill);
         read_frame();
+        read_pieces(reader, header);
+        whole_frame(reader);
     }
     for (int i = 0; i < 4; i++) wants(rounds < 20000 || asked[i], "some ask never came");
     for (int i = 0; i < 3; i++) wants(rounds < 20000 || filled[i], "some fill never came");

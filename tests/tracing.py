@@ -10,10 +10,10 @@ CALL = re.compile(r"(\d+) +(\w+)\((.*)\) += (-?\d+|\?)(.*)")
 
 
 class Call:
-    """One call: its name, its arguments as strace prints them, what it answered, and whether that was made up."""
+    """One call: its name, its arguments as strace prints them, what it answered, what stands behind that, and whether it was made up."""
 
     def __init__(self, name, arguments, answer, rest):
-        self.name, self.arguments, self.answer = name, arguments, answer
+        self.name, self.arguments, self.answer, self.rest = name, arguments, answer, rest
         self.is_injected = "(INJECTED)" in rest
 
     def __repr__(self):

@@ -33,6 +33,7 @@ import small_disk_checks
 import socket_checks
 import stall_checks
 import storage_checks
+import tape_checks
 import transfer_checks
 from program import PROGRAM, Skipped
 from pulse import Pulse
@@ -41,7 +42,7 @@ from storing import steadily
 # What depends on how soon this process answers comes first, and by itself: most of these checks wait most of the time. The others have work to do.
 TIMED = (transfer_checks, peer_checks, late_checks, stall_checks, line_checks)
 TIMED_AT_ONCE = 500
-OTHERS = (kill_checks, refused_call_checks, power_cut_checks, storage_checks, small_disk_checks, socket_checks)
+OTHERS = (kill_checks, refused_call_checks, power_cut_checks, storage_checks, small_disk_checks, socket_checks, tape_checks)
 OTHERS_AT_ONCE = 60
 
 # How often a check is made on a machine that does not keep time.

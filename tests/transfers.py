@@ -15,8 +15,8 @@ class Carried:
         self.sent, self.received, self.kept = sent, received, kept
 
 
-def carried(files, relay_to, flags=(), there_is=()):
-    """Sends files through the relay that this makes to a port."""
+def carried(files, relay_to, flags=(), there_is=(), tools=((), ())):
+    """Sends files through the relay that this makes to a port; the tools are words before those of the sender and of the receiver."""
     send_flags = [it for it in flags if it == "--short"]
     receive_flags = [it for it in flags if it == "--single"]
     with folders() as (here, there):
@@ -26,9 +26,9 @@ def carried(files, relay_to, flags=(), there_is=()):
         relay = relay_to(port)
         relay.start()
         with contextlib.ExitStack() as children:
-            receive = children.enter_context(running("receive", "--port", port, *receive_flags, there))
+            receive = children.enter_context(running("receive", "--port", port, *receive_flags, there, before=tools[1]))
             relay.due.wait()
-            send = children.enter_context(running("send", "--port", relay.port, *send_flags, *paths))
+            send = children.enter_context(running("send", "--port", relay.port, *send_flags, *paths, before=tools[0]))
             received, sent = receive.ended(), send.ended()
         relay.join()
         if relay.fault:

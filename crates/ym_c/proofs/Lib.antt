@@ -1,2 +1,4 @@
 pub mod Openings
 pub mod Bodies
+pub mod Fronts
+pub mod Places

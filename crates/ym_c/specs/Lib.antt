@@ -4,3 +4,4 @@ pub mod Feeding
 pub mod Receiving
 pub mod Sending
 pub mod Fronts
+pub mod Headers

@@ -1,5 +1,5 @@
 -- A receiver as C keeps it, and what its calls do.
-use Rattle.std.specs.Prelude.{ℕ, ◌≡◌, ◌≤◌, List, length, take, ◌==◌, if◌then◌else◌}
+use Rattle.std.specs.Prelude.{ℕ, ◌≡◌, ◌≤◌, List, length, take, drop, ◌==◌, if◌then◌else◌}
 use Rattle.ym_header.specs.declared.stamp.Stamp.{Stamp}
 use Rattle.ym_header.specs.declared.stamp.Stamp.TheVariants.{Nothing, Time, TimeMode}
 use Rattle.ym_core.specs.Receiver.{Receiver, Call, No_call, Begins, Adds, Commits, Step, ends}
@@ -35,6 +35,12 @@ IsAsk No_call ask = ask.kind ≡ 0
 IsAsk (Begins header) ask = (ask.kind ≡ 1) × (ask.length ≡ header.length) × (ask.count ≡ length header.name) × IsStamped ask header.stamp
 IsAsk (Adds bytes) ask = (ask.kind ≡ 2) × (ask.count ≡ length bytes)
 IsAsk Commits ask = ask.kind ≡ 3
+
+-- where the name of a file, or the bytes to add, stand in the delivery
+abbrev pub IsPlaced : Call → YmAsk → List ℕ → Type 0
+IsPlaced (Begins header) ask held = take ask.count (drop ask.at held) ≡ header.name
+IsPlaced (Adds bytes) ask held = take ask.count (drop ask.at held) ≡ bytes
+IsPlaced _ ask held = Unit {0}
 
 -- whether no frame was heard
 abbrev pub bad_code : Heard → ℕ

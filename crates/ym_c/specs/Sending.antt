@@ -13,6 +13,7 @@ use Rattle.ym_core.specs.declared.state.SendState.TheVariants.{Running, Finished
 use Rattle.ym_c.specs.declared.sender.YmSender.{YmSender}
 use Rattle.ym_c.specs.declared.sender.YmFill.{YmFill}
 use Rattle.ym_c.specs.Codes.{bool_code}
+use Rattle.ym_machine.specs.declared.limits.TheConstants.{GIVE_UP, MOST_FILES}
 
 abbrev pub KeepsPlace : YmSender → Place → Type 0
 KeepsPlace s (Header file) = (s.place ≡ 0) × (s.file ≡ file)
@@ -49,9 +50,9 @@ pub record KeepsStanding (s : YmSender) (standing : Standing) : Type 0 where
 -- where a sender of a batch of so many blocks a file can come to stand; a batch has at most 65,535 files
 pub record Stands (blocks : List ℕ) (standing : Standing) : Type 0 where
   pub place : IsPlace blocks standing.place
-  pub misses : standing.misses ≤ 10
-  pub runs : standing.state ≡ Running → standing.misses < 10
-  pub few : length blocks ≤ 65535
+  pub misses : standing.misses ≤ GIVE_UP
+  pub runs : standing.state ≡ Running → standing.misses < GIVE_UP
+  pub few : length blocks ≤ MOST_FILES
 
 -- what is to be filled
 abbrev pub IsFill : Option Place → YmFill → Type 0

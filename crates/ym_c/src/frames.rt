@@ -1,10 +1,12 @@
 //! The check, and what stands at the front of some bytes.
 
-ghost use Rattle.std.specs.Prelude.{◌≡◌};
+ghost use Rattle.std.specs.Prelude.{◌≡◌, ◌⊎◌, ◌↔◌, ◌<◌, ◌≤◌, ◌+◌, ◌%◌, take, length as list_length};
 ghost use Rattle.ym_frame.specs.Check.{check_of};
 ghost use Rattle.ym_frame.specs.Frame.{verdict_of};
+ghost use Rattle.ym_frame.specs.Seal.{IsBlockFrame};
 ghost use Rattle.ym_c.specs.Fronts.{IsFront};
 
+use crate::sender::seal_frame;
 use ym_frame::{Broken, ItemRef, Why, check16, verdict};
 
 /// What stands at the front of some bytes.
@@ -54,4 +56,19 @@ pub extern "C" fn ym_frame_read(bytes: &[u8], front: &mut YmFront)
             front.length = place as u64;
         }
     }
+}
+
+/// Makes the frame of the block of this number, modulo 256, and this body at the front of `frame`, and
+/// answers its length; 0 where the body has neither 128 nor 1024 bytes, or the frame has no room.
+#[unsafe(no_mangle)]
+pub extern "C" fn ym_frame_write(number: u32, body: &[u8], frame: &mut [u8]) -> usize
+    ensures made { 0 < result → IsBlockFrame (number % 256) body.now (take result frame.new) }
+    ensures whether { 0 < result ↔ (((list_length body.now ≡ 128) ⊎ (list_length body.now ≡ 1024)) × list_length body.now + 5 ≤ list_length frame.old) }
+{
+    let size = body.len();
+    if (size != 128 && size != 1024) || frame.len() < size + 5 {
+        return 0;
+    }
+    seal_frame(&mut frame[..size + 5], (number % 256) as u8, body);
+    size + 5
 }

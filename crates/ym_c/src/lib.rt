@@ -6,11 +6,15 @@
 mod codes;
 mod feeding;
 mod frames;
+mod headers;
+mod reader;
 mod receiver;
 mod sender;
 mod stand;
 
 pub use frames::YmFront;
+pub use headers::YmHeader;
+pub use reader::YmReader;
 pub use receiver::{YmAsk, YmReceiver};
 pub use sender::{YmFill, YmSender};
 pub use stand::YmStand;

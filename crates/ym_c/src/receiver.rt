@@ -12,7 +12,7 @@ ghost use Rattle.ym_core.specs.HeardRef.{owned_heard};
 ghost use Rattle.ym_c.specs.Codes.{confirm_of, reply_code};
 ghost use Rattle.ym_c.specs.Stands.{Keeps};
 ghost use Rattle.ym_c.specs.Feeding.{Feeds};
-ghost use Rattle.ym_c.specs.Receiving.{Holds, Awaits, IsAsk, IsStamped, bad_code, outcome};
+ghost use Rattle.ym_c.specs.Receiving.{Holds, Awaits, IsAsk, IsPlaced, IsStamped, bad_code, outcome};
 
 use crate::codes::{code_of_reply, reply_of};
 use crate::feeding::{take_bytes, wanted};
@@ -112,6 +112,7 @@ pub extern "C" fn ym_receiver_wants(receiver: &YmReceiver) -> usize
 fn tell(asked: &Ask<'_>, ask: &mut YmAsk)
     ensures told { IsAsk (call_of asked.entry.now) ask.new }
     ensures bad { ask.new.bad ≡ ask.old.bad }
+    ensures at { ask.new.at ≡ 3 }
 {
     ask.length = 0;
     ask.time = 0;
@@ -160,7 +161,8 @@ fn code_of_bad(heard: &HeardRef<'_>) -> u32
 /// Hears a delivery where a receiver stands: keeps where it will stand, tells what is asked, and
 /// answers the number of the reply.
 fn hear_into(core: ReceiverCore, bytes: &[u8], next: &mut YmStand, ask: &mut YmAsk) -> u32
-    ensures { (zero : Result Zero HeaderFault) × Means core (heard_of bytes.now) zero
+    ensures at { ask.new.at ≡ 3 }
+    ensures heard { (zero : Result Zero HeaderFault) × Means core (heard_of bytes.now) zero
         × Keeps next.new (hears core zero (heard_of bytes.now)).receiver
         × (result ≡ reply_code (hears core zero (heard_of bytes.now)).reply)
         × IsAsk (hears core zero (heard_of bytes.now)).call ask.new
@@ -183,6 +185,7 @@ pub extern "C" fn ym_receiver_hear(receiver: &mut YmReceiver, ask: &mut YmAsk)
         × Awaits receiver.new core (hears core zero (heard_of held))
         × Holds receiver.new core held
         × IsAsk (hears core zero (heard_of held)).call ask.new
+        × IsPlaced (hears core zero (heard_of held)).call ask.new held
         × (ask.new.bad ≡ bad_code (heard_of held)) }
 {
     let core = load(&receiver.stand);

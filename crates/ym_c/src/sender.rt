@@ -13,10 +13,12 @@ ghost use Rattle.ym_header.specs.Text.{text, end_text};
 ghost use Rattle.ym_c.specs.Codes.{bool_code};
 ghost use Rattle.ym_c.specs.Fronts.{stamp_of};
 ghost use Rattle.ym_c.specs.Sending.{FitsC, KeepsPlace, send_code, KeepsStanding, Stands, IsFill, IsFilled, out_code};
+ghost use Rattle.ym_machine.specs.declared.limits.TheConstants.{GIVE_UP};
 
 use crate::codes::code_of_fault;
 use ym_core::{Batch, Mode, Place, SendState, Standing, first_place};
 use ym_frame::seal_block;
+use ym_machine::GIVE_UP;
 use ym_header::{HeaderRef, Stamp, write_body};
 
 /// A sender, and the frame that was filled last.
@@ -123,7 +125,7 @@ fn state_of(state: u32) -> Option<SendState>
 fn load(kept: &YmSender, blocks: &[u64]) -> Standing
     ensures kept { (s : Stood) → KeepsStanding kept.now s → Stands blocks.now s → result ≡ s }
     ensures place { IsPlace blocks.now result.place }
-    ensures misses { result.state ≡ Running → result.misses < 10 }
+    ensures misses { result.state ≡ Running → result.misses < GIVE_UP }
 {
     let Some(place) = place_of(kept, blocks) else {
         return ended();
@@ -132,7 +134,7 @@ fn load(kept: &YmSender, blocks: &[u64]) -> Standing
         return ended();
     };
     let misses = u8::try_from(kept.misses).unwrap_or(u8::MAX);
-    if state == SendState::Running && misses >= 10 {
+    if state == SendState::Running && misses >= GIVE_UP {
         return ended();
     }
     Standing {
@@ -186,7 +188,7 @@ pub extern "C" fn ym_sender_init(sender: &mut YmSender, blocks: &[u64])
 }
 
 /// Makes the frame of the block of this number and this body.
-fn seal_frame(frame: &mut [u8], number: u8, body: &[u8])
+pub fn seal_frame(frame: &mut [u8], number: u8, body: &[u8])
     requires sized { (length body.now ≡ 128) ⊎ (length body.now ≡ 1024) }
     requires room { length frame.old ≡ length body.now + 5 }
     ensures { IsBlockFrame number body.now frame.new }
@@ -286,7 +288,7 @@ pub extern "C" fn ym_sender_settled(sender: &YmSender, blocks: &[u64], bytes: &[
 }
 
 /// The stamp of these numbers.
-fn stamp_from(kind: u32, time: u64, mode: u32) -> Stamp
+pub fn stamp_from(kind: u32, time: u64, mode: u32) -> Stamp
     ensures { result ≡ stamp_of kind time mode }
 {
     match kind {

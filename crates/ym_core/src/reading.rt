@@ -85,6 +85,7 @@ fn turn<B: Batch>(batch: &B, place: Place, mode: Mode, control: Control) -> Read
 }
 
 /// Reads a delivery, from a place and a mode on.
+#[inline(always)]
 pub fn read_delivery<B: Batch>(batch: &B, place: Place, mode: Mode, bytes: &[u8]) -> Reading
     requires { IsPlace (B.counts batch.now) place }
     ensures reads { result ≡ table.reads (B.counts batch.now) place mode (table.controls_in bytes.now) }

@@ -15,8 +15,7 @@ use crate::stage::{OpenFile, Stage};
 use crate::stand::Stand;
 use crate::state::RecvState;
 use std::marker::Model;
-use steps::{COUNT_LIMIT, FILES_LIMIT};
-use ym_machine::Confirm;
+use ym_machine::{Confirm, GIVE_UP, MOST_FILES};
 
 /// A receiver apart from its files. Contracts see it as the table's.
 #[derive(Clone, Copy)]
@@ -52,7 +51,7 @@ fn file_fits(file: OpenFile, count: u8) -> bool
         first_eot,
     } = file;
     // no sum here is above 2^63 + 265
-    let drops = u64::from(count) + if first_eot { 10 } else { 0 };
+    let drops = u64::from(count) + u64::from(if first_eot { GIVE_UP } else { 0 });
     taken <= length
         && length < 0x8000_0000_0000_0000
         && (taken == length || blocks <= taken)
@@ -66,8 +65,8 @@ fn stage_fits(stage: Stage, files: usize, count: u8) -> bool
     ensures { IsTrue result ↔ (LengthFits stage × BlocksFit stage count × FilesFit stage files) }
 {
     match stage {
-        Stage::AwaitHeader => files <= FILES_LIMIT,
-        Stage::InFile(file) => files < FILES_LIMIT && file_fits(file, count),
+        Stage::AwaitHeader => files <= MOST_FILES,
+        Stage::InFile(file) => files < MOST_FILES && file_fits(file, count),
     }
 }
 
@@ -96,10 +95,10 @@ impl ReceiverCore {
             count,
             state,
         } = stand;
-        if !stage_fits(stage, files, count) || count > COUNT_LIMIT {
+        if !stage_fits(stage, files, count) || count > GIVE_UP {
             return None;
         }
-        if state == RecvState::Running && count >= COUNT_LIMIT {
+        if state == RecvState::Running && count >= GIVE_UP {
             return None;
         }
         Some(ReceiverCore {

@@ -1,17 +1,16 @@
 //! What a sender keeps beside its files and its frame, and what a delivery makes of it.
 
-ghost use Rattle.std.specs.Prelude.{◌≡◌, ◌<◌, true, false};
+ghost use Rattle.std.specs.Prelude.{◌≡◌, ◌<◌, ℕ, List, true, false};
 ghost use Rattle.ym_core.specs.Place.{IsPlace};
 ghost use Rattle.ym_core.specs.Reading.{controls_in};
 ghost use Rattle.ym_core.specs.Standing as table;
+ghost use Rattle.ym_machine.specs.declared.limits.TheConstants.{GIVE_UP};
 
 use crate::batch::Batch;
 use crate::place::{Mode, Place};
 use crate::reading::{Reading, Stop, read_delivery};
 use crate::state::SendState;
-
-/// Deliveries in a row without progress after which a sender gives up.
-const MOST_MISSES: u8 = 10;
+use ym_machine::GIVE_UP;
 
 /// Where a sender stands.
 #[derive(Clone, Copy, Debug, PartialEq, Eq)]
@@ -53,12 +52,12 @@ impl Standing {
 
     /// After a delivery without progress.
     fn missed(self) -> Standing
-        requires { self.misses < 10 }
+        requires { self.misses < GIVE_UP }
         ensures step { result ≡ (table.missed self).standing }
-        ensures misses { result.state ≡ SendState.Running → result.misses < 10 }
+        ensures misses { result.state ≡ SendState.Running → result.misses < GIVE_UP }
     {
         let misses = self.misses + 1;
-        if misses < MOST_MISSES {
+        if misses < GIVE_UP {
             Standing { misses, ..self }
         } else {
             Standing {
@@ -93,11 +92,13 @@ impl Standing {
         }
     }
 
-    /// After a delivery has been read.
-    fn after_reading(self, read: Reading) -> SendStep
-        requires { self.misses < 10 }
+    /// After a delivery that a running sender has read, by `read_delivery` from its place and mode on: what `after` gives on its
+    /// bytes, without reading them again.
+    pub fn after_reading(self, read: Reading) -> SendStep
+        requires { self.misses < GIVE_UP }
         ensures step { result ≡ table.after_reading self read.place read.mode read.stop }
-        ensures misses { result.standing.state ≡ SendState.Running → result.standing.misses < 10 }
+        ensures within { (counts : List ℕ) → IsPlace counts self.place → IsPlace counts read.place → IsPlace counts result.standing.place }
+        ensures misses { result.standing.state ≡ SendState.Running → result.standing.misses < GIVE_UP }
     {
         let standing = match read.stop {
             Some(Stop::Sends) => {
@@ -135,10 +136,10 @@ impl Standing {
     /// it to send it again; where it cannot make that frame, it keeps `source_failed`.
     pub fn after<B: Batch>(self, batch: &B, bytes: &[u8]) -> SendStep
         requires place { IsPlace (B.counts batch.now) self.place }
-        requires misses { self.state ≡ SendState.Running → self.misses < 10 }
+        requires misses { self.state ≡ SendState.Running → self.misses < GIVE_UP }
         ensures step { result ≡ table.hears (B.counts batch.now) self (controls_in bytes.now) }
         ensures within { IsPlace (B.counts batch.now) result.standing.place }
-        ensures runs { result.standing.state ≡ SendState.Running → result.standing.misses < 10 }
+        ensures runs { result.standing.state ≡ SendState.Running → result.standing.misses < GIVE_UP }
     {
         if self.state == SendState::Running {
             self.after_reading(read_delivery(batch, self.place, self.mode, bytes))

@@ -1,13 +1,12 @@
 //! What stands at the front of some bytes, without a copy: a block's body stays where it is.
 
 ghost use Rattle.std.specs.Prelude.{◌≡◌, ◌⊎◌, ◌↔◌, IsTrue, length as list_length};
-ghost use Rattle.ym_frame.specs.Block.{length_of};
-ghost use Rattle.ym_frame.specs.Frame.{verdict_of, block_verdict, IsOpen};
+ghost use Rattle.ym_frame.specs.Frame.{verdict_of, IsOpen};
 ghost use Rattle.ym_frame.specs.ItemRef.{owned_item, owned_verdict};
+ghost use Rattle.ym_frame.specs.WholeFrame.{item_in, IsThere};
 
-use crate::block::{Block, Size};
-use crate::check::check16;
-use crate::frame::{Broken, CAN, EOT, Item, SOH, STX, Why};
+use crate::block::Block;
+use crate::frame::{Broken, Item, Whole, Why, whole_at};
 use std::marker::Model;
 
 /// A block's number, and its body where it stands. Contracts see it as `Block`.
@@ -81,70 +80,34 @@ impl<'a> ItemRef<'a> {
     }
 }
 
+impl Whole {
+    /// The item of the whole frame that these bytes begin with, a block's body where it stands in them.
+    pub fn item(self, frame: &[u8]) -> ItemRef<'_>
+        requires { IsThere self frame.now }
+        ensures { owned_item result ≡ item_in self frame.entry.now }
+    {
+        match self {
+            Whole::Block(size) => ItemRef::Block(BlockRef {
+                number: frame[1],
+                body: &frame[3..][..size.body_len()],
+            }),
+            Whole::Eot => ItemRef::Eot,
+            Whole::Cancel => ItemRef::Cancel,
+        }
+    }
+}
+
 /// The item of the prefix of `bytes` that is a frame, and the length of that prefix: `decode` without
 /// a copy.
 ///
 /// # Errors
 ///
 /// Where and why no prefix is a frame, as `decode` has it.
-#[tactic(auto, unfolding(crate::specs::Frame::verdict_of))]
 pub fn verdict(bytes: &[u8]) -> Result<(ItemRef<'_>, usize), Broken>
     ensures { owned_verdict result ≡ verdict_of bytes.entry.now }
 {
-    match bytes {
-        [] => Err(Broken {
-            place: 0,
-            why: Why::Cut,
-        }),
-        [EOT, ..] => Ok((ItemRef::Eot, 1)),
-        [CAN] => Err(Broken {
-            place: 1,
-            why: Why::Cut,
-        }),
-        [CAN, CAN, ..] => Ok((ItemRef::Cancel, 2)),
-        [CAN, ..] => Err(Broken {
-            place: 1,
-            why: Why::SecondCan,
-        }),
-        [SOH, ..] => block_at(bytes, Size::Short),
-        [STX, ..] => block_at(bytes, Size::Long),
-        _ => Err(Broken {
-            place: 0,
-            why: Why::FirstByte,
-        }),
-    }
-}
-
-/// The verdict on bytes that begin as a block of this size.
-fn block_at(bytes: &[u8], size: Size) -> Result<(ItemRef<'_>, usize), Broken>
-    ensures { owned_verdict result ≡ block_verdict (length_of size) bytes.entry.now }
-{
-    let len = size.body_len();
-    if bytes.len() > 2 && bytes[2] != 255 - bytes[1] {
-        return Err(Broken {
-            place: 2,
-            why: Why::Complement,
-        });
-    }
-    if bytes.len() < len + 5 {
-        return Err(Broken {
-            place: bytes.len(),
-            why: Why::Cut,
-        });
-    }
-    let body = &bytes[3..][..len];
-    let field = u16::from_be_bytes([bytes[len + 3], bytes[len + 4]]);
-    if check16(body) != field {
-        return Err(Broken {
-            place: len + 3,
-            why: Why::Check,
-        });
-    }
-    let block = BlockRef {
-        number: bytes[1],
-        body,
-    };
-    Ok((ItemRef::Block(block), len + 5))
+    let whole = whole_at(bytes)?;
+    Ok((whole.item(bytes), whole.len()))
 }
 
 /// Whether these bytes may go on to a frame.

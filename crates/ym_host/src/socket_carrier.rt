@@ -2,16 +2,15 @@
 
 ghost use Rattle.std.specs.Prelude.{◌≡◌, ◌≢◌, ◌<◌, None, Ok, Err, OnOk, length};
 ghost use Rattle.ym_file.specs.Counts.{Rose};
+ghost use Rattle.ym_link.specs.declared.port.TheConstants.{DELIVERY_LIMIT};
 
 use std::io;
 use std::io::{Read, Write};
 use std::marker::Model;
 use std::net::TcpStream;
 use std::time::Duration;
+use ym_link::DELIVERY_LIMIT;
 use ym_line::{Carrier, CarryFault, Way};
-
-/// How many bytes a delivery has at most.
-const DELIVERY_LIMIT: usize = 2048;
 
 /// How many seconds a delivery may take from one end of the connection to the other.
 const WAIT_SECONDS: u64 = 10;
@@ -107,7 +106,7 @@ impl Carrier for SocketCarrier {
     fn carry(&mut self, way: Way, bytes: &[u8], into: &mut Vec<u8>) -> Result<(), CarryFault>
         ensures arrived { OnOk result (into.new.items ≡ bytes.now) }
         ensures broken { self.old ≢ 0 → result ≡ Err CarryFault.Device }
-        ensures limit { 2048 < length bytes.now → result ≢ Ok tt }
+        ensures limit { DELIVERY_LIMIT < length bytes.now → result ≢ Ok tt }
         ensures failed { result ≡ Err CarryFault.Device → Rose self.old self.new }
         ensures not_failed { result ≢ Err CarryFault.Device → self.new ≡ self.old }
     {

@@ -89,21 +89,21 @@ needed-is laws pair fresh files = ap (λ n. 2 + n) (needed-files laws (confirm_o
 
 -- ---- How the ends stand
 
-sender-going : (end : SenderEnd) (s : SendState) → s ≡ sender.state_of end → SenderGoes end → (s ≡ send_state.Running) ⊎ (s ≡ send_state.Finished)
+pub sender-going : (end : SenderEnd) (s : SendState) → s ≡ sender.state_of end → SenderGoes end → (s ≡ send_state.Running) ⊎ (s ≡ send_state.Finished)
 sender-going SenderEnd.Running s is goes = inl is
 sender-going SenderEnd.Finished s is goes = inr is
 sender-going _ s is goes = absurd goes
 
-receiver-going : (end : ReceiverEnd) (s : RecvState) → s ≡ receiver.state_of end → ReceiverGoes end → (s ≡ recv_state.Running) ⊎ (s ≡ recv_state.Finished)
+pub receiver-going : (end : ReceiverEnd) (s : RecvState) → s ≡ receiver.state_of end → ReceiverGoes end → (s ≡ recv_state.Running) ⊎ (s ≡ recv_state.Finished)
 receiver-going ReceiverEnd.Running s is goes = inl is
 receiver-going ReceiverEnd.Finished s is goes = inr is
 receiver-going _ s is goes = absurd goes
 
-sender-runs : (end : SenderEnd) → sender.state_of end ≡ send_state.Running → end ≡ SenderEnd.Running
+pub sender-runs : (end : SenderEnd) → sender.state_of end ≡ send_state.Running → end ≡ SenderEnd.Running
 sender-runs SenderEnd.Running is = refl
 sender-runs _ is = absurd (cc)
 
-sender-finished : (end : SenderEnd) → sender.state_of end ≡ send_state.Finished → end ≡ SenderEnd.Finished
+pub sender-finished : (end : SenderEnd) → sender.state_of end ≡ send_state.Finished → end ≡ SenderEnd.Finished
 sender-finished SenderEnd.Finished is = refl
 sender-finished _ is = absurd (cc)
 

@@ -88,7 +88,7 @@ receiver-still confirm files old new r kept same stands = record {
 
 -- ---- The sources
 
-source-truth : (failed : Bool) (fills : Option Place) (old new : List FileParts) → IsFilled failed fills old new → IsSourceTruth failed old new
+pub source-truth : (failed : Bool) (fills : Option Place) (old new : List FileParts) → IsFilled failed fills old new → IsSourceTruth failed old new
 source-truth false (Some (Block file k)) old new filled = inr (file, filled)
 source-truth false (Some (Header file)) old new filled = inl filled
 source-truth false (Some (Eot file)) old new filled = inl filled
@@ -98,7 +98,7 @@ source-truth true (Some (Block file k)) old new filled = (file, filled)
 source-truth true _ old new filled = absurd filled
 
 -- the files go on to tell their bytes
-still-told : (failed : Bool) (old new : List FileParts) → IsSourceTruth failed old new → AllTold old → AllTold new
+pub still-told : (failed : Bool) (old new : List FileParts) → IsSourceTruth failed old new → AllTold old → AllTold new
 still-told false old new (inl same) told = rw same told
 still-told false old new (inr truth) told =
     let tells : FileParts → Type 0 = λ f. IsSome f.bytes in

@@ -24,7 +24,7 @@ use Rattle.ym_line.specs.Turns.{AreTurns, IsTurn, IsSourceTruth, came_of, is_who
 
 -- ---- Counts never fall
 
-rose-on : (a b c : ℕ) → Rose a b → b ≤ c → Rose a c
+pub rose-on : (a b c : ℕ) → Rose a b → b ≤ c → Rose a c
 rose-on a b c (inl below) within = inl (omega (arith, below, within))
 rose-on a b c (inr most) within = elim (eq-or-lt_of_le within) [
   | inl same ↦ inr (most.0, sym same ∙ most.1)
@@ -35,7 +35,7 @@ rose-grew : (a b : ℕ) → Rose a b → a ≤ b
 rose-grew a b (inl below) = omega (arith, below)
 rose-grew a b (inr most) = omega (arith, most.1)
 
-tells-grew : (failed : Bool) (a b : ℕ) → Tells failed a b → a ≤ b
+pub tells-grew : (failed : Bool) (a b : ℕ) → Tells failed a b → a ≤ b
 tells-grew true a b rose = rose-grew a b rose
 tells-grew false a b same = omega (arith, same)
 
@@ -62,7 +62,7 @@ filled-same at old new asked i = elim (cases_eq i at) [
       ap (λ (f : FileParts). f.failures) kept_is
 ]
 
-sources-grew : (failed : Bool) (old new : List FileParts) → IsSourceTruth failed old new → (i : ℕ) → (file_at old i).failures ≤ (file_at new i).failures
+pub sources-grew : (failed : Bool) (old new : List FileParts) → IsSourceTruth failed old new → (i : ℕ) → (file_at old i).failures ≤ (file_at new i).failures
 sources-grew true old new truth i = failed-grew truth.0 old new truth.1 i
 sources-grew false old new (inl truth) i = let same : (file_at new i).failures ≡ (file_at old i).failures = ap (λ l. (file_at l i).failures) truth in omega (arith, same)
 sources-grew false old new (inr truth) i = let same = filled-same truth.0 old new truth.1 i in omega (arith, same)
@@ -71,7 +71,7 @@ sources-grew false old new (inr truth) i = let same = filled-same truth.0 old ne
 failed-long : (at : ℕ) (old new : List FileParts) → FailedAt at old new → length new ≡ length old
 failed-long at old new failed = ap length failed.after ∙ length-set old at _
 
-sources-long : (failed : Bool) (old new : List FileParts) → IsSourceTruth failed old new → length new ≡ length old
+pub sources-long : (failed : Bool) (old new : List FileParts) → IsSourceTruth failed old new → length new ≡ length old
 sources-long true old new truth = failed-long truth.0 old new truth.1
 sources-long false old new (inl truth) = ap length truth
 sources-long false old new (inr truth) = ap length truth.1.after ∙ length-set old truth.0 _
@@ -98,7 +98,7 @@ turns-grew confirm files _ _ st old new _ went = absurd went
 
 -- ---- The truths
 
-sink-true : (failed : Bool) (a b c : ℕ) → Tells failed a b → b ≤ c → ¬ Rose a c → failed ≡ false
+pub sink-true : (failed : Bool) (a b c : ℕ) → Tells failed a b → b ≤ c → ¬ Rose a c → failed ≡ false
 sink-true true a b c rose grew none = absurd (none (rose-on a b c rose grew))
 sink-true false a b c same grew none = refl
 
@@ -109,14 +109,14 @@ failed-rose at old between new failed grew =
     let counts : (file_at between at).failures ≡ failed.failures = ap (λ (f : FileParts). f.failures) set_is in
     rose-on (file_at old at).failures failed.failures (file_at new at).failures failed.rose (omega (arith, counts, grew at))
 
-source-true : (failed : Bool) (old between new : List FileParts) → IsSourceTruth failed old between →
+pub source-true : (failed : Bool) (old between new : List FileParts) → IsSourceTruth failed old between →
     ((i : ℕ) → (file_at between i).failures ≤ (file_at new i).failures) →
     ((i : ℕ) → i < length old → ¬ Rose (file_at old i).failures (file_at new i).failures) → failed ≡ false
 source-true true old between new truth grew none = absurd (none truth.0 truth.1.within (failed-rose truth.0 old between new truth.1 grew))
 source-true false old between new truth grew none = refl
 
 -- a count that rose behind a turn rose over the run
-rose-behind : (a b c : ℕ) → a ≤ b → Rose b c → Rose a c
+pub rose-behind : (a b c : ℕ) → a ≤ b → Rose b c → Rose a c
 rose-behind a b c grew rose = elim (eq-or-lt_of_le grew) [
   | inl same ↦ subst (λ n. Rose n c) (sym same) rose
   | inr below ↦ inl (omega (arith, below, rose-grew b c rose))
@@ -149,7 +149,7 @@ comes-whole Whole = refl
 comes-whole Lost = refl
 comes-whole (Damaged bytes) = refl
 
-whole-turn : (round : Round) (turn : Turn) → turn ≡ turn_of round turn.sink_failed turn.source_failed → machine.is_whole turn ≡ both_whole round
+pub whole-turn : (round : Round) (turn : Turn) → turn ≡ turn_of round turn.sink_failed turn.source_failed → machine.is_whole turn ≡ both_whole round
 whole-turn round turn turn_is = ap machine.is_whole turn_is ∙ ap (λ back. is_whole round.there && back) (comes-whole round.back)
 
 -- the turns are whole and bad where the rounds are

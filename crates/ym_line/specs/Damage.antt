@@ -7,7 +7,7 @@ use Rattle.ym_frame.specs.Frame.{HasFrame}
 use Rattle.ym_frame.specs.declared.control.Reply.{Reply}
 use Rattle.ym_core.specs.Hearing.{heard_of}
 use Rattle.ym_core.specs.declared.delivery.Heard.TheVariants.{Bad}
-use Rattle.ym_line.specs.declared.check.TheConstants.{DELIVERY_LIMIT}
+use Rattle.ym_link.specs.declared.port.TheConstants.{DELIVERY_LIMIT}
 use Rattle.ym_line.specs.declared.delivery.Delivery.{Delivery}
 use Rattle.ym_line.specs.declared.delivery.Delivery.TheVariants.{Whole, Lost, Damaged}
 use Rattle.ym_line.specs.declared.fault.LineFault.{LineFault}

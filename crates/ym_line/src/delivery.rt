@@ -9,7 +9,7 @@ pub enum Delivery {
     Whole,
     /// Nothing arrives.
     Lost,
-    /// These bytes arrive in their place: at most 2048, and the check shows the damage.
+    /// These bytes arrive in their place: at most [`DELIVERY_LIMIT`](crate::DELIVERY_LIMIT), and the check shows the damage.
     Damaged(Bytes),
 }
 

@@ -15,7 +15,7 @@ pub enum LineFault {
     /// not have.
     #[error("round {0}: not damage")]
     NotDamage(usize),
-    /// A damaged delivery has more than 2048 bytes.
+    /// A damaged delivery has more bytes than [`DELIVERY_LIMIT`](crate::DELIVERY_LIMIT).
     #[error("round {0}: too long")]
     TooLong(usize),
     /// The carrier failed.

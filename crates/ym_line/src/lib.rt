@@ -13,7 +13,7 @@ mod text;
 mod trace;
 
 pub use carrier::{Carrier, CarryFault};
-pub use check::DELIVERY_LIMIT;
+pub use ym_link::DELIVERY_LIMIT;
 pub use delivery::{Delivery, Handed, Round, Way};
 pub use direct::Direct;
 pub use fault::LineFault;

@@ -17,6 +17,7 @@ use Rattle.ym_link.specs.declared.sweep.Held.TheVariants as held
 use Rattle.ym_link.specs.declared.sweep.Heed.TheVariants as heed
 use Rattle.ym_link.proofs.Fresh.{fresh-over}
 use Rattle.ym_link.proofs.LateAnswersDropped.{whole-piece, late-answers-dropped}
+use Rattle.ym_link.specs.declared.port.TheConstants.{DELIVERY_LIMIT}
 
 -- what an end has said and heard, where nothing of it is held
 abbrev talk_of : Role → Exchange → Talk
@@ -47,13 +48,13 @@ and-false false = refl
 not-stale : (role : Role) (x : Exchange) (answer : List ℕ) → all_ask answer ≡ false → is_stale role x (Data answer) ≡ false
 not-stale role x answer answers = rw answers (and-false (is_opening role x))
 
-read-fresh : (talk : Talk) (events : List Event) (seen : Seen) → seen ≡ read_gives 2048 events → is_stale talk.role talk.exchange seen ≡ false
-    → fresh most_reads 2048 talk events ≡ once 2048 talk events
-read-fresh talk events seen gives new = fresh-over most_reads 0 2048 talk events seen (lit< tt) gives new
+read-fresh : (talk : Talk) (events : List Event) (seen : Seen) → seen ≡ read_gives DELIVERY_LIMIT events → is_stale talk.role talk.exchange seen ≡ false
+    → fresh most_reads DELIVERY_LIMIT talk events ≡ once DELIVERY_LIMIT talk events
+read-fresh talk events seen gives new = fresh-over most_reads 0 DELIVERY_LIMIT talk events seen (lit< tt) gives new
 
-read-answer : (acts : List Act) (role : Role) (owed : ℕ) (prompt repeat : Bool) (front : Front) (answer : List ℕ) (rest : List Event) → 0 < length answer → length answer < 2048
+read-answer : (acts : List Act) (role : Role) (owed : ℕ) (prompt repeat : Bool) (front : Front) (answer : List ℕ) (rest : List Event) → 0 < length answer → length answer < DELIVERY_LIMIT
     → all_ask answer ≡ false → gives (Reads ∷ acts) (talk_of role (said_of owed 0 prompt front repeat)) (event.Piece answer ∷ rest)
-    ≡ Data answer ∷ gives acts (talk_of role (said_of owed (min 2048 (0 + length answer)) prompt front repeat)) rest
+    ≡ Data answer ∷ gives acts (talk_of role (said_of owed (min DELIVERY_LIMIT (0 + length answer)) prompt front repeat)) rest
 unfolding gives
 read-answer acts role owed prompt repeat front answer rest some short answers =
     let x = said_of owed 0 prompt front repeat in
@@ -99,26 +100,26 @@ write-again acts role owed prompt repeat written events some =
 -- ---- The first write of a call
 
 -- what came is what the end waited for
-taken : (role : Role) (owed came : ℕ) (prompt repeat : Bool) (before next : Front) → 0 < came → came < 2048 → (role ≡ Sender → is_same before next ≡ false)
+taken : (role : Role) (owed came : ℕ) (prompt repeat : Bool) (before next : Front) → 0 < came → came < DELIVERY_LIMIT → (role ≡ Sender → is_same before next ≡ false)
     → is_taken role (said_of owed came prompt before repeat) next ≡ true
 taken Sender owed came prompt repeat before next some short other =
     let any : nat_lt 0 came ≡ true = lt-ltb 0 came some in rw (any, other refl) refl
 taken Receiver owed came prompt repeat before next some short other =
-    let any : nat_lt 0 came ≡ true = lt-ltb 0 came some in let room : nat_lt came 2048 ≡ true = lt-ltb came 2048 short in rw (any, room) refl
+    let any : nat_lt 0 came ≡ true = lt-ltb 0 came some in let room : nat_lt came DELIVERY_LIMIT ≡ true = lt-ltb came DELIVERY_LIMIT short in rw (any, room) refl
 
 -- behind an answer to the one write before nothing is dropped, and behind one of several the answers to the others are
-nothing-dropped : (role : Role) (came : ℕ) (prompt repeat : Bool) (before written : List ℕ) (events : List Event) → 0 < came → came < 2048
+nothing-dropped : (role : Role) (came : ℕ) (prompt repeat : Bool) (before written : List ℕ) (events : List Event) → 0 < came → came < DELIVERY_LIMIT
     → (role ≡ Sender → is_same (front_of before) (front_of written) ≡ false)
     → cleared (talk_of role (said_of 1 came prompt (front_of before) repeat)) written events ≡ record { answer = Ok held.Nothing; rest = events }
 nothing-dropped role came prompt repeat before written events some short other =
-    let room : nat_le 2048 came ≡ false = lt-leb 2048 came short in
+    let room : nat_le DELIVERY_LIMIT came ≡ false = lt-leb DELIVERY_LIMIT came short in
     rw (room, taken role 1 came prompt repeat (front_of before) (front_of written) some short other) refl
 
-others-dropped : (role : Role) (came : ℕ) (prompt repeat : Bool) (before written : List ℕ) (late more : List Event) → 0 < came → came < 2048
+others-dropped : (role : Role) (came : ℕ) (prompt repeat : Bool) (before written : List ℕ) (late more : List Event) → 0 < came → came < DELIVERY_LIMIT
     → (role ≡ Sender → is_same (front_of before) (front_of written) ≡ false) → AreLate role heed.Open 9 late → length late ≤ 65000
     → cleared (talk_of role (said_of 2 came prompt (front_of before) repeat)) written (late_and_quiet role late more) ≡ record { answer = Ok held.Nothing; rest = more }
 others-dropped role came prompt repeat before written late more some short other are few =
-    let room : nat_le 2048 came ≡ false = lt-leb 2048 came short in
+    let room : nat_le DELIVERY_LIMIT came ≡ false = lt-leb DELIVERY_LIMIT came short in
     rw (room, taken role 2 came prompt repeat (front_of before) (front_of written) some short other) (late-answers-dropped role late more are few)
 
 -- how it leaves the port: one answer is owed
@@ -128,9 +129,9 @@ first-wrote role x next took = rw took refl
 -- how a call finds the port: new, behind one write that was answered, or behind several
 data Found (role : Role) : List ℕ → Exchange → List Event → List Event → Type 0 where
   new : (more : List Event) → Found role [] new_exchange more more
-  answered : (before : List ℕ) (came : ℕ) (prompt repeat : Bool) (more : List Event) → 0 < came → came < 2048
+  answered : (before : List ℕ) (came : ℕ) (prompt repeat : Bool) (more : List Event) → 0 < came → came < DELIVERY_LIMIT
       → Found role before (said_of 1 came prompt (front_of before) repeat) more more
-  copied : (before : List ℕ) (came : ℕ) (prompt repeat : Bool) (late more : List Event) → 0 < came → came < 2048 → AreLate role heed.Open 9 late → length late ≤ 65000
+  copied : (before : List ℕ) (came : ℕ) (prompt repeat : Bool) (late more : List Event) → 0 < came → came < DELIVERY_LIMIT → AreLate role heed.Open 9 late → length late ≤ 65000
       → Found role before (said_of 2 came prompt (front_of before) repeat) (late_and_quiet role late more) more
 
 -- how its first write leaves it
@@ -184,9 +185,9 @@ settled : (again : ℕ) → (owed_by again 2 ≡ 2) × (repeat_by again true ≡
 settled zero = (refl, refl)
 settled (suc again) = (refl, refl)
 
-one-call : (role : Role) (written answer : List ℕ) (again owed : ℕ) (prompt repeat : Bool) (acts : List Act) (rest : List Event) → 0 < owed → 0 < length answer → length answer < 2048 → all_ask answer ≡ false
+one-call : (role : Role) (written answer : List ℕ) (again owed : ℕ) (prompt repeat : Bool) (acts : List Act) (rest : List Event) → 0 < owed → 0 < length answer → length answer < DELIVERY_LIMIT → all_ask answer ≡ false
     → gives (rest_of written again ++ acts) (talk_of role (said_of owed 0 prompt (front_of written) repeat)) (waits again ++ (event.Piece answer ∷ rest))
-    ≡ hears again answer ++ gives acts (talk_of role (said_of (owed_by again owed) (min 2048 (0 + length answer)) prompt (front_of written) (repeat_by again repeat))) rest
+    ≡ hears again answer ++ gives acts (talk_of role (said_of (owed_by again owed) (min DELIVERY_LIMIT (0 + length answer)) prompt (front_of written) (repeat_by again repeat))) rest
 one-call role written answer zero owed prompt repeat acts rest more some short answers = read-answer acts role owed prompt repeat (front_of written) answer rest some short answers
 one-call role written answer (suc again) owed prompt repeat acts rest more some short answers =
     let tail = waits again ++ (event.Piece answer ∷ rest) in
@@ -201,12 +202,12 @@ one-call role written answer (suc again) owed prompt repeat acts rest more some 
 -- ---- Call after call
 
 -- how it leaves the port
-found-behind : (role : Role) (written answer : List ℕ) (late more : List Event) (again : ℕ) (prompt repeat : Bool) → 0 < length answer → length answer < 2048
+found-behind : (role : Role) (written answer : List ℕ) (late more : List Event) (again : ℕ) (prompt repeat : Bool) → 0 < length answer → length answer < DELIVERY_LIMIT
     → AreLate role heed.Open 9 late → length late ≤ 65000
-    → Found role written (said_of (owed_by again 1) (min 2048 (0 + length answer)) prompt (front_of written) (repeat_by again repeat)) (behind role again late more) more
-found-behind role written answer late more zero prompt repeat some short are few = answered written (min 2048 (0 + length answer)) prompt repeat more (omega arith) (omega arith)
+    → Found role written (said_of (owed_by again 1) (min DELIVERY_LIMIT (0 + length answer)) prompt (front_of written) (repeat_by again repeat)) (behind role again late more) more
+found-behind role written answer late more zero prompt repeat some short are few = answered written (min DELIVERY_LIMIT (0 + length answer)) prompt repeat more (omega arith) (omega arith)
 found-behind role written answer late more (suc again) prompt repeat some short are few =
-    copied written (min 2048 (0 + length answer)) prompt true late more (omega arith) (omega arith) are few
+    copied written (min DELIVERY_LIMIT (0 + length answer)) prompt true late more (omega arith) (omega arith) are few
 
 calls-heard : (role : Role) (before : List ℕ) (calls : List Call) (x : Exchange) (events more : List Event) → AreCalls role before calls
     → Found role before x events (all_comes role calls more) → gives (all_acts calls) (talk_of role x) events ≡ all_hears calls

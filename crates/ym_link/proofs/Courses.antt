@@ -5,6 +5,7 @@ use Rattle.std.proofs.lemmas.List.Elements.{All-nil, All-cons, All-append}
 use Rattle.ym_link.specs.Course.{waits_of, waits_in, AreReads, ReadOnce, Asks}
 use Rattle.ym_link.specs.declared.port.Wait.{Wait}
 use Rattle.ym_link.specs.declared.port.Wait.TheVariants.{Within, Reply}
+use Rattle.ym_link.specs.declared.port.TheConstants.{DELIVERY_LIMIT}
 
 -- the wait of the next read of a delivery
 abbrev pub next_wait : ℕ → Wait
@@ -46,7 +47,7 @@ reading-more len n wait old mid new so_far some now = let short = so_far.short i
 }
 
 -- the read with which a delivery ends, or finds that there is none
-pub reading-last : (len : ℕ) (wait : Wait) (old mid new : List Wait) → Reading len wait old mid → len < 2048 → new ≡ mid ++ wait ∷ [] → ReadOnce old new
+pub reading-last : (len : ℕ) (wait : Wait) (old mid new : List Wait) → Reading len wait old mid → len < DELIVERY_LIMIT → new ≡ mid ++ wait ∷ [] → ReadOnce old new
 reading-last len wait old mid new so_far less now = let short = so_far.short in record {
   reads = suc so_far.reads;
   are = (omega arith, omega (arith, short, less));
@@ -54,7 +55,7 @@ reading-last len wait old mid new so_far less now = let short = so_far.short in 
 }
 
 -- a delivery of 2048 bytes
-pub reading-full : (len : ℕ) (wait : Wait) (old new : List Wait) → Reading len wait old new → 2048 ≤ len → len ≤ 2048 → ReadOnce old new
+pub reading-full : (len : ℕ) (wait : Wait) (old new : List Wait) → Reading len wait old new → DELIVERY_LIMIT ≤ len → len ≤ DELIVERY_LIMIT → ReadOnce old new
 reading-full len wait old new so_far full within = record { reads = so_far.reads; are = (some so_far.reads so_far.none, omega (arith, short, within)); waits = so_far.waits }
   where
     short : so_far.reads ≤ len

@@ -27,6 +27,7 @@ use Rattle.ym_link.proofs.Positions.{Position, opening, piece, closing, ending}
 use Rattle.ym_link.proofs.TableRows as row
 use Rattle.ym_link.proofs.TableRows.{running_at, file_of, yes, differ}
 use Rattle.ym_link.proofs.Keeping.{keeps-same, keeps-begun, keeps-added, keeps-committed, taken_from, kept-length, open-begun, open-added, open-committed}
+use Rattle.ym_machine.specs.declared.limits.TheConstants.{GIVE_UP, MOST_FILES}
 
 -- what the laws of block 0 say
 pub record ZeroLaws : Type 0 where
@@ -95,7 +96,7 @@ module _ (confirm : Confirm) (files : List (File HeaderParts)) (st : State) (kep
 
   stays-goes : (r : Receiver) (stage : Stage) (y : Reply) → KeepsOpen (open_at files st.taken) kept → stage ≡ stage_of (open_at files st.taken) st.first_eot
       → Took r kept (stays (on stage) y) failed reply new → GoesTo (nothing_taken st y)
-  stays-goes r stage y o same t = by (nat_lt (st.receiver_count + 1) 10) t
+  stays-goes r stage y o same t = by (nat_lt (st.receiver_count + 1) GIVE_UP) t
     where
       goes_on' : Step
       goes_on' = record { receiver = running_at confirm stage n (st.receiver_count + 1); reply = y; call = No_call }
@@ -245,7 +246,7 @@ module _ (confirm : Confirm) (files : List (File HeaderParts)) (st : State) (kep
   abbrev hearing : Option (File HeaderParts × ℕ) → Bool → Result Zero HeaderFault → Heard → Type 0
   hearing place e zero h = Took (on (stage_of place e)) kept (hears (on (stage_of place e)) zero h) failed reply new
 
-  pub next-goes : (laws : ZeroLaws) (zero : Result Zero HeaderFault) → length files ≤ 65535 → Position IsSent files st.taken → KeepsOpen (open_at files st.taken) kept
+  pub next-goes : (laws : ZeroLaws) (zero : Result Zero HeaderFault) → length files ≤ MOST_FILES → Position IsSent files st.taken → KeepsOpen (open_at files st.taken) kept
       → (st.first_eot ≡ true → frame_at (frames_of files) st.taken ≡ Eot)
       → Means (receiver_at confirm files st) (heard.Item (item_of (frame_at (frames_of files) st.taken))) zero
       → hearing (open_at files st.taken) st.first_eot zero (heard.Item (item_of (frame_at (frames_of files) st.taken)))

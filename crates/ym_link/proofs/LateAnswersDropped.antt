@@ -12,15 +12,16 @@ use Rattle.ym_link.specs.declared.sweep.Held.TheVariants as held
 use Rattle.ym_link.specs.declared.sweep.Heed.{Heed}
 use Rattle.ym_link.specs.declared.sweep.Heed.TheVariants as heed
 use Rattle.ym_link.specs.declared.sweep.Sweep.{Sweep}
+use Rattle.ym_link.specs.declared.port.TheConstants.{DELIVERY_LIMIT}
 
 abbrev clear : List Event → Swept
 clear rest = record { answer = Ok held.Nothing; rest = rest }
 
 -- a piece that has room is read whole
-pub whole-piece : (bytes : List ℕ) (rest : List Event) → 0 < length bytes → length bytes ≤ 2048
-    → (read_gives 2048 (event.Piece bytes ∷ rest) ≡ Data bytes) × (read_leaves 2048 (event.Piece bytes ∷ rest) ≡ rest)
+pub whole-piece : (bytes : List ℕ) (rest : List Event) → 0 < length bytes → length bytes ≤ DELIVERY_LIMIT
+    → (read_gives DELIVERY_LIMIT (event.Piece bytes ∷ rest) ≡ Data bytes) × (read_leaves DELIVERY_LIMIT (event.Piece bytes ∷ rest) ≡ rest)
 whole-piece [] rest some fits = absurd (omega arith)
-whole-piece (b ∷ bs) rest some fits = let small : nat_lt 2048 (length (b ∷ bs)) ≡ false = le-ltb 2048 (length (b ∷ bs)) fits in (rw small refl, rw small refl)
+whole-piece (b ∷ bs) rest some fits = let small : nat_lt DELIVERY_LIMIT (length (b ∷ bs)) ≡ false = le-ltb DELIVERY_LIMIT (length (b ∷ bs)) fits in (rw small refl, rw small refl)
 
 not-cancel : (h : Heed) → is_cancel h ≡ false → held_by h ≡ held.Nothing
 not-cancel heed.Open e = refl
@@ -40,7 +41,7 @@ is-off s quiet = rw quiet refl
 
 -- one read
 step : (reads less : ℕ) (role : Role) (s : Sweep) (events : List Event) → reads ≡ suc less → is_over s ≡ false
-    → swept reads role s events ≡ behind (swept less role) (after_read role s (read_gives 2048 events)) (read_leaves 2048 events)
+    → swept reads role s events ≡ behind (swept less role) (after_read role s (read_gives DELIVERY_LIMIT events)) (read_leaves DELIVERY_LIMIT events)
 unfolding swept
 step reads less role s events one on = rw (one, on) refl
 
@@ -53,7 +54,7 @@ quiet-step : (reads less : ℕ) (role : Role) (s : Sweep) (rest : List Event) �
     → swept reads role s (event.Quiet ∷ rest) ≡ swept less role (waited s) rest
 quiet-step reads less role s rest one on = step reads less role s (event.Quiet ∷ rest) one on
 
-piece-step : (reads less : ℕ) (role : Role) (s : Sweep) (bytes : List ℕ) (rest : List Event) → reads ≡ suc less → is_over s ≡ false → 0 < length bytes → length bytes ≤ 2048
+piece-step : (reads less : ℕ) (role : Role) (s : Sweep) (bytes : List ℕ) (rest : List Event) → reads ≡ suc less → is_over s ≡ false → 0 < length bytes → length bytes ≤ DELIVERY_LIMIT
     → swept reads role s (event.Piece bytes ∷ rest) ≡ swept less role (dropped role bytes s) rest
 piece-step reads less role s bytes rest one on some fits =
     let read = whole-piece bytes rest some fits in step reads less role s (event.Piece bytes ∷ rest) one on ∙ rw (read.0, read.1) refl

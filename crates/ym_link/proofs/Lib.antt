@@ -20,7 +20,6 @@ pub mod ReceiverStanding
 pub mod SenderHalf
 pub mod SenderPlaces
 pub mod SenderStanding
-pub mod DeliveryHeard
 pub mod DeliverySize
 pub mod SenderDeliveries
 pub mod SenderBound

@@ -25,6 +25,7 @@ use Rattle.ym_core.specs.Receiver.{Receiver, Step, Call, No_call, Begins, Adds, 
 use Rattle.ym_core.specs.Step.{StandsFor, Means}
 use Rattle.ym_core.specs.Core.{FilesFit}
 use Rattle.ym_link.specs.ReceiverInto.{ReceiverParts, IsReceiver, IsOpenFile, HearsGives, outcome}
+use Rattle.ym_machine.specs.declared.limits.TheConstants.{GIVE_UP, MOST_FILES}
 
 -- a running receiver
 abbrev pub runs : Confirm → Stage → ℕ → ℕ → Receiver
@@ -37,29 +38,29 @@ Fewer r step = receiver_deliveries step.receiver < receiver_deliveries r
 either : (r : Receiver) (b : Bool) (x y : Step) → (b ≡ true → Fewer r x) → (b ≡ false → Fewer r y) → Fewer r (if b then x else y)
 either r b x y p q = cond_both b x y (Fewer r) p q
 
-stays-fewer : (confirm : Confirm) (stage next : Stage) (files count : ℕ) (reply : Reply) → count < 10 → receiver_steps next files ≡ receiver_steps stage files
+stays-fewer : (confirm : Confirm) (stage next : Stage) (files count : ℕ) (reply : Reply) → count < GIVE_UP → receiver_steps next files ≡ receiver_steps stage files
     → Fewer (runs confirm stage files count) (stays (runs confirm next files count) reply)
 stays-fewer confirm stage next files count reply few same =
-    either (runs confirm stage files count) (nat_lt (count + 1) 10) _ _ (λ e. rw same (omega arith)) (λ e. omega arith)
+    either (runs confirm stage files count) (nat_lt (count + 1) GIVE_UP) _ _ (λ e. rw same (omega arith)) (λ e. omega arith)
 
-goes-fewer : (confirm : Confirm) (stage next : Stage) (files more count : ℕ) (reply : Reply) (call : Call) → count < 10
+goes-fewer : (confirm : Confirm) (stage next : Stage) (files more count : ℕ) (reply : Reply) (call : Call) → count < GIVE_UP
     → receiver_steps next more < receiver_steps stage files
     → Fewer (runs confirm stage files count) (goes_on (runs confirm next more count) reply call)
 goes-fewer confirm stage next files more count reply call few less = omega arith
 
 -- ---- A header is awaited
 
-zero-fewer : (confirm : Confirm) (files count : ℕ) (zero : Result Zero HeaderFault) → count < 10 → ((header : HeaderParts) → zero ≡ Ok (File header) → header.length < 2 ^ 63)
+zero-fewer : (confirm : Confirm) (files count : ℕ) (zero : Result Zero HeaderFault) → count < GIVE_UP → ((header : HeaderParts) → zero ≡ Ok (File header) → header.length < 2 ^ 63)
     → Fewer (runs confirm AwaitHeader files count) (zero_heard (runs confirm AwaitHeader files count) zero)
 zero-fewer confirm files count (Ok (File header)) few fits =
-    either (runs confirm AwaitHeader files count) (nat_lt files 65535) _ _
-    (λ e. let room = ltb-true files 65535 e in let small = fits header refl in
+    either (runs confirm AwaitHeader files count) (nat_lt files MOST_FILES) _ _
+    (λ e. let room = ltb-true files MOST_FILES e in let small = fits header refl in
     goes-fewer confirm AwaitHeader (InFile (opened header)) files files count AckStart (Begins header) few (omega (arith, room, small)))
     (λ e. omega arith)
 zero-fewer confirm files count (Ok End) few fits = omega arith
 zero-fewer confirm files count (Err fault) few fits = omega arith
 
-pub awaiting-fewer : (confirm : Confirm) (files count : ℕ) (zero : Result Zero HeaderFault) (h : Heard) → count < 10
+pub awaiting-fewer : (confirm : Confirm) (files count : ℕ) (zero : Result Zero HeaderFault) (h : Heard) → count < GIVE_UP
     → ((block : BlockParts) → h ≡ heard.Item (item.Block block) → block.number ≡ 0 → (header : HeaderParts) → zero ≡ Ok (File header) → header.length < 2 ^ 63)
     → Fewer (runs confirm AwaitHeader files count) (awaiting_hears (runs confirm AwaitHeader files count) zero h)
 awaiting-fewer confirm files count zero (heard.Item (item.Block block)) few fits =
@@ -78,9 +79,9 @@ awaiting-fewer confirm files count zero heard.Bad few fits = stays-fewer confirm
 -- what is known of the open file
 record Fits (file : OpenFile) (files : ℕ) : Type 0 where
   taken : file.taken ≤ file.length
-  few : files < 65535
+  few : files < MOST_FILES
 
-next-fewer : (confirm : Confirm) (file : OpenFile) (files count : ℕ) (body : List ℕ) → count < 10 → Fits file files → 0 < length body
+next-fewer : (confirm : Confirm) (file : OpenFile) (files count : ℕ) (body : List ℕ) → count < GIVE_UP → Fits file files → 0 < length body
     → Fewer (runs confirm (InFile file) files count) (next_block (runs confirm (InFile file) files count) file body)
 next-fewer confirm file files count body few fits some =
     either (runs confirm (InFile file) files count) (nat_lt file.taken file.length) _ _
@@ -89,7 +90,7 @@ next-fewer confirm file files count body few fits some =
     goes-fewer confirm (InFile file) (InFile next) files files count Ack (Adds (take (file.length - file.taken) body)) few (omega (arith, missing, some)))
     (λ e. stays-fewer confirm (InFile file) (InFile (record file { blocks = file.blocks + 1 })) files count Ack few refl)
 
-block-fewer : (confirm : Confirm) (file : OpenFile) (files count number : ℕ) (body : List ℕ) → count < 10 → Fits file files → 0 < length body
+block-fewer : (confirm : Confirm) (file : OpenFile) (files count number : ℕ) (body : List ℕ) → count < GIVE_UP → Fits file files → 0 < length body
     → Fewer (runs confirm (InFile file) files count) (block_heard (runs confirm (InFile file) files count) file number body)
 block-fewer confirm file files count number body few fits some =
     either (runs confirm (InFile file) files count) (number == (file.blocks + 1) % 256) _ _
@@ -100,17 +101,17 @@ block-fewer confirm file files count number body few fits some =
     (λ e. stays-fewer confirm (InFile file) (InFile file) files count Ack few refl))
     (λ e. omega arith))
 
-commits-fewer : (confirm : Confirm) (file : OpenFile) (files count : ℕ) → count < 10 → files < 65535
+commits-fewer : (confirm : Confirm) (file : OpenFile) (files count : ℕ) → count < GIVE_UP → files < MOST_FILES
     → receiver_steps AwaitHeader (files + 1) < receiver_steps (InFile file) files
     → Fewer (runs confirm (InFile file) files count) (commits (runs confirm (InFile file) files count))
 commits-fewer confirm file files count few room less = goes-fewer confirm (InFile file) AwaitHeader files (files + 1) count AckStart Commits few less
 
-commit-steps : (file : OpenFile) (files : ℕ) (eot : Bool) → files < 65535
-    → receiver_steps AwaitHeader (files + 1) < (65535 - (files + 1)) * (2 ^ 63 + 3) + (file.length - file.taken) + (if eot then 1 else 2)
+commit-steps : (file : OpenFile) (files : ℕ) (eot : Bool) → files < MOST_FILES
+    → receiver_steps AwaitHeader (files + 1) < (MOST_FILES - (files + 1)) * (2 ^ 63 + 3) + (file.length - file.taken) + (if eot then 1 else 2)
 commit-steps file files true room = omega arith
 commit-steps file files false room = omega arith
 
-covered-fewer : (confirm : Confirm) (file : OpenFile) (files count : ℕ) → count < 10 → Fits file files
+covered-fewer : (confirm : Confirm) (file : OpenFile) (files count : ℕ) → count < GIVE_UP → Fits file files
     → Fewer (runs confirm (InFile file) files count) (covered_eot (runs confirm (InFile file) files count) confirm file file.first_eot)
 covered-fewer confirm file files count few fits = by confirm file.first_eot refl
   where
@@ -120,7 +121,7 @@ covered-fewer confirm file files count few fits = by confirm file.first_eot refl
     by Twice true e = commits-fewer confirm file files count few fits.few (commit-steps file files file.first_eot fits.few)
     by Once eot e = commits-fewer confirm file files count few fits.few (commit-steps file files file.first_eot fits.few)
 
-in-file-fewer : (confirm : Confirm) (file : OpenFile) (files count : ℕ) (h : Heard) → count < 10 → Fits file files
+in-file-fewer : (confirm : Confirm) (file : OpenFile) (files count : ℕ) (h : Heard) → count < GIVE_UP → Fits file files
     → ((block : BlockParts) → h ≡ heard.Item (item.Block block) → 0 < length block.body)
     → Fewer (runs confirm (InFile file) files count) (in_file_hears (runs confirm (InFile file) files count) file h)
 in-file-fewer confirm file files count (heard.Item (item.Block block)) few fits some = block-fewer confirm file files count block.number block.body few fits (some block refl)
@@ -136,7 +137,7 @@ in-file-fewer confirm file files count heard.Bad few fits some =
 
 -- ---- The whole table
 
-running-fewer : (confirm : Confirm) (stage : Stage) (files count : ℕ) (zero : Result Zero HeaderFault) (h : Heard) → count < 10
+running-fewer : (confirm : Confirm) (stage : Stage) (files count : ℕ) (zero : Result Zero HeaderFault) (h : Heard) → count < GIVE_UP
     → (kept : Kept) → IsOpenFile stage kept → FilesFit stage files → Means (runs confirm stage files count) h zero
     → ((block : BlockParts) → h ≡ heard.Item (item.Block block) → 0 < length block.body)
     → Fewer (runs confirm stage files count) (running_hears (runs confirm stage files count) stage zero h)
@@ -147,12 +148,12 @@ running-fewer confirm (InFile file) files count zero h few kept open_file fit me
     in-file-fewer confirm file files count h few (record { taken = open_file.4; few = fit }) some
 
 -- what a step answers has the same bound, also where the sink failed
-outcome-fewer : (confirm : Confirm) (stage : Stage) (files count : ℕ) (failed : Bool) (step : Step) → count < 10
+outcome-fewer : (confirm : Confirm) (stage : Stage) (files count : ℕ) (failed : Bool) (step : Step) → count < GIVE_UP
     → Fewer (runs confirm stage files count) step → Fewer (runs confirm stage files count) (outcome failed (runs confirm stage files count) step)
 outcome-fewer confirm stage files count true step few h = omega arith
 outcome-fewer confirm stage files count false step few h = h
 
-all-fewer : (confirm : Confirm) (stage : Stage) (files count : ℕ) (now : RecvState) (failed : Bool) (zero : Result Zero HeaderFault) (h : Heard) → now ≡ state.Running → count < 10
+all-fewer : (confirm : Confirm) (stage : Stage) (files count : ℕ) (now : RecvState) (failed : Bool) (zero : Result Zero HeaderFault) (h : Heard) → now ≡ state.Running → count < GIVE_UP
     → (kept : Kept) → IsOpenFile stage kept → FilesFit stage files
     → ((block : BlockParts) → h ≡ heard.Item (item.Block block) → 0 < length block.body)
     → let r : Receiver = record { confirm = confirm; stage = stage; files = files; count = count; state = now } in

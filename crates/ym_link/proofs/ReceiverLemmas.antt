@@ -9,10 +9,11 @@ use Rattle.ym_core.specs.declared.state.RecvState.TheVariants as state
 use Rattle.ym_core.specs.Receiver.{Receiver, Step, Begins, goes_on, ends, opened, zero_heard}
 use Rattle.ym_core.specs.Core.{BlocksFit}
 use Rattle.ym_link.specs.ReceiverInto.{ReceiverParts, IsReceiver, IsWithin, IsOpenFile, Grows}
+use Rattle.ym_machine.specs.declared.limits.TheConstants.{MOST_FILES}
 
 -- where a header is read, memory may be wanted
 pub wants : (r : Receiver) (header : HeaderParts) → Grows (zero_heard r (Ok (File header))).call ⊎ ((zero_heard r (Ok (File header))).receiver.state ≡ state.TooManyFiles)
-wants r header = by (nat_lt r.files 65535)
+wants r header = by (nat_lt r.files MOST_FILES)
   where
     by : (b : Bool) → (let s : Step = cond b (goes_on (record r { stage = InFile (opened header) }) AckStart (Begins header)) (ends r state.TooManyFiles Cancel) in Grows s.call ⊎ (s.receiver.state ≡ state.TooManyFiles))
     by true = inl tt

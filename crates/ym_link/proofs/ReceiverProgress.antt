@@ -39,6 +39,7 @@ use Rattle.ym_link.specs.Bound.{blocks_in, steps_of, steps_taken, steps_at, acce
 use Rattle.ym_link.specs.Course.{ReceiverHears, ReceiverCourse, receiver_none, receiver_more}
 use Rattle.ym_link.proofs.ReceiverBound.{course-few}
 use Rattle.ym_link.proofs.ReceiverDeliveries.{runs}
+use Rattle.ym_machine.specs.declared.limits.TheConstants.{GIVE_UP, MOST_FILES}
 
 -- ---- A block has 128 bytes at least
 
@@ -134,7 +135,7 @@ not_zero n = grind (arith, nat_tests)
 stays-raises : (confirm : Confirm) (stage next : Stage) (files count : ℕ) (reply : Reply) (kept : Kept) → steps_taken next kept.headers ≡ steps_taken stage kept.headers
     → Raises stage kept (stays (runs confirm next files count) reply)
 stays-raises confirm stage next files count reply kept same =
-    either stage kept (nat_lt (count + 1) 10) _ _ (λ e. let none = not_zero count in rw none (omega (arith, same))) (λ e. omega (arith, same))
+    either stage kept (nat_lt (count + 1) GIVE_UP) _ _ (λ e. let none = not_zero count in rw none (omega (arith, same))) (λ e. omega (arith, same))
 
 goes-raises : (confirm : Confirm) (stage next : Stage) (files count : ℕ) (reply : Reply) (call : Call) (kept : Kept) → steps_taken stage kept.headers < steps_taken next (called call kept).headers
     → Raises stage kept (goes_on (runs confirm next files count) reply call)
@@ -146,7 +147,7 @@ awaiting-raises confirm files count zero (heard.Item (item.Block block)) kept =
   where
     by : (z : Result Zero HeaderFault) → Raises AwaitHeader kept (zero_heard (runs confirm AwaitHeader files count) z)
     by (Ok (File header)) =
-        either AwaitHeader kept (nat_lt files 65535) _ _
+        either AwaitHeader kept (nat_lt files MOST_FILES) _ _
         (λ e. goes-raises confirm AwaitHeader (InFile (opened header)) files count AckStart (Begins header) kept (omega arith)) (λ e. omega arith)
     by (Ok End) = omega arith
     by (Err fault) = omega arith

@@ -26,16 +26,17 @@ use Rattle.ym_link.specs.Course.{SenderHears, SenderCourse, sender_none, sender_
 use Rattle.ym_link.proofs.Files.{filled_counts}
 use Rattle.ym_link.proofs.SenderDeliveries.{runs_at, next-frames, some-frames}
 use Rattle.ym_link.proofs.Steps.{Reaches, stays, cancels, again, finishes, sends, waits_next, sends_next, cancels_next, reaches, Counts, step_counts}
+use Rattle.ym_machine.specs.declared.limits.TheConstants.{GIVE_UP}
 
 -- ---- Ten deliveries for each step
 
 -- how many deliveries without progress stand before this one
 weight_in : SendState → ℕ → ℕ
 weight_in Running misses = misses
-weight_in Finished misses = 10
-weight_in NoReply misses = 10
-weight_in Cancelled misses = 10
-weight_in SourceFailed misses = 10
+weight_in Finished misses = GIVE_UP
+weight_in NoReply misses = GIVE_UP
+weight_in Cancelled misses = GIVE_UP
+weight_in SourceFailed misses = GIVE_UP
 
 abbrev weight : SenderParts → ℕ
 weight s = weight_in s.standing.state s.standing.misses
@@ -44,7 +45,7 @@ weight_of_running : (state : SendState) (misses : ℕ) → state ≡ Running →
 unfolding weight_in
 weight_of_running state misses on = ap (λ s. weight_in s misses) on
 
-weight-le : (state : SendState) (misses : ℕ) → (state ≡ Running → misses < 10) → weight_in state misses ≤ 10
+weight-le : (state : SendState) (misses : ℕ) → (state ≡ Running → misses < GIVE_UP) → weight_in state misses ≤ GIVE_UP
 unfolding weight_in
 weight-le Running misses few = let less = few refl in omega (arith, less)
 weight-le Finished misses few = omega arith
@@ -52,7 +53,7 @@ weight-le NoReply misses few = omega arith
 weight-le Cancelled misses few = omega arith
 weight-le SourceFailed misses few = omega arith
 
-weight_of_ended : (state : SendState) (misses : ℕ) → state ≢ Running → weight_in state misses ≤ 10
+weight_of_ended : (state : SendState) (misses : ℕ) → state ≢ Running → weight_in state misses ≤ GIVE_UP
 unfolding weight_in
 weight_of_ended Running misses over = absurd (over refl)
 weight_of_ended Finished misses over = omega arith
@@ -60,13 +61,13 @@ weight_of_ended NoReply misses over = omega arith
 weight_of_ended Cancelled misses over = omega arith
 weight_of_ended SourceFailed misses over = omega arith
 
-pace : (misses count : ℕ) (state : SendState) → misses < 10 → (state ≡ Running → (count ≡ 0) ⊎ (count ≡ misses + 1))
-    → misses + 1 ≤ weight_in state count + 10 * sender_progress_in state count
+pace : (misses count : ℕ) (state : SendState) → misses < GIVE_UP → (state ≡ Running → (count ≡ 0) ⊎ (count ≡ misses + 1))
+    → misses + 1 ≤ weight_in state count + GIVE_UP * sender_progress_in state count
 unfolding weight_in
 pace misses count Running few goes = by (goes refl)
   where
-    by : (count ≡ 0) ⊎ (count ≡ misses + 1) → misses + 1 ≤ count + 10 * (if count == 0 then 1 else 0)
-    by (inl none) = subst (λ (n : ℕ). misses + 1 ≤ n + 10 * (if n == 0 then 1 else 0)) (sym none) (omega arith)
+    by : (count ≡ 0) ⊎ (count ≡ misses + 1) → misses + 1 ≤ count + GIVE_UP * (if count == 0 then 1 else 0)
+    by (inl none) = subst (λ (n : ℕ). misses + 1 ≤ n + GIVE_UP * (if n == 0 then 1 else 0)) (sym none) (omega arith)
     by (inr one) = omega (arith, one)
 pace misses count Finished few goes = omega arith
 pace misses count NoReply few goes = omega arith
@@ -99,7 +100,7 @@ not_zero n = grind (arith, nat_tests)
 
 missed-lower : (counts : List ℕ) (place : Place) (mode : Mode) (misses : ℕ) (farewell : Bool) → Lower counts place mode (missed (runs_at place mode misses farewell)).standing
 unfolding steps_in
-missed-lower counts place mode misses farewell = by (nat_lt (misses + 1) 10)
+missed-lower counts place mode misses farewell = by (nat_lt (misses + 1) GIVE_UP)
   where
     by : (b : Bool) → Lower counts place mode (cond {A = Step} b (record { standing = record (runs_at place mode misses farewell) { misses = misses + 1 }; fills = None }) (record { standing = record (runs_at place mode misses farewell) { misses = misses + 1; state = NoReply; farewell = true }; fills = None })).standing
     by true = let none = not_zero misses in rw none (omega arith)
@@ -171,7 +172,7 @@ counted cs all old = λ still. by (step_counts all old cs still)
     by (inr h) = inr h.0
 
 step-pace : (old : SenderParts) (bytes : List ℕ) (new : SenderParts) → IsSender old → old.standing.state ≡ Running → Hears old bytes new
-    → old.standing.misses + 1 ≤ weight new + 10 * sender_progress_at new
+    → old.standing.misses + 1 ≤ weight new + GIVE_UP * sender_progress_at new
 step-pace old bytes new is running gives =
     let taken = hears (counts old) old.standing (controls_in bytes) in
     pace old.standing.misses new.standing.misses new.standing.state (is.misses running)
@@ -192,7 +193,7 @@ running-steps state counts place mode on = ap (λ s. steps_in s counts place mod
 
 -- ---- A whole call
 
-paced : (s : SenderParts) (t : Tape) (out : Outcome) (run : Sends s t out) → sender_hears s t out run + weight s ≤ 10 * (sender_progress s t out run + 1)
+paced : (s : SenderParts) (t : Tape) (out : Outcome) (run : Sends s t out) → sender_hears s t out run + weight s ≤ GIVE_UP * (sender_progress s t out run + 1)
 paced s t out (ended _ _ over) = let most = weight_of_ended s.standing.state s.standing.misses over in omega (arith, most)
 paced s t out (unwritten _ _ is some) = let most = weight-le s.standing.state s.standing.misses is.misses in omega (arith, most)
 paced s t out (unread _ _ f is on none) = let most = weight-le s.standing.state s.standing.misses is.misses in omega (arith, most)
@@ -202,7 +203,7 @@ paced s t out (heard _ _ bytes new _ is on some gives later) =
     let now = weight_of_running s.standing.state s.standing.misses on in
     omega (arith, rest, one, now)
 
-pub hears-le : (s : SenderParts) (t : Tape) (out : Outcome) (run : Sends s t out) → sender_hears s t out run ≤ 10 * (sender_progress s t out run + 1)
+pub hears-le : (s : SenderParts) (t : Tape) (out : Outcome) (run : Sends s t out) → sender_hears s t out run ≤ GIVE_UP * (sender_progress s t out run + 1)
 hears-le s t out run = let all = paced s t out run in omega (arith, all)
 
 lowered : (s : SenderParts) (t : Tape) (out : Outcome) (run : Sends s t out) → sender_progress s t out run ≤ steps_in s.standing.state (counts s) s.standing.place s.standing.mode
@@ -219,7 +220,7 @@ pub progress-le : (s : SenderParts) (t : Tape) (out : Outcome) (run : Sends s t 
 progress-le s t out run = let all = lowered s t out run in let most = steps-le s.standing.state (counts s) s.standing.place s.standing.mode in omega (arith, all, most)
 
 -- The same of the deliveries that were heard, whatever the port tells.
-course-pace : (s : SenderParts) (ds : List (List ℕ)) (p : ℕ) (new : SenderParts) → SenderHears s ds p new → length ds + weight s ≤ weight new + 10 * p
+course-pace : (s : SenderParts) (ds : List (List ℕ)) (p : ℕ) (new : SenderParts) → SenderHears s ds p new → length ds + weight s ≤ weight new + GIVE_UP * p
 course-pace s ds p new (sender_none _) = omega arith
 course-pace s ds p new (sender_more _ before q between bytes _ hears is on short gives) =
     let first = course-pace s before q between hears in

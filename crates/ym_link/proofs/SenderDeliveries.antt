@@ -20,6 +20,7 @@ use Rattle.ym_link.specs.Sender.{SenderParts, IsSender, Hears, counts}
 use Rattle.ym_link.specs.Deliveries.{frames_in, frames_from, sender_steps, deliveries_in, sender_deliveries}
 use Rattle.ym_link.proofs.Files.{filled_counts}
 use Rattle.ym_link.proofs.Steps.{Reaches, stays, cancels, again, finishes, sends, waits_next, sends_next, cancels_next, IsBefore, reaches}
+use Rattle.ym_machine.specs.declared.limits.TheConstants.{GIVE_UP}
 
 -- ---- One frame less from the next place on
 
@@ -61,20 +62,20 @@ runs_at place mode misses farewell = record { place = place; mode = mode; misses
 abbrev Fewer : List ℕ → Standing → Standing → Type 0
 Fewer counts old new = deliveries_in new.state counts new < deliveries_in old.state counts old
 
-missed-fewer : (counts : List ℕ) (place : Place) (mode : Mode) (misses : ℕ) (farewell : Bool) → misses < 10
+missed-fewer : (counts : List ℕ) (place : Place) (mode : Mode) (misses : ℕ) (farewell : Bool) → misses < GIVE_UP
     → Fewer counts (runs_at place mode misses farewell) (missed (runs_at place mode misses farewell)).standing
-missed-fewer counts place mode misses farewell few = by (nat_lt (misses + 1) 10) refl
+missed-fewer counts place mode misses farewell few = by (nat_lt (misses + 1) GIVE_UP) refl
   where
-    by : (b : Bool) → nat_lt (misses + 1) 10 ≡ b
+    by : (b : Bool) → nat_lt (misses + 1) GIVE_UP ≡ b
         → Fewer counts (runs_at place mode misses farewell) (cond {A = Step} b (record { standing = record (runs_at place mode misses farewell) { misses = misses + 1 }; fills = None }) (record { standing = record (runs_at place mode misses farewell) { misses = misses + 1; state = NoReply; farewell = true }; fills = None })).standing
     by true e = omega arith
     by false e = omega arith
 
-moved-fewer : (counts : List ℕ) (place next : Place) (mode after : Mode) (misses : ℕ) (farewell : Bool) → misses < 10 → sender_steps counts next after < sender_steps counts place mode
+moved-fewer : (counts : List ℕ) (place next : Place) (mode after : Mode) (misses : ℕ) (farewell : Bool) → misses < GIVE_UP → sender_steps counts next after < sender_steps counts place mode
     → Fewer counts (runs_at place mode misses farewell) (moved (runs_at place mode misses farewell) next after)
 moved-fewer counts place next mode after misses farewell few less = omega arith
 
-reading-fewer : (counts : List ℕ) (place : Place) (mode : Mode) (misses : ℕ) (farewell : Bool) (r : Reading) → misses < 10 → IsPlace counts place → Reaches counts place mode r
+reading-fewer : (counts : List ℕ) (place : Place) (mode : Mode) (misses : ℕ) (farewell : Bool) (r : Reading) → misses < GIVE_UP → IsPlace counts place → Reaches counts place mode r
     → Fewer counts (runs_at place mode misses farewell) (after_reading (runs_at place mode misses farewell) r.place r.mode r.stop).standing
 reading-fewer counts place mode misses farewell r few within (stays e) = subst (λ (x : Reading). Fewer counts (runs_at place mode misses farewell) (after_reading (runs_at place mode misses farewell) x.place x.mode x.stop).standing) (sym e) (by mode)
   where
@@ -98,7 +99,7 @@ reading-fewer counts place mode misses farewell r few within (sends_next m befor
     (let one = next-frames counts place within before in let some = some-frames counts (next_of counts place) in moved-fewer counts place (next_of counts place) Sent Sent misses farewell few (omega (arith, one, some))))
 reading-fewer counts place mode misses farewell r few within (cancels_next m before e) = subst (λ (x : Reading). Fewer counts (runs_at place mode misses farewell) (after_reading (runs_at place mode misses farewell) x.place x.mode x.stop).standing) (sym e) (omega arith)
 
-hears-fewer : (counts : List ℕ) (place : Place) (mode : Mode) (misses : ℕ) (now : SendState) (farewell : Bool) (cs : List Control) → now ≡ Running → misses < 10 → IsPlace counts place
+hears-fewer : (counts : List ℕ) (place : Place) (mode : Mode) (misses : ℕ) (now : SendState) (farewell : Bool) (cs : List Control) → now ≡ Running → misses < GIVE_UP → IsPlace counts place
     → let s : Standing = record { place = place; mode = mode; misses = misses; state = now; farewell = farewell } in
     Fewer counts s (hears counts s cs).standing
 hears-fewer counts place mode misses now farewell cs running few within =

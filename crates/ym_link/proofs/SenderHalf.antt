@@ -18,6 +18,7 @@ use Rattle.ym_core.specs.Place.{next_of}
 use Rattle.ym_core.specs.Standing.{step, missed, runs, hears, hears_in, after_fill}
 use Rattle.ym_link.specs.SenderStands.{Batch, StandsAt, counts_in, place_at, state_of, mode_of, farewell_of}
 use Rattle.ym_link.proofs.SenderPlaces.{SameKind, next_at, kind_at}
+use Rattle.ym_machine.specs.declared.limits.TheConstants.{GIVE_UP}
 
 -- what may come back of a reply
 data Part : List Control → Type 0 where
@@ -90,7 +91,7 @@ module _ (files : Batch) (st : State) (running : st.sender ≡ SenderEnd.Running
   at place mode misses = record { place = place; mode = mode; misses = misses; state = state.Running; farewell = false }
 
   missed_agrees : (m : Bool) → st.sent ≡ m → StandsAt files (nothing_gained st) (after failed (missed (at (place_at files st.acknowledged) (mode_of m) st.sender_count)))
-  missed_agrees m is = by (nat_lt (st.sender_count + 1) 10)
+  missed_agrees m is = by (nat_lt (st.sender_count + 1) GIVE_UP)
     where
       by : (b : Bool) → StandsAt files (cond b (record st { sender_count = st.sender_count + 1 }) (record st { sender_count = st.sender_count + 1; sender = SenderEnd.NoReply; farewell = true }))
           (after failed (cond {A = Step} b (step (at (place_at files st.acknowledged) (mode_of m) (st.sender_count + 1)))

@@ -17,6 +17,7 @@ use Rattle.ym_core.specs.declared.state.SendState.{SendState}
 use Rattle.ym_core.specs.declared.state.SendState.TheVariants.{Running, Finished, NoReply, Cancelled, SourceFailed}
 use Rattle.ym_core.specs.Reading.{controls_in, turn, reads}
 use Rattle.ym_core.specs.Standing.{missed, read_through, after_reading, hears, hears_in, is_settled, is_settled_in}
+use Rattle.ym_machine.specs.declared.limits.TheConstants.{GIVE_UP}
 
 -- a reading that goes on, or stops
 on_stop : (b : Bool) (r x y : Reading) → (is_some x.stop ≡ true → y ≡ x) → is_some (cond b r x).stop ≡ true → cond b r y ≡ cond b r x
@@ -61,7 +62,7 @@ cancelled counts place mode (Can ∷ Nak ∷ cs) h = on_none (turn counts mode C
 cancelled counts place mode (Can ∷ Start ∷ cs) h = on_none (turn counts mode Can place) (on_from counts mode place (Start ∷ cs)) (on_from counts mode place (Start ∷ cs ++ Can ∷ Can ∷ [])) (cancelled counts (turn counts mode Can place).place (turn counts mode Can place).mode (Start ∷ cs)) h
 
 missed_goes_on : (s : Standing) → s.state ≡ Running → (missed s).standing.state ≡ Cancelled → ⊥
-missed_goes_on s on h = by (nat_lt (s.misses + 1) 10) h
+missed_goes_on s on h = by (nat_lt (s.misses + 1) GIVE_UP) h
   where
     by : (b : Bool) → (cond {A = Step} b (record { standing = record s { misses = s.misses + 1 }; fills = None }) (record { standing = record s { misses = s.misses + 1; state = NoReply; farewell = true }; fills = None })).standing.state ≡ Cancelled → ⊥
     by true w = absurd cc

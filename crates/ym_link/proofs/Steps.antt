@@ -16,6 +16,7 @@ use Rattle.ym_core.specs.declared.state.SendState.{SendState}
 use Rattle.ym_core.specs.declared.state.SendState.TheVariants.{Running, Finished, NoReply, Cancelled, SourceFailed}
 use Rattle.ym_core.specs.Reading.{goes_on, stops, reads}
 use Rattle.ym_core.specs.Standing.{missed, read_through, after_reading, hears, hears_in, IsSame}
+use Rattle.ym_machine.specs.declared.limits.TheConstants.{GIVE_UP}
 
 -- another frame stands behind it
 abbrev pub IsBefore : Place → Type 0
@@ -84,7 +85,7 @@ reaches counts place Sent cs = from_sent counts place cs
 -- A step of a sender that runs and still runs after it: its misses are below ten, and where no frame is filled and it has sent, the
 -- frame that is out is the same.
 pub record Keeps (old : Standing) (new : Step) : Type 0 where
-  pub misses : new.standing.misses < 10
+  pub misses : new.standing.misses < GIVE_UP
   pub place : new.fills ≡ None → new.standing.mode ≡ Sent → new.standing.place ≡ old.place
   pub mode : new.fills ≡ None → new.standing.mode ≡ Sent → old.mode ≡ Sent
   pub state : old.state ≡ Running
@@ -94,9 +95,9 @@ abbrev KeepsOn : Standing → Step → Type 0
 KeepsOn old new = new.standing.state ≡ Running → Keeps old new
 
 missed_keeps : (s : Standing) → s.state ≡ Running → KeepsOn s (missed s)
-missed_keeps s on = by (nat_lt (s.misses + 1) 10) refl
+missed_keeps s on = by (nat_lt (s.misses + 1) GIVE_UP) refl
   where
-    by : (b : Bool) → nat_lt (s.misses + 1) 10 ≡ b
+    by : (b : Bool) → nat_lt (s.misses + 1) GIVE_UP ≡ b
         → KeepsOn s (cond b (record { standing = record s { misses = s.misses + 1 }; fills = None }) (record { standing = record s { misses = s.misses + 1; state = NoReply; farewell = true }; fills = None }))
     by true e still = record { misses = grind (arith, nat_tests); place = λ _ _. refl; mode = λ _ h. h; state = on; filled = λ p h. cc }
     by false e still = absurd cc
@@ -156,7 +157,7 @@ is_sent : Waiting ≡ Sent → ⊥
 is_sent h = absurd cc
 
 missed_counts : (s : Standing) → CountsOn s (missed s).standing
-missed_counts s = by (nat_lt (s.misses + 1) 10)
+missed_counts s = by (nat_lt (s.misses + 1) GIVE_UP)
   where
     by : (b : Bool) → CountsOn s (cond {A = Step} b (record { standing = record s { misses = s.misses + 1 }; fills = None }) (record { standing = record s { misses = s.misses + 1; state = NoReply; farewell = true }; fills = None })).standing
     by true still = inr (refl, record { place = refl; mode = refl })

@@ -7,10 +7,11 @@ use Rattle.ym_link.specs.declared.exchange.Role.{Role}
 use Rattle.ym_link.specs.declared.port.PortFault.{PortFault}
 use Rattle.ym_link.specs.declared.sweep.Held.{Held}
 use Rattle.ym_link.specs.declared.sweep.Sweep.{Sweep}
+use Rattle.ym_link.specs.declared.port.TheConstants.{DELIVERY_LIMIT}
 
 -- it goes on
 pub swept-on : (most i : ℕ) (role : Role) (s : Sweep) (events : List Event) → i < most → is_over s ≡ false
-    → swept (most - i) role s events ≡ behind (swept (most - (i + 1)) role) (after_read role s (read_gives 2048 events)) (read_leaves 2048 events)
+    → swept (most - i) role s events ≡ behind (swept (most - (i + 1)) role) (after_read role s (read_gives DELIVERY_LIMIT events)) (read_leaves DELIVERY_LIMIT events)
 unfolding swept
 swept-on most i role s events more on = let e : most - i ≡ suc (most - (i + 1)) = omega arith in rw (e, on) refl
 
@@ -28,8 +29,8 @@ swept-out most i role s events out = let e : most - i ≡ zero = omega arith in 
 
 -- it goes on by what a read brings
 pub swept-read : (most i : ℕ) (role : Role) (s : Sweep) (events : List Event) (got : Result (Option Sweep) PortFault) (whole : Swept) → i < most → is_over s ≡ false
-    → got ≡ after_read role s (read_gives 2048 events) → whole ≡ swept (most - i) role s events
-    → whole ≡ behind (swept (most - (i + 1)) role) got (read_leaves 2048 events)
+    → got ≡ after_read role s (read_gives DELIVERY_LIMIT events) → whole ≡ swept (most - i) role s events
+    → whole ≡ behind (swept (most - (i + 1)) role) got (read_leaves DELIVERY_LIMIT events)
 swept-read most i role s events got whole more on brings is = rw brings (is ∙ swept-on most i role s events more on)
 
 -- what the whole answers, and the port behind it

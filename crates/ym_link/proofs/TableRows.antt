@@ -14,6 +14,7 @@ use Rattle.ym_core.specs.declared.stage.Stage.{Stage}
 use Rattle.ym_core.specs.declared.stage.Stage.TheVariants.{AwaitHeader, InFile}
 use Rattle.ym_core.specs.declared.state.RecvState.TheVariants as state
 use Rattle.ym_core.specs.Receiver.{Receiver, Begins, Adds, goes_on, stays, ends, opened, hears, next_block, covered_eot}
+use Rattle.ym_machine.specs.declared.limits.TheConstants.{MOST_FILES}
 
 pub yes : (a : ℕ) → (a == a) ≡ true
 yes a = grind (arith, nat_tests)
@@ -39,12 +40,12 @@ abbrev pub file_of : ℕ → ℕ → ℕ → Bool → OpenFile
 file_of len taken blocks first_eot = record { length = len; taken = taken; blocks = blocks; first_eot = first_eot }
 
 module _ (confirm : Confirm) (files count : ℕ) where
-  pub row-opening : (header : HeaderParts) (body : List ℕ) → files < 65535
+  pub row-opening : (header : HeaderParts) (body : List ℕ) → files < MOST_FILES
       → hears (running_at confirm AwaitHeader files count) (Ok (File header)) (heard.Item (item.Block (record { number = 0; body = body })))
       ≡ goes_on (record (running_at confirm AwaitHeader files count) { stage = InFile (opened header) }) AckStart (Begins header)
   row-opening header body few =
       let r : Receiver = running_at confirm AwaitHeader files count in
-      ap (λ b. cond b (goes_on (record r { stage = InFile (opened header) }) AckStart (Begins header)) (ends r state.TooManyFiles Cancel)) (less files 65535 few)
+      ap (λ b. cond b (goes_on (record r { stage = InFile (opened header) }) AckStart (Begins header)) (ends r state.TooManyFiles Cancel)) (less files MOST_FILES few)
 
   pub row-end : (body : List ℕ) → hears (running_at confirm AwaitHeader files count) (Ok End) (heard.Item (item.Block (record { number = 0; body = body }))) ≡ ends (running_at confirm AwaitHeader files count) state.Finished Ack
   row-end body = refl

@@ -6,11 +6,12 @@ use Rattle.std.proofs.Math.Seq.{take-append-add}
 use borrow.Author.Tests.{ltb-true}
 use borrow.Rule.Slice.PartMut.{mid_of, put_mid, post_of}
 use Rattle.ym_link.specs.Port.{Tape, Seen, Data, Silence, End, Failed, read_gives, read_leaves}
-use Rattle.ym_link.specs.Delivery.{Taken, taken, delivery_limit}
+use Rattle.ym_link.specs.Delivery.{Taken, taken}
 use Rattle.ym_link.specs.declared.event.Event.{Event}
 use Rattle.ym_link.specs.declared.event.Event.TheVariants as event
 use Rattle.ym_link.specs.declared.end_fault.EndFault.{EndFault}
 use Rattle.ym_link.specs.declared.end_fault.EndFault.TheVariants as fault
+use Rattle.ym_link.specs.declared.port.TheConstants.{DELIVERY_LIMIT}
 
 abbrev pub done : List ℕ → List Event → Taken
 done had rest = record { delivery = Ok had; rest = rest }
@@ -18,7 +19,7 @@ done had rest = record { delivery = Ok had; rest = rest }
 module _ (ends : List ℕ → Bool) where
   -- what a delivery is behind bytes that do not end it but by being many
   abbrev pub onward : List ℕ → List Event → Taken
-  onward had rest = if nat_le delivery_limit (length had) then done had rest else taken ends had rest
+  onward had rest = if nat_le DELIVERY_LIMIT (length had) then done had rest else taken ends had rest
 
   -- what it is behind a read
   abbrev pub next : List ℕ → Seen → List Event → Taken
@@ -27,32 +28,32 @@ module _ (ends : List ℕ → Bool) where
   next had End rest = record { delivery = Err fault.Closed; rest = rest }
   next had Failed rest = record { delivery = Err fault.Device; rest = rest }
 
-  pub onward-full : (had : List ℕ) (rest : List Event) → delivery_limit ≤ length had → onward had rest ≡ done had rest
-  onward-full had rest h = let full : nat_le delivery_limit (length had) ≡ true = le-leb delivery_limit (length had) h in rw full refl
+  pub onward-full : (had : List ℕ) (rest : List Event) → DELIVERY_LIMIT ≤ length had → onward had rest ≡ done had rest
+  onward-full had rest h = let full : nat_le DELIVERY_LIMIT (length had) ≡ true = le-leb DELIVERY_LIMIT (length had) h in rw full refl
 
-  pub onward-open : (had : List ℕ) (rest : List Event) → length had < delivery_limit → onward had rest ≡ taken ends had rest
-  onward-open had rest h = let few : nat_le delivery_limit (length had) ≡ false = lt-leb delivery_limit (length had) h in rw few refl
+  pub onward-open : (had : List ℕ) (rest : List Event) → length had < DELIVERY_LIMIT → onward had rest ≡ taken ends had rest
+  onward-open had rest h = let few : nat_le DELIVERY_LIMIT (length had) ≡ false = lt-leb DELIVERY_LIMIT (length had) h in rw few refl
 
-  full-anyway : (had : List ℕ) (rest : List Event) → delivery_limit ≤ length had → (if ends had then done had rest else onward had rest) ≡ done had rest
+  full-anyway : (had : List ℕ) (rest : List Event) → DELIVERY_LIMIT ≤ length had → (if ends had then done had rest else onward had rest) ≡ done had rest
   full-anyway had rest h = cond_both (ends had) (done had rest) (onward had rest) (λ x. x ≡ done had rest) (λ e. refl) (λ e. onward-full had rest h)
 
   -- a piece that fills the buffer, or one that fits
   choose : (fills : Bool) (had piece : List ℕ) (room : ℕ) (left rest : List Event)
-      → (fills ≡ true → delivery_limit ≤ length (had ++ take room piece))
+      → (fills ≡ true → DELIVERY_LIMIT ≤ length (had ++ take room piece))
       → (if fills then done (had ++ take room piece) left else (if ends (had ++ piece) then done (had ++ piece) rest else onward (had ++ piece) rest))
       ≡ next had (if fills then Data (take room piece) else Data piece) (if fills then left else rest)
   choose true had piece room left rest full = sym (full-anyway (had ++ take room piece) left (full refl))
   choose false had piece room left rest full = refl
 
-  filled : (had piece : List ℕ) → length had < delivery_limit → delivery_limit - length had < length piece
-      → delivery_limit ≤ length (had ++ take (delivery_limit - length had) piece)
+  filled : (had piece : List ℕ) → length had < DELIVERY_LIMIT → DELIVERY_LIMIT - length had < length piece
+      → DELIVERY_LIMIT ≤ length (had ++ take (DELIVERY_LIMIT - length had) piece)
   filled had piece h more =
-      let fits : delivery_limit - length had ≤ length piece = omega arith in
-      let taken_len = length-take-le (delivery_limit - length had) piece fits in
-      omega (arith, length-append had (take (delivery_limit - length had) piece), taken_len)
+      let fits : DELIVERY_LIMIT - length had ≤ length piece = omega arith in
+      let taken_len = length-take-le (DELIVERY_LIMIT - length had) piece fits in
+      omega (arith, length-append had (take (DELIVERY_LIMIT - length had) piece), taken_len)
 
-  taken-step : (had : List ℕ) (es : List Event) → length had < delivery_limit
-      → taken ends had es ≡ next had (read_gives (delivery_limit - length had) es) (read_leaves (delivery_limit - length had) es)
+  taken-step : (had : List ℕ) (es : List Event) → length had < DELIVERY_LIMIT
+      → taken ends had es ≡ next had (read_gives (DELIVERY_LIMIT - length had) es) (read_leaves (DELIVERY_LIMIT - length had) es)
   unfolding taken
   taken-step had [] h = refl
   taken-step had (event.Closed ∷ rest) h = refl
@@ -60,12 +61,12 @@ module _ (ends : List ℕ → Bool) where
   taken-step had (event.Quiet ∷ rest) h = refl
   taken-step had (event.Piece [] ∷ rest) h = refl
   taken-step had (event.Piece (b ∷ bs) ∷ rest) h =
-      choose (nat_lt (delivery_limit - length had) (length (b ∷ bs))) had (b ∷ bs) (delivery_limit - length had)
-      (event.Piece (drop (delivery_limit - length had) (b ∷ bs)) ∷ rest) rest
-      (λ e. filled had (b ∷ bs) h (ltb-true (delivery_limit - length had) (length (b ∷ bs)) e))
+      choose (nat_lt (DELIVERY_LIMIT - length had) (length (b ∷ bs))) had (b ∷ bs) (DELIVERY_LIMIT - length had)
+      (event.Piece (drop (DELIVERY_LIMIT - length had) (b ∷ bs)) ∷ rest) rest
+      (λ e. filled had (b ∷ bs) h (ltb-true (DELIVERY_LIMIT - length had) (length (b ∷ bs)) e))
 
   -- what a read brings, behind bytes that do not end a delivery
-  pub after-read : (had : List ℕ) (seen : Seen) (whole : Taken) (coming : List Event) (room : ℕ) → length had < delivery_limit → room ≡ delivery_limit - length had
+  pub after-read : (had : List ℕ) (seen : Seen) (whole : Taken) (coming : List Event) (room : ℕ) → length had < DELIVERY_LIMIT → room ≡ DELIVERY_LIMIT - length had
       → whole ≡ onward had coming → seen ≡ read_gives room coming
       → whole ≡ next had seen (read_leaves room coming)
   after-read had seen whole coming room less is_room before brings =

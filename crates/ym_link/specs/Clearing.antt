@@ -94,6 +94,13 @@ read_in held.CanCan wait room talk events = if nat_lt 1 room then given (24 ∷ 
 abbrev pub read_by : Wait → ℕ → Talk → List Event → Read
 read_by wait room talk events = read_in talk.held wait room talk events
 
+-- ---- The waits of the port below
+
+-- behind the waits before stand others, and this one is the last of them
+pub record AskedLast (wait : Wait) (old new : List Wait) : Type 0 where
+  pub between : List Wait
+  pub waits : new ≡ old ++ (between ++ wait ∷ [])
+
 -- ---- What passes
 
 -- what is to be heard yet, as events

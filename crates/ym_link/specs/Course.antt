@@ -10,11 +10,12 @@ use Rattle.ym_core.specs.declared.state.RecvState.TheVariants as receiver
 use Rattle.ym_core.specs.declared.state.SendState.TheVariants as sender
 use Rattle.ym_link.specs.Bound.{accepted, steps_of, steps_at, progress_at, sender_progress_at}
 use Rattle.ym_link.specs.Deliveries.{frames_from}
-use Rattle.ym_link.specs.Delivery.{delivery_limit}
 use Rattle.ym_link.specs.ReceiverInto.{ReceiverParts, IsReceiver, HearsGives}
 use Rattle.ym_link.specs.Sender.{SenderParts, IsSender, Hears, counts}
 use Rattle.ym_link.specs.declared.port.Wait.{Wait}
 use Rattle.ym_link.specs.declared.port.Wait.TheVariants.{Within, Reply}
+use Rattle.ym_machine.specs.declared.limits.TheConstants.{GIVE_UP}
+use Rattle.ym_link.specs.declared.port.TheConstants.{DELIVERY_LIMIT}
 
 -- ---- The waits
 
@@ -30,7 +31,7 @@ waits_in (reads ∷ more) = waits_of reads ++ waits_in more
 
 -- a delivery takes one read at least, and 2048 at most
 abbrev pub AreReads : ℕ → Type 0
-AreReads reads = (0 < reads) × (reads ≤ 2048)
+AreReads reads = (0 < reads) × (reads ≤ DELIVERY_LIMIT)
 
 -- behind the waits before stand those of one delivery
 pub record ReadOnce (old new : List Wait) : Type 0 where
@@ -51,14 +52,14 @@ pub record Asks (deliveries : ℕ) (old new : List Wait) : Type 0 where
 pub data SenderHears : SenderParts → List (List ℕ) → ℕ → SenderParts → Type 0 where
   sender_none : (s : SenderParts) → SenderHears s [] 0 s
   sender_more : (s : SenderParts) (deliveries : List (List ℕ)) (progress : ℕ) (between : SenderParts) (bytes : List ℕ) (new : SenderParts)
-      → SenderHears s deliveries progress between → IsSender between → between.standing.state ≡ sender.Running → length bytes ≤ delivery_limit → Hears between bytes new
+      → SenderHears s deliveries progress between → IsSender between → between.standing.state ≡ sender.Running → length bytes ≤ DELIVERY_LIMIT → Hears between bytes new
       → SenderHears s (deliveries ++ bytes ∷ []) (progress + sender_progress_at new) new
 
 -- at most ten for each step of progress and ten more; and there are at most two such steps for each frame from its place on
 pub record SenderCourse (old : SenderParts) (deliveries : List (List ℕ)) (new : SenderParts) : Type 0 where
   pub progress : ℕ
   pub hears : SenderHears old deliveries progress new
-  pub few : length deliveries ≤ 10 * (progress + 1)
+  pub few : length deliveries ≤ GIVE_UP * (progress + 1)
   pub steps : progress ≤ 2 * frames_from (counts old) old.standing.place
 
 -- ---- A receiver
@@ -79,5 +80,5 @@ pub data ReceiverHears : ReceiverParts → List Heard → ℕ → ReceiverParts 
 pub record ReceiverCourse (old : ReceiverParts) (deliveries : List Heard) (new : ReceiverParts) : Type 0 where
   pub progress : ℕ
   pub hears : ReceiverHears old deliveries progress new
-  pub few : length deliveries ≤ 10 * (progress + 1)
+  pub few : length deliveries ≤ GIVE_UP * (progress + 1)
   pub steps : progress + steps_at old ≤ steps_of (accepted new)

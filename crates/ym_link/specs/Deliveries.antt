@@ -14,6 +14,7 @@ use Rattle.ym_core.specs.declared.place.Mode.TheVariants.{Waiting, Sent}
 use Rattle.ym_core.specs.declared.standing.Standing.{Standing}
 use Rattle.ym_core.specs.declared.state.SendState.{SendState}
 use Rattle.ym_core.specs.declared.state.SendState.TheVariants.{Running}
+use Rattle.ym_machine.specs.declared.limits.TheConstants.{GIVE_UP, MOST_FILES}
 
 -- ---- A receiver
 
@@ -23,11 +24,11 @@ file_steps = 2 ^ 63 + 3
 
 -- how many steps of progress a receiver has left at most, with so many files committed
 abbrev pub receiver_steps : Stage → ℕ → ℕ
-receiver_steps AwaitHeader files = (65535 - files) * file_steps
-receiver_steps (InFile file) files = (65535 - (files + 1)) * file_steps + (file.length - file.taken) + (if file.first_eot then 1 else 2)
+receiver_steps AwaitHeader files = (MOST_FILES - files) * file_steps
+receiver_steps (InFile file) files = (MOST_FILES - (files + 1)) * file_steps + (file.length - file.taken) + (if file.first_eot then 1 else 2)
 
 abbrev pub deliveries_at : RecvState → Receiver → ℕ
-deliveries_at state.Running r = 10 * receiver_steps r.stage r.files + (10 - r.count)
+deliveries_at state.Running r = GIVE_UP * receiver_steps r.stage r.files + (GIVE_UP - r.count)
 deliveries_at _ r = 0
 
 -- how many deliveries a receiver takes at most until it has ended
@@ -54,7 +55,7 @@ sender_steps counts place Waiting = 2 * frames_from counts place
 sender_steps counts place Sent = 2 * frames_from counts place - 1
 
 abbrev pub deliveries_in : SendState → List ℕ → Standing → ℕ
-deliveries_in Running counts s = 10 * sender_steps counts s.place s.mode + (10 - s.misses)
+deliveries_in Running counts s = GIVE_UP * sender_steps counts s.place s.mode + (GIVE_UP - s.misses)
 deliveries_in _ counts s = 0
 
 -- how many deliveries a sender takes at most until it has ended

@@ -7,10 +7,7 @@ use Rattle.ym_link.specs.declared.event.Event.{Event}
 use Rattle.ym_link.specs.declared.event.Event.TheVariants as event
 use Rattle.ym_link.specs.declared.end_fault.EndFault.{EndFault}
 use Rattle.ym_link.specs.declared.end_fault.EndFault.TheVariants as fault
-
--- how many bytes a delivery has at most
-abbrev pub delivery_limit : ℕ
-delivery_limit = 2048
+use Rattle.ym_link.specs.declared.port.TheConstants.{DELIVERY_LIMIT}
 
 -- a delivery, or why there is none, and the events behind it
 pub record Taken : Type 0 where
@@ -25,10 +22,10 @@ taken ends had (event.Fault ∷ rest) = record { delivery = Err fault.Device; re
 taken ends had (event.Quiet ∷ rest) = record { delivery = Ok had; rest = rest }
 taken ends had (event.Piece [] ∷ rest) = record { delivery = Ok had; rest = rest }
 taken ends had (event.Piece (b ∷ bs) ∷ rest) =
-    if nat_lt (delivery_limit - length had) (length (b ∷ bs))
-    then record { delivery = Ok (had ++ take (delivery_limit - length had) (b ∷ bs)); rest = event.Piece (drop (delivery_limit - length had) (b ∷ bs)) ∷ rest }
+    if nat_lt (DELIVERY_LIMIT - length had) (length (b ∷ bs))
+    then record { delivery = Ok (had ++ take (DELIVERY_LIMIT - length had) (b ∷ bs)); rest = event.Piece (drop (DELIVERY_LIMIT - length had) (b ∷ bs)) ∷ rest }
     else (if ends (had ++ b ∷ bs) then record { delivery = Ok (had ++ b ∷ bs); rest = rest }
-    else (if nat_le delivery_limit (length (had ++ b ∷ bs)) then record { delivery = Ok (had ++ b ∷ bs); rest = rest }
+    else (if nat_le DELIVERY_LIMIT (length (had ++ b ∷ bs)) then record { delivery = Ok (had ++ b ∷ bs); rest = rest }
     else taken ends (had ++ b ∷ bs) rest))
 
 -- how many reads it takes, by the same cases
@@ -39,7 +36,12 @@ reads_in ends had (event.Fault ∷ rest) = 1
 reads_in ends had (event.Quiet ∷ rest) = 1
 reads_in ends had (event.Piece [] ∷ rest) = 1
 reads_in ends had (event.Piece (b ∷ bs) ∷ rest) =
-    if nat_lt (delivery_limit - length had) (length (b ∷ bs)) then 1
+    if nat_lt (DELIVERY_LIMIT - length had) (length (b ∷ bs)) then 1
     else (if ends (had ++ b ∷ bs) then 1
-    else (if nat_le delivery_limit (length (had ++ b ∷ bs)) then 1
+    else (if nat_le DELIVERY_LIMIT (length (had ++ b ∷ bs)) then 1
     else reads_in ends (had ++ b ∷ bs) rest + 1))
+
+-- the bytes of a delivery that stands at the front of a buffer, with its length
+abbrev pub bytes_read : {A : Type 0} → Result (ℕ × A) EndFault → List ℕ → Result (List ℕ) EndFault
+bytes_read (Ok found) buf = Ok (take found.0 buf)
+bytes_read (Err fault) buf = Err fault

@@ -9,6 +9,7 @@ use Rattle.ym_link.specs.declared.exchange.Exchange.{Exchange}
 use Rattle.ym_link.specs.declared.exchange.Front.{Front}
 use Rattle.ym_link.specs.declared.exchange.Role.{Role}
 use Rattle.ym_link.specs.declared.exchange.Role.TheVariants.{Sender, Receiver}
+use Rattle.ym_link.specs.declared.port.TheConstants.{DELIVERY_LIMIT}
 
 -- what tells one frame of a batch from the next one
 abbrev pub front_of : List ℕ → Front
@@ -30,7 +31,7 @@ new_exchange = record {
 
 -- so many bytes came
 abbrev pub heard : ℕ → Exchange → Exchange
-heard count x = record x { came = min 2048 (x.came + count); is_quiet = false }
+heard count x = record x { came = min DELIVERY_LIMIT (x.came + count); is_quiet = false }
 
 -- a read found the line quiet
 abbrev pub quieted : Exchange → Exchange
@@ -44,13 +45,13 @@ after_seen _ x = x
 
 -- what came filled a delivery, and the line was not quiet behind it: more of the same noise is under way
 abbrev pub is_full : Exchange → Bool
-is_full x = nat_le 2048 x.came && not x.is_quiet
+is_full x = nat_le DELIVERY_LIMIT x.came && not x.is_quiet
 
 -- What came was what the end waited for, as its next write shows. A sender goes on to another frame. A receiver heard a frame, which ends
 -- a delivery as soon as it is whole; a delivery that is none ends where the line is quiet, or full.
 abbrev pub is_taken : Role → Exchange → Front → Bool
 is_taken Sender x next = nat_lt 0 x.came && not (is_same x.last next)
-is_taken Receiver x next = nat_lt 0 x.came && (nat_lt x.came 2048 && not x.is_quiet)
+is_taken Receiver x next = nat_lt 0 x.came && (nat_lt x.came DELIVERY_LIMIT && not x.is_quiet)
 
 -- A sender writes its EOT for the second time, as a receiver that confirms twice asks after each file: it was asked at once, and the
 -- frame before was answered at once, so that no receiver has asked because it waited.

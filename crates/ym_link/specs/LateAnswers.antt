@@ -15,6 +15,7 @@ use Rattle.ym_link.specs.declared.port.Wait.TheVariants.{Reply}
 use Rattle.ym_link.specs.declared.sweep.Held.{Held}
 use Rattle.ym_link.specs.declared.sweep.Heed.{Heed}
 use Rattle.ym_link.specs.declared.sweep.Heed.TheVariants as heed
+use Rattle.ym_link.specs.declared.port.TheConstants.{DELIVERY_LIMIT}
 
 -- ---- What comes late
 
@@ -22,10 +23,10 @@ use Rattle.ym_link.specs.declared.sweep.Heed.TheVariants as heed
 -- most; and there is no CAN CAN among them.
 pub data AreLate (role : Role) : Heed → ℕ → List Event → Type 0 where
   none : (at : Heed) (waits : ℕ) → AreLate role at waits []
-  soon : (at : Heed) (waits : ℕ) (bytes : List ℕ) (more : List Event) → 0 < length bytes → length bytes ≤ 2048
+  soon : (at : Heed) (waits : ℕ) (bytes : List ℕ) (more : List Event) → 0 < length bytes → length bytes ≤ DELIVERY_LIMIT
       → is_cancel (heeds_all role at bytes) ≡ false → AreLate role (heeds_all role at bytes) waits more
       → AreLate role at waits (event.Piece bytes ∷ more)
-  later : (at : Heed) (waits : ℕ) (bytes : List ℕ) (more : List Event) → role ≡ Sender → 0 < length bytes → length bytes ≤ 2048
+  later : (at : Heed) (waits : ℕ) (bytes : List ℕ) (more : List Event) → role ≡ Sender → 0 < length bytes → length bytes ≤ DELIVERY_LIMIT
       → is_cancel (heeds_all role heed.Open bytes) ≡ false → AreLate role (heeds_all role heed.Open bytes) waits more
       → AreLate role at (suc waits) (event.Quiet ∷ event.Piece bytes ∷ more)
 
@@ -52,7 +53,7 @@ goes_on on talk bytes (Err e) rest = on talk rest
 unfoldable pub gives : List Act → Talk → List Event → List Seen
 gives [] talk events = []
 gives (Writes bytes ∷ acts) talk events = goes_on (gives acts) talk bytes (cleared talk bytes events).answer (cleared talk bytes events).rest
-gives (Reads ∷ acts) talk events = (read_by Reply 2048 talk events).seen ∷ gives acts (read_by Reply 2048 talk events).talk (read_by Reply 2048 talk events).rest
+gives (Reads ∷ acts) talk events = (read_by Reply DELIVERY_LIMIT talk events).seen ∷ gives acts (read_by Reply DELIVERY_LIMIT talk events).talk (read_by Reply DELIVERY_LIMIT talk events).rest
 
 -- ---- One call and its answers
 
@@ -90,7 +91,7 @@ hears (suc again) answer = Silence ∷ hears again answer
 -- an answer is short of a full delivery and more than a question, and what comes late is late
 pub record IsCall (role : Role) (call : Call) : Type 0 where
   pub some : 0 < length call.answer
-  pub short : length call.answer < 2048
+  pub short : length call.answer < DELIVERY_LIMIT
   pub answers : all_ask call.answer ≡ false
   pub late : AreLate role heed.Open 9 call.late
   pub few : length call.late ≤ 65000

@@ -2,6 +2,8 @@
 use Rattle.std.specs.Prelude.{◌≡◌, ◌≢◌, ℕ, Bool, true, is_ok, List, [], Result, Ok, Err}
 use Rattle.std.specs.declared.alloc.AllocError.{AllocError}
 use Rattle.ym_frame.specs.Frame.{verdict_of}
+use Rattle.ym_frame.specs.WholeFrame.{IsThere, item_in, length_in}
+use Rattle.ym_frame.specs.declared.frame.Whole.{Whole}
 use Rattle.ym_frame.specs.Control.{reply_bytes}
 use Rattle.ym_frame.specs.declared.control.Reply.{Reply}
 use Rattle.ym_frame.specs.declared.control.Reply.TheVariants.{Silence}
@@ -19,6 +21,11 @@ use Rattle.ym_core.specs.declared.state.RecvState.TheVariants as state
 -- the delivery begins with a frame, which ends it
 abbrev pub has_item : List ℕ → Bool
 has_item bytes = is_ok (verdict_of bytes)
+
+-- this frame stands at the front of these bytes
+pub record IsFound (bytes : List ℕ) (whole : Whole) : Type 0 where
+  pub there : IsThere whole bytes
+  pub exact : verdict_of bytes ≡ Ok (item_in whole bytes, length_in whole)
 
 -- the delivery that is read next
 abbrev pub delivery_at : Tape → Taken

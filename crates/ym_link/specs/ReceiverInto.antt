@@ -16,6 +16,7 @@ use Rattle.ym_core.specs.declared.state.RecvState.TheVariants as state
 use Rattle.ym_core.specs.Core.{BlocksFit, FilesFit}
 use Rattle.ym_core.specs.Step.{Means}
 use Rattle.ym_core.specs.Receiver.{Receiver, Call, No_call, Begins, Adds, Commits, Step, ends, hears, new_receiver}
+use Rattle.ym_machine.specs.declared.limits.TheConstants.{GIVE_UP}
 
 -- a receiver as contracts see it, with what its sink tells and how often that failed
 pub record ReceiverParts : Type 0 where
@@ -91,5 +92,5 @@ pub record IsReceiver (parts : ReceiverParts) : Type 0 where
   pub blocks : BlocksFit parts.receiver.stage parts.receiver.count
   pub files : parts.receiver.files ≡ length parts.kept.headers
   pub few : FilesFit parts.receiver.stage parts.receiver.files
-  pub count : parts.receiver.count ≤ 10
-  pub runs : parts.receiver.state ≡ state.Running → parts.receiver.count < 10
+  pub count : parts.receiver.count ≤ GIVE_UP
+  pub runs : parts.receiver.state ≡ state.Running → parts.receiver.count < GIVE_UP

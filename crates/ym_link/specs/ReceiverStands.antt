@@ -20,6 +20,7 @@ use Rattle.ym_core.specs.declared.state.RecvState.{RecvState}
 use Rattle.ym_core.specs.declared.state.RecvState.TheVariants as state
 use Rattle.ym_core.specs.Receiver.{Receiver}
 use Rattle.ym_link.specs.ReceiverInto.{ReceiverParts, Tells}
+use Rattle.ym_machine.specs.declared.limits.TheConstants.{MOST_FILES}
 
 -- ---- A batch
 
@@ -39,7 +40,7 @@ pub record IsSent (file : File HeaderParts) : Type 0 where
 
 pub record IsBatch (files : List (File HeaderParts)) : Type 0 where
   pub sent : All IsSent files
-  pub few : length files ≤ 65535
+  pub few : length files ≤ MOST_FILES
 
 -- ---- What is heard
 

@@ -1,5 +1,5 @@
 -- A sender over a port: its table, folded over the deliveries that are read (this profile).
-use Rattle.std.specs.Prelude.{◌≡◌, ◌≢◌, ℕ, Bool, true, List, [], take, Option, None, Some, Result, Ok, Err}
+use Rattle.std.specs.Prelude.{◌≡◌, ◌≢◌, ℕ, Bool, true, List, [], Option, None, Some, Result, Ok, Err}
 use Rattle.ym_link.specs.Port.{Tape, after_write}
 use Rattle.ym_link.specs.Delivery.{Taken, taken}
 use Rattle.ym_core.specs.Reading.{controls_in}
@@ -30,11 +30,6 @@ delivery_to s t = taken (settles s) [] t.coming
 -- the port behind that delivery
 abbrev pub behind : SenderParts → Tape → Tape
 behind s t = record t { coming = (delivery_to s t).rest }
-
--- the bytes that a read of a delivery answers
-abbrev pub bytes_read : Result ℕ EndFault → List ℕ → Result (List ℕ) EndFault
-bytes_read (Ok n) buf = Ok (take n buf)
-bytes_read (Err fault) buf = Err fault
 
 -- ---- What is done
 

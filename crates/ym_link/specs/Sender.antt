@@ -5,7 +5,8 @@ use Rattle.ym_file.specs.declared.plan.Shape.{Shape}
 use Rattle.ym_link.specs.SourceFile.{FileParts, IsFile, file_at, filled, counts_of}
 use Rattle.ym_core.specs.Place.{IsPlace}
 use Rattle.ym_link.specs.FrameAt.{IsFrameAt}
-use Rattle.ym_core.specs.Reading.{controls_in}
+use Rattle.ym_core.specs.Reading.{controls_in, reads}
+use Rattle.ym_core.specs.declared.reading.Reading.{Reading}
 use Rattle.ym_core.specs.Standing.{hears, after_fill}
 use Rattle.ym_core.specs.declared.place.Place.{Place}
 use Rattle.ym_core.specs.declared.place.Place.TheVariants.{Block}
@@ -15,6 +16,7 @@ use Rattle.ym_core.specs.declared.standing.Standing.{Standing}
 use Rattle.ym_core.specs.declared.standing.SendStep.{SendStep as Step}
 use Rattle.ym_core.specs.declared.state.SendState.{SendState}
 use Rattle.ym_core.specs.declared.state.SendState.TheVariants.{Running, NoReply, SourceFailed}
+use Rattle.ym_machine.specs.declared.limits.TheConstants.{GIVE_UP}
 
 -- the source of a data block's file was asked to fill, once, and nothing else of the batch changed
 pub record FilledAt (file : ℕ) (old new : List FileParts) : Type 0 where
@@ -61,6 +63,12 @@ pub record IsStep (old : SenderParts) (taken : Step) (failed : Bool) (new : Send
 abbrev pub Hears : SenderParts → List ℕ → SenderParts → Type 0
 Hears old bytes new = (failed : Bool) × IsStep old (hears (counts old) old.standing (controls_in bytes)) failed new
 
+-- what a running sender reads in a delivery
+pub record IsReading (s : SenderParts) (bytes : List ℕ) (read : Reading) : Type 0 where
+  pub runs : s.standing.state ≡ Running
+  pub exact : read ≡ reads (counts s) s.standing.place s.standing.mode (controls_in bytes)
+  pub place : IsPlace (counts s) read.place
+
 -- what is to be sent: the frame held, CAN CAN, or nothing
 abbrev pub spoken_in : SendState → Mode → Bool → List ℕ → Option (List ℕ)
 spoken_in Running Sent farewell frame = Some frame
@@ -75,5 +83,5 @@ spoken s = spoken_in s.standing.state s.standing.mode s.standing.farewell s.fram
 pub record IsSender (s : SenderParts) : Type 0 where
   pub files : All IsFile s.files
   pub place : IsPlace (counts s) s.standing.place
-  pub misses : s.standing.state ≡ Running → s.standing.misses < 10
+  pub misses : s.standing.state ≡ Running → s.standing.misses < GIVE_UP
   pub frame : s.standing.state ≡ Running → s.standing.mode ≡ Sent → IsFrameAt s.shape s.files s.standing.place s.frame

@@ -10,6 +10,7 @@ use Rattle.ym_link.specs.declared.sweep.Held.TheVariants as held
 use Rattle.ym_link.specs.declared.sweep.Heed.{Heed}
 use Rattle.ym_link.specs.declared.sweep.Heed.TheVariants as heed
 use Rattle.ym_link.specs.declared.sweep.Sweep.{Sweep}
+use Rattle.ym_link.specs.declared.port.TheConstants.{DELIVERY_LIMIT}
 
 -- ---- CAN CAN among what is dropped
 
@@ -95,7 +96,7 @@ unfoldable pub swept : ℕ → Role → Sweep → List Event → Swept
 swept zero role s events = record { answer = Ok (held_by s.heed); rest = events }
 swept (suc reads) role s events =
     if is_over s then record { answer = Ok (held_by s.heed); rest = events }
-    else behind (swept reads role) (after_read role s (read_gives 2048 events)) (read_leaves 2048 events)
+    else behind (swept reads role) (after_read role s (read_gives DELIVERY_LIMIT events)) (read_leaves DELIVERY_LIMIT events)
 
 -- how many reads it takes at most
 abbrev pub most_reads : ℕ

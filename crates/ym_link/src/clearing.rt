@@ -1,9 +1,11 @@
 //! A port that lets the line clear before it writes, where more answers may be under way than one.
 
-ghost use Rattle.std.specs.Prelude.{◌≡◌, ◌<◌, ◌≤◌, ℕ, Ok, Err, OnOk, OnErr, length, is_ok};
+ghost use Rattle.std.specs.Prelude.{◌≡◌, ◌<◌, ◌≤◌, ◌++◌, ◌∷◌, [], ℕ, List, Ok, Err, OnOk, OnErr, length, is_ok};
 ghost use Rattle.ym_file.specs.Counts.{Rose};
 ghost use Rattle.ym_link.specs.Clearing as table;
+ghost use Rattle.ym_link.specs.Exchange.{front_of, must_clear};
 ghost use Rattle.ym_link.specs.Port.{Tape, seen_of, read_gives, read_leaves, after_write};
+ghost use Rattle.ym_link.specs.declared.port.Wait.{Wait as Asked};
 
 use crate::exchange::{Exchange, Front, Role};
 use crate::port::{Got, Port, PortFault, Wait};
@@ -21,18 +23,7 @@ pub struct Talk {
 }
 
 impl Talk {
-    ghost use Rattle.ym_link.specs.Clearing.{new_talk, said, gave};
-
-    /// Nothing was said or heard.
-    fn new(role: Role) -> Talk
-        ensures { result ≡ new_talk role }
-    {
-        Talk {
-            role,
-            exchange: Exchange::new(),
-            held: Held::Nothing,
-        }
-    }
+    ghost use Rattle.ym_link.specs.Clearing.{gave};
 
     /// Takes that so many bytes that were held were heard.
     fn give(&mut self, count: usize, held: Held)
@@ -41,29 +32,19 @@ impl Talk {
         self.exchange.hear(count);
         self.held = held;
     }
-
-    /// After these bytes were written.
-    fn said(self, bytes: &[u8], held: Held) -> Talk
-        ensures { result ≡ said bytes.now held self }
-    {
-        Talk {
-            role: self.role,
-            exchange: self.exchange.wrote(self.role, Front::of(bytes)),
-            held,
-        }
-    }
 }
 
-/// Lets the line clear, where it has to before these bytes are written, and answers what is to be heard yet.
-fn clear_for<P: Port>(port: &mut P, talk: Talk, bytes: &[u8]) -> Result<Held, PortFault>
+/// Lets the line clear, where it has to before the next write, and answers what is to be heard yet.
+#[inline(always)]
+fn clear_for<P: Port>(port: &mut P, talk: &Talk, clears: bool) -> Result<Held, PortFault>
     ensures told { (u : Tape) → P.tells port.new u → (t : Tape) × P.tells port.old t
-        × (result ≡ (table.cleared talk bytes.now t.coming).answer)
-        × (u ≡ record t { coming = (table.cleared talk bytes.now t.coming).rest }) }
+        × ((bytes : List ℕ) → clears ≡ must_clear talk.now.role talk.now.exchange (front_of bytes)
+        → (result ≡ (table.cleared talk.now bytes t.coming).answer) × (u ≡ record t { coming = (table.cleared talk.now bytes t.coming).rest })) }
     ensures ok { OnOk result (P.failures port.new ≡ P.failures port.old) }
     ensures failed { OnErr result (Rose (P.failures port.old) (P.failures port.new)) }
 {
     match talk.held {
-        Held::Nothing if talk.exchange.must_clear(talk.role, Front::of(bytes)) => {
+        Held::Nothing if clears => {
             let_clear(
                 port,
                 talk.role,
@@ -86,7 +67,7 @@ pub struct Clearing<P: Port + Drop> {
 }
 
 impl<P: Port + Drop> Clearing<P> {
-    ghost use Rattle.ym_link.specs.Clearing.{new_talk, IsRead, once, fresh, patient, read_by};
+    ghost use Rattle.ym_link.specs.Clearing.{new_talk, AskedLast, IsRead, once, fresh, patient, read_by};
     ghost use Rattle.ym_link.specs.Sweep.{most_reads};
 
     /// The port as this end has it.
@@ -96,16 +77,22 @@ impl<P: Port + Drop> Clearing<P> {
     {
         Clearing {
             port,
-            talk: Talk::new(role),
+            talk: Talk {
+                role,
+                exchange: Exchange::new(),
+                held: Held::Nothing,
+            },
         }
     }
 
     /// Reads what is there, or waits.
+    #[inline(always)]
     fn read_once(&mut self, wait: Wait, buf: &mut [u8]) -> Result<Got, PortFault>
         requires { 0 < length buf.old }
         ensures count { (n : ℕ) → result ≡ Ok (Got.Bytes n) → (0 < n) × (n ≤ length buf.old) }
         ensures exact { (u : Tape) → P.tells self.new.port u → (t : Tape) × P.tells self.old.port t
             × IsRead (once (length buf.old) self.old.talk t.coming) (seen_of result buf.new) self.new.talk t u }
+        ensures asked { (w : List Asked) → P.asked self.new.port w → (v : List Asked) × P.asked self.old.port v × (w ≡ v ++ wait ∷ []) }
         ensures ok { OnOk result (P.failures self.new.port ≡ P.failures self.old.port) }
         ensures failed { OnErr result (Rose (P.failures self.old.port) (P.failures self.new.port)) }
     {
@@ -115,11 +102,13 @@ impl<P: Port + Drop> Clearing<P> {
     }
 
     /// The same, for a short time, and past what asks for the block 0 that was just written.
+    #[inline(always)]
     fn read_fresh(&mut self, buf: &mut [u8]) -> Result<Got, PortFault>
         requires { 0 < length buf.old }
         ensures count { (n : ℕ) → result ≡ Ok (Got.Bytes n) → (0 < n) × (n ≤ length buf.old) }
         ensures exact { (u : Tape) → P.tells self.new.port u → (t : Tape) × P.tells self.old.port t
             × IsRead (fresh most_reads (length buf.old) self.old.talk t.coming) (seen_of result buf.new) self.new.talk t u }
+        ensures asked { (w : List Asked) → P.asked self.new.port w → (v : List Asked) × P.asked self.old.port v × AskedLast Wait.Within v w }
         ensures ok { OnOk result (P.failures self.new.port ≡ P.failures self.old.port) }
         ensures failed { OnErr result (Rose (P.failures self.old.port) (P.failures self.new.port)) }
     {
@@ -134,11 +123,13 @@ impl<P: Port + Drop> Clearing<P> {
     }
 
     /// Reads what is there, or waits: for a reply a short time first, and then the rest of it.
+    #[inline(always)]
     fn read_patiently(&mut self, wait: Wait, buf: &mut [u8]) -> Result<Got, PortFault>
         requires { 0 < length buf.old }
         ensures count { (n : ℕ) → result ≡ Ok (Got.Bytes n) → (0 < n) × (n ≤ length buf.old) }
         ensures exact { (u : Tape) → P.tells self.new.port u → (t : Tape) × P.tells self.old.port t
             × IsRead (patient wait (length buf.old) self.old.talk t.coming) (seen_of result buf.new) self.new.talk t u }
+        ensures quiet { result ≡ Ok Got.Quiet → (w : List Asked) → P.asked self.new.port w → (v : List Asked) × P.asked self.old.port v × AskedLast wait v w }
         ensures ok { OnOk result (P.failures self.new.port ≡ P.failures self.old.port) }
         ensures failed { OnErr result (Rose (P.failures self.old.port) (P.failures self.new.port)) }
     {
@@ -153,11 +144,13 @@ impl<P: Port + Drop> Clearing<P> {
     }
 
     /// Reads what is to be heard yet, or what is there.
+    #[inline(always)]
     fn read_next(&mut self, wait: Wait, buf: &mut [u8]) -> Result<Got, PortFault>
         requires { 0 < length buf.old }
         ensures count { (n : ℕ) → result ≡ Ok (Got.Bytes n) → (0 < n) × (n ≤ length buf.old) }
         ensures exact { (u : Tape) → P.tells self.new.port u → (t : Tape) × P.tells self.old.port t
             × IsRead (read_by wait (length buf.old) self.old.talk t.coming) (seen_of result buf.new) self.new.talk t u }
+        ensures quiet { result ≡ Ok Got.Quiet → (w : List Asked) → P.asked self.new.port w → (v : List Asked) × P.asked self.old.port v × AskedLast wait v w }
         ensures ok { OnOk result (P.failures self.new.port ≡ P.failures self.old.port) }
         ensures failed { OnErr result (Rose (P.failures self.old.port) (P.failures self.new.port)) }
     {
@@ -194,7 +187,7 @@ impl<P: Port + Drop> Clearing<P> {
 }
 
 impl<P: Port + Drop> Port for Clearing<P> {
-    ghost use Rattle.ym_link.specs.Clearing.{Passes, IsRead, read_by, cleared, Writes};
+    ghost use Rattle.ym_link.specs.Clearing.{AskedLast, Passes, IsRead, read_by, cleared, Writes};
 
     ghost tells = { λ c u. (t : Tape) × P.tells c.port t × (u.written ≡ t.written) × Passes c.talk t.coming u.coming };
 
@@ -212,6 +205,7 @@ impl<P: Port + Drop> Port for Clearing<P> {
             → (x : Tape) × ((t : Tape) × P.tells self.old.port t × (x.written ≡ t.written) × Passes self.old.talk t.coming x.coming)
             × (seen_of result buf.new ≡ read_gives (length buf.old) x.coming)
             × (u ≡ record x { coming = read_leaves (length buf.old) x.coming }) }
+        ensures quiet { result ≡ Ok Got.Quiet → (w : List Asked) → P.asked self.new.port w → (v : List Asked) × P.asked self.old.port v × AskedLast wait v w }
         ensures ok { OnOk result (P.failures self.new.port ≡ P.failures self.old.port) }
         ensures failed { OnErr result (Rose (P.failures self.old.port) (P.failures self.new.port)) }
     {
@@ -228,9 +222,14 @@ impl<P: Port + Drop> Port for Clearing<P> {
         ensures ok { OnOk result (P.failures self.new.port ≡ P.failures self.old.port) }
         ensures failed { OnErr result (Rose (P.failures self.old.port) (P.failures self.new.port)) }
     {
-        let talk = self.talk;
-        let held = clear_for(&mut self.port, talk, bytes)?;
-        self.talk = talk.said(bytes, held);
+        let next = Front::of(bytes);
+        let is_same = self.talk.exchange.last.is(next);
+        let clears = self.talk.exchange.must_clear(self.talk.role, is_same);
+        let held = clear_for(&mut self.port, &self.talk, clears)?;
+        self.talk.held = held;
+        self.talk
+            .exchange
+            .wrote(self.talk.role, next, is_same, clears);
         self.port.write(bytes)
     }
 }

@@ -31,7 +31,7 @@ pub struct Front {
 pub struct Exchange {
     /// How many answers may be under way: one for each write whose answer did not come. Two stands for more.
     pub owed: u8,
-    /// How many bytes came since the last write; 2048 stands for more.
+    /// How many bytes came since the last write; [`DELIVERY_LIMIT`] stands for more.
     pub came: usize,
     /// Whether the last read found the line quiet.
     pub is_quiet: bool,
@@ -47,6 +47,7 @@ pub struct Exchange {
 
 impl Front {
     /// The front of these bytes.
+    #[inline(always)]
     pub fn of(bytes: &[u8]) -> Front
         ensures { result ≡ table.front_of bytes.now }
     {
@@ -58,7 +59,8 @@ impl Front {
     }
 
     /// Whether it is the front of the same frame.
-    fn is(self, other: Front) -> bool
+    #[inline(always)]
+    pub fn is(self, other: Front) -> bool
         ensures { result ≡ table.is_same self other }
     {
         self.length == other.length && self.first == other.first && self.second == other.second
@@ -69,7 +71,12 @@ impl Front {
 fn all_ask(bytes: &[u8]) -> bool
     ensures { result ≡ table.all_ask bytes.now }
 {
-    bytes.iter().all(|byte| *byte == b'C')
+    for byte in bytes {
+        if *byte != b'C' {
+            return false;
+        }
+    }
+    true
 }
 
 impl Exchange {
@@ -93,6 +100,7 @@ impl Exchange {
     }
 
     /// Takes that so many bytes came.
+    #[inline(always)]
     pub fn hear(&mut self, count: usize)
         ensures { self.new ≡ table.heard count self.old }
     {
@@ -106,6 +114,7 @@ impl Exchange {
     }
 
     /// Whether a sender has just written block 0.
+    #[inline(always)]
     fn is_opening(self, role: Role) -> bool
         ensures { result ≡ table.is_opening role self }
     {
@@ -117,6 +126,7 @@ impl Exchange {
     }
 
     /// Whether what was read asks for the block 0 that a sender has just written.
+    #[inline(always)]
     pub fn is_stale(self, role: Role, got: &Result<Got, PortFault>, buf: &[u8]) -> bool
         requires { (n : ℕ) → got.now ≡ Ok (Got.Bytes n) → n ≤ length buf.now }
         ensures { result ≡ table.is_stale role self (seen_of got.now buf.now) }
@@ -128,85 +138,79 @@ impl Exchange {
     }
 
     /// Takes what a read got.
+    #[inline(always)]
     pub fn take(&mut self, got: &Result<Got, PortFault>)
         ensures { (buf : List ℕ) → ((n : ℕ) → got.now ≡ Ok (Got.Bytes n) → n ≤ length buf) → self.new ≡ table.after_seen (seen_of got.now buf) self.old }
     {
         match got {
             Ok(Got::Bytes(count)) => self.hear(*count),
-            Ok(Got::Quiet) => self.wait(),
+            Ok(Got::Quiet) => {
+                self.is_quiet = true;
+                self.waited = true;
+            }
             Ok(Got::Closed) | Err(PortFault) => {}
         }
     }
 
-    /// Takes that a read found the line quiet.
-    fn wait(&mut self)
-        ensures { self.new ≡ table.quieted self.old }
-    {
-        self.is_quiet = true;
-        self.waited = true;
-    }
-
-    /// Whether what came filled a delivery, and more may be coming.
-    fn is_full(self) -> bool
-        ensures { result ≡ table.is_full self }
-    {
-        DELIVERY_LIMIT <= self.came && !self.is_quiet
-    }
-
-    /// Whether what came was what this end waited for, as its next write shows.
-    fn is_taken(self, role: Role, next: Front) -> bool
-        ensures { result ≡ table.is_taken role self next }
+    /// Whether what came was what this end waited for, as its next write shows: whether it is the last one again.
+    #[inline(always)]
+    fn is_taken(self, role: Role, is_same: bool) -> bool
+        ensures { (next : Front) → is_same ≡ table.is_same self.last next → result ≡ table.is_taken role self next }
     {
         match role {
-            Role::Sender => 0 < self.came && !self.last.is(next),
+            Role::Sender => 0 < self.came && !is_same,
             Role::Receiver => 0 < self.came && self.came < DELIVERY_LIMIT && !self.is_quiet,
         }
     }
 
     /// Whether the next write is the EOT that a receiver asks for after each file.
-    fn is_confirming(self, role: Role, next: Front) -> bool
+    #[inline(always)]
+    fn is_confirming(self, role: Role, next: Front, is_same: bool) -> bool
+        requires { is_same ≡ table.is_same self.last next }
         ensures { result ≡ table.is_confirming role self next }
     {
         let is_prompt = 0 < self.came && !self.waited && self.was_prompt;
         match role {
-            Role::Sender => next.length == 1 && self.last.is(next) && !self.is_repeat && is_prompt,
+            Role::Sender => next.length == 1 && is_same && !self.is_repeat && is_prompt,
             Role::Receiver => false,
         }
     }
 
-    /// Whether the line has to clear before the next write.
-    pub fn must_clear(self, role: Role, next: Front) -> bool
-        ensures { result ≡ table.must_clear role self next }
+    /// Whether the line has to clear before the next write, by whether it is the last one again.
+    #[inline(always)]
+    pub fn must_clear(self, role: Role, is_same: bool) -> bool
+        ensures { (next : Front) → is_same ≡ table.is_same self.last next → result ≡ table.must_clear role self next }
     {
-        self.is_full() || (self.is_taken(role, next) && 1 < self.owed)
+        // more may be coming of what filled a delivery
+        let is_full = DELIVERY_LIMIT <= self.came && !self.is_quiet;
+        is_full || (self.is_taken(role, is_same) && 1 < self.owed)
     }
 
-    /// After a write.
-    pub fn wrote(self, role: Role, next: Front) -> Exchange
-        ensures { result ≡ table.wrote role self next }
+    /// Takes that this was written: whether it was the last one again, and whether the line had to clear before it, is known.
+    #[inline(always)]
+    pub fn wrote(&mut self, role: Role, next: Front, is_same: bool, clears: bool)
+        requires same { is_same ≡ table.is_same self.old.last next }
+        requires clears { clears ≡ table.must_clear role self.old next }
+        ensures { self.new ≡ table.wrote role self.old next }
     {
-        let is_same = self.last.is(next);
-        let owed = if self.is_taken(role, next) {
+        self.owed = if self.is_taken(role, is_same) {
             1
-        } else if self.is_confirming(role, next) {
+        } else if self.is_confirming(role, next, is_same) {
             self.owed
         } else if self.owed == 0 {
             1
         } else {
             2
         };
-        Exchange {
-            owed,
-            came: 0,
-            is_quiet: false,
-            waited: false,
-            was_prompt: if is_same {
-                self.was_prompt
-            } else {
-                !self.waited && !self.must_clear(role, next)
-            },
-            last: next,
-            is_repeat: is_same,
-        }
+        self.was_prompt = if is_same {
+            self.was_prompt
+        } else {
+            !self.waited && !clears
+        };
+        self.came = 0;
+        self.is_quiet = false;
+        self.waited = false;
+        self.last = next;
+        self.is_repeat = is_same;
     }
 }

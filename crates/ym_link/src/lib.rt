@@ -2,6 +2,7 @@
 #![tactic(auto)]
 
 mod clearing;
+mod delivery;
 mod end_fault;
 mod event;
 mod exchange;
@@ -20,7 +21,7 @@ pub use clearing::Clearing;
 pub use end_fault::EndFault;
 pub use event::Event;
 pub use exchange::Role;
-pub use port::{Got, Port, PortFault, Wait};
+pub use port::{DELIVERY_LIMIT, Got, Port, PortFault, Wait};
 pub use receive_engine::receive_over;
 pub use receiver::{Receiver, ReceiverInto};
 pub use script_port::ScriptPort;

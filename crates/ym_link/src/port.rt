@@ -6,7 +6,7 @@ ghost use Rattle.ym_file.specs.Counts.{Rose};
 ghost use Rattle.ym_link.specs.declared.port.Wait.{Wait as Asked};
 
 /// How many bytes a delivery has at most.
-pub(crate) const DELIVERY_LIMIT: usize = 2048;
+pub const DELIVERY_LIMIT: usize = 2048;
 
 /// How long a read waits.
 #[derive(Clone, Copy, Debug, PartialEq, Eq)]

@@ -1,69 +1,57 @@
 //! A receiver over a port.
 
-ghost use Rattle.std.specs.Prelude.{◌≡◌, ◌≢◌, ◌≤◌, ◌<◌, ◌+◌, ℕ, List, Ok, Err, Some, is_ok, true, length};
-ghost use Rattle.ym_frame.specs.Block.{BlockParts};
+ghost use Rattle.std.specs.Prelude.{◌≡◌, ◌≢◌, ◌≤◌, ◌+◌, ◌⊎◌, ℕ, List, Ok, Err, MatchOption, is_ok, true, false, length};
 ghost use Rattle.ym_frame.specs.Control.{reply_bytes};
 ghost use Rattle.ym_frame.specs.declared.control.Reply.TheVariants.{Silence};
 ghost use Rattle.ym_file.specs.Counts.{Rose};
 ghost use Rattle.ym_link.specs.Port.{Tape, after_write};
-ghost use Rattle.ym_link.specs.Course.{Asks, ReadOnce, ReceiverCourse};
+ghost use Rattle.ym_core.specs.HeardRef.{owned_heard};
+ghost use Rattle.ym_core.specs.Hearing.{heard_of};
+ghost use Rattle.ym_link.specs.Course.{Asks, IsLarge, ReceiverCourse};
 ghost use Rattle.ym_link.specs.ReceiverInto.{IsReceiver};
-ghost use Rattle.ym_link.specs.ReceiveOver.{Receives, heard_at, behind};
+ghost use Rattle.ym_link.specs.ReceiveOver.{Receives, has_item, IsFound};
 ghost use Rattle.ym_core.specs.declared.state.RecvState.TheVariants as state;
 ghost use Rattle.ym_core.specs.declared.delivery.Heard.{Heard as HeardValue};
 ghost use Rattle.ym_link.specs.declared.port.Wait.{Wait as Asked};
 
+use crate::delivery::{Listener, take_delivery};
 use crate::end_fault::EndFault;
-use crate::port::{DELIVERY_LIMIT, Got, Port, PortFault, Wait};
+use crate::port::{DELIVERY_LIMIT, Port, PortFault};
 use crate::receiver::ReceiverInto;
-use ym_core::Heard;
+use ym_core::HeardRef;
 use ym_file::Sink;
-use ym_frame::laws::any_pieces;
-use ym_frame::{FrameReader, Item, Reply};
+use ym_frame::{Reply, Whole, whole_at};
 
-/// What is heard of an item. A block has 128 data bytes at least.
-fn heard_item(item: Item) -> Heard
-    ensures item { result ≡ Heard.Item item }
-    ensures sized { (block : BlockParts) → item ≡ Item.Block block → 128 ≤ length block.body }
-{
-    if let Item::Block(block) = &item {
-        let _size = block.size();
+/// Reads deliveries for a receiver: each ends with the first frame.
+struct Frames;
+
+impl Listener for Frames {
+    ghost use Rattle.ym_link.specs.ReceiveOver.{has_item, IsFound};
+
+    type Found = Whole;
+
+    ghost listens = { λ _. Unit {0} };
+
+    ghost ends = { λ _. has_item };
+
+    ghost finds = { λ _. IsFound };
+
+    /// Which frame stands at the front of the bytes.
+    fn found_in(&self, bytes: &[u8]) -> Option<Whole> {
+        whole_at(bytes).ok()
     }
-    Heard::Item(item)
 }
 
-/// Reads one delivery, which ends with the first item, when the line is quiet, or at its greatest length. What is left of the
-/// last read is dropped.
-fn hear_delivery<P: Port>(port: &mut P, buf: &mut [u8; 2048]) -> Result<Heard, EndFault>
-    ensures told { (u : Tape) → P.tells port.new u → (t : Tape) × P.tells port.old t × (result ≡ heard_at t) × (u ≡ behind t) }
-    ensures asked { (w : List Asked) → P.asked port.new w → (v : List Asked) × P.asked port.old v × ReadOnce v w }
-    ensures device { result ≡ Err EndFault.Device → Rose (P.failures port.old) (P.failures port.new) }
-    ensures calm { result ≢ Err EndFault.Device → P.failures port.new ≡ P.failures port.old }
-    ensures memory { result ≢ Err EndFault.Memory }
-    ensures sized { (block : BlockParts) → result ≡ Ok (Heard.Item (Item.Block block)) → 128 ≤ length block.body }
+/// What is heard of a delivery in which this was found. A block has 128 data bytes at least.
+fn heard_by(found: Option<Whole>, bytes: &[u8]) -> HeardRef<'_>
+    requires { MatchOption found ((length bytes.now ≡ 0) ⊎ (has_item bytes.now ≡ false)) (IsFound bytes.now) }
+    ensures heard { owned_heard result ≡ heard_of bytes.entry.now }
+    ensures large { IsLarge (heard_of bytes.entry.now) }
 {
-    // in whatever pieces a delivery comes, it is read as one
-    any_pieces();
-    let mut reader = FrameReader::new();
-    let mut len = 0;
-    let mut wait = Wait::Reply;
-    while len < DELIVERY_LIMIT {
-        let room = &mut buf[len..];
-        match port.read(wait, room) {
-            Ok(Got::Bytes(n)) => {
-                let fed = reader.feed(&room[..n]);
-                if let Some(item) = fed.item {
-                    return Ok(heard_item(item));
-                }
-                len += n;
-            }
-            Ok(Got::Quiet) => return Ok(Heard::Bad),
-            Ok(Got::Closed) => return Err(EndFault::Closed),
-            Err(PortFault) => return Err(EndFault::Device),
-        }
-        wait = Wait::Within;
+    match found {
+        Some(whole) => HeardRef::Item(whole.item(bytes)),
+        None => HeardRef::Bad,
     }
-    Ok(Heard::Bad)
 }
 
 /// Writes a reply, if there is one.
@@ -100,8 +88,8 @@ pub fn receive_over<P: Port, K: Sink>(
 {
     let mut buf = [0; DELIVERY_LIMIT];
     while receiver.is_running() {
-        let heard = hear_delivery(port, &mut buf)?;
-        match receiver.hear(&heard) {
+        let (len, found) = take_delivery(port, &Frames, &mut buf)?;
+        match receiver.hear_in(&heard_by(found, &buf[..len])) {
             Ok(reply) => write_reply(port, reply)?,
             Err(_) => return Err(EndFault::Memory),
         }

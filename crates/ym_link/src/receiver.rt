@@ -119,7 +119,16 @@ impl<K: Sink> ReceiverInto<K> {
         ensures bounded { IsWithin self.new.receiver.stage self.new.kept }
         ensures receiver { IsReceiver self.new }
     {
-        let answer = self.answer(&HeardRef::of(heard));
+        self.hear_in(&HeardRef::of(heard))
+    }
+
+    /// The same, with a block's body where it stands.
+    pub(crate) fn hear_in(&mut self, heard: &HeardRef<'_>) -> Result<Reply, AllocError>
+        ensures table { HearsGives self.old (owned_heard heard.now) result self.new }
+        ensures bounded { IsWithin self.new.receiver.stage self.new.kept }
+        ensures receiver { IsReceiver self.new }
+    {
+        let answer = self.answer(heard);
         // what always holds of a receiver is known once a field was read
         let _ = &self.core;
         answer

@@ -1,22 +1,23 @@
 //! A sender over a port.
 
-ghost use Rattle.std.specs.Prelude.{◌≡◌, ◌≢◌, ◌≤◌, ◌+◌, ℕ, List, [], Ok, Err, Some, None, is_ok, true, length};
+ghost use Rattle.std.specs.Prelude.{◌≡◌, ◌≢◌, ◌≤◌, ◌+◌, ℕ, List, Ok, Err, None, is_ok, true, length};
 ghost use Rattle.ym_file.specs.Counts.{Rose};
 ghost use Rattle.ym_link.specs.Port.{Tape, after_write};
-ghost use Rattle.ym_link.specs.Course.{Asks, ReadOnce, SenderCourse};
-ghost use Rattle.ym_link.specs.Delivery.{taken};
-ghost use Rattle.ym_link.specs.SendOver.{Sends, written_for, settles, bytes_read};
+ghost use Rattle.ym_link.specs.Course.{Asks, SenderCourse};
+ghost use Rattle.ym_link.specs.SendOver.{Sends, written_for};
 ghost use Rattle.ym_link.specs.Sender.{IsSender, spoken};
 ghost use Rattle.ym_core.specs.declared.state.SendState.TheVariants as state;
 ghost use Rattle.ym_link.specs.declared.port.Wait.{Wait as Asked};
 
+use crate::delivery::take_delivery;
 use crate::end_fault::EndFault;
-use crate::port::{DELIVERY_LIMIT, Got, Port, PortFault, Wait};
+use crate::port::{DELIVERY_LIMIT, Port, PortFault};
 use crate::sender::SenderFrom;
 use ym_core::SendState;
 use ym_file::Source;
 
 /// Writes what is to be sent now, if there is anything.
+#[inline(always)]
 fn write_frame<P: Port, S: Source>(port: &mut P, sender: &SenderFrom<S>) -> Result<(), EndFault>
     ensures told { (u : Tape) → P.tells port.new u →
         (t : Tape) × P.tells port.old t × (u ≡ after_write (is_ok result) t (written_for (spoken sender.now))) }
@@ -32,39 +33,6 @@ fn write_frame<P: Port, S: Source>(port: &mut P, sender: &SenderFrom<S>) -> Resu
         },
         None => Ok(()),
     }
-}
-
-/// Reads one delivery to the front of the buffer: it ends when more bytes cannot change what the sender does with it, when the
-/// line is quiet, or at its greatest length. What is left of the last read is dropped.
-fn read_delivery<P: Port, S: Source>(
-    port: &mut P,
-    sender: &SenderFrom<S>,
-    buf: &mut [u8; 2048],
-) -> Result<usize, EndFault>
-    ensures within { (n : ℕ) → result ≡ Ok n → n ≤ 2048 }
-    ensures told { (u : Tape) → P.tells port.new u → (t : Tape) × P.tells port.old t
-        × (bytes_read result buf.new ≡ (taken (settles sender.now) [] t.coming).delivery)
-        × (u ≡ record t { coming = (taken (settles sender.now) [] t.coming).rest }) }
-    ensures asked { (w : List Asked) → P.asked port.new w → (v : List Asked) × P.asked port.old v × ReadOnce v w }
-    ensures device { result ≡ Err EndFault.Device → Rose (P.failures port.old) (P.failures port.new) }
-    ensures memory { result ≢ Err EndFault.Memory }
-    ensures calm { result ≢ Err EndFault.Device → P.failures port.new ≡ P.failures port.old }
-{
-    let mut len = 0;
-    let mut wait = Wait::Reply;
-    while len < DELIVERY_LIMIT {
-        match port.read(wait, &mut buf[len..]) {
-            Ok(Got::Bytes(n)) => len += n,
-            Ok(Got::Quiet) => return Ok(len),
-            Ok(Got::Closed) => return Err(EndFault::Closed),
-            Err(PortFault) => return Err(EndFault::Device),
-        }
-        if sender.settled(&buf[..len]) {
-            return Ok(len);
-        }
-        wait = Wait::Within;
-    }
-    Ok(len)
 }
 
 /// Runs a sender over a port until it has ended: its frame is written, if it has one, and a delivery is read and heard. A sender
@@ -89,8 +57,8 @@ pub fn send_over<P: Port, S: Source>(
     let mut buf = [0; DELIVERY_LIMIT];
     while sender.state() == SendState::Running {
         write_frame(port, sender)?;
-        let len = read_delivery(port, sender, &mut buf)?;
-        sender.hear(&buf[..len]);
+        let (len, found) = take_delivery(port, sender, &mut buf)?;
+        sender.hear_found(found, &buf[..len]);
     }
     write_frame(port, sender)
 }

@@ -2,24 +2,26 @@
 
 ghost use Rattle.std.specs.Prelude.{◌≡◌, ◌↔◌, ◌≤◌, length, MatchOption, Some, None, IfOk, IfErr, IfSome, IsOk, OnOk, OnErr, All, take, true, false};
 ghost use Rattle.ym_frame.specs.Frame.{IsFrame};
+ghost use Rattle.ym_frame.specs.declared.frame.Item.TheVariants as FrameItem;
+ghost use Rattle.ym_header.specs.Text.{text, end_text};
 ghost use Rattle.ym_link.specs.SourceFile.{IsFile, counts_of};
 ghost use Rattle.ym_core.specs.Place.{IsPlace, done_at};
 ghost use Rattle.ym_link.specs.FrameAt.{IsFrameAt};
 ghost use Rattle.ym_link.specs.Sender.{IsFilled};
+ghost use Rattle.ym_machine.specs.declared.limits.TheConstants.{MOST_FILES};
 
 #[cfg(test)]
 mod stand;
 
+use crate::delivery::Listener;
 use crate::shaped_batch::ShapedBatch;
 use crate::source_file::SourceFile;
 use std::marker::Model;
-use ym_core::{Mode, Place, SendState, Standing, first_place};
+use ym_core::{Mode, Place, Reading, SendState, SendStep, Standing, first_place, read_delivery};
 use ym_file::{MemSource, Shape, Source, SourceFault};
 use ym_frame::{Item, Reply, encode};
-use ym_header::{write, write_end};
-
-/// How many files a batch may have.
-const MOST_FILES: usize = 65_535;
+use ym_header::{Header, write, write_end};
+use ym_machine::MOST_FILES;
 
 /// Sends a batch of files, whose bytes come from sources.
 #[derive(Drop)]
@@ -64,6 +66,9 @@ fn look_at<S: Source>(files: &[SourceFile<S>])
 }
 
 /// Copies the frame of an item to the front of a buffer, and answers the frame's length.
+// an item and its frame have the size of a block: what is called for data blocks is kept free of them
+#[cold]
+#[inline(never)]
 fn copy_frame(item: &Item, buffer: &mut [u8; 1029]) -> usize
     ensures frame { IsFrame item.now (take result buffer.new) }
     ensures length { result ≤ 1029 }
@@ -73,6 +78,39 @@ fn copy_frame(item: &Item, buffer: &mut [u8; 1029]) -> usize
     let bytes = frame.as_bytes();
     buffer[..bytes.len()].copy_from_slice(bytes);
     bytes.len()
+}
+
+/// The same for the block 0 of a file.
+#[cold]
+#[inline(never)]
+fn copy_header(header: &Header, buffer: &mut [u8; 1029]) -> usize
+    ensures frame { IsFrame (FrameItem.Block (record { number = 0; body = text header.now })) (take result buffer.new) }
+    ensures length { result ≤ 1029 }
+    ensures buffer { length buffer.new ≡ 1029 }
+{
+    copy_frame(&Item::Block(write(header)), buffer)
+}
+
+/// The same for an EOT.
+#[cold]
+#[inline(never)]
+fn copy_eot(buffer: &mut [u8; 1029]) -> usize
+    ensures frame { IsFrame FrameItem.Eot (take result buffer.new) }
+    ensures length { result ≤ 1029 }
+    ensures buffer { length buffer.new ≡ 1029 }
+{
+    copy_frame(&Item::Eot, buffer)
+}
+
+/// The same for the end block.
+#[cold]
+#[inline(never)]
+fn copy_end(buffer: &mut [u8; 1029]) -> usize
+    ensures frame { IsFrame (FrameItem.Block (record { number = 0; body = end_text })) (take result buffer.new) }
+    ensures length { result ≤ 1029 }
+    ensures buffer { length buffer.new ≡ 1029 }
+{
+    copy_frame(&Item::Block(write_end()), buffer)
 }
 
 /// Writes the frame of a place to the front of a buffer, and answers the frame's length: at most 1029 bytes. The body of a
@@ -92,28 +130,27 @@ fn frame_at<S: Source>(
     ensures failed { OnErr result (IsFilled true (Some place) files.old.items files.new.items) }
 {
     match place {
-        // a block with a name would be cleared for data blocks too
-        Place::Header { file } => Ok(copy_frame(&Item::Block(write(files[file].header())), buffer)),
+        Place::Header { file } => Ok(copy_header(files[file].header(), buffer)),
         Place::Block { file, number } => {
             let one = &mut files[file];
             one.frame(shape, number, buffer)
         }
-        Place::Eot { .. } => Ok(copy_frame(&Item::Eot, buffer)),
-        Place::End => Ok(copy_frame(&Item::Block(write_end()), buffer)),
+        Place::Eot { .. } => Ok(copy_eot(buffer)),
+        Place::End => Ok(copy_end(buffer)),
     }
 }
 
 impl<S: Source> SenderFrom<S> {
-    ghost use Rattle.ym_link.specs.Sender.{Hears, IsSender, spoken, counts};
+    ghost use Rattle.ym_link.specs.Sender.{Hears, IsReading, IsSender, spoken, counts};
     ghost use Rattle.ym_core.specs.Reading.{controls_in};
-    ghost use Rattle.ym_core.specs.Standing.{is_settled, new_standing};
+    ghost use Rattle.ym_core.specs.Standing.{hears, is_settled, new_standing};
 
     /// A sender of a batch of at most 65,535 files, waiting at its first frame.
     pub fn new(batch: Vec<SourceFile<S>>, shape: Shape) -> Result<SenderFrom<S>, BatchFault<S>>
         ensures standing { IfOk result (λ sender. sender.standing ≡ new_standing (counts_of shape batch.items)) }
         ensures shape { IfOk result (λ sender. sender.shape ≡ shape) }
         ensures files { IfOk result (λ sender. sender.files ≡ batch.items) }
-        ensures valid { IsOk result ↔ (length batch.items ≤ 65535) }
+        ensures valid { IsOk result ↔ (length batch.items ≤ MOST_FILES) }
         ensures refused { IfErr result (λ fault. fault ≡ BatchFault.TooMany batch) }
     {
         if batch.len() > MOST_FILES {
@@ -155,11 +192,7 @@ impl<S: Source> SenderFrom<S> {
     pub fn settled(&self, bytes: &[u8]) -> bool
         ensures { result ≡ is_settled (counts self.now) self.now.standing (controls_in bytes.now) }
     {
-        let batch = ShapedBatch {
-            files: &self.batch,
-            shape: self.shape,
-        };
-        self.standing.settled(&batch, bytes)
+        self.standing.settled(&self.shaped(), bytes)
     }
 
     /// Hears one delivery. A data block that is to be sent next is read from its source once: what
@@ -168,17 +201,43 @@ impl<S: Source> SenderFrom<S> {
     pub fn hear(&mut self, bytes: &[u8])
         ensures { Hears self.old bytes.now self.new }
     {
-        let batch = ShapedBatch {
-            files: &self.batch,
-            shape: self.shape,
-        };
-        let step = self.standing.after(&batch, bytes);
+        self.hear_found(None, bytes);
+    }
+
+    /// The same, where it may have been found already what the sender reads in the delivery.
+    pub(crate) fn hear_found(&mut self, found: Option<Reading>, bytes: &[u8])
+        requires { IfSome found (IsReading self.old bytes.now) }
+        ensures { Hears self.old bytes.now self.new }
+    {
+        let step = self.step_at(found, bytes);
         self.standing = step.standing;
         if let Some(place) = step.fills {
             match frame_at(&mut self.batch, self.shape, place, &mut self.buffer) {
                 Ok(len) => self.len = len,
                 Err(SourceFault) => self.standing = step.standing.source_failed(),
             }
+        }
+    }
+
+    /// What a delivery leads to: by what was found in it, else by its bytes.
+    fn step_at(&self, found: Option<Reading>, bytes: &[u8]) -> SendStep
+        requires { IfSome found (IsReading self.now bytes.now) }
+        ensures step { result ≡ hears (counts self.now) self.now.standing (controls_in bytes.now) }
+        ensures within { IsPlace (counts self.now) result.standing.place }
+    {
+        match found {
+            Some(read) => self.standing.after_reading(read),
+            None => self.standing.after(&self.shaped(), bytes),
+        }
+    }
+
+    /// The batch, as the table counts it.
+    fn shaped(&self) -> ShapedBatch<'_, S>
+        ensures { counts_of result.shape result.files.now ≡ counts self.now }
+    {
+        ShapedBatch {
+            files: &self.batch,
+            shape: self.shape,
         }
     }
 
@@ -194,5 +253,31 @@ impl<S: Source> SenderFrom<S> {
         ensures { result ≡ self.now.standing.state }
     {
         self.standing.state
+    }
+}
+
+impl<S: Source> Listener for SenderFrom<S> {
+    ghost use Rattle.std.specs.Prelude.{◌≡◌};
+    ghost use Rattle.ym_link.specs.Sender.{IsReading};
+    ghost use Rattle.ym_link.specs.SendOver.{settles};
+    ghost use Rattle.ym_core.specs.declared.state.SendState.TheVariants.{Running};
+
+    type Found = Reading;
+
+    ghost listens = { λ s. s.standing.state ≡ Running };
+
+    ghost ends = { settles };
+
+    ghost finds = { IsReading };
+
+    /// What it reads in these bytes, where more of them cannot change what `hear` does with them.
+    fn found_in(&self, bytes: &[u8]) -> Option<Reading> {
+        let standing = self.standing;
+        let read = read_delivery(&self.shaped(), standing.place, standing.mode, bytes);
+        if read.stop.is_some() {
+            Some(read)
+        } else {
+            None
+        }
     }
 }

@@ -5,7 +5,7 @@ use ym_core::Batch;
 use ym_file::{Shape, Source};
 
 /// The files of a batch, with the shape of the blocks that they are sent in.
-#[derive_where(Clone, Copy)]
+#[derive(Drop)]
 pub(crate) struct ShapedBatch<'a, S: Source> {
     /// The files, in order.
     pub files: &'a [SourceFile<S>],

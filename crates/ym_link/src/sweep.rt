@@ -4,6 +4,7 @@ ghost use Rattle.std.specs.Prelude.{◌≡◌, OnOk, OnErr};
 ghost use Rattle.ym_file.specs.Counts.{Rose};
 ghost use Rattle.ym_link.specs.Port.{Tape, read_gives, read_leaves};
 ghost use Rattle.ym_link.specs.Sweep as table;
+ghost use Rattle.ym_link.specs.declared.port.TheConstants.{DELIVERY_LIMIT};
 
 use crate::exchange::Role;
 use crate::port::{DELIVERY_LIMIT, Got, Port, PortFault, Wait};
@@ -120,28 +121,6 @@ impl Sweep {
         }
     }
 
-    /// After these bytes were dropped.
-    fn dropped(self, role: Role, bytes: &[u8]) -> Sweep
-        ensures { result ≡ table.dropped role bytes.now self }
-    {
-        Sweep {
-            quiet_left: quiet_waits(role),
-            waits_left: self.waits_left,
-            heed: self.heed.after_all(role, bytes),
-        }
-    }
-
-    /// After one more quiet wait.
-    fn waited(self) -> Sweep
-        ensures { result ≡ table.waited self }
-    {
-        Sweep {
-            quiet_left: self.quiet_left.saturating_sub(1),
-            waits_left: self.waits_left.saturating_sub(1),
-            heed: Heed::Open,
-        }
-    }
-
     /// Whether the line is clear, or will not get clearer; or the other end cancelled.
     fn is_over(self) -> bool
         ensures { result ≡ table.is_over self }
@@ -158,17 +137,25 @@ fn read_on<P: Port>(
     port: &mut P,
     role: Role,
     sweep: Sweep,
-    buf: &mut [u8; 2048],
+    buf: &mut [u8; DELIVERY_LIMIT],
 ) -> Result<Option<Sweep>, PortFault>
     ensures told { (u : Tape) → P.tells port.new u → (t : Tape) × P.tells port.old t
-        × (result ≡ table.after_read role sweep (read_gives 2048 t.coming))
-        × (u ≡ record t { coming = read_leaves 2048 t.coming }) }
+        × (result ≡ table.after_read role sweep (read_gives DELIVERY_LIMIT t.coming))
+        × (u ≡ record t { coming = read_leaves DELIVERY_LIMIT t.coming }) }
     ensures ok { OnOk result (P.failures port.new ≡ P.failures port.old) }
     ensures failed { OnErr result (Rose (P.failures port.old) (P.failures port.new)) }
 {
     match port.read(Wait::Within, buf) {
-        Ok(Got::Bytes(n)) => Ok(Some(sweep.dropped(role, &buf[..n]))),
-        Ok(Got::Quiet) => Ok(Some(sweep.waited())),
+        Ok(Got::Bytes(n)) => Ok(Some(Sweep {
+            quiet_left: quiet_waits(role),
+            waits_left: sweep.waits_left,
+            heed: sweep.heed.after_all(role, &buf[..n]),
+        })),
+        Ok(Got::Quiet) => Ok(Some(Sweep {
+            quiet_left: sweep.quiet_left.saturating_sub(1),
+            waits_left: sweep.waits_left.saturating_sub(1),
+            heed: Heed::Open,
+        })),
         Ok(Got::Closed) => Ok(None),
         Err(fault) => Err(fault),
     }

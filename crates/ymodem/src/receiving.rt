@@ -205,7 +205,7 @@ where
     O: Output,
     E: Write + Drop,
     requires { IsNew (kept_of sink) }
-    ensures { ReceiveGives (confirm_of order.flags.single) (record { holds = O.contents out.old; failed = O.failures out.old }) result (record { holds = O.contents out.new; failed = O.failures out.new }) }
+    ensures { ReceiveGives (confirm_of order.entry.flags.single) (record { holds = O.contents out.old; failed = O.failures out.old }) result (record { holds = O.contents out.new; failed = O.failures out.new }) }
 {
     let replies = Cell::new(0);
     let besides = if order.flags.single { 1 } else { 2 };
@@ -259,7 +259,7 @@ where
     R: Files<File = File> + Clock,
     O: Output,
     E: Write + Drop,
-    ensures { ReceiveGives (confirm_of order.flags.single) (record { holds = O.contents out.old; failed = O.failures out.old }) result (record { holds = O.contents out.new; failed = O.failures out.new }) }
+    ensures { ReceiveGives (confirm_of order.entry.flags.single) (record { holds = O.contents out.old; failed = O.failures out.old }) result (record { holds = O.contents out.new; failed = O.failures out.new }) }
 {
     let sink = open_sink(rt, alloc, order.flags, order.dir)?;
     let port = SocketPort::new(rt, stream, REPLY_MS - WITHIN_MS, WITHIN_MS);
@@ -285,7 +285,7 @@ where
     R: Files<File = File> + Net<Listener = TcpListener, Stream = TcpStream> + Clock,
     O: Output,
     E: Write + Drop,
-    ensures { ReceiveGives (confirm_of order.flags.single) (record { holds = O.contents out.old; failed = O.failures out.old }) result (record { holds = O.contents out.new; failed = O.failures out.new }) }
+    ensures { ReceiveGives (confirm_of order.entry.flags.single) (record { holds = O.contents out.old; failed = O.failures out.old }) result (record { holds = O.contents out.new; failed = O.failures out.new }) }
 {
     look_at(rt, alloc, order.dir, teller)?;
     let listener = listen(rt, port, teller)?;
@@ -337,7 +337,7 @@ where
     O: Output,
     F: Output,
     E: Write + Drop,
-    ensures { ReceivesSo order.flags.keep (confirm_of order.flags.single) (record { holds = O.contents out.old; failed = O.failures out.old }) (record { holds = F.contents err.old; failed = F.failures err.old }) result (record { holds = O.contents out.new; failed = O.failures out.new }) (record { holds = F.contents err.new; failed = F.failures err.new }) }
+    ensures { ReceivesSo order.entry.flags.keep (confirm_of order.entry.flags.single) (record { holds = O.contents out.old; failed = O.failures out.old }) (record { holds = F.contents err.old; failed = F.failures err.old }) result (record { holds = O.contents out.new; failed = O.failures out.new }) (record { holds = F.contents err.new; failed = F.failures err.new }) }
 {
     if order.flags.keep {
         receive_on(rt, alloc, port, order, out, err, teller)

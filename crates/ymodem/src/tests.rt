@@ -1,4 +1,5 @@
 mod fixtures;
 mod jobs;
+mod memory;
 mod sockets;
 mod words;

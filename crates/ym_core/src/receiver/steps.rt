@@ -14,13 +14,7 @@ use crate::stage::{OpenFile, Stage};
 use crate::state::RecvState;
 use ym_frame::{BlockRef, ItemRef, Reply};
 use ym_header::{HeaderRef, ZeroRef, read_borrowed};
-use ym_machine::Confirm;
-
-/// How many files a batch may have.
-pub(super) const FILES_LIMIT: usize = 65_535;
-
-/// The delivery without progress, in a row, at which a receiver gives up.
-pub(super) const COUNT_LIMIT: u8 = 10;
+use ym_machine::{Confirm, GIVE_UP, MOST_FILES};
 
 impl ReceiverCore {
     /// The table's step.
@@ -53,7 +47,7 @@ impl ReceiverCore {
         ensures moves { Moves self result }
     {
         let count = self.count + 1;
-        if count < COUNT_LIMIT {
+        if count < GIVE_UP {
             return Step {
                 core: ReceiverCore { count, ..self },
                 reply,
@@ -133,7 +127,7 @@ impl ReceiverCore {
         ensures step { IsStep result (table.zero_heard self (Ok (Zero.File header.entry))) }
         ensures moves { Moves self result }
     {
-        if self.files >= FILES_LIMIT {
+        if self.files >= MOST_FILES {
             return self.end(RecvState::TooManyFiles, Reply::Cancel);
         }
         let file = OpenFile {
@@ -242,7 +236,7 @@ impl ReceiverCore {
         let blocks = file.blocks + 1;
         let stage = Stage::InFile(OpenFile { blocks, ..file });
         let count = self.count + 1;
-        if count < COUNT_LIMIT {
+        if count < GIVE_UP {
             return Step {
                 core: ReceiverCore {
                     stage,

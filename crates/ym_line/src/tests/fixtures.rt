@@ -1,6 +1,6 @@
 ghost use Rattle.std.specs.Prelude.{◌≡◌, IfOk, replicate};
 
-use crate::{Delivery, Direct, Round, run, trace_text};
+use crate::{Delivery, Direct, LineFault, Round, Trace, round, run, trace_text};
 use std::alloc::{AllocError, Global};
 use std::test::Fail;
 use ym_file::{MemSink, MemSource, Shape};
@@ -111,6 +111,34 @@ pub(super) fn text_of_run(
     receiver: &mut Receiver,
     rounds: &Rounds,
 ) -> Result<String, Fail> {
-    let trace = run(alloc, sender, receiver, &rounds.0, &mut Direct::new(alloc))?;
+    let trace = run_on(alloc, sender, receiver, rounds, &mut Direct::new(alloc))?;
     Ok(trace_text(alloc, &trace)?)
+}
+
+/// A run. It tells a proof nothing of it, and so costs the proof of a test little.
+pub(super) fn run_on(
+    alloc: Global,
+    sender: &mut Sender,
+    receiver: &mut Receiver,
+    rounds: &Rounds,
+    line: &mut Direct,
+) -> Result<Trace, LineFault> {
+    run(alloc, sender, receiver, &rounds.0, line)
+}
+
+/// A round, likewise.
+pub(super) fn round_on(
+    alloc: Global,
+    sender: &mut Sender,
+    receiver: &mut Receiver,
+    one: &Round,
+    line: &mut Direct,
+) -> Result<(), LineFault> {
+    round(alloc, sender, receiver, one, line)?;
+    Ok(())
+}
+
+/// Whether two values are the same, likewise.
+pub(super) fn same<T: PartialEq>(left: &T, right: &T) -> bool {
+    left == right
 }

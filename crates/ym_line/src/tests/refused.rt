@@ -1,5 +1,7 @@
-use super::fixtures::{Rounds, a128, one_file, sender_of, text_of_run, usual_sender};
-use crate::{Delivery, Direct, LineFault, Round, round, run};
+use super::fixtures::{
+    Rounds, a128, one_file, round_on, run_on, same, sender_of, text_of_run, usual_sender,
+};
+use crate::{Delivery, Direct, LineFault, Round};
 use std::test::Fail;
 use ym_file::Shape;
 use ym_frame::Bytes;
@@ -12,16 +14,16 @@ fn damage_that_does_not_show(rt: HostRuntime) -> Result<(), Fail> {
     let mut receiver = Receiver::new(alloc);
     let mut line = Direct::new(alloc);
     let rounds = Rounds::new(alloc).whole(1)?.damaged_there(alloc, &[0x04])?;
-    let refused = run(alloc, &mut sender, &mut receiver, &rounds.0, &mut line);
-    assert_eq!(rt; refused.err(), Some(LineFault::NotDamage(2)));
+    let refused = run_on(alloc, &mut sender, &mut receiver, &rounds, &mut line);
+    assert!(rt; same(&refused.err(), &Some(LineFault::NotDamage(2))));
     assert_eq!(rt; line.handed().len(), 2);
 
     let mut sender = sender_of(one_file(alloc, "a", &[], None)?, Shape::Mixed)?;
     let mut receiver = Receiver::new(alloc);
     let mut line = Direct::new(alloc);
     let rounds = Rounds::new(alloc).whole(2)?.damaged_back(alloc, &[0x06])?;
-    let refused = run(alloc, &mut sender, &mut receiver, &rounds.0, &mut line);
-    assert_eq!(rt; refused.err(), Some(LineFault::NotDamage(3)));
+    let refused = run_on(alloc, &mut sender, &mut receiver, &rounds, &mut line);
+    assert!(rt; same(&refused.err(), &Some(LineFault::NotDamage(3))));
     assert_eq!(rt; line.handed().len(), 5);
     Ok(())
 }
@@ -36,13 +38,13 @@ fn a_delivery_is_too_long(rt: HostRuntime) -> Result<(), Fail> {
         there: Delivery::Damaged(Bytes::new(vec![in alloc; 0; 2049]?)),
         back: Delivery::Whole,
     };
-    let refused = round(alloc, &mut sender, &mut receiver, &long, &mut line);
-    assert_eq!(rt; refused, Err(LineFault::TooLong(1)));
+    let refused = round_on(alloc, &mut sender, &mut receiver, &long, &mut line);
+    assert!(rt; same(&refused, &Err(LineFault::TooLong(1))));
     let just_short = Round {
         there: Delivery::Damaged(Bytes::new(vec![in alloc; 0; 2048]?)),
         back: Delivery::Damaged(Bytes::new(vec![in alloc; 0; 2048]?)),
     };
-    round(alloc, &mut sender, &mut receiver, &just_short, &mut line)?;
+    round_on(alloc, &mut sender, &mut receiver, &just_short, &mut line)?;
     assert_eq!(rt; line.handed().len(), 2);
     Ok(())
 }
@@ -57,17 +59,17 @@ fn a_growth_is_refused(rt: HostRuntime) -> Result<(), Fail> {
     let rounds = Rounds::new(alloc).whole(6)?;
     let mut receiver = Receiver::new(alloc);
     let mut line = Direct::new(alloc);
-    if let Err(fault) = run(alloc, &mut sender, &mut receiver, &rounds.0, &mut line) {
-        assert_eq!(rt; fault, LineFault::Memory);
-        assert_eq!(rt; sender.state(), SendState::Running);
+    if let Err(fault) = run_on(alloc, &mut sender, &mut receiver, &rounds, &mut line) {
+        assert!(rt; same(&fault, &LineFault::Memory));
+        assert!(rt; same(&sender.state(), &SendState::Running));
         if let Some(file) = receiver.files().first() {
-            assert_eq!(rt; file.bytes(), bytes.as_slice());
+            assert!(rt; same(&file.bytes(), &bytes.as_slice()));
         }
         text_of_run(alloc, &mut sender, &mut receiver, &rounds)?;
     }
-    assert_eq!(rt; sender.state(), SendState::Finished);
-    assert_eq!(rt; receiver.state(), RecvState::Finished);
+    assert!(rt; same(&sender.state(), &SendState::Finished));
+    assert!(rt; same(&receiver.state(), &RecvState::Finished));
     let file = receiver.files().first().ok_or("no file")?;
-    assert_eq!(rt; file.bytes(), bytes.as_slice());
+    assert!(rt; same(&file.bytes(), &bytes.as_slice()));
     Ok(())
 }

@@ -1,8 +1,8 @@
 use super::fixtures::{
-    Rounds, a128, failing_receiver, one_file, sender_of, text_of_run, usual_sender,
+    Rounds, a128, failing_receiver, one_file, run_on, same, sender_of, text_of_run, usual_sender,
 };
 use super::texts;
-use crate::{Direct, LineFault, Way, run, trace_text, whole_rounds_needed};
+use crate::{Direct, LineFault, Way, trace_text, whole_rounds_needed};
 use std::alloc::{AllocError, Global};
 use std::process::Abort;
 use std::test::Fail;
@@ -14,13 +14,13 @@ use ym_link::{Confirm, Receiver, RecvState, SendFile, SendState, Sender};
 fn assert_file(rt: &impl Abort, receiver: &Receiver, name: &str, bytes: &[u8]) {
     assert_eq!(rt; receiver.files().len(), 1);
     let file = &receiver.files()[0];
-    assert_eq!(rt; file.name(), name);
-    assert_eq!(rt; file.bytes(), bytes);
+    assert!(rt; same(&file.name(), &name));
+    assert!(rt; same(&file.bytes(), &bytes));
 }
 
 fn assert_finished(rt: &impl Abort, sender: &Sender, receiver: &Receiver) {
-    assert_eq!(rt; sender.state(), SendState::Finished);
-    assert_eq!(rt; receiver.state(), RecvState::Finished);
+    assert!(rt; same(&sender.state(), &SendState::Finished));
+    assert!(rt; same(&receiver.state(), &RecvState::Finished));
 }
 
 #[test]
@@ -30,15 +30,15 @@ fn one_file_in_six_rounds(rt: HostRuntime) -> Result<(), Fail> {
     let mut receiver = Receiver::new(alloc);
     let mut line = Direct::new(alloc);
     let rounds = Rounds::new(alloc).whole(6)?;
-    let trace = run(alloc, &mut sender, &mut receiver, &rounds.0, &mut line)?;
-    assert_eq!(rt; trace_text(alloc, &trace)?.as_str(), texts::one_file());
+    let trace = run_on(alloc, &mut sender, &mut receiver, &rounds, &mut line)?;
+    assert!(rt; same(&trace_text(alloc, &trace)?.as_str(), &texts::one_file()));
     assert_file(&rt, &receiver, "a.txt", a128(alloc)?.as_slice());
     let handed = line.handed();
     assert_eq!(rt; handed.len(), 12);
     assert_eq!(rt; handed[0].bytes.as_slice().len(), 0);
-    assert_eq!(rt; handed[3].way, Way::Back);
-    assert_eq!(rt; handed[3].bytes.as_slice(), [0x06, 0x43].as_slice());
-    assert_eq!(rt; handed[4].way, Way::There);
+    assert!(rt; same(&handed[3].way, &Way::Back));
+    assert!(rt; same(&handed[3].bytes.as_slice(), &[0x06, 0x43].as_slice()));
+    assert!(rt; same(&handed[4].way, &Way::There));
     assert_eq!(rt; handed[4].bytes.as_slice().len(), 133);
     Ok(())
 }
@@ -48,13 +48,10 @@ fn rounds_needed(rt: HostRuntime) -> Result<(), Fail> {
     let bytes = a128(rt.alloc())?;
     let batch = one_file(rt.alloc(), "a.txt", &bytes, None)?;
     assert_eq!(rt; batch.len(), 1);
-    assert_eq!(rt;
-        whole_rounds_needed(&batch, Shape::Mixed, Confirm::Twice),
-        6
-    );
-    assert_eq!(rt; whole_rounds_needed(&batch, Shape::Mixed, Confirm::Once), 5);
+    assert!(rt; same(&whole_rounds_needed(&batch, Shape::Mixed, Confirm::Twice), &6));
+    assert!(rt; same(&whole_rounds_needed(&batch, Shape::Mixed, Confirm::Once), &5));
     let none: Vec<SendFile> = Vec::new(rt.alloc());
-    assert_eq!(rt; whole_rounds_needed(&none, Shape::Mixed, Confirm::Twice), 2);
+    assert!(rt; same(&whole_rounds_needed(&none, Shape::Mixed, Confirm::Twice), &2));
     Ok(())
 }
 
@@ -66,7 +63,7 @@ fn one_file_cut_short(rt: HostRuntime) -> Result<(), Fail> {
         let mut receiver = Receiver::new(alloc);
         let rounds = Rounds::new(alloc).whole(count)?;
         let text = text_of_run(alloc, &mut sender, &mut receiver, &rounds)?;
-        assert_eq!(rt; text.as_str(), want);
+        assert!(rt; same(&text.as_str(), &want));
     }
     Ok(())
 }
@@ -81,7 +78,7 @@ fn padding_like_bytes(rt: HostRuntime) -> Result<(), Fail> {
     let mut receiver = Receiver::new(alloc);
     let rounds = Rounds::new(alloc).whole(6)?;
     let text = text_of_run(alloc, &mut sender, &mut receiver, &rounds)?;
-    assert_eq!(rt; text.as_str(), texts::one_file());
+    assert!(rt; same(&text.as_str(), &texts::one_file()));
     assert_file(&rt, &receiver, "a", &bytes);
     Ok(())
 }
@@ -113,7 +110,7 @@ fn a_source_or_a_sink_fails(rt: HostRuntime) -> Result<(), Fail> {
         let mut receiver = failing_receiver(alloc, call);
         let rounds = Rounds::new(alloc).whole(6)?;
         let text = text_of_run(alloc, &mut sender, &mut receiver, &rounds)?;
-        assert_eq!(rt; text.as_str(), want);
+        assert!(rt; same(&text.as_str(), &want));
     }
     Ok(())
 }
@@ -138,12 +135,12 @@ fn a_carry_fails(rt: HostRuntime) -> Result<(), Fail> {
         let mut receiver = Receiver::new(alloc);
         let mut line = Direct::failing(alloc, at);
         let rounds = Rounds::new(alloc).whole(6)?;
-        let faulty = run(alloc, &mut sender, &mut receiver, &rounds.0, &mut line);
-        assert_eq!(rt; faulty.err(), Some(LineFault::Carrier));
+        let faulty = run_on(alloc, &mut sender, &mut receiver, &rounds, &mut line);
+        assert!(rt; same(&faulty.err(), &Some(LineFault::Carrier)));
         assert_eq!(rt; line.handed().len(), handed);
         let rounds = Rounds::new(alloc).whole(4)?;
         let text = text_of_run(alloc, &mut sender, &mut receiver, &rounds)?;
-        assert_eq!(rt; text.as_str(), texts::last_four());
+        assert!(rt; same(&text.as_str(), &texts::last_four()));
     }
     Ok(())
 }
@@ -166,19 +163,14 @@ fn a_block_cut_short(rt: HostRuntime) -> Result<(), Fail> {
         let rounds = Rounds::new(alloc).whole(2)?;
         let rounds = rounds.damaged_there(alloc, &frame[..k])?.whole(4)?;
         let text = text_of_run(alloc, &mut sender, &mut receiver, &rounds)?;
-        assert_eq!(rt; text.as_str(), texts::damaged_block());
+        assert!(rt; same(&text.as_str(), &texts::damaged_block()));
     }
     let mut sender = usual_sender(alloc)?;
     let mut receiver = Receiver::new(alloc);
     let rounds = Rounds::new(alloc).whole(2)?.damaged_there(alloc, frame)?;
-    let whole = run(
-        alloc,
-        &mut sender,
-        &mut receiver,
-        &rounds.0,
-        &mut Direct::new(alloc),
-    );
-    assert_eq!(rt; whole.err(), Some(LineFault::NotDamage(3)));
+    let mut line = Direct::new(alloc);
+    let whole = run_on(alloc, &mut sender, &mut receiver, &rounds, &mut line);
+    assert!(rt; same(&whole.err(), &Some(LineFault::NotDamage(3))));
     Ok(())
 }
 
@@ -205,7 +197,7 @@ fn a_single_receiver(rt: HostRuntime) -> Result<(), Fail> {
     let mut receiver = Receiver::single(alloc);
     let rounds = Rounds::new(alloc).whole(5)?;
     let text = text_of_run(alloc, &mut sender, &mut receiver, &rounds)?;
-    assert_eq!(rt; text.as_str(), texts::single());
+    assert!(rt; same(&text.as_str(), &texts::single()));
     Ok(())
 }
 
@@ -216,10 +208,10 @@ fn a_single_receiver_goes_on(rt: HostRuntime) -> Result<(), Fail> {
     let mut receiver = Receiver::single(alloc);
     let rounds = Rounds::new(alloc).whole(2)?.no_reply()?;
     let text = text_of_run(alloc, &mut sender, &mut receiver, &rounds)?;
-    assert_eq!(rt; text.as_str(), texts::single_reply_lost());
+    assert!(rt; same(&text.as_str(), &texts::single_reply_lost()));
     let rounds = Rounds::new(alloc).whole(2)?;
     let text = text_of_run(alloc, &mut sender, &mut receiver, &rounds)?;
-    assert_eq!(rt; text.as_str(), texts::single_goes_on());
+    assert!(rt; same(&text.as_str(), &texts::single_goes_on()));
     Ok(())
 }
 
@@ -245,6 +237,6 @@ fn bursts_of_five(rt: HostRuntime) -> Result<(), Fail> {
     let rounds = Rounds::new(alloc).lost(5)?.whole(1)?;
     let rounds = rounds.lost(5)?.whole(1)?;
     let text = text_of_run(alloc, &mut sender, &mut receiver, &rounds)?;
-    assert_eq!(rt; text.as_str(), texts::bursts_of_five());
+    assert!(rt; same(&text.as_str(), &texts::bursts_of_five()));
     Ok(())
 }

@@ -1,6 +1,7 @@
 //! Where a receiver stands, for tests.
 
 ghost use Rattle.std.specs.Prelude.{◌≡◌, ◌<◌, ◌≤◌, ◌^◌, ◌-◌};
+ghost use Rattle.ym_machine.specs.declared.limits.TheConstants.{GIVE_UP, MOST_FILES};
 
 use super::ReceiverInto;
 use ym_core::{OpenFile, RecvState, Stage, Stand};
@@ -10,9 +11,9 @@ impl<K: Sink> ReceiverInto<K> {
     /// Where it stands.
     pub(crate) fn stand(&self) -> Stand
         ensures stand { result ≡ self.now.receiver }
-        ensures files { result.files ≤ 65535 }
-        ensures count { result.count ≤ 10 }
-        ensures runs { result.state ≡ RecvState.Running → result.count < 10 }
+        ensures files { result.files ≤ MOST_FILES }
+        ensures count { result.count ≤ GIVE_UP }
+        ensures runs { result.state ≡ RecvState.Running → result.count < GIVE_UP }
         ensures blocks { (file : OpenFile) → result.stage ≡ Stage.InFile file → file.blocks < 2 ^ 64 - 1 }
     {
         // what always holds of a receiver is known once a field was read

@@ -1,6 +1,7 @@
 //! Where a sender stands, for tests.
 
 ghost use Rattle.std.specs.Prelude.{◌≡◌, ◌<◌};
+ghost use Rattle.ym_machine.specs.declared.limits.TheConstants.{GIVE_UP};
 
 use super::SenderFrom;
 use crate::shaped_batch::ShapedBatch;
@@ -11,7 +12,7 @@ impl<S: Source> SenderFrom<S> {
     /// Where it stands.
     pub(crate) fn standing(&self) -> Standing
         ensures standing { result ≡ self.now.standing }
-        ensures misses { result.state ≡ SendState.Running → result.misses < 10 }
+        ensures misses { result.state ≡ SendState.Running → result.misses < GIVE_UP }
     {
         self.standing
     }

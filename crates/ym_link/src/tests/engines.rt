@@ -2,7 +2,7 @@
 
 use super::scripted::{
     ACK, ACK_START, CANCEL, Coming, EOT, Failing, START, end_block, header_of, port_of, push_event,
-    repeated, times,
+    repeated, same, times,
 };
 use crate::{
     EndFault, Receiver, RecvState, ScriptPort, SendFile, SendState, Sender, receive_over, send_over,
@@ -10,7 +10,7 @@ use crate::{
 use std::alloc::{AllocError, Global};
 use std::test::Fail;
 use ym_file::Shape;
-use ym_frame::{Block, Item, encode};
+use ym_frame::{Block, FrameBuf, Item, encode};
 use ym_header::Stamp;
 
 /// A receiver that was run over a port.
@@ -21,15 +21,18 @@ struct Received {
     port: ScriptPort,
 }
 
-fn receive(alloc: Global, coming: &[Coming], failing: Failing) -> Result<Received, AllocError> {
-    let mut port = port_of(alloc, coming, failing)?;
+fn receive_from(alloc: Global, mut port: ScriptPort) -> Received {
     let mut receiver = Receiver::new(alloc);
     let answer = receive_over(&mut port, &mut receiver);
-    Ok(Received {
+    Received {
         answer,
         state: receiver.state(),
         port,
-    })
+    }
+}
+
+fn receive(alloc: Global, coming: &[Coming], failing: Failing) -> Result<Received, AllocError> {
+    Ok(receive_from(alloc, port_of(alloc, coming, failing)?))
 }
 
 /// Whether a device fault left the receiver in this state, with these bytes written.
@@ -46,9 +49,9 @@ fn receives_the_end_of_a_batch(rt: HostRuntime) -> Result<(), Fail> {
     let end = end.as_bytes();
     let coming = [Coming::Quiet, Coming::Piece(end)];
     let received = receive(rt.alloc(), &coming, Failing::Never)?;
-    assert_eq!(rt; received.answer, Ok(()));
-    assert_eq!(rt; received.state, RecvState::Finished);
-    assert_eq!(rt; received.port.written(), [0x43, 0x06].as_slice());
+    assert!(rt; same(&received.answer, &Ok(())));
+    assert!(rt; same(&received.state, &RecvState::Finished));
+    assert!(rt; same(&received.port.written(), &[0x43, 0x06].as_slice()));
     let faults: [&[u8]; 2] = [&[], START];
     for (i, written) in faults.iter().enumerate() {
         let received = receive(rt.alloc(), &coming, Failing::Before(i))?;
@@ -66,9 +69,9 @@ fn drops_what_is_left_of_a_read(rt: HostRuntime) -> Result<(), Fail> {
     let both = repeated(rt.alloc(), end_block().as_bytes(), 1, EOT)?;
     let coming = [Coming::Piece(both.as_slice())];
     let received = receive(rt.alloc(), &coming, Failing::Never)?;
-    assert_eq!(rt; received.answer, Ok(()));
-    assert_eq!(rt; received.state, RecvState::Finished);
-    assert_eq!(rt; received.port.written(), ACK);
+    assert!(rt; same(&received.answer, &Ok(())));
+    assert!(rt; same(&received.state, &RecvState::Finished));
+    assert!(rt; same(&received.port.written(), &ACK));
     let received = receive(rt.alloc(), &coming, Failing::Before(0))?;
     assert!(rt; failed_receive(&received, RecvState::Running, &[]));
     let received = receive(rt.alloc(), &coming, Failing::Write(1))?;
@@ -82,8 +85,8 @@ fn hears_no_unfinished_delivery(rt: HostRuntime) -> Result<(), Fail> {
     let part = end.as_bytes().get(..60).ok_or("no block")?;
     let coming = [Coming::Piece(part), Coming::Closed];
     let received = receive(rt.alloc(), &coming, Failing::Never)?;
-    assert_eq!(rt; received.answer, Err(EndFault::Closed));
-    assert_eq!(rt; received.state, RecvState::Running);
+    assert!(rt; same(&received.answer, &Err(EndFault::Closed)));
+    assert!(rt; same(&received.state, &RecvState::Running));
     assert!(rt; received.port.written().is_empty());
     for i in 0..2 {
         let received = receive(rt.alloc(), &coming, Failing::Before(i))?;
@@ -97,11 +100,13 @@ fn receiver_gives_up_at_junk(rt: HostRuntime) -> Result<(), Fail> {
     let alloc = rt.alloc();
     let junk = times(alloc, Coming::Piece(&[0; 2048]), 10)?;
     let received = receive(alloc, &junk, Failing::Never)?;
-    assert_eq!(rt; received.answer, Ok(()));
-    assert_eq!(rt; received.state, RecvState::TooManyErrors);
-    assert_eq!(rt;
-        received.port.written(),
-        repeated(alloc, START, 9, CANCEL)?.as_slice()
+    assert!(rt; same(&received.answer, &Ok(())));
+    assert!(rt; same(&received.state, &RecvState::TooManyErrors));
+    assert!(rt;
+        same(
+            &received.port.written(),
+            &repeated(alloc, START, 9, CANCEL)?.as_slice()
+        )
     );
     for i in 0..10 {
         let written = repeated(alloc, START, i, &[])?;
@@ -126,20 +131,29 @@ fn receiver_ends_at_endless_peers(rt: HostRuntime) -> Result<(), Fail> {
     let header = header_of(alloc, "a", 128)?;
     let headers = times(alloc, Coming::Piece(header.as_bytes()), 11)?;
     let received = receive(alloc, &headers, Failing::Never)?;
-    assert_eq!(rt; received.state, RecvState::TooManyErrors);
-    assert_eq!(rt;
-        received.port.written(),
-        repeated(alloc, ACK_START, 10, CANCEL)?.as_slice()
+    assert!(rt; same(&received.state, &RecvState::TooManyErrors));
+    assert!(rt;
+        same(
+            &received.port.written(),
+            &repeated(alloc, ACK_START, 10, CANCEL)?.as_slice()
+        )
     );
 
     let bytes = times(alloc, Coming::Piece(&[0]), 20_480)?;
     let received = receive(alloc, &bytes, Failing::Never)?;
-    assert_eq!(rt; received.state, RecvState::TooManyErrors);
-    assert_eq!(rt;
-        received.port.written(),
-        repeated(alloc, START, 9, CANCEL)?.as_slice()
+    assert!(rt; same(&received.state, &RecvState::TooManyErrors));
+    assert!(rt;
+        same(
+            &received.port.written(),
+            &repeated(alloc, START, 9, CANCEL)?.as_slice()
+        )
     );
     Ok(())
+}
+
+fn block_frame(number: u8) -> Option<FrameBuf> {
+    let block = Block::new(number, &[0x41; 128]).ok()?;
+    Some(encode(&Item::Block(block)))
 }
 
 #[test]
@@ -149,17 +163,15 @@ fn receiver_ends_at_endless_blocks(rt: HostRuntime) -> Result<(), Fail> {
     let mut events = Vec::new(alloc);
     push_event(alloc, &mut events, Coming::Piece(header.as_bytes()))?;
     for number in 1..12 {
-        let block = Block::new(number, &[0x41; 128]).map_err(|_| "no block")?;
-        let frame = encode(&Item::Block(block));
+        let frame = block_frame(number).ok_or("no block")?;
         push_event(alloc, &mut events, Coming::Piece(frame.as_bytes()))?;
     }
-    let mut port = ScriptPort::new(alloc, events, None);
-    let mut receiver = Receiver::new(alloc);
-    assert_eq!(rt; receive_over(&mut port, &mut receiver), Ok(()));
-    assert_eq!(rt; receiver.state(), RecvState::TooManyErrors);
+    let received = receive_from(alloc, ScriptPort::new(alloc, events, None));
+    assert!(rt; same(&received.answer, &Ok(())));
+    assert!(rt; same(&received.state, &RecvState::TooManyErrors));
     let mut written = repeated(alloc, ACK_START, 1, &[])?;
     written.extend_from_slice(repeated(alloc, ACK, 10, CANCEL)?.as_slice())?;
-    assert_eq!(rt; port.written(), written.as_slice());
+    assert!(rt; same(&received.port.written(), &written.as_slice()));
     Ok(())
 }
 
@@ -200,9 +212,9 @@ fn sends_an_empty_batch(rt: HostRuntime) -> Result<(), Fail> {
     let end = end_block();
     let coming = [Coming::Piece(START), Coming::Piece(ACK)];
     let sent = send(rt.alloc(), 0, &coming, Failing::Never)?;
-    assert_eq!(rt; sent.answer, Ok(()));
-    assert_eq!(rt; sent.state, SendState::Finished);
-    assert_eq!(rt; sent.port.written(), end.as_bytes());
+    assert!(rt; same(&sent.answer, &Ok(())));
+    assert!(rt; same(&sent.state, &SendState::Finished));
+    assert!(rt; same(&sent.port.written(), &end.as_bytes()));
     assert!(rt; failed_send(&send(rt.alloc(), 0, &coming, Failing::Before(0))?, &[]));
     assert!(rt;
         failed_send(
@@ -228,9 +240,9 @@ fn sends_an_empty_file(rt: HostRuntime) -> Result<(), Fail> {
         Coming::Piece(ACK),
     ];
     let sent = send(alloc, 1, &coming, Failing::Never)?;
-    assert_eq!(rt; sent.answer, Ok(()));
-    assert_eq!(rt; sent.state, SendState::Finished);
-    assert_eq!(rt; sent.port.written(), whole.as_slice());
+    assert!(rt; same(&sent.answer, &Ok(())));
+    assert!(rt; same(&sent.state, &SendState::Finished));
+    assert!(rt; same(&sent.port.written(), &whole.as_slice()));
     let faults = [
         &[],
         opening.as_slice(),
@@ -262,16 +274,16 @@ fn sender_ends_at_endless_peers(rt: HostRuntime) -> Result<(), Fail> {
     let alloc = rt.alloc();
     let junk = times(alloc, Coming::Piece(&[0; 2048]), 10)?;
     let sent = send(alloc, 0, &junk, Failing::Never)?;
-    assert_eq!(rt; sent.answer, Ok(()));
-    assert_eq!(rt; sent.state, SendState::NoReply);
-    assert_eq!(rt; sent.port.written(), CANCEL);
+    assert!(rt; same(&sent.answer, &Ok(())));
+    assert!(rt; same(&sent.state, &SendState::NoReply));
+    assert!(rt; same(&sent.port.written(), &CANCEL));
 
     let again = times(alloc, Coming::Piece(START), 11)?;
     let sent = send(alloc, 0, &again, Failing::Never)?;
-    assert_eq!(rt; sent.answer, Ok(()));
-    assert_eq!(rt; sent.state, SendState::NoReply);
+    assert!(rt; same(&sent.answer, &Ok(())));
+    assert!(rt; same(&sent.state, &SendState::NoReply));
     let written = repeated(alloc, end_block().as_bytes(), 10, CANCEL)?;
-    assert_eq!(rt; sent.port.written(), written.as_slice());
+    assert!(rt; same(&sent.port.written(), &written.as_slice()));
     Ok(())
 }
 
@@ -290,22 +302,22 @@ fn refused_growths(rt: HostRuntime) -> Result<(), Fail> {
         Ok(received) => received,
         Err(_) => receive(alloc, &coming, Failing::Never)?,
     };
-    assert_eq!(rt; received.state, RecvState::Running);
+    assert!(rt; same(&received.state, &RecvState::Running));
     let answer = received.answer;
     let written = received.port.written();
     match answer {
         Err(EndFault::Closed) => {
-            assert_eq!(rt; written, ACK_START);
-            assert_eq!(rt; received.port.failures(), 0);
+            assert!(rt; same(&written, &ACK_START));
+            assert!(rt; same(&received.port.failures(), &0));
         }
         Err(EndFault::Memory) => {
             assert!(rt; written.is_empty());
-            assert_eq!(rt; received.port.failures(), 0);
+            assert!(rt; same(&received.port.failures(), &0));
         }
         answer => {
-            assert_eq!(rt; answer, Err(EndFault::Device));
+            assert!(rt; same(&answer, &Err(EndFault::Device)));
             assert!(rt; written.is_empty());
-            assert_eq!(rt; received.port.failures(), 1);
+            assert!(rt; same(&received.port.failures(), &1));
         }
     }
     Ok(())

@@ -1,5 +1,6 @@
 //! The sender's frames over a small batch, failing sources, and a batch that is too large.
 
+use super::scripted::same;
 use crate::{BatchFault, SendFile, SendState, Sender, SenderFrom, SourceFile};
 use std::alloc::Global;
 use std::test::Fail;
@@ -64,34 +65,39 @@ fn begins_with<S: Source>(sender: &SenderFrom<S>, bytes: &[u8]) -> bool {
     }
 }
 
+/// The sender hears a delivery. It tells a proof nothing of it, and so costs it little.
+fn hear<S: Source>(sender: &mut SenderFrom<S>, bytes: &[u8]) {
+    sender.hear(bytes);
+}
+
 #[test]
 fn all_frames_of_a_batch(rt: HostRuntime) -> Result<(), Fail> {
     let alloc = rt.alloc();
     let mut sender = one_file(alloc, 130, None)?;
     assert!(rt; sender.frame().is_none());
-    sender.hear(&[C]);
-    assert_eq!(rt; sender.frame().ok_or("block 0")?.len(), 133);
+    hear(&mut sender, &[C]);
+    assert!(rt; same(&sender.frame().ok_or("block 0")?.len(), &133));
     assert!(rt; begins_with(&sender, b"\x01\x00\xffa\x00130\x00"));
     assert!(rt; !sender.settled(&[ACK]));
     assert!(rt; sender.settled(&[ACK, C]));
-    sender.hear(&[ACK, C]);
+    hear(&mut sender, &[ACK, C]);
     assert!(rt; begins_with(&sender, b"\x01\x01\xfeAAA"));
-    sender.hear(&[NAK]);
+    hear(&mut sender, &[NAK]);
     assert!(rt; begins_with(&sender, b"\x01\x01\xfeAAA"));
-    sender.hear(&[ACK]);
+    hear(&mut sender, &[ACK]);
     assert!(rt; begins_with(&sender, b"\x01\x02\xfdAA\x1a\x1a"));
-    sender.hear(&[ACK]);
-    assert_eq!(rt; sender.frame().ok_or("EOT")?, [0x04].as_slice());
-    sender.hear(&[NAK]);
-    assert_eq!(rt; sender.done(), 0);
-    sender.hear(&[ACK]);
-    assert_eq!(rt; sender.done(), 1);
+    hear(&mut sender, &[ACK]);
+    assert!(rt; same(&sender.frame().ok_or("EOT")?, &[0x04].as_slice()));
+    hear(&mut sender, &[NAK]);
+    assert!(rt; same(&sender.done(), &0));
+    hear(&mut sender, &[ACK]);
+    assert!(rt; same(&sender.done(), &1));
     assert!(rt; sender.frame().is_none());
-    sender.hear(&[C]);
-    assert_eq!(rt; sender.frame().ok_or("the end block")?.len(), 133);
+    hear(&mut sender, &[C]);
+    assert!(rt; same(&sender.frame().ok_or("the end block")?.len(), &133));
     assert!(rt; begins_with(&sender, b"\x01\x00\xff\x00"));
-    sender.hear(&[ACK]);
-    assert_eq!(rt; sender.state(), SendState::Finished);
+    hear(&mut sender, &[ACK]);
+    assert!(rt; same(&sender.state(), &SendState::Finished));
     assert!(rt; sender.frame().is_none());
     assert!(rt; sender.settled(&[]));
     Ok(())
@@ -100,17 +106,17 @@ fn all_frames_of_a_batch(rt: HostRuntime) -> Result<(), Fail> {
 #[test]
 fn a_source_that_fails(rt: HostRuntime) -> Result<(), Fail> {
     let mut sender = one_file(rt.alloc(), 300, Some(2))?;
-    sender.hear(&[C]);
-    sender.hear(&[ACK, C]);
-    sender.hear(&[NAK]);
-    assert_eq!(rt; sender.state(), SendState::Running);
+    hear(&mut sender, &[C]);
+    hear(&mut sender, &[ACK, C]);
+    hear(&mut sender, &[NAK]);
+    assert!(rt; same(&sender.state(), &SendState::Running));
     assert!(rt; begins_with(&sender, b"\x01\x01\xfe"));
-    sender.hear(&[ACK]);
-    assert_eq!(rt; sender.state(), SendState::SourceFailed);
-    assert_eq!(rt; sender.frame().ok_or("CAN CAN")?, [CAN, CAN].as_slice());
-    sender.hear(&[]);
+    hear(&mut sender, &[ACK]);
+    assert!(rt; same(&sender.state(), &SendState::SourceFailed));
+    assert!(rt; same(&sender.frame().ok_or("CAN CAN")?, &[CAN, CAN].as_slice()));
+    hear(&mut sender, &[]);
     assert!(rt; sender.frame().is_none());
-    assert_eq!(rt; sender.done(), 0);
+    assert!(rt; same(&sender.done(), &0));
     Ok(())
 }
 
@@ -118,30 +124,30 @@ fn a_source_that_fails(rt: HostRuntime) -> Result<(), Fail> {
 fn ten_deliveries_without_progress(rt: HostRuntime) -> Result<(), Fail> {
     let mut sender = one_file(rt.alloc(), 0, None)?;
     for _ in 0..9 {
-        sender.hear(&[NAK]);
+        hear(&mut sender, &[NAK]);
     }
-    assert_eq!(rt; sender.state(), SendState::Running);
-    sender.hear(&[]);
-    assert_eq!(rt; sender.state(), SendState::NoReply);
-    assert_eq!(rt; sender.frame().ok_or("CAN CAN")?, [CAN, CAN].as_slice());
-    sender.hear(&[C]);
+    assert!(rt; same(&sender.state(), &SendState::Running));
+    hear(&mut sender, &[]);
+    assert!(rt; same(&sender.state(), &SendState::NoReply));
+    assert!(rt; same(&sender.frame().ok_or("CAN CAN")?, &[CAN, CAN].as_slice()));
+    hear(&mut sender, &[C]);
     assert!(rt; sender.frame().is_none());
-    assert_eq!(rt; sender.state(), SendState::NoReply);
+    assert!(rt; same(&sender.state(), &SendState::NoReply));
     Ok(())
 }
 
 #[test]
 fn two_can_in_a_row_cancel(rt: HostRuntime) -> Result<(), Fail> {
     let mut sender = one_file(rt.alloc(), 0, None)?;
-    sender.hear(&[CAN, 0x00]);
-    sender.hear(&[CAN, C]);
-    assert_eq!(rt; sender.state(), SendState::Running);
-    sender.hear(&[ACK]);
-    sender.hear(&[C]);
-    assert_eq!(rt; sender.frame().ok_or("EOT")?, [0x04].as_slice());
-    sender.hear(&[ACK, CAN, 0x00, CAN]);
-    assert_eq!(rt; sender.state(), SendState::Cancelled);
-    assert_eq!(rt; sender.done(), 1);
+    hear(&mut sender, &[CAN, 0x00]);
+    hear(&mut sender, &[CAN, C]);
+    assert!(rt; same(&sender.state(), &SendState::Running));
+    hear(&mut sender, &[ACK]);
+    hear(&mut sender, &[C]);
+    assert!(rt; same(&sender.frame().ok_or("EOT")?, &[0x04].as_slice()));
+    hear(&mut sender, &[ACK, CAN, 0x00, CAN]);
+    assert!(rt; same(&sender.state(), &SendState::Cancelled));
+    assert!(rt; same(&sender.done(), &1));
     assert!(rt; sender.frame().is_none());
     Ok(())
 }
@@ -157,7 +163,7 @@ fn too_many_files_are_handed_back(rt: HostRuntime) -> Result<(), Fail> {
     match Sender::new(batch, Shape::Mixed) {
         Ok(_) => Err("a sender of 65,536 files".into()),
         Err(BatchFault::TooMany(back)) => {
-            assert_eq!(rt; back.len(), 65_536);
+            assert!(rt; same(&back.len(), &65_536));
             Ok(())
         }
     }
@@ -177,18 +183,18 @@ fn a_source_of_any_kind(rt: HostRuntime) -> Result<(), Fail> {
         stamp,
     )
     .map_err(|_| "file")?;
-    assert_eq!(rt; file.header().name(), "zeros");
-    assert_eq!(rt; file.header().length(), 1025);
-    assert_eq!(rt; file.header().stamp(), stamp);
-    assert_eq!(rt; file.blocks(Shape::Mixed), 2);
-    assert_eq!(rt; file.blocks(Shape::Short), 9);
+    assert!(rt; same(&file.header().name(), &"zeros"));
+    assert!(rt; same(&file.header().length(), &1025));
+    assert!(rt; same(&file.header().stamp(), &stamp));
+    assert!(rt; same(&file.blocks(Shape::Mixed), &2));
+    assert!(rt; same(&file.blocks(Shape::Short), &9));
     let mut batch = Vec::new(alloc);
     batch.push(file)?;
     let mut sender = SenderFrom::new(batch, Shape::Mixed).map_err(|_| "batch")?;
-    sender.hear(&[C]);
-    sender.hear(&[ACK, C]);
-    assert_eq!(rt; sender.frame().ok_or("block 1")?.len(), 1029);
-    sender.hear(&[ACK]);
+    hear(&mut sender, &[C]);
+    hear(&mut sender, &[ACK, C]);
+    assert!(rt; same(&sender.frame().ok_or("block 1")?.len(), &1029));
+    hear(&mut sender, &[ACK]);
     assert!(rt; begins_with(&sender, b"\x01\x02\xfd\x00\x1a"));
     Ok(())
 }
@@ -209,14 +215,14 @@ fn a_file_in_memory(rt: HostRuntime) -> Result<(), Fail> {
     let alloc = rt.alloc();
     let bytes = b"one".as_slice().to_vec(alloc)?;
     let file = SendFile::new(alloc, "a.txt", bytes, Stamp::Time(0)).map_err(|_| "file")?;
-    assert_eq!(rt; file.bytes(), b"one".as_slice());
-    assert_eq!(rt; file.header().length(), 3);
+    assert!(rt; same(&file.bytes(), &b"one".as_slice()));
+    assert!(rt; same(&file.header().length(), &3));
     let mut batch = Vec::new(alloc);
     batch.push(file)?;
     let mut sender = Sender::new(batch, Shape::Mixed).map_err(|_| "batch")?;
-    sender.hear(&[C]);
-    sender.hear(&[ACK, C]);
-    assert_eq!(rt; sender.state(), SendState::Running);
+    hear(&mut sender, &[C]);
+    hear(&mut sender, &[ACK, C]);
+    assert!(rt; same(&sender.state(), &SendState::Running));
     assert!(rt; begins_with(&sender, b"\x01\x01\xfeone\x1a"));
     let nameless = SendFile::new(alloc, "", Vec::new(alloc), Stamp::Nothing);
     assert!(rt; matches!(nameless, Err(HeaderFault::NameEmpty)));

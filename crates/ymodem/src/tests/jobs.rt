@@ -137,6 +137,22 @@ fn told_besides(rt: HostRuntime) -> Result<(), Fail> {
     Ok(())
 }
 
+/// One file more than a batch may have.
+#[test]
+fn too_many_files(rt: HostRuntime) -> Result<(), Fail> {
+    let path = env::temp_dir(&rt)?.join(rt.alloc(), "ymodem-many.txt")?;
+    fs::write(&rt, &path, "")?;
+    let mut line = String::from_str(rt.alloc(), "ymodem send --port 1")?;
+    for _ in 0..65_536u32 {
+        line.push(' ')?;
+        line.push_str(path.as_str())?;
+    }
+    let many = ends(&rt, line.as_str(), b"", 2, "", "fault: too many files\n")?;
+    fs::remove_file(&rt, &path)?;
+    assert!(rt; many);
+    Ok(())
+}
+
 /// Where nobody listens.
 #[test]
 fn nobody_listens(rt: HostRuntime) -> Result<(), Fail> {

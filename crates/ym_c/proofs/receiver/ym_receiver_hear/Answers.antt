@@ -10,6 +10,7 @@ use Rattle.ym_c.specs.Stands.{Keeps}
 use Rattle.ym_c.specs.Receiving.{IsAsk, bad_code}
 use Rattle.ym_c.specs.declared.stand.YmStand.{YmStand}
 use Rattle.ym_c.specs.declared.receiver.YmAsk.{YmAsk}
+use Rattle.ym_c.proofs.Places.{placed}
 use Rattle.ym_c.proofs.receiver.ym_receiver_hear.Goals as goal
 
 -- what `hear_into` says, at any receiver and any bytes
@@ -28,6 +29,6 @@ returns c core held h =
     let ask = c.hear_into-receiver.new.ask in
     let is : c.load-core.result ≡ core = c.load-core.ensures core h.stand in
     let bytes : c.delivery-bytes.result.now ≡ held = c.delivery-bytes.ensures h.room ∙ h.bytes in
-    let there : Told next reply ask c.load-core.result c.delivery-bytes.result.now = c.hear_into-receiver.ensures in
+    let there : Told next reply ask c.load-core.result c.delivery-bytes.result.now = c.hear_into-receiver.ensures.heard in
     let here : Told next reply ask core held = subst (λ b. Told next reply ask core b) bytes (subst (λ r. Told next reply ask r c.delivery-bytes.result.now) is there) in
-    (here.0, here.1, record { stand = h.stand; next = here.2; reply = here.3 }, record { stand = h.stand; room = h.room; bytes = h.bytes }, here.4, here.5)
+    (here.0, here.1, record { stand = h.stand; next = here.2; reply = here.3 }, record { stand = h.stand; room = h.room; bytes = h.bytes }, here.4, placed core here.0 held ask here.1 c.hear_into-receiver.ensures.at here.4, here.5)

@@ -13,6 +13,7 @@ use Rattle.ym_link.proofs.Courses.{asks-none, asks-more, asks-behind}
 use Rattle.ym_link.proofs.SenderBound.{course-is, course-none}
 use Rattle.ym_link.proofs.SenderDeliveries.{step-fewer}
 use Rattle.ym_link.proofs.send_engine.send_over.Goals as goal
+use Rattle.ym_link.specs.declared.port.TheConstants.{DELIVERY_LIMIT}
 
 -- the last write
 finishes : (s : SenderParts) (u new : Tape) (result : Result Unit EndFault) → IsSender s → s.standing.state ≢ Running
@@ -49,7 +50,7 @@ returns-in_err-write_frame-clause-told g c ran u e =
 
 pub returns-in_err-len-clause-told : goal.returns-in_err-len-clause-told
 returns-in_err-len-clause-told g c ran u e =
-    let got = c.read_delivery.ensures.told u e in
+    let got = c.take_delivery.ensures.told u e in
     let wrote = c.write_frame.ensures.told got.0 got.1 in
     let inv = c.loop-buf.invariant.told wrote.0 wrote.1 in
     let on : c.loop-buf.sender.standing.state ≡ Running = search rules in
@@ -63,35 +64,35 @@ returns-in_err-len-clause-told g c ran u e =
 pub loop-buf-smaller : goal.loop-buf-smaller
 loop-buf-smaller g c =
     let on : c.loop-buf.sender.standing.state ≡ Running = search rules in
-    step-fewer c.loop-buf.sender (take c.in_ok-len.len c.read_delivery.new.buf) c.hear.new.self c.write_frame.ensures.sender on (search rules)
+    step-fewer c.loop-buf.sender (take c.in_ok-len.len c.take_delivery.new.buf) c.hear_found.new.self c.write_frame.ensures.sender on (search rules)
 
 pub loop-buf-preserved : goal.loop-buf-preserved
 loop-buf-preserved g c = record {
   ran = c.loop-buf.invariant.ran;
   told = λ u e.
-      let got = c.read_delivery.ensures.told u e in
+      let got = c.take_delivery.ensures.told u e in
       let wrote = c.write_frame.ensures.told got.0 got.1 in
       let inv = c.loop-buf.invariant.told wrote.0 wrote.1 in
       let on : c.loop-buf.sender.standing.state ≡ Running = search rules in
       let went : is_ok c.write_frame.result ≡ true = rw c.in_ok-write_frame.was refl in
       let spoke : got.0 ≡ said c.loop-buf.sender wrote.0 = rw went at wrote.2 in
-      let whole : (delivery_to c.loop-buf.sender wrote.0).delivery ≡ Ok (take c.in_ok-len.len c.read_delivery.new.buf) = rw spoke at (sym got.2) ∙ rw c.in_ok-len.was refl in
+      let whole : (delivery_to c.loop-buf.sender wrote.0).delivery ≡ Ok (take c.in_ok-len.len c.take_delivery.new.buf) = rw spoke at (sym got.2) ∙ rw c.in_ok-len.was refl in
       let left : u ≡ behind c.loop-buf.sender (said c.loop-buf.sender wrote.0) = rw spoke at got.3 in (
         inv.0,
         inv.1,
-        λ out later. inv.2 out (heard c.loop-buf.sender wrote.0 (take c.in_ok-len.len c.read_delivery.new.buf) c.hear.new.self out c.write_frame.ensures.sender on whole (search rules) (rw left at later)),
+        λ out later. inv.2 out (heard c.loop-buf.sender wrote.0 (take c.in_ok-len.len c.take_delivery.new.buf) c.hear_found.new.self out c.write_frame.ensures.sender on whole (search rules) (rw left at later)),
       );
   course =
       let old = c.loop-buf.invariant.course in
-      let bytes = take c.in_ok-len.len c.read_delivery.new.buf in
+      let bytes = take c.in_ok-len.len c.take_delivery.new.buf in
       let on : c.loop-buf.sender.standing.state ≡ Running = search rules in
-      let within : c.in_ok-len.len ≤ 2048 = search rules in
-      let short : length bytes ≤ 2048 = let most = length-take c.in_ok-len.len c.read_delivery.new.buf in omega (arith, within, most) in (
+      let within : c.in_ok-len.len ≤ DELIVERY_LIMIT = search rules in
+      let short : length bytes ≤ DELIVERY_LIMIT = let most = length-take c.in_ok-len.len c.take_delivery.new.buf in omega (arith, within, most) in (
         old.0 ++ bytes ∷ [],
-        old.1 + sender_progress_at c.hear.new.self,
-        sender_more c.args.sender.now old.0 old.1 c.loop-buf.sender bytes c.hear.new.self old.2 c.write_frame.ensures.sender on short (search rules),
+        old.1 + sender_progress_at c.hear_found.new.self,
+        sender_more c.args.sender.now old.0 old.1 c.loop-buf.sender bytes c.hear_found.new.self old.2 c.write_frame.ensures.sender on short (search rules),
         λ w e.
-            let got = c.read_delivery.ensures.asked w e in
+            let got = c.take_delivery.ensures.asked w e in
             let inv = old.3 got.0 (c.write_frame.ensures.asked got.0 got.1) in
             (inv.0, inv.1, asks-behind old.0 bytes inv.0 got.0 w inv.2 got.2),
       );
@@ -123,7 +124,7 @@ returns-in_err-len-clause-course g c =
       old.0,
       course-is c.args.sender.now old.0 old.1 c.loop-buf.sender c.write_frame.ensures.sender old.2,
       λ w e.
-          let got = c.read_delivery.ensures.asked w e in
+          let got = c.take_delivery.ensures.asked w e in
           let inv = old.3 got.0 (c.write_frame.ensures.asked got.0 got.1) in
           (inv.0, inv.1, length old.0 + 1, omega arith, asks-more (length old.0) inv.0 got.0 w inv.2 got.2),
     )

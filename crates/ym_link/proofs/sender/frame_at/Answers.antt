@@ -5,7 +5,7 @@ use Rattle.std.proofs.lemmas.List.{length-map, get_or_default}
 use Rattle.ym_file.specs.Counts.{Rose, raised}
 use Rattle.ym_frame.specs.declared.frame.Item.TheVariants as item
 use Rattle.ym_header.specs.Header.{HeaderParts}
-use Rattle.ym_header.specs.Text.{text}
+use Rattle.ym_header.specs.Text.{text, end_text}
 use Rattle.ym_link.specs.SourceFile.{FileParts, no_file, filled, counts_of, blocks_of}
 use Rattle.ym_core.specs.Place.{IsPlace}
 use Rattle.ym_link.specs.Sender.{IsFilled}
@@ -24,14 +24,14 @@ returns-in-Header-clause-frame g c =
     let within : file < length files = (let x = fits in omega (arith, all, x)) in
     let same = c.index.ensures ∙ sym (get_or_default files file no_file one within) in
     record {
-      item = item.Block c.write.result;
-      there = header_item_at c.args.shape files file c.args.place c.in-Header.is c.write.result
-          (c.write.ensures.written ∙ ap (λ (h : HeaderParts). record { number = 0; body = text h }) (c.header.ensures.value ∙ ap (λ (f : FileParts). f.header) same));
-      frame = c.copy_frame.ensures.frame;
+      item = item.Block (record { number = 0; body = text c.header.result.now });
+      there = header_item_at c.args.shape files file c.args.place c.in-Header.is (record { number = 0; body = text c.header.result.now })
+          (ap (λ (h : HeaderParts). record { number = 0; body = text h }) (c.header.ensures.value ∙ ap (λ (f : FileParts). f.header) same));
+      frame = c.copy_header.ensures.frame;
     }
 
 pub returns-in-End-clause-frame : goal.returns-in-End-clause-frame
-returns-in-End-clause-frame g c = record { item = item.Block c.write_end.result; there = search rules; frame = c.copy_frame-in-End.ensures.frame }
+returns-in-End-clause-frame g c = record { item = item.Block (record { number = 0; body = end_text }); there = search rules; frame = c.copy_end.ensures.frame }
 
 pub returns-in-Block-clause-frame : goal.returns-in-Block-clause-frame
 returns-in-Block-clause-frame g c =

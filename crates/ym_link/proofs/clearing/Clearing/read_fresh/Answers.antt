@@ -1,10 +1,32 @@
 -- Each way out of the loop is what the definition says there.
-use Rattle.std.proofs.Common.{◌≡◌, ◌-◌, ◌+◌, true, false, length, rules, sym, ◌∙◌, ap}
+use Rattle.std.proofs.Common.{◌≡◌, ◌-◌, ◌+◌, ◌++◌, ◌∷◌, [], List, true, false, length, rules, sym, ◌∙◌, ap, append_assoc}
+use Rattle.std.proofs.lemmas.List.{append-nil}
 use Rattle.ym_link.specs.Clearing.{fresh}
 use Rattle.ym_link.specs.Exchange.{is_stale, after_seen}
 use Rattle.ym_link.specs.Port.{Tape, seen_of, read_gives}
+use Rattle.ym_link.specs.declared.port.Wait.{Wait}
+use Rattle.ym_link.specs.declared.port.Wait.TheVariants.{Within}
 use Rattle.ym_link.proofs.Fresh.{fresh-on, fresh-over, fresh-out, read-of, stale-calm, talk-after}
 use Rattle.ym_link.proofs.clearing.Clearing.read_fresh.Goals as goal
+
+-- one more wait
+one-more : (v between mid new : List Wait) (wait : Wait) → mid ≡ v ++ between → new ≡ mid ++ wait ∷ [] → new ≡ v ++ (between ++ wait ∷ [])
+one-more v between mid new wait before now = now ∙ (ap (λ (x : List Wait). x ++ wait ∷ []) before ∙ append_assoc v between (wait ∷ []))
+
+pub loop-done-init : goal.loop-done-init
+loop-done-init g c = record { some = search rules; sized = search rules; talk = search rules; told = search rules; asked = λ w e. (w, e, [], sym (append-nil w)); calm = search rules }
+
+pub returns-then-not-is_stale-clause-asked : goal.returns-then-not-is_stale-clause-asked
+returns-then-not-is_stale-clause-asked g c w e =
+    let got = c.read-got.ensures.asked w e in
+    let inv = c.loop-done.invariant.asked got.0 got.1 in
+    (inv.0, inv.1, record { between = inv.2; waits = one-more inv.0 inv.2 got.0 w Within inv.3 got.2 })
+
+pub returns-clause-asked : goal.returns-clause-asked
+returns-clause-asked g c w e =
+    let got = c.read_once.ensures.asked w e in
+    let inv = c.loop-done.invariant.asked got.0 got.1 in
+    (inv.0, inv.1, record { between = inv.2; waits = one-more inv.0 inv.2 got.0 w Within inv.3 got.2 })
 
 pub loop-done-preserved : goal.loop-done-preserved
 loop-done-preserved g c =
@@ -27,6 +49,10 @@ loop-done-preserved g c =
             inv.3 ∙ (fresh-on 65536 c.loop-done._done (length c.args.buf.now) c.args.self.now.talk got.0.coming _ c.loop-done-test.true seen stale
                 ∙ ap (λ (x : Tape). fresh (65536 - (c.loop-done._done + 1)) (length c.args.buf.now) c.args.self.now.talk x.coming) (sym left)),
           );
+      asked = λ w e.
+          let got = c.read-got.ensures.asked w e in
+          let inv = c.loop-done.invariant.asked got.0 got.1 in
+          (inv.0, inv.1, inv.2 ++ Within ∷ [], one-more inv.0 inv.2 got.0 w Within inv.3 got.2);
       calm = stale-calm c.args.self.now.talk.role c.args.self.now.talk.exchange c.read-got.result c.read-got.new.buf _ stale c.read-got.ensures.ok ∙ c.loop-done.invariant.calm;
     }
 

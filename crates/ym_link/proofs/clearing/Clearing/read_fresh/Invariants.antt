@@ -1,8 +1,9 @@
 -- What is left to read behind what was passed over is what all of it comes to.
-use Rattle.std.proofs.Common.{◌≡◌, ◌<◌, ◌-◌, length}
+use Rattle.std.proofs.Common.{◌≡◌, ◌<◌, ◌-◌, ◌++◌, List, length}
 use Rattle.ym_link.specs.Clearing.{fresh}
 use Rattle.ym_link.specs.Port.{Tape}
 use Rattle.ym_link.specs.Sweep.{most_reads}
+use Rattle.ym_link.specs.declared.port.Wait.{Wait}
 use Rattle.ym_link.proofs.clearing.Clearing.read_fresh.Given as goal
 
 abbrev pub invariant-loop-done : goal.invariant-loop-done
@@ -12,5 +13,6 @@ invariant-loop-done g l = record {
   talk : l.self.talk ≡ l.fn.self.talk;
   told : (u : Tape) → g.P.Port.tells l.self.port u → (t : Tape) × g.P.Port.tells l.fn.self.port t × (u.written ≡ t.written)
       × (fresh most_reads (length l.fn.buf) l.fn.self.talk t.coming ≡ fresh (65536 - l._done) (length l.fn.buf) l.fn.self.talk u.coming);
+  asked : (w : List Wait) → g.P.Port.asked l.self.port w → (v : List Wait) × g.P.Port.asked l.fn.self.port v × (between : List Wait) × (w ≡ v ++ between);
   calm : g.P.Port.failures l.self.port ≡ g.P.Port.failures l.fn.self.port;
 }

@@ -1,0 +1,366 @@
+-- A sender goes past a frame only where it wrote it, and then read an ACK.
+use Rattle.std.proofs.Common.{◌≡◌, ◌∙◌, ◌+◌, ◌-◌, ◌≤◌, ◌<◌, slice_set, ◌⊎◌, inl, inr, ℕ, zero, suc, Bool, true, false, nat_lt, List, [], ◌∷◌, ◌++◌, length, Option, None, Some, IfSome, refl, sym, ap, subst, arith, add-one, append_assoc, append-nil}
+use Rattle.std.proofs.lemmas.Bool.{cases_eq, cond_both, ltb-false}
+use Rattle.std.proofs.lemmas.List.{length-map, get_or-set_same, get_or-set_other}
+use Rattle.ym_frame.specs.declared.control.Control.{Control}
+use Rattle.ym_frame.specs.declared.control.Control.TheVariants.{Ack, Nak, Start, Can}
+use Rattle.ym_header.specs.Header.{HeaderParts}
+use Rattle.ym_header.specs.Text.{text}
+use Rattle.ym_file.specs.Plan.{piece_at, size_at}
+use Rattle.ym_file.specs.declared.plan.Shape.{Shape}
+use Rattle.ym_frame.specs.declared.frame.Item.{Item}
+use Rattle.ym_frame.specs.declared.frame.Item.TheVariants as item
+use Rattle.ym_pair.specs.AnyPeer.{SaysAck, AreAcknowledged, block_places, files_places, places_before}
+use Rattle.ym_pair.specs.Logs.{Spoke, spoke_in, spoke_along}
+use Rattle.ym_core.specs.Place.{IsPlace, count_at, next_of, first_of, done_at}
+use Rattle.ym_link.specs.FrameAt.{IsFrameAt, IsItemAt}
+use Rattle.ym_link.specs.Course.{SenderHears, sender_none, sender_more}
+use Rattle.ym_link.specs.Port.{Tape}
+use Rattle.ym_core.specs.Reading.{controls_in, reads}
+use Rattle.ym_link.specs.Sender.{SenderParts, IsSender, IsStep, IsFilled, FilledAt, FailedAt, counts, spoken, spoken_in}
+use Rattle.ym_link.specs.SendOver.{Outcome, Sends, ended, unwritten, unread, heard, written_for}
+use Rattle.ym_link.specs.SourceFile.{FileParts, counts_of, file_at, filled, no_file}
+use Rattle.ym_core.specs.Standing.{missed, read_through, after_reading, after_fill, hears, hears_in, new_standing}
+use Rattle.ym_core.specs.declared.place.Place.{Place}
+use Rattle.ym_core.specs.declared.place.Place.TheVariants.{Header, Block, Eot, End}
+use Rattle.ym_core.specs.declared.place.Mode.{Mode}
+use Rattle.ym_core.specs.declared.place.Mode.TheVariants.{Waiting, Sent}
+use Rattle.ym_core.specs.declared.reading.Reading.{Reading}
+use Rattle.ym_core.specs.declared.reading.Stop.{Stop}
+use Rattle.ym_core.specs.declared.reading.Stop.TheVariants.{Sends as Stop_sends, Again, Finishes, Cancels}
+use Rattle.ym_core.specs.declared.standing.Standing.{Standing}
+use Rattle.ym_core.specs.declared.standing.SendStep.{SendStep as Step}
+use Rattle.ym_core.specs.declared.state.SendState.{SendState}
+use Rattle.ym_core.specs.declared.state.SendState.TheVariants.{Running}
+use Rattle.ym_link.proofs.Files.{filled_counts}
+use Rattle.ym_link.proofs.Steps.{IsBefore, Reaches, stays, cancels, again, finishes, sends, waits_next, sends_next, cancels_next, reaches}
+use Rattle.ym_machine.specs.declared.limits.TheConstants.{GIVE_UP}
+
+-- ---- One place more
+
+before-block : (counts : List ℕ) (file k : ℕ) → 1 ≤ k → places_before counts (Block file k) ++ Block file k ∷ [] ≡ places_before counts (Block file (k + 1))
+before-block counts file zero least = absurd (omega arith)
+before-block counts file (suc j) least =
+    let less : suc j - 1 ≡ j = omega arith in
+    let more : suc j + 1 - 1 ≡ suc j = omega arith in
+    append_assoc (files_places counts file) (Header file ∷ block_places file (suc j - 1)) (Block file (suc j) ∷ [])
+    ∙ (ap (λ n. files_places counts file ++ (Header file ∷ (block_places file n ++ Block file (suc j) ∷ []))) less
+    ∙ ap (λ n. files_places counts file ++ (Header file ∷ block_places file n)) (sym more))
+
+before-eot : (counts : List ℕ) (file k : ℕ) → 1 ≤ k → k ≡ count_at counts file → places_before counts (Block file k) ++ Block file k ∷ [] ≡ places_before counts (Eot file)
+before-eot counts file zero least last = absurd (omega arith)
+before-eot counts file (suc j) least last =
+    let less : suc j - 1 ≡ j = omega arith in
+    append_assoc (files_places counts file) (Header file ∷ block_places file (suc j - 1)) (Block file (suc j) ∷ [])
+    ∙ (ap (λ n. files_places counts file ++ (Header file ∷ (block_places file n ++ Block file (suc j) ∷ []))) less
+    ∙ ap (λ n. files_places counts file ++ (Header file ∷ block_places file n)) last)
+
+before-file : (counts : List ℕ) (file : ℕ) → places_before counts (Eot file) ++ Eot file ∷ [] ≡ files_places counts (file + 1)
+before-file counts file =
+    append_assoc (files_places counts file) (Header file ∷ block_places file (count_at counts file)) (Eot file ∷ [])
+    ∙ ap (files_places counts) (sym (add-one file))
+
+pub before-next : (counts : List ℕ) (place : Place) → IsPlace counts place → IsBefore place → places_before counts place ++ place ∷ [] ≡ places_before counts (next_of counts place)
+before-next counts (Header file) within before =
+    cond_both (nat_lt 0 (count_at counts file)) (Block file 1) (Eot file) (λ p. places_before counts (Header file) ++ Header file ∷ [] ≡ places_before counts p)
+    (λ e. refl)
+    (λ e. let none = ltb-false 0 (count_at counts file) e in let zero_is : 0 ≡ count_at counts file = omega (arith, none) in ap (λ n. files_places counts file ++ (Header file ∷ block_places file n)) zero_is)
+before-next counts (Block file k) within before =
+    cond_both (nat_lt k (count_at counts file)) (Block file (k + 1)) (Eot file) (λ p. places_before counts (Block file k) ++ Block file k ∷ [] ≡ places_before counts p)
+    (λ e. before-block counts file k within.1)
+    (λ e. let most = ltb-false k (count_at counts file) e in let last = within.2 in before-eot counts file k within.1 (omega (arith, most, last)))
+before-next counts (Eot file) within before =
+    cond_both (nat_lt (file + 1) (length counts)) (Header (file + 1)) End (λ p. places_before counts (Eot file) ++ Eot file ∷ [] ≡ places_before counts p)
+    (λ e. before-file counts file)
+    (λ e. let most = ltb-false (file + 1) (length counts) e in let all : file + 1 ≡ length counts = omega (arith, most, within) in before-file counts file ∙ ap (files_places counts) all)
+before-next counts End within before = absurd before
+
+-- ---- A delivery
+
+-- the place stays, or it is the next one, behind an ACK of what was sent
+abbrev pub Moves : List ℕ → Place → Mode → List Control → Place → Type 0
+Moves counts place mode cs new = (new ≡ place) ⊎ ((mode ≡ Sent) × IsBefore place × SaysAck cs × (new ≡ next_of counts place))
+
+acked : (counts : List ℕ) (place : Place) (cs : List Control) → ((reads counts place Sent cs).place ≡ place) ⊎ SaysAck cs
+acked counts place [] = inl refl
+acked counts place (Ack ∷ cs) = inr tt
+acked counts place (Nak ∷ cs) = inl refl
+acked counts place (Start ∷ cs) = inl refl
+acked counts place (Can ∷ []) = inl refl
+acked counts place (Can ∷ Can ∷ cs) = inl refl
+acked counts place (Can ∷ Ack ∷ cs) = inr tt
+acked counts place (Can ∷ Nak ∷ cs) = inl refl
+acked counts place (Can ∷ Start ∷ cs) = inl refl
+
+moves-next : (counts : List ℕ) (place : Place) (mode : Mode) (cs : List Control) → mode ≡ Sent → IsBefore place → (reads counts place mode cs).place ≡ next_of counts place →
+    Moves counts place mode cs (reads counts place mode cs).place
+moves-next counts place mode cs sent before next =
+    elim (acked counts place cs) [
+      | inl same ↦ inl (ap (λ m. (reads counts place m cs).place) sent ∙ same)
+      | inr ack ↦ inr (sent, before, ack, next)
+    ]
+
+reads-move : (counts : List ℕ) (place : Place) (mode : Mode) (cs : List Control) → Reaches counts place mode (reads counts place mode cs) → Moves counts place mode cs (reads counts place mode cs).place
+reads-move counts place mode cs (stays e) = inl (ap (λ (r : Reading). r.place) e)
+reads-move counts place mode cs (cancels e) = inl (ap (λ (r : Reading). r.place) e)
+reads-move counts place mode cs (again m e) = inl (ap (λ (r : Reading). r.place) e)
+reads-move counts place mode cs (finishes m e) = inl (ap (λ (r : Reading). r.place) e)
+reads-move counts place mode cs (sends m e) = inl (ap (λ (r : Reading). r.place) e)
+reads-move counts place mode cs (waits_next m before e) = moves-next counts place mode cs m before (ap (λ (r : Reading). r.place) e)
+reads-move counts place mode cs (sends_next m before e) = moves-next counts place mode cs m before (ap (λ (r : Reading). r.place) e)
+reads-move counts place mode cs (cancels_next m before e) = moves-next counts place mode cs m before (ap (λ (r : Reading). r.place) e)
+
+missed-place : (s : Standing) → (missed s).standing.place ≡ s.place
+missed-place s = cond_both (nat_lt (s.misses + 1) GIVE_UP) _ _ (λ (x : Step). x.standing.place ≡ s.place) (λ e. refl) (λ e. refl)
+
+through-place : (s : Standing) (place : Place) (old new : Mode) → ((read_through s place old new).standing.place ≡ s.place) ⊎ ((read_through s place old new).standing.place ≡ place)
+through-place s place Sent Sent = inl (missed-place s)
+through-place s place Waiting Waiting = inl (missed-place s)
+through-place s place Sent Waiting = inr refl
+through-place s place Waiting Sent = inr refl
+
+reading-place : (s : Standing) (place : Place) (mode : Mode) (stop : Option Stop) →
+    ((after_reading s place mode stop).standing.place ≡ s.place) ⊎ ((after_reading s place mode stop).standing.place ≡ place)
+reading-place s place mode None = through-place s place s.mode mode
+reading-place s place mode (Some Again) = inl (missed-place s)
+reading-place s place mode (Some Stop_sends) = inr refl
+reading-place s place mode (Some Finishes) = inl refl
+reading-place s place mode (Some Cancels) = inr refl
+
+fill-place : (failed : Bool) (fills : Option Place) (s : Standing) → (after_fill failed fills s).place ≡ s.place
+fill-place false fills s = refl
+fill-place true None s = refl
+fill-place true (Some (Header file)) s = refl
+fill-place true (Some (Block file k)) s = refl
+fill-place true (Some (Eot file)) s = refl
+fill-place true (Some End) s = refl
+
+hears-move : (counts : List ℕ) (s : Standing) (cs : List Control) → s.state ≡ Running → Moves counts s.place s.mode cs (hears counts s cs).standing.place
+hears-move counts s cs on =
+    let r : Reading = reads counts s.place s.mode cs in
+    let moved : Moves counts s.place s.mode cs (after_reading s r.place r.mode r.stop).standing.place = elim (reading-place s r.place r.mode r.stop) [
+      | inl same ↦ inl same
+      | inr there ↦ subst (Moves counts s.place s.mode cs) (sym there) (reads-move counts s.place s.mode cs (reaches counts s.place s.mode cs))
+    ] in
+    subst (λ now. Moves counts s.place s.mode cs (hears_in now counts s cs).standing.place) (sym on) moved
+
+pub step-moves : (s : SenderParts) (cs : List Control) (failed : Bool) (new : SenderParts) → s.standing.state ≡ Running → IsStep s (hears (counts s) s.standing cs) failed new →
+    Moves (counts s) s.standing.place s.standing.mode cs new.standing.place
+step-moves s cs failed new on step =
+    let taken : Step = hears (counts s) s.standing cs in
+    let place : new.standing.place ≡ taken.standing.place = ap (λ (x : Standing). x.place) step.standing ∙ fill-place failed taken.fills taken.standing in
+    subst (Moves (counts s) s.standing.place s.standing.mode cs) (sym place) (hears-move (counts s) s.standing cs on)
+
+-- ---- The files, apart from their counts
+
+record SameFile (old new : FileParts) : Type 0 where
+  header : new.header ≡ old.header
+  bytes : new.bytes ≡ old.bytes
+
+abbrev SameFiles : List FileParts → List FileParts → Type 0
+SameFiles old new = (i : ℕ) → SameFile (file_at old i) (file_at new i)
+
+same-file : (old new : FileParts) → new ≡ old → SameFile old new
+same-file old new same = record { header = ap (λ (f : FileParts). f.header) same; bytes = ap (λ (f : FileParts). f.bytes) same }
+
+-- one file was changed, and only in its counts
+changed-files : (at : ℕ) (changed : FileParts) (old new : List FileParts) → at < length old → new ≡ slice_set old at changed → SameFile (file_at old at) changed → SameFiles old new
+changed-files at changed old new within after same_file i = elim (cases_eq i at) [
+  | inl same ↦
+      let set_is : file_at new at ≡ changed = ap (λ l. file_at l at) after ∙ get_or-set_same old at _ no_file within in
+      subst (λ j. SameFile (file_at old j) (file_at new j)) (sym same) (subst (SameFile (file_at old at)) (sym set_is) same_file)
+  | inr other ↦ same-file (file_at old i) (file_at new i) (ap (λ l. file_at l i) after ∙ get_or-set_other old at i _ no_file other)
+]
+
+filled-files : (at : ℕ) (old new : List FileParts) → FilledAt at old new → SameFiles old new
+filled-files at old new asked = changed-files at (filled (file_at old at)) old new asked.within asked.after (record { header = refl; bytes = refl })
+
+failed-files : (at : ℕ) (old new : List FileParts) → FailedAt at old new → SameFiles old new
+failed-files at old new failed = changed-files at (record (filled (file_at old at)) { failures = failed.failures }) old new failed.within failed.after (record { header = refl; bytes = refl })
+
+still-files : (old new : List FileParts) → new ≡ old → SameFiles old new
+still-files old new same i = same-file (file_at old i) (file_at new i) (ap (λ l. file_at l i) same)
+
+filled-same : (failed : Bool) (fills : Option Place) (old new : List FileParts) → IsFilled failed fills old new → SameFiles old new
+filled-same false (Some (Block file k)) old new asked = filled-files file old new asked
+filled-same false (Some (Header file)) old new same = still-files old new same
+filled-same false (Some (Eot file)) old new same = still-files old new same
+filled-same false (Some End) old new same = still-files old new same
+filled-same false None old new same = still-files old new same
+filled-same true (Some (Block file k)) old new failed = failed-files file old new failed
+filled-same true (Some (Header file)) old new failed = absurd failed
+filled-same true (Some (Eot file)) old new failed = absurd failed
+filled-same true (Some End) old new failed = absurd failed
+filled-same true None old new failed = absurd failed
+
+item-same : (shape : Shape) (old new : List FileParts) (place : Place) (i : Item) → SameFiles old new → IsItemAt shape new place i → IsItemAt shape old place i
+item-same shape old new (Header file) i same is = is ∙ ap (λ (h : HeaderParts). item.Block (record { number = 0; body = text h })) (same file).header
+item-same shape old new (Block file k) i same is = (
+  is.0,
+  is.1,
+  record {
+    number = is.2.number;
+    size = is.2.size ∙ ap (λ (h : HeaderParts). size_at shape h.length k) (same file).header;
+    body = subst (λ (bytes : Option (List ℕ)). IfSome bytes (λ all. is.0.body ≡ piece_at shape all k)) (same file).bytes is.2.body;
+  },
+)
+item-same shape old new (Eot file) i same is = is
+item-same shape old new End i same is = is
+
+frame-same : (shape late : Shape) (old new : List FileParts) (place : Place) (bytes : List ℕ) → late ≡ shape → SameFiles old new → IsFrameAt late new place bytes → IsFrameAt shape old place bytes
+frame-same shape late old new place bytes shape_is same is =
+    let there : IsItemAt shape new place is.item = subst (λ s. IsItemAt s new place is.item) shape_is is.there in
+    record { item = is.item; there = item-same shape old new place is.item same there; frame = is.frame }
+
+acknowledged-same : (shape late : Shape) (old new : List FileParts) (places : List Place) (all : List Spoke) → late ≡ shape → SameFiles old new →
+    AreAcknowledged late new places all → AreAcknowledged shape old places all
+acknowledged-same shape late old new [] all shape_is same are = tt
+acknowledged-same shape late old new (place ∷ places) [] shape_is same are = absurd are
+acknowledged-same shape late old new (place ∷ places) (one ∷ all) shape_is same (inl here) =
+    inl (frame-same shape late old new place one.wrote shape_is same here.0, here.1, acknowledged-same shape late old new places all shape_is same here.2)
+acknowledged-same shape late old new (place ∷ places) (one ∷ all) shape_is same (inr later) = inr (acknowledged-same shape late old new (place ∷ places) all shape_is same later)
+
+acknowledged-skip : (shape : Shape) (files : List FileParts) (places : List Place) (one : Spoke) (all : List Spoke) → AreAcknowledged shape files places all → AreAcknowledged shape files places (one ∷ all)
+acknowledged-skip shape files [] one all are = tt
+acknowledged-skip shape files (place ∷ places) one all are = inr are
+
+acknowledged-front : (shape : Shape) (files : List FileParts) (front more : List Place) (all : List Spoke) → AreAcknowledged shape files (front ++ more) all → AreAcknowledged shape files front all
+acknowledged-front shape files [] more all are = tt
+acknowledged-front shape files (place ∷ front) more [] are = absurd are
+acknowledged-front shape files (place ∷ front) more (one ∷ all) (inl here) = inl (here.0, here.1, acknowledged-front shape files front more all here.2)
+acknowledged-front shape files (place ∷ front) more (one ∷ all) (inr later) = inr (acknowledged-front shape files (place ∷ front) more all later)
+
+acknowledged-behind : (shape : Shape) (files : List FileParts) (places : List Place) (front all : List Spoke) → AreAcknowledged shape files places all → AreAcknowledged shape files places (front ++ all)
+acknowledged-behind shape files places [] all are = are
+acknowledged-behind shape files places (one ∷ front) all are = acknowledged-skip shape files places one (front ++ all) (acknowledged-behind shape files places front all are)
+
+acknowledged-append : (shape : Shape) (files : List FileParts) (first later : List Place) (front all : List Spoke) → AreAcknowledged shape files first front → AreAcknowledged shape files later all →
+    AreAcknowledged shape files (first ++ later) (front ++ all)
+acknowledged-append shape files [] later front all are rest = acknowledged-behind shape files later front all rest
+acknowledged-append shape files (place ∷ first) later [] all are rest = absurd are
+acknowledged-append shape files (place ∷ first) later (one ∷ front) all (inl here) rest = inl (here.0, here.1, acknowledged-append shape files first later front all here.2 rest)
+acknowledged-append shape files (place ∷ first) later (one ∷ front) all (inr behind) rest = inr (acknowledged-append shape files (place ∷ first) later front all behind rest)
+
+-- ---- A run
+
+-- what was written is the frame
+spoken-frame : (now : SendState) (mode : Mode) (farewell : Bool) (frame : List ℕ) → now ≡ Running → mode ≡ Sent → written_for (spoken_in now mode farewell frame) ≡ frame
+spoken-frame now mode farewell frame on sent = ap (λ s. written_for (spoken_in s mode farewell frame)) on ∙ ap (λ m. written_for (spoken_in Running m farewell frame)) sent
+
+-- of what the sender wrote and heard from the one to the other: the frames passed, in order, and the files are the same
+record Passes (s : SenderParts) (all : List Spoke) (new : SenderParts) : Type 0 where
+  more : List Place
+  acknowledged : AreAcknowledged s.shape s.files more all
+  before : places_before (counts s) new.standing.place ≡ places_before (counts s) s.standing.place ++ more
+  shape : new.shape ≡ s.shape
+  same : SameFiles s.files new.files
+  counted : counts new ≡ counts s
+
+passes-none : (s : SenderParts) → Passes s [] s
+passes-none s = record {
+  more = [];
+  acknowledged = tt;
+  before = sym (append-nil (places_before (counts s) s.standing.place));
+  shape = refl;
+  same = λ i. record { header = refl; bytes = refl };
+  counted = refl;
+}
+
+passes-one : (s new : SenderParts) (one : Spoke) (failed : Bool) → IsSender s → s.standing.state ≡ Running → one.wrote ≡ written_for (spoken s) →
+    IsStep s (hears (counts s) s.standing (controls_in one.came)) failed new → Passes s (one ∷ []) new
+passes-one s new one failed is on wrote step = by (step-moves s (controls_in one.came) failed new on step)
+  where
+    fills : Option Place
+    fills = (hears (counts s) s.standing (controls_in one.came)).fills
+
+    same_files : SameFiles s.files new.files
+    same_files = filled-same failed fills s.files new.files step.files
+
+    counts_same : counts new ≡ counts s
+    counts_same = ap (λ shape. counts_of shape new.files) step.shape ∙ filled_counts s.shape failed fills s.files new.files step.files
+
+    by : Moves (counts s) s.standing.place s.standing.mode (controls_in one.came) new.standing.place → Passes s (one ∷ []) new
+    by (inl stayed) = record {
+      more = [];
+      acknowledged = tt;
+      before = ap (places_before (counts s)) stayed ∙ sym (append-nil (places_before (counts s) s.standing.place));
+      shape = step.shape;
+      same = same_files;
+      counted = counts_same;
+    }
+    by (inr moved) =
+        let frame : one.wrote ≡ s.frame = wrote ∙ spoken-frame s.standing.state s.standing.mode s.standing.farewell s.frame on moved.0 in
+        record {
+          more = s.standing.place ∷ [];
+          acknowledged = inl (subst (IsFrameAt s.shape s.files s.standing.place) (sym frame) (is.frame on moved.0), moved.2, tt);
+          before = ap (places_before (counts s)) moved.3 ∙ sym (before-next (counts s) s.standing.place is.place moved.1);
+          shape = step.shape;
+          same = same_files;
+          counted = counts_same;
+        }
+
+passes-then : (s between new : SenderParts) (first later : List Spoke) → Passes s first between → Passes between later new → Passes s (first ++ later) new
+passes-then s between new first later one rest =
+    let behind : places_before (counts s) new.standing.place ≡ places_before (counts s) between.standing.place ++ rest.more =
+    subst (λ c. places_before c new.standing.place ≡ places_before c between.standing.place ++ rest.more) one.counted rest.before in
+    record {
+      more = one.more ++ rest.more;
+      acknowledged = acknowledged-append s.shape s.files one.more rest.more first later one.acknowledged
+          (acknowledged-same s.shape between.shape s.files between.files rest.more later one.shape one.same rest.acknowledged);
+      before = behind ∙ (ap (λ front. front ++ rest.more) one.before ∙ append_assoc (places_before (counts s) s.standing.place) one.more rest.more);
+      shape = rest.shape ∙ one.shape;
+      same = λ i. record { header = (rest.same i).header ∙ (one.same i).header; bytes = (rest.same i).bytes ∙ (one.same i).bytes };
+      counted = rest.counted ∙ one.counted;
+    }
+
+passes : (s : SenderParts) (t : Tape) (out : Outcome) (run : Sends s t out) → Passes s (spoke_in s t out run) out.sender
+passes s t out (ended _ _ over) = passes-none s
+passes s t out (unwritten _ _ is some) = passes-none s
+passes s t out (unread _ _ f is on none) = passes-none s
+passes s t out (heard _ _ bytes new _ is on some gives later) =
+    let one : Spoke = record { wrote = written_for (spoken s); came = bytes } in
+    passes-then s new out.sender (one ∷ []) (spoke_in new _ out later) (passes-one s new one gives.0 is on refl gives.1) (passes new _ out later)
+
+passes-along : (s : SenderParts) (deliveries : List (List ℕ)) (progress : ℕ) (new : SenderParts) (hears : SenderHears s deliveries progress new) → Passes s (spoke_along s deliveries progress new hears) new
+passes-along s deliveries progress new (sender_none _) = passes-none s
+passes-along s deliveries progress new (sender_more _ before steps between bytes _ hears is on short gives) =
+    let one : Spoke = record { wrote = written_for (spoken between); came = bytes } in
+    passes-then s between new (spoke_along s before steps between hears) (one ∷ []) (passes-along s before steps between hears) (passes-one between new one gives.0 is on refl gives.1)
+
+-- ---- From the first place on
+
+none-before : (counts : List ℕ) → places_before counts (first_of counts) ≡ []
+none-before [] = refl
+none-before (count ∷ more) = refl
+
+-- the frames of the files that are done are in front
+done-front : (counts : List ℕ) (files : ℕ) (place : Place) → files ≡ length counts → (more : List Place) × (places_before counts place ≡ files_places counts (done_at files place) ++ more)
+done-front counts files (Header file) same = ([], sym (append-nil (files_places counts file)))
+done-front counts files (Block file k) same = (Header file ∷ block_places file (k - 1), refl)
+done-front counts files (Eot file) same = (Header file ∷ block_places file (count_at counts file), refl)
+done-front counts files End same = ([], ap (files_places counts) (sym same) ∙ sym (append-nil (files_places counts files)))
+
+passed-before : (s new : SenderParts) (all : List Spoke) → s.standing ≡ new_standing (counts s) → Passes s all new → AreAcknowledged s.shape s.files (places_before (counts s) new.standing.place) all
+passed-before s new all fresh passed =
+    let first : places_before (counts s) s.standing.place ≡ [] = ap (λ (x : Standing). places_before (counts s) x.place) fresh ∙ none-before (counts s) in
+    subst (λ places. AreAcknowledged s.shape s.files places all) (sym (passed.before ∙ ap (λ front. front ++ passed.more) first)) passed.acknowledged
+
+passed-done : (s new : SenderParts) (all : List Spoke) → s.standing ≡ new_standing (counts s) → Passes s all new →
+    AreAcknowledged s.shape s.files (files_places (counts s) (done_at (length s.files) new.standing.place)) all
+passed-done s new all fresh passed =
+    let long : length s.files ≡ length (counts s) = sym (length-map s.files _) in
+    let front = done-front (counts s) (length s.files) new.standing.place long in
+    acknowledged-front s.shape s.files (files_places (counts s) (done_at (length s.files) new.standing.place)) front.0 all
+    (subst (λ places. AreAcknowledged s.shape s.files places all) front.1 (passed-before s new all fresh passed))
+
+pub all-before : (s : SenderParts) (t : Tape) (out : Outcome) (run : Sends s t out) → s.standing ≡ new_standing (counts s) →
+    AreAcknowledged s.shape s.files (places_before (counts s) out.sender.standing.place) (spoke_in s t out run)
+all-before s t out run fresh = passed-before s out.sender (spoke_in s t out run) fresh (passes s t out run)
+
+pub all-done : (s : SenderParts) (t : Tape) (out : Outcome) (run : Sends s t out) → s.standing ≡ new_standing (counts s) →
+    AreAcknowledged s.shape s.files (files_places (counts s) (done_at (length s.files) out.sender.standing.place)) (spoke_in s t out run)
+all-done s t out run fresh = passed-done s out.sender (spoke_in s t out run) fresh (passes s t out run)
+
+pub course-done : (s new : SenderParts) (deliveries : List (List ℕ)) (progress : ℕ) (hears : SenderHears s deliveries progress new) → s.standing ≡ new_standing (counts s) →
+    AreAcknowledged s.shape s.files (files_places (counts s) (done_at (length s.files) new.standing.place)) (spoke_along s deliveries progress new hears)
+course-done s new deliveries progress hears fresh = passed-done s new (spoke_along s deliveries progress new hears) fresh (passes-along s deliveries progress new hears)

@@ -1,0 +1,160 @@
+-- Where no bad run is longer than a burst, and no failure count rises, each round of a pair that has not given up leads to one that has not.
+use Rattle.std.proofs.Common.{◌≡◌, ◌≢◌, ◌∙◌, ◌≤◌, ◌<◌, ◌+◌, ◌⊎◌, inl, inr, ℕ, Bool, true, false, List, [], ◌∷◌, length, refl, sym, ap, subst, arith}
+use Rattle.ym_frame.specs.declared.control.Control.{Control}
+use Rattle.ym_file.specs.Counts.{Rose}
+use Rattle.ym_machine.specs.declared.confirm.Confirm.{Confirm}
+use Rattle.ym_machine.specs.declared.limits.TheConstants.{BURST}
+use Rattle.ym_machine.specs.Frames.{frames_of}
+use Rattle.ym_machine.specs.Machine.{State}
+use Rattle.ym_machine.specs.Run.{Turn, IsDamage, after_turn}
+use Rattle.ym_machine.specs.Run as machine
+use Rattle.ym_machine.proofs.Places.{frames-end}
+use Rattle.ym_machine.proofs.ShortBursts.{IsFine, one-fine}
+use Rattle.ym_core.specs.declared.state.SendState.{SendState}
+use Rattle.ym_core.specs.declared.state.SendState.TheVariants as send_state
+use Rattle.ym_link.specs.ReceiverInto.{ReceiverParts, Tells}
+use Rattle.ym_link.specs.Sender.{SenderParts, IsSender}
+use Rattle.ym_link.specs.SenderStands.{Batch}
+use Rattle.ym_link.specs.SourceFile.{FileParts, file_at}
+use Rattle.ym_line.specs.Completion.{longest_bad_run}
+use Rattle.ym_line.specs.Rounds.{Pair, Goes}
+use Rattle.ym_line.specs.Turns.{AreTurns, IsTurn, IsSourceTruth, PairStands, TakesATurn, turn_of}
+use Rattle.ym_line.specs.declared.delivery.Round.{Round}
+use Rattle.ym_line.specs.declared.trace.Seen.{Seen}
+use Rattle.ym_line.proofs.Completing.{sender-going, sender-runs}
+use Rattle.ym_line.proofs.Halves.{source-truth}
+use Rattle.ym_line.proofs.Truths.{rose-behind, sources-grew, sources-long, tells-grew, whole-turn}
+use Rattle.ym_pair.specs.Logs.{Spoke, Answered}
+use Rattle.ym_pair.specs.Pairing.{ends}
+use Rattle.ym_pair.proofs.Ghosts.{Comes, ghost}
+use Rattle.ym_pair.proofs.Paired.{Computed, SpeaksTo, AnswersTo}
+
+-- ---- What the laws say
+
+pub record TurnLaws : Type 0 where
+  pub computed : Computed
+  pub go : (round : Round) (old new : Pair) (seen : Seen) → Goes round old seen new → TakesATurn round old seen new
+  pub damage : (confirm : Confirm) (files : Batch) (st : State) (rounds : List Round) (turns : List Turn) (old new : Pair) (all : List Seen) →
+      AreTurns confirm files st rounds turns old all new → IsDamage (frames_of files) confirm turns st
+
+-- ---- Rounds as turns without a failure
+
+abbrev pub turns_of : List Round → List Turn
+turns_of [] = []
+turns_of (round ∷ rounds) = turn_of round false false ∷ turns_of rounds
+
+-- so many bad rounds went before, and no bad run of these is longer than a burst
+abbrev pub IsShort : ℕ → List Round → Type 0
+IsShort before rounds = machine.longest_bad_run before (turns_of rounds) ≤ BURST
+
+pub turns-longest : (rounds : List Round) (before : ℕ) → machine.longest_bad_run before (turns_of rounds) ≡ longest_bad_run before rounds
+turns-longest [] before = refl
+turns-longest (round ∷ rounds) before =
+    let first : machine.is_whole (turn_of round false false) ≡ _ = whole-turn round (turn_of round false false) refl in
+    rw (first, turns-longest rounds 0, turns-longest rounds (before + 1)) refl
+
+-- ---- A pair that has not given up
+
+-- The pair stands, with a sender that may have missed more than this one, and neither has given up.
+pub record Front (confirm : Confirm) (files : Batch) (before : ℕ) (s : SenderParts) (r : ReceiverParts) : Type 0 where
+  pub st : State
+  pub misses : ℕ
+  pub few : s.standing.misses ≤ misses
+  pub stands : PairStands confirm files st (ends (ghost misses s) r)
+  pub fine : IsFine confirm (frames_of files) before st
+
+-- and so it is behind a round, before the others
+pub record Onward (confirm : Confirm) (files : Batch) (rounds : List Round) (s : SenderParts) (r : ReceiverParts) : Type 0 where
+  pub before : ℕ
+  pub front : Front confirm files before s r
+  pub short : IsShort before rounds
+
+-- the failure counts tell of no failure
+abbrev pub CalmSink : ReceiverParts → ReceiverParts → Type 0
+CalmSink old new = (failed : Bool) → Tells failed old.failures new.failures → failed ≡ false
+
+abbrev pub CalmSources : List FileParts → List FileParts → Type 0
+CalmSources old new = (failed : Bool) → IsSourceTruth failed old new → failed ≡ false
+
+still-replies : (s : SendState) → (s ≡ send_state.Running) ⊎ (s ≡ send_state.Finished) → s ≢ send_state.NoReply
+still-replies s (inl runs) = λ gone. absurd (cc)
+still-replies s (inr done) = λ gone. absurd (cc)
+
+pub front-goes : TurnLaws → (confirm : Confirm) (files : Batch) (before : ℕ) (round : Round) (rounds : List Round) (s next : SenderParts) (r after : ReceiverParts) (cs : List Control) (seen : Seen) →
+    (front : Front confirm files before s r) → (comes : Comes front.misses s cs next) → Goes round (ends (ghost front.misses s) r) seen (ends comes.new after) →
+    CalmSink r after → CalmSources s.files next.files → IsShort before (round ∷ rounds) → Onward confirm files rounds next after
+front-goes laws confirm files before round rounds s next r after cs seen front comes goes sink sources short =
+    let old : Pair = ends (ghost front.misses s) r in
+    let new : Pair = ends comes.new after in
+    let turned = laws.go round old new seen goes confirm files front.st front.stands in
+    let turn : Turn = turned.0 in
+    let is_turn : IsTurn confirm files front.st round turn old seen new = turned.1 in
+    let no_sink : turn.sink_failed ≡ false = sink turn.sink_failed is_turn.sink in
+    let no_source : turn.source_failed ≡ false = sources turn.source_failed (subst (λ all. IsSourceTruth turn.source_failed s.files all) comes.files is_turn.source) in
+    let turn_is : turn ≡ turn_of round false false = is_turn.turn_is ∙ (ap (λ f. turn_of round f turn.source_failed) no_sink ∙ ap (turn_of round false) no_source) in
+    let brief : machine.longest_bad_run before (turn ∷ turns_of rounds) ≤ BURST = subst (λ t. machine.longest_bad_run before (t ∷ turns_of rounds) ≤ BURST) (sym turn_is) short in
+    let damage = (laws.damage confirm files front.st (round ∷ []) (turn ∷ []) old new (seen ∷ []) (new, is_turn, refl)).0 in
+    let one = one-fine (frames_of files) confirm (frames-end files) turn (turns_of rounds) before front.st front.fine brief no_sink no_source damage in
+    let st : State = after_turn (frames_of files) confirm turn front.st in
+    let stands : PairStands confirm files st new = is_turn.stands in
+    let like = comes.goes_on (still-replies comes.new.standing.state (sender-going st.sender comes.new.standing.state stands.sender.standing.state one.1.going.0)) in
+    record {
+      before = one.0;
+      front = record {
+        st = st;
+        misses = like.0;
+        few = like.1;
+        stands = subst (λ x. PairStands confirm files st (ends x after)) like.2 stands;
+        fine = one.1;
+      };
+      short = one.2;
+    }
+
+-- the sender that has missed more keeps to what each sender keeps to
+pub front-is : (confirm : Confirm) (files : Batch) (before : ℕ) (s : SenderParts) (r : ReceiverParts) → (front : Front confirm files before s r) → IsSender s → IsSender (ghost front.misses s)
+front-is confirm files before s r front is = record {
+  files = is.files;
+  place = is.place;
+  misses = λ on.
+      let at = front.stands.sender.standing in
+      let runs = sender-runs front.st.sender (sym at.state ∙ on) in
+      let misses = at.misses runs in
+      let below = front.fine.machine.counters.sender_count runs in
+      omega (arith, misses, below);
+  frame = is.frame;
+}
+
+-- ---- Failure counts never fall
+
+pub answers-grew : (r end : ReceiverParts) (answered : List Answered) → AnswersTo true r answered end → r.failures ≤ end.failures
+answers-grew r end [] answers = let same : end.failures ≡ r.failures = ap (λ (x : ReceiverParts). x.failures) answers in omega (arith, same)
+answers-grew r end (one ∷ answered) answers =
+    let first = tells-grew answers.3.2.0 r.failures answers.0.failures answers.3.2.1.truth in
+    let others = answers-grew answers.0 end answered answers.5 in
+    omega (arith, first, others)
+
+pub speaks-grew : (s new : SenderParts) (spoke : List Spoke) → SpeaksTo s spoke new → (i : ℕ) → (file_at s.files i).failures ≤ (file_at new.files i).failures
+speaks-grew s new [] speaks i = let same : (file_at new.files i).failures ≡ (file_at s.files i).failures = ap (λ (x : SenderParts). (file_at x.files i).failures) speaks in omega (arith, same)
+speaks-grew s new (one ∷ spoke) speaks i =
+    let first = sources-grew speaks.4.0 s.files speaks.0.files (source-truth speaks.4.0 _ s.files speaks.0.files speaks.4.1.files) i in
+    let others = speaks-grew speaks.0 new spoke speaks.5 i in
+    omega (arith, first, others)
+
+-- no failure count rises from here to the end
+pub record IsCalm (s new : SenderParts) (r end : ReceiverParts) : Type 0 where
+  pub sink : ¬ Rose r.failures end.failures
+  pub sources : (i : ℕ) → i < length s.files → ¬ Rose (file_at s.files i).failures (file_at new.files i).failures
+
+-- so it is behind a delivery to the receiver, and behind one to the sender
+pub calm-there : (s new : SenderParts) (r after end : ReceiverParts) (failed : Bool) → IsCalm s new r end → Tells failed r.failures after.failures → IsCalm s new after end
+calm-there s new r after end failed calm tells = record {
+  sink = λ rose. calm.sink (rose-behind r.failures after.failures end.failures (tells-grew failed r.failures after.failures tells) rose);
+  sources = calm.sources;
+}
+
+pub calm-back : (s next new : SenderParts) (r end : ReceiverParts) (failed : Bool) → IsCalm s new r end → IsSourceTruth failed s.files next.files → IsCalm next new r end
+calm-back s next new r end failed calm truth = record {
+  sink = calm.sink;
+  sources = λ i below rose.
+      calm.sources i (subst (λ n. i < n) (sources-long failed s.files next.files truth) below) (rose-behind _ _ _ (sources-grew failed s.files next.files truth i) rose);
+}

@@ -1,0 +1,10 @@
+pub mod Acknowledged
+pub mod Engines
+pub mod Finishing
+pub mod Fronts
+pub mod Ghosts
+pub mod OnTheTape
+pub mod Paired
+pub mod Spelling
+pub mod SpellingRuns
+pub mod SpellingTable

@@ -1,0 +1,8 @@
+use Rattle.ym_pair.proofs.OnTheTape.{sender-heard, receiver-heard}
+use Rattle.ym_pair.proofs.laws.any_peer.what_was_heard_is_on_the_tape.Goals as goal
+
+pub returns-clause-sender : goal.returns-clause-sender
+returns-clause-sender c = sender-heard
+
+pub returns-clause-receiver : goal.returns-clause-receiver
+returns-clause-receiver c = receiver-heard

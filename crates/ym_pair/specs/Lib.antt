@@ -1,0 +1,4 @@
+pub mod AnyPeer
+pub mod Examples
+pub mod Logs
+pub mod Pairing

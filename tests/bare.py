@@ -1,0 +1,200 @@
+#!/usr/bin/env python3
+"""Tries the loader of examples/bare, a program for a board of 64-bit ARM without a C library, in QEMU: it receives files over its serial port from
+`ymodem send` and `sb`, also on a line that damages bytes, tells the CRC-32 of each, and goes on at the first, which prints a line.
+
+Prints a line for each check, and ends with the line 'N passed, M failed, K skipped'; the status is 1 where a check failed. A check that needs QEMU,
+a compiler for 64-bit ARM or lrzsz is skipped where that is not installed, and says so.
+
+usage: bare.py [WORD..]     only the checks whose names have one of these words
+The library is the archive that YM_LIBRARY_ARM names, else out/lib/aarch64-unknown-linux-gnu/libymodem.a; the program as for transfer.py.
+"""
+
+import os
+import random
+import subprocess
+import sys
+import tempfile
+import threading
+import zlib
+from concurrent.futures import ThreadPoolExecutor
+
+sys.dont_write_bytecode = True
+sys.path.insert(0, os.path.dirname(os.path.abspath(__file__)))
+
+from bare_board import board, from_lrzsz, from_program
+from program import LIMIT, PROGRAM, ROOT, write_files
+from relay import Seeded
+from shipped import outcome
+from skipping import needs
+
+EXAMPLE = os.path.join(ROOT, "examples", "bare")
+LIBRARY = os.path.abspath(os.environ.get("YM_LIBRARY_ARM", os.path.join(ROOT, "out", "lib", "aarch64-unknown-linux-gnu", "libymodem.a")))
+BUILT = tempfile.TemporaryDirectory(prefix="ymodem-bare-")
+READY = rb"loader: send files by YMODEM\r\n"
+ROOM = 0x41000000
+
+COMPILERS = {
+    "gcc": ("aarch64-linux-gnu-gcc", "aarch64-linux-gnu-ld", "aarch64-linux-gnu-objcopy"),
+    "clang": ("clang --target=aarch64-none-elf", "ld.lld", "llvm-objcopy"),
+}
+AT_ONCE = 4
+
+
+def wants(holds, text):
+    if not holds:
+        raise AssertionError(text)
+
+
+def command(*words):
+    done = subprocess.run(words, stdout=subprocess.PIPE, stderr=subprocess.STDOUT, timeout=LIMIT, check=False)
+    wants(done.returncode == 0, "%s: status %d: %s" % (" ".join(words[:3]), done.returncode, done.stdout.decode(errors="replace")[-900:]))
+    return done.stdout.decode(errors="replace")
+
+
+class Images:
+    """The loader and the program that it loads, by one compiler, made once."""
+
+    def __init__(self, name):
+        self.words, self.out = COMPILERS[name], os.path.join(BUILT.name, name)
+        self.lock = threading.Lock()
+
+    def __call__(self, name):
+        needs(*(it.split()[0] for it in self.words), "make")
+        with self.lock:
+            if not os.path.exists(self.out):
+                said = command("make", "-C", EXAMPLE, "OUT=" + self.out, "LIBRARY=" + LIBRARY, *("%s=%s" % it for it in zip(("CC", "LINK", "COPY"), self.words)))
+                wants("warning" not in said, said)
+        return os.path.join(self.out, name)
+
+    def assembled(self, source, name):
+        """A program to load, of a file of assembly."""
+        self("loader.elf")
+        compiler, _, copy = self.words
+        made = os.path.join(self.out, name)
+        command(*compiler.split(), "-c", source, "-o", made + ".o")
+        command(copy, "-O", "binary", "-j", ".text", made + ".o", made)
+        with open(made, "rb") as it:
+            return it.read()
+
+
+GCC, CLANG = Images("gcc"), Images("clang")
+
+
+def batch(images):
+    """The program, and files of the sizes at which blocks end."""
+    chance = random.Random(61)
+    with open(images("hello.bin"), "rb") as it:
+        hello = it.read()
+    sizes = (0, 1, 127, 128, 129, 1023, 1024, 1025, 3000, 70001)
+    return [("hello.bin", hello), *(("size-%d.bin" % size, chance.randbytes(size)) for size in sizes), ("two words.txt", b"\x1a" * 200), ("n" * 100, b"\x18\x18\x04" * 100)]
+
+
+def told(files):
+    """What the loader has to say of these files: each stands at the next multiple of 64 KiB."""
+    at, lines = ROOM, []
+    for name, data in files:
+        lines.append("%s: %d bytes at %08x, CRC-32 %08x\r\n" % (name, len(data), at, zlib.crc32(data)))
+        at += (len(data) + 0xFFFF) // 0x10000 * 0x10000
+    return "".join(lines).encode()
+
+
+def wants_loaded(port, child, files, start=0):
+    """The loader tells the files, the program its line, and the board turns itself off."""
+    found = port.sees(rb"loader: the stack was used to (\d+) bytes; going on at 41000000\r\n(.*)hello: this program came by YMODEM\r\n", start)
+    child.wait(LIMIT)
+    wants(told(files) in port.said[start:], "it tells %r" % port.said[start:])
+    wants(not found[2], "it says %r" % found[2])
+    wants(int(found[1]) < 4096, "the stack was used to %s bytes" % found[1].decode())
+
+
+def loads(images, send):
+    """A batch from what sends it, given the paths."""
+
+    def check():
+        files = batch(images)
+        with tempfile.TemporaryDirectory(prefix="ymodem-") as here, board("-kernel", images("loader.elf")) as (port, child):
+            paths = write_files(here, files)
+            port.sees(READY)
+            send(paths)(port)
+            wants_loaded(port, child, files)
+
+    return check
+
+
+def from_sb(*words):
+    return lambda paths: from_lrzsz(*words, *paths)
+
+
+def from_damaged(seed):
+    return lambda paths: from_program(paths, Seeded(seed, 0.2, 5))
+
+
+def refuses_what_has_no_room():
+    """A file that is longer than the memory is refused before its first byte, and then the loader takes the next batch."""
+    files = batch(GCC)
+    with tempfile.TemporaryDirectory(prefix="ymodem-") as here, board("-kernel", GCC("loader.elf")) as (port, child):
+        large = os.path.join(here, "large.bin")
+        with open(large, "wb") as it:
+            it.truncate(0x44000000 - ROOM + 1)
+        port.sees(READY)
+        from_program([large], status=1, told="sender done 0 cancelled\n")(port)
+        again = port.sees(rb"loader: not received, state 6\r\n" + READY).end()
+        from_program(write_files(here, files))(port)
+        wants_loaded(port, child, files, again)
+
+
+def tells_a_trap():
+    """A program that begins with no instruction is told, with where that was."""
+    with tempfile.TemporaryDirectory(prefix="ymodem-") as here, board("-kernel", GCC("loader.elf")) as (port, _):
+        port.sees(READY)
+        from_program(write_files(here, [("none.bin", bytes(64))]))(port)
+        port.sees(rb"going on at 41000000\r\ntrap: ESR 02000000, ELR 0000000041000000, FAR [0-9a-f]{16}\r\n")
+
+
+def leaves_the_processor():
+    """The MMU and the caches are on, an access need not be aligned, FP and SIMD are on, and the memory is mapped as normal memory."""
+    probe = GCC.assembled(os.path.join(ROOT, "tests", "bare_probe.S"), "probe.bin")
+    with tempfile.TemporaryDirectory(prefix="ymodem-") as here, board("-kernel", GCC("loader.elf")) as (port, child):
+        port.sees(READY)
+        from_program(write_files(here, [("probe.bin", probe)]))(port)
+        found = port.sees(rb"at 41000000\r\n([0-9a-f]{16}) ([0-9a-f]{16}) ([0-9a-f]{16}) ([0-9a-f]{16}) probed\r\n")
+        control, access, mapped, vector = (int(it, 16) for it in found.groups())
+        child.wait(LIMIT)
+        wants(control & 0x1007 == 0x1005, "SCTLR %x" % control)
+        wants(access >> 20 & 3 == 3, "CPACR %x" % access)
+        wants(mapped >> 56 == 0xFF and mapped >> 7 & 3 == 3 and not mapped & 1, "PAR %x" % mapped)
+        wants(vector == 0x0707070707070707, "read at an odd address: %x" % vector)
+
+
+CHECKS = [
+    ("the loader by gcc: from ymodem send", loads(GCC, from_program)),
+    ("the loader by gcc: from ymodem send, five deliveries damaged", loads(GCC, from_damaged(51))),
+    ("the loader by gcc: from ymodem send, other five deliveries damaged", loads(GCC, from_damaged(52))),
+    ("the loader by gcc: from sb -k", loads(GCC, from_sb("-k"))),
+    ("the loader by gcc: from sb", loads(GCC, from_sb())),
+    ("the loader by clang: from ymodem send", loads(CLANG, from_program)),
+    ("the loader by clang: from ymodem send, five deliveries damaged", loads(CLANG, from_damaged(53))),
+    ("a file for which there is no room, and then the next batch", refuses_what_has_no_room),
+    ("a program that traps", tells_a_trap),
+    ("how the loader leaves the processor", leaves_the_processor),
+]
+
+
+def main(words):
+    for path in (LIBRARY, PROGRAM):
+        if not os.access(path, os.R_OK):
+            print("there is no %s\n0 passed, 1 failed, 0 skipped" % path)
+            return 1
+    chosen = [it for it in CHECKS if not words or any(word in it[0] for word in words)]
+    counts = {"ok": 0, "FAILED": 0, "skipped": 0}
+    with ThreadPoolExecutor(AT_ONCE) as pool:
+        for name, begun in [(name, pool.submit(outcome, check)) for name, check in chosen]:
+            word, why, seconds = begun.result()
+            counts[word] += 1
+            print("%-7s  %s (%.1f s)%s" % (word, name, seconds, why), flush=True)
+    print("%d passed, %d failed, %d skipped" % (counts["ok"], counts["FAILED"], counts["skipped"]))
+    return 1 if counts["FAILED"] else 0
+
+
+if __name__ == "__main__":
+    sys.exit(main(sys.argv[1:]))

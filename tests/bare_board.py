@@ -1,0 +1,138 @@
+"""QEMU's board `virt`, 64-bit ARM, with its serial port on a connection, and a sender put on that line."""
+
+import contextlib
+import re
+import socket
+import subprocess
+import threading
+
+from program import LIMIT, running
+from relay import Relay, at_once
+from skipping import needs
+
+QEMU = "qemu-system-aarch64"
+
+
+class Port(threading.Thread):
+    """The computer's side of a board's serial port. All that the board writes is kept; while a sender is joined, it gets that too, and what it
+    writes goes to the board."""
+
+    def __init__(self, line):
+        super().__init__(daemon=True)
+        self.line, self.sender = line, None
+        self.said, self.is_closed, self.news = b"", False, threading.Condition()
+
+    def run(self):
+        while True:
+            try:
+                came = self.line.recv(65536)
+            except OSError:
+                came = b""
+            with self.news:
+                self.said += came
+                self.is_closed = not came
+                sender = self.sender
+                self.news.notify_all()
+            if not came:
+                return
+            if sender:
+                with contextlib.suppress(OSError):
+                    sender.sendall(came)
+
+    def sees(self, pattern, start=0):
+        """Waits until the board has said this, and gives the match."""
+        with self.news:
+            found = None
+            while not found:
+                found = re.compile(pattern, re.S).search(self.said, start)
+                if not found and (self.is_closed or not self.news.wait(LIMIT)):
+                    raise AssertionError("it does not say %r, but %r" % (pattern, self.said[start:][-1500:]))
+            return found
+
+    def type(self, text):
+        self.line.sendall(text)
+
+    def carry(self, sender):
+        """Joins a sender, and hands on what it writes until it closes."""
+        with self.news:
+            self.sender = sender
+        try:
+            while came := sender.recv(65536):
+                self.line.sendall(came)
+        finally:
+            with self.news:
+                self.sender = None
+            sender.close()
+
+
+@contextlib.contextmanager
+def board(*words, memory="64M", cpu="cortex-a53"):
+    """A board that was turned on: its serial port, and the process of QEMU."""
+    needs(QEMU)
+    with socket.create_server(("127.0.0.1", 0)) as listener:
+        listener.settimeout(LIMIT)
+        line = "tcp:127.0.0.1:%d" % listener.getsockname()[1]
+        words = [QEMU, "-M", "virt", "-cpu", cpu, "-m", memory, "-display", "none", "-monitor", "none", "-nic", "none", "-serial", line, *words]
+        child = subprocess.Popen(words, stdin=subprocess.DEVNULL, stdout=subprocess.DEVNULL, stderr=subprocess.PIPE)
+        try:
+            end, _ = listener.accept()
+            at_once(end)
+            end.settimeout(None)
+            with end:
+                port = Port(end)
+                port.start()
+                yield port, child
+        finally:
+            child.kill()
+            child.communicate()
+
+
+def from_program(paths, line=None, status=0, told=None):
+    """What sends by `ymodem send`, over a line that may be damaged."""
+
+    def send(port):
+        with socket.create_server(("127.0.0.1", 0)) as listener:
+            listener.settimeout(LIMIT)
+            number = listener.getsockname()[1]
+            relay = None
+            if line:
+                relay = Relay(line, number)
+                relay.start()
+                number = relay.port
+            with running("send", "--port", number, *paths) as sender:
+                end, _ = listener.accept()
+                at_once(end)
+                port.carry(end)
+                sender.ended().wants(status, told or "sender done %d finished\n" % len(paths))
+        if relay:
+            relay.join(LIMIT)
+            if relay.fault:
+                raise AssertionError("the relay: %r" % relay.fault)
+            if line.bad_frames + line.bad_replies < line.most:
+                raise AssertionError("only %d frames and %d replies were damaged" % (line.bad_frames, line.bad_replies))
+
+    return send
+
+
+def from_lrzsz(*words):
+    """What sends by `sb` with these words."""
+
+    def send(port):
+        needs("sb")
+        here, there = socket.socketpair()
+        here.settimeout(LIMIT)
+        child = subprocess.Popen(["sb", "-q", *words], stdin=there, stdout=there, stderr=subprocess.PIPE)
+        there.close()
+        try:
+            # It may close with bytes unread.
+            with contextlib.suppress(ConnectionResetError):
+                port.carry(here)
+            _, said = child.communicate(timeout=LIMIT)
+        finally:
+            child.kill()
+            child.communicate()
+        if child.returncode:
+            raise AssertionError("sb: status %d: %s" % (child.returncode, said.decode(errors="replace")))
+
+    return send
+

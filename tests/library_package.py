@@ -1,0 +1,84 @@
+"""The Debian package of the library for C."""
+
+import os
+import subprocess
+import tempfile
+
+from package_checks import FIXED, sum_of
+from program import ROOT, wants_same
+from skipping import needs
+
+FILES = (
+    "include/ymodem.h",
+    "lib/x86_64-linux-gnu/libymodem.a",
+    "lib/x86_64-linux-gnu/pkgconfig/ymodem.pc",
+    "share/doc/libymodem-dev/library.md",
+    "share/doc/libymodem-dev/examples/c/receive.c",
+    "share/doc/libymodem-dev/examples/c/send.c",
+    "share/doc/libymodem-dev/examples/bare/load.c",
+    "share/doc/libymodem-dev/copyright",
+    "share/doc/libymodem-dev/changelog.gz",
+)
+# What a package is made of.
+PARTS = ("packaging", "include", "examples", "docs")
+
+
+def copied(to, umask):
+    """A copy of what the package is made of, as a user with this umask has it."""
+    os.mkdir(to)
+    for name in PARTS:
+        subprocess.run(["sh", "-c", 'umask "$1"; exec cp -R "$2" "$3"', "", umask, os.path.join(ROOT, name), to], check=True)
+    return to
+
+
+def packed(tree, library, umask="022", **environment):
+    needs("strip", "readelf", "dpkg-deb")
+    words = ["sh", "-c", 'umask "$1"; shift; exec "$@"', "", umask, tree + "/packaging/package.py", "dev", library, tree + "/out"]
+    return subprocess.run(words, env={**FIXED, **environment}, capture_output=True, text=True, check=True).stdout.strip()
+
+
+def is_same_twice(library):
+    """Two packages of one tree, made in different folders and by users with different umasks, are the same byte for byte."""
+
+    def check():
+        with tempfile.TemporaryDirectory(prefix="ymodem-") as top:
+            trees = [(copied(top + "/one", "022"), "022"), (copied(top + "/two of them", "077"), "077")]
+            for epoch in ("1700000000", "4000000000"):
+                if len({sum_of(packed(tree, library, umask, SOURCE_DATE_EPOCH=epoch)) for tree, umask in trees}) != 1:
+                    raise AssertionError("they differ, for a commit at %s" % epoch)
+
+    return check
+
+
+def lintian_is_silent(library):
+    def check():
+        needs("lintian")
+        with tempfile.TemporaryDirectory(prefix="ymodem-") as top:
+            file = packed(copied(top + "/one", "022"), library)
+            ran = subprocess.run(["lintian", "--fail-on", "error,warning", file], capture_output=True, text=True, check=False)
+            found = [it for it in ran.stdout.splitlines() if it[:2] in ("E:", "W:")]
+            if found or ran.returncode:
+                raise AssertionError("\n".join(found) or ran.stderr)
+
+    return check
+
+
+def unpacked(top, library):
+    """The folder `usr` of a package that was taken apart, with its files in it."""
+    file = packed(copied(top + "/one", "022"), library)
+    subprocess.run(["dpkg-deb", "--extract", file, top + "/root"], check=True)
+    missing = [it for it in FILES if not os.path.isfile(os.path.join(top, "root", "usr", it))]
+    if missing:
+        raise AssertionError("it lacks %s" % missing)
+    with open(os.path.join(ROOT, "include", "ymodem.h"), encoding="utf-8") as one, open(top + "/root/usr/include/ymodem.h", encoding="utf-8") as other:
+        wants_same({"ymodem.h": other.read()}, {"ymodem.h": one.read()})
+    return top + "/root/usr"
+
+
+def flags(usr):
+    """How a compiler is told of what a package below another root has."""
+    needs("pkg-config")
+    found = {**os.environ, "PKG_CONFIG_LIBDIR": usr + "/lib/x86_64-linux-gnu/pkgconfig", "PKG_CONFIG_SYSROOT_DIR": os.path.dirname(usr)}
+    # The folders of the system are not left out.
+    found |= {"PKG_CONFIG_ALLOW_SYSTEM_CFLAGS": "1", "PKG_CONFIG_ALLOW_SYSTEM_LIBS": "1"}
+    return subprocess.run(["pkg-config", "--cflags", "--libs", "ymodem"], env=found, capture_output=True, text=True, check=True).stdout.split()

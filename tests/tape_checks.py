@@ -1,0 +1,172 @@
+"""What real ends of a line read, played again to the proved engines over ports that tell their events.
+
+Each end runs under strace, which records what every read of the line brought, every wait that ended in quiet, and every write. The program
+`replay` plays the reads to the same engine over a scripted port, for which the engines' promises are exact: what it writes, how it ends, how
+many files are done, and which are committed, is what the definitions say of that tape. The process has to have written, reported and stored the same.
+"""
+
+import ast
+import os
+import re
+import socket
+import subprocess
+
+from lrzsz_checks import beside_lrzsz, is_installed
+from program import LIMIT, ROOT, Skipped, connected, folders, free_port, running, stored, wants_same, write_files
+from relay import Clean, Relay, Seeded
+from serial_line import SerialLine
+from tracing import calls_of, strace
+from transfer_checks import few_files
+from transfers import carried
+
+REPLAY = os.path.join(ROOT, "crates", "replay", "out", "replay")
+CALLS = "connect,accept,accept4,recvfrom,sendto,read,write,dup,fcntl"
+DATA = re.compile(r'(\d+), ("(?:\\x[0-9a-f]{2})*")')
+
+# The words of a report for a state, where they are not the state's name in small letters.
+WORDS = {"NoReply": "no-reply", "SourceFailed": "source-failed", "TooManyErrors": "too-many-errors", "OutOfStep": "out-of-step", "SinkFailed": "sink-failed"}
+
+
+def tool(log):
+    """Strace, such that each call is seen with all its bytes."""
+    return strace(log, "-xx", "-s", "1000000", "-e", "trace=" + CALLS)
+
+
+def line_of(calls):
+    """The descriptor of the line: what the end connected, or what came to it."""
+    for call in calls:
+        if call.name.startswith("accept") and call.answer.isdigit():
+            return call.answer
+        if call.name == "connect" and (call.answer == "0" or "EINPROGRESS" in call.rest):
+            return call.arguments.split(",")[0]
+    raise AssertionError("the end had no line")
+
+
+def bytes_in(call, count):
+    """The bytes that a call carried."""
+    return ast.literal_eval("b" + DATA.match(call.arguments)[2])[:count]
+
+
+def tape(log):
+    """What each read brought, a line each as `replay` takes it, and all the bytes written."""
+    calls = calls_of(log)
+    line = line_of(calls)
+    reads, written = [], b""
+    for call in calls:
+        if not call.arguments.startswith(line + ","):
+            continue
+        if call.name in ("recvfrom", "read"):
+            if call.answer == "0":
+                reads.append("closed")
+            elif call.answer.isdigit():
+                reads.append("bytes " + bytes_in(call, int(call.answer)).hex())
+            elif "EAGAIN" in call.rest:
+                reads.append("quiet")
+            elif "EINTR" not in call.rest:
+                raise AssertionError("a read failed: %r" % call.rest)
+        elif call.name in ("sendto", "write") and call.answer.isdigit():
+            written += bytes_in(call, int(call.answer))
+    return reads, written
+
+
+def played(role, files, reads):
+    """How the engine ends that reads this: how it returned, its state in the words of a report, its count, the files that it committed, and what it
+    wrote."""
+    given = [role, *("file %s %s" % (name, data.hex() or "-") for name, data in files), *reads]
+    told = subprocess.run([REPLAY], input="".join(line + "\n" for line in given), capture_output=True, text=True, timeout=LIMIT)
+    if told.returncode:
+        raise AssertionError("replay: " + told.stderr)
+    first, *committed, wrote = told.stdout.splitlines()
+    _, state, count = first.split(" ")
+    kept = [(name, bytes.fromhex(data)) for _, name, data in (line.split(" ") for line in committed)]
+    return WORDS.get(state, state.lower()), int(count), kept, bytes.fromhex(wrote.partition(" ")[2])
+
+
+def wants_replayed(log, role, ended, files=(), kept=None):
+    """Fails where an end wrote, reported or stored anything but what its engine makes of what it read."""
+    reads, written = tape(log)
+    state, count, committed, wrote = played(role, files, reads)
+    if wrote != written:
+        at = next((at for at, both in enumerate(zip(wrote, written)) if both[0] != both[1]), min(len(wrote), len(written)))
+        raise AssertionError("%s wrote %d bytes, its engine %d; they part at byte %d" % (role, len(written), len(wrote), at))
+    line = ("sender done %d %s" if role.startswith("sender") else "receiver files %d %s") % (count, state)
+    if ended.out.splitlines()[-1:] != [line]:
+        raise AssertionError("the end told %r, its engine %r" % (ended.out[-80:], line))
+    if kept is not None:
+        wants_same(kept, dict(committed))
+
+
+def roles(flags):
+    return "sender short" if "--short" in flags else "sender mixed", "receiver once" if "--single" in flags else "receiver twice"
+
+
+def between_both(files, relay_to, flags):
+    """Both ends are ours, with a line between them."""
+
+    def check():
+        wants_program()
+        with folders() as (logs, _):
+            log = [os.path.join(logs, name) for name in ("send", "receive")]
+            ends = carried(files, relay_to, flags, tools=[tool(it) for it in log])
+            sender, receiver = roles(flags)
+            wants_replayed(log[0], sender, ends.sent, files)
+            wants_replayed(log[1], receiver, ends.received, kept=ends.kept)
+
+    return check
+
+
+def wants_program():
+    if not os.access(REPLAY, os.X_OK):
+        raise Skipped("crates/replay is not built (make build)")
+
+
+def from_sb(files, flags):
+    def check():
+        wants_program()
+        with folders() as (here, there):
+            write_files(here, files)
+            port, log = free_port(), os.path.join(here, "log")
+            with running("receive", "--port", port, *flags, there, before=tool(log)) as receive, connected(port) as end:
+                ended, _ = beside_lrzsz(["sb", *(name for name, _ in files)], here, end, receive)
+            wants_replayed(log, roles(flags)[1], ended, kept=stored(there))
+
+    return check
+
+
+def to_rb(files, flags):
+    def check():
+        wants_program()
+        with folders() as (here, there):
+            paths = write_files(here, files)
+            log = os.path.join(here, "log")
+            with socket.create_server(("127.0.0.1", 0)) as listener:
+                listener.settimeout(LIMIT)
+                port = listener.getsockname()[1]
+                with running("send", "--port", port, *flags, *paths, before=tool(log)) as send:
+                    end, _ = listener.accept()
+                    with end:
+                        ended, _ = beside_lrzsz(["rb"], there, end, send)
+            wants_replayed(log, roles(flags)[0], ended, files)
+
+    return check
+
+
+def checks():
+    made = []
+    all_flags = ([], ["--short"], ["--single"], ["--short", "--single"])
+    for seed in range(8):
+        flags = all_flags[seed % 4]
+        made.append((" ".join(["what both ends read, played again, seed %d" % seed, *flags]),
+                     between_both(few_files(), lambda port, seed=seed: Relay(Seeded(seed + 40, 0.4, most=12), port), flags)))
+    for asked in (0, 2):
+        made.append(("what both ends read, played again, %d questions before the start" % asked,
+                     between_both(few_files()[:2], lambda port, asked=asked: SerialLine(Clean(), port, 115_200, asked), [])))
+    if is_installed():
+        for flags in all_flags[:1] + all_flags[2:3]:
+            made.append((" ".join(["what receive reads from sb, played again", *flags]), from_sb(few_files(), flags)))
+        for flags in all_flags[:2]:
+            made.append((" ".join(["what send reads from rb, played again", *flags]), to_rb(few_files(), flags)))
+    return made
+
+
+CHECKS = checks()

@@ -1,0 +1,140 @@
+#!/usr/bin/env python3
+"""Makes out/web from this folder and the library for 64-bit WebAssembly: the module ymodem.wasm, ymodem.js with its types, and the page.
+
+ymodem.js is the files of this folder joined into one, and index.html has all of it inside, the module too, so that it works from a disk, where a page may
+load nothing.
+
+usage: build.py ARCHIVE OUT
+"""
+
+import base64
+import gzip
+import hashlib
+import os
+import re
+import subprocess
+import sys
+
+HERE = os.path.dirname(os.path.abspath(__file__))
+TARGET = "wasm64-unknown-unknown"
+# The deepest call takes some 3 KB.
+STACK = 65536
+LIBRARY = ("codes", "errors", "engine", "line", "clearing", "log", "receiving", "sending", "websocket", "ymodem")
+PAGE = ("words", "terminal", "chart", "progress", "ports", "page")
+
+IMPORT = re.compile(r"^import [^;]*;\n+", re.M)
+EXPORT = re.compile(r"^export (?=(?:async function|function|class|const|let)\b)", re.M)
+NAMED = re.compile(r"^(?:async function|function|class|const|let) (\w+)", re.M)
+COMMENT = re.compile(r"^[ \t]*(?:/\*.*?\*/|//[^\n]*)[ \t]*\n", re.M | re.S)
+EDGES = re.compile(r"\n\s*")
+# What stands as it is, a text or a pattern, or else a space.
+KEPT_OR_SPACE = re.compile(r"""(`(?:\\.|[^`\\])*`|"(?:\\.|[^"\\])*"|'(?:\\.|[^'\\])*'|/(?![/*\s])(?:\\.|\[(?:\\.|[^\]\\])*\]|[^/\\\n\[])+/)| +""", re.S)
+
+
+def read(name):
+    with open(os.path.join(HERE, name), encoding="utf-8") as it:
+        return it.read()
+
+
+def joined(names):
+    """The files as one, in an order in which each stands behind those that it takes from."""
+    text = "\n".join(EXPORT.sub("", IMPORT.sub("", read(name + ".js"))) for name in names)
+    found = NAMED.findall(text)
+    twice = {name for name in found if found.count(name) > 1}
+    if twice:
+        sys.exit("build.py: named twice: " + " ".join(sorted(twice)))
+    return text
+
+
+def shortened(text):
+    """Without what only a reader needs: comments, the space at the front of lines, and that between signs."""
+    text = EDGES.sub("\n", COMMENT.sub("", text)).strip() + "\n"
+
+    def squeezed(found):
+        if found.group(1):
+            return found.group(1)
+        around = text[found.start() - 1] + text[found.end()]
+        return " " if re.fullmatch(r"[\w$#]{2}|\+\+|--", around) else ""
+
+    return KEPT_OR_SPACE.sub(squeezed, text)
+
+
+def styled(text):
+    """The same of a style."""
+    return re.sub(r"\s*([{};:,])\s+", r"\1", EDGES.sub("\n", text)).strip() + "\n"
+
+
+def linked(archive, out):
+    kit = os.path.dirname(subprocess.run(["rt", "doc"], check=True, stdout=subprocess.PIPE, text=True).stdout.strip())
+    words = [os.path.join(kit, "bin", "rattle-link"), "--target", TARGET, "--toolchain", os.path.join(kit, "toolchain"), "--stack", str(STACK), "-o", out, archive]
+    subprocess.run(words, check=True, stderr=subprocess.DEVNULL)
+    with open(out, "rb") as it:
+        module = bare(it.read())
+    with open(out, "wb") as it:
+        it.write(module)
+    return module
+
+
+def bare(module):
+    """The module without its custom sections: names for a debugger, and who made it."""
+    kept, at = module[:8], 8
+    while at < len(module):
+        start, at, size, shift = at, at + 1, 0, 0
+        while True:
+            byte = module[at]
+            size |= (byte & 127) << shift
+            at, shift = at + 1, shift + 7
+            if byte < 128:
+                break
+        at += size
+        if module[start] != 0:
+            kept += module[start:at]
+    return kept
+
+
+def hashed(text):
+    return "'sha256-%s'" % base64.b64encode(hashlib.sha256(text.encode()).digest()).decode()
+
+
+def page(module):
+    """The page, whole. What it may load is what stands in it; it may connect to a WebSocket."""
+    packed = base64.b64encode(gzip.compress(module, 9, mtime=0)).decode()
+    script = "const PACKED = '%s';\n%s\n{\n%s}\n" % (packed, shortened(joined(LIBRARY)), shortened(joined(PAGE)))
+    style = styled(read("page.css"))
+    policy = "; ".join(
+        (
+            "default-src 'none'",
+            "script-src %s 'wasm-unsafe-eval'" % hashed(script),
+            "style-src " + hashed(style),
+            "connect-src ws: wss:",
+            "img-src data:",
+            "base-uri 'none'",
+            "form-action 'none'",
+        )
+    )
+    text = EDGES.sub("\n", read("index.html"))
+    for mark, put in (("@POLICY@", policy), ("@STYLE@", style), ("@SCRIPT@", script)):
+        if text.count(mark) != 1:
+            sys.exit("build.py: index.html: one %s is wanted" % mark)
+        text = text.replace(mark, put)
+    return text
+
+
+def module_text():
+    """ymodem.js for other pages. Who wants to read it reads this folder."""
+    head = re.match(r"/\*.*?\*/\n", read("ymodem.js"), re.S).group()
+    return head + shortened(joined(LIBRARY))
+
+
+def main():
+    archive, out = sys.argv[1:]
+    os.makedirs(out, exist_ok=True)
+    module = linked(archive, os.path.join(out, "ymodem.wasm"))
+    for name, text in (("ymodem.js", module_text()), ("ymodem.d.ts", read("ymodem.d.ts")), ("index.html", page(module))):
+        with open(os.path.join(out, name), "w", encoding="utf-8") as it:
+            it.write(text)
+    sizes = {name: os.path.getsize(os.path.join(out, name)) for name in sorted(os.listdir(out))}
+    print("%s: %s; %d bytes in all" % (out, ", ".join("%s %d" % it for it in sizes.items()), sum(sizes.values())))
+
+
+main()

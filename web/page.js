@@ -1,0 +1,384 @@
+/* The page: connects, shows the terminal, and runs transfers. What a transfer does is the module's affair. */
+
+import { Chart } from "./chart.js";
+import { openAddress, openSerial } from "./ports.js";
+import { Meter } from "./progress.js";
+import { Terminal } from "./terminal.js";
+import { count, failure, noLine, size } from "./words.js";
+import { load, receive, send, supported } from "./ymodem.js";
+
+const at = (id) => document.getElementById(id);
+
+// How long the device may take to ask for a file after a command was typed at it, and to get ready to send.
+const ASK_WITHIN = 8000;
+const READY_WITHIN = 400;
+// Nothing is offered: the receiver starts anew, until somebody cancels, or for so long.
+const PATIENCE = 15 * 60 * 1000;
+// A C that came so long ago still is the device's question.
+const C_IS_FRESH = 4000;
+
+const C = 0x43;
+const hasSerial = "serial" in navigator;
+const canRun = supported();
+
+let line = null;
+let stop = null;
+let chosen = [];
+let urls = [];
+
+const terminal = new Terminal(at("screen"), lost);
+const chart = new Chart(at("chart"));
+
+// ---- What is shown
+
+const isReceiving = () => document.querySelector("[name=way2]:checked").value === "receive";
+const isBySerial = () => document.querySelector("[name=way]:checked").value === "serial";
+
+function item(name, detail, ...controls) {
+  const row = document.createElement("li");
+  const label = document.createElement("span");
+  label.className = "name";
+  label.textContent = name;
+  const soft = document.createElement("span");
+  soft.className = "soft";
+  soft.textContent = detail;
+  row.append(label, soft, ...controls);
+  return row;
+}
+
+function button(text, label, act) {
+  const it = document.createElement("button");
+  it.type = "button";
+  it.textContent = text;
+  it.setAttribute("aria-label", label);
+  it.addEventListener("click", act);
+  return it;
+}
+
+/** Says something to who listens to the page. */
+function say(text) {
+  at("says").textContent = text;
+}
+
+function refresh() {
+  const isBusy = stop !== null;
+  at("connect").hidden = line !== null;
+  at("connected").hidden = line === null;
+  at("port-name").textContent = line ? `Connected: ${line.name}` : "";
+  at("by-serial").hidden = !isBySerial();
+  at("by-socket").hidden = isBySerial();
+  at("way-hint").textContent = isBySerial() ? "If you are not sure of the speed: 115200 fits most boards." : "A bridge such as websockify, in front of ser2net or QEMU's serial port.";
+  at("send-form").hidden = isReceiving();
+  at("receive-form").hidden = !isReceiving();
+  for (const id of ["line-text", "line-send", "interrupt"]) at(id).disabled = line === null || isBusy;
+  for (const it of document.querySelectorAll("[name=way2], #pick, #send-command, #receive-command, #disconnect")) it.disabled = isBusy;
+  at("screen").classList.toggle("busy", isBusy);
+  at("send").disabled = !canRun || !line || isBusy || chosen.length === 0;
+  at("receive").disabled = !canRun || !line || isBusy;
+  at("send").textContent = chosen.length === 0 ? "Send" : `Send ${count(chosen.length, "file")}`;
+  at("why").textContent = isBusy || !canRun ? "" : line ? (isReceiving() || chosen.length ? "" : "Choose a file first.") : "Connect first.";
+  at("transfer").hidden = !isBusy;
+  at("files-card").hidden = isBusy;
+}
+
+function showChosen() {
+  const remove = (file) => () => {
+    chosen = chosen.filter((it) => it !== file);
+    showChosen();
+    at("pick").focus();
+  };
+  at("chosen").replaceChildren(...chosen.map((file) => item(file.name, size(file.size), button("Remove", `Remove ${file.name}`, remove(file)))));
+  refresh();
+}
+
+function choose(files) {
+  chosen = [...chosen, ...files];
+  say(`${count(chosen.length, "file")} chosen`);
+  showChosen();
+}
+
+/** The end of something: how it went, what helps, and what came. */
+function show(isGood, { title, text, helps = [] }, files = []) {
+  at("result").hidden = false;
+  at("result").className = `card ${isGood ? "good" : "bad"}`;
+  at("result-title").textContent = `${isGood ? "✓ " : ""}${title}`;
+  at("result-text").textContent = text;
+  at("result-helps").replaceChildren(
+    ...helps.map((help) => {
+      const row = document.createElement("li");
+      row.textContent = help;
+      return row;
+    }),
+  );
+  showReceived(files);
+  say(`${title}. ${text}`);
+  at("result-title").focus();
+}
+
+function showReceived(files) {
+  for (const url of urls) URL.revokeObjectURL(url);
+  urls = [];
+  at("received").replaceChildren(
+    ...files.map((about) => {
+      const link = document.createElement("a");
+      link.href = URL.createObjectURL(about.file);
+      urls.push(link.href);
+      link.download = about.name;
+      link.textContent = "Save";
+      link.setAttribute("aria-label", `Save ${about.name}`);
+      return item(about.name, size(about.length), link);
+    }),
+  );
+  at("save-row").hidden = files.length < 2 || !("showDirectoryPicker" in window);
+  at("save-all").textContent = "Save all into a folder…";
+  at("save-all").onclick = () => saveAll(files);
+}
+
+async function saveAll(files) {
+  try {
+    const folder = await window.showDirectoryPicker({ mode: "readwrite" });
+    for (const about of files) {
+      const handle = await folder.getFileHandle(about.name, { create: true });
+      await about.file.stream().pipeTo(await handle.createWritable());
+    }
+    say(`${count(files.length, "file")} saved`);
+    at("save-all").textContent = "Saved";
+  } catch (fault) {
+    if (fault.name !== "AbortError") at("result-text").textContent = `Not all could be saved: ${fault.message}`;
+  }
+}
+
+// ---- The line
+
+async function connect(event) {
+  event.preventDefault();
+  at("result").hidden = true;
+  const address = isBySerial() ? undefined : at("address").value.trim();
+  at("choose").disabled = at("dial").disabled = true;
+  try {
+    line = address === undefined ? await openSerial(at("speed").valueAsNumber) : await openAddress(address);
+  } catch (fault) {
+    return show(false, noLine(fault, address));
+  } finally {
+    at("choose").disabled = at("dial").disabled = false;
+  }
+  terminal.attach(line);
+  refresh();
+  say(`Connected: ${line.name}`);
+  at("screen").focus();
+}
+
+async function disconnect() {
+  const old = line;
+  line = null;
+  await terminal.forget();
+  try {
+    await old?.close();
+  } catch {
+    // it is gone already
+  }
+  refresh();
+}
+
+/** The line ended by itself. */
+async function lost(fault) {
+  if (line === null || stop !== null) return;
+  await disconnect();
+  terminal.note("the line was closed");
+  // what is said of a transfer stays: its other end often goes once it is done
+  if (at("result").hidden) show(false, failure({ code: fault ? "device" : "closed", cause: fault }));
+}
+
+// ---- A transfer
+
+const wait = (millis) => new Promise((resolve) => setTimeout(resolve, millis));
+
+/** Types a command at the device, and waits until it seems to be ready. */
+async function typeFirst(command, isSending, signal) {
+  if (command === "") return;
+  terminal.listen();
+  await terminal.type(`${command}\r`);
+  if (!isSending) return wait(READY_WITHIN);
+  const until = performance.now() + ASK_WITHIN;
+  while (!terminal.isAsked && !signal.aborted && performance.now() < until) await wait(50);
+}
+
+/** What tells of a transfer while it runs. */
+class Watch {
+  constructor(total, title) {
+    this.meter = new Meter(total);
+    this.blocks = 0;
+    this.bad = 0;
+    this.told = 0;
+    at("transfer-title").textContent = title;
+    at("chart-card").hidden = false;
+    chart.clear();
+    this.timer = setInterval(() => this.draw(), 250);
+    this.draw();
+  }
+
+  get hooks() {
+    return {
+      onProgress: (progress) => this.meter.take(progress),
+      onFrame: (frame) => {
+        // the first end of a file is asked for again, so that none is taken for another byte
+        const isUsual = frame.text === "NAK" && this.last === "eot";
+        this.last = frame.kind;
+        chart.add({ ...frame, isUsual });
+        if (frame.kind === "block") this.blocks++;
+        if (frame.kind === "noise" || (frame.text === "NAK" && !isUsual)) this.bad++;
+      },
+    };
+  }
+
+  draw() {
+    const { meter } = this;
+    chart.draw();
+    at("bar").value = meter.share;
+    at("now-file").textContent = meter.file ? `${meter.file.name}` : "Waiting for the device…";
+    at("now-percent").textContent = meter.file ? `${Math.floor(meter.share * 100)} %` : "";
+    const done = meter.files > 0 ? ` · ${count(meter.files, "file")} done` : "";
+    at("figures").textContent = meter.file ? meter.text() + done : "It has not answered yet.";
+    at("counts").textContent = `${count(this.blocks, "block")} so far; ${this.bad === 0 ? "none" : this.bad} damaged or asked for again.`;
+    const quarter = Math.floor(meter.share * 4);
+    if (quarter > this.told && quarter < 4) say(`${quarter * 25} percent`);
+    this.told = Math.max(this.told, quarter);
+  }
+
+  close() {
+    clearInterval(this.timer);
+    this.draw();
+  }
+}
+
+/** Receives, and waits on where nobody has offered a file yet. */
+async function receivePatiently(port, options) {
+  const until = performance.now() + PATIENCE;
+  for (;;) {
+    try {
+      return await receive(port, options);
+    } catch (fault) {
+      if (fault.code !== "too-many-errors" || fault.answered || performance.now() > until) throw fault;
+    }
+  }
+}
+
+async function run(isSending, command, work) {
+  stop = new AbortController();
+  const { signal } = stop;
+  at("result").hidden = true;
+  const total = isSending ? chosen.reduce((sum, file) => sum + file.size, 0) : undefined;
+  const watch = new Watch(total, isSending ? `Sending ${count(chosen.length, "file")}` : "Receiving");
+  refresh();
+  at("transfer-title").focus();
+  let outcome;
+  try {
+    await typeFirst(command, isSending, signal);
+    await terminal.detach();
+    terminal.note(isSending ? "sending files" : "receiving files");
+    outcome = await work({ ...watch.hooks, signal });
+    terminal.note("done");
+  } catch (fault) {
+    outcome = fault;
+    terminal.note(`ended: ${fault.message}`);
+  }
+  watch.close();
+  stop = null;
+  await behind(outcome, watch, isSending);
+}
+
+/** After a transfer: the line is the terminal's again, if it is there. */
+async function behind(outcome, watch, isSending) {
+  const isGone = outcome.code === "closed" || outcome.code === "device";
+  if (outcome.rest?.length) terminal.show(outcome.rest);
+  if (isGone) await disconnect();
+  else terminal.attach(line);
+  refresh();
+  const files = isSending ? [] : outcome.files ?? [];
+  if (outcome instanceof Error) {
+    const told = failure(outcome);
+    const done = outcome.files?.length ?? 0;
+    const kept = done ? ` ${count(done, "file")} ${done === 1 ? "is" : "are"} whole.` : "";
+    show(false, { ...told, text: told.text + kept }, files);
+  } else show(true, { title: isSending ? "Sent: the device has it all" : "Received", text: watch.meter.summary(outcome.files.length) }, files);
+}
+
+function sendChosen(event) {
+  event.preventDefault();
+  const files = chosen;
+  run(true, at("send-command").value.trim(), (options) => {
+    const heard = terminal.asksSince(C_IS_FRESH) ? Uint8Array.of(C) : undefined;
+    return send(line, files, { ...options, heard });
+  });
+}
+
+function receiveFiles(event) {
+  event.preventDefault();
+  run(false, at("receive-command").value.trim(), (options) => receivePatiently(line, options));
+}
+
+// ---- What the page is made of
+
+function lacks() {
+  const texts = [];
+  if (!canRun) texts.push("It cannot run this page's module, which needs 64-bit memory for WebAssembly. Chrome, Edge and Chromium have that from version 133 on, Firefox from 134 on.");
+  if (!hasSerial) {
+    texts.push(
+      isSecureContext
+        ? "It cannot reach serial ports (Web Serial). Chrome, Edge and Chromium on a computer can. By a network address this page works here too."
+        : "It does not let this page reach serial ports, because the page came by plain http. Open it by https, from 127.0.0.1, or from your disk.",
+    );
+    document.querySelector("[name=way][value=serial]").disabled = true;
+    document.querySelector("[name=way][value=socket]").checked = true;
+  }
+  at("lacks").hidden = texts.length === 0;
+  at("lacks-list").replaceChildren(
+    ...texts.map((text) => {
+      const row = document.createElement("li");
+      row.textContent = text;
+      return row;
+    }),
+  );
+}
+
+function unpacked() {
+  const bytes = Uint8Array.from(atob(PACKED), (sign) => sign.charCodeAt(0));
+  return new Response(new Blob([bytes]).stream().pipeThrough(new DecompressionStream("gzip"))).arrayBuffer();
+}
+
+function listenForDrops() {
+  const box = at("drop");
+  for (const name of ["dragover", "drop"]) document.addEventListener(name, (event) => event.preventDefault());
+  box.addEventListener("dragover", () => box.classList.add("over"));
+  box.addEventListener("dragleave", () => box.classList.remove("over"));
+  box.addEventListener("drop", (event) => {
+    box.classList.remove("over");
+    if (stop === null) choose(event.dataTransfer.files);
+  });
+}
+
+function begin() {
+  lacks();
+  if (canRun) unpacked().then(load);
+  at("connect").addEventListener("submit", connect);
+  at("disconnect").addEventListener("click", disconnect);
+  at("send-form").addEventListener("submit", sendChosen);
+  at("receive-form").addEventListener("submit", receiveFiles);
+  at("cancel").addEventListener("click", () => stop?.abort());
+  at("interrupt").addEventListener("click", () => terminal.type("\x03"));
+  at("pick").addEventListener("change", (event) => {
+    choose(event.target.files);
+    event.target.value = "";
+  });
+  at("line-form").addEventListener("submit", (event) => {
+    event.preventDefault();
+    terminal.type(`${at("line-text").value}\r`);
+    at("line-text").value = "";
+  });
+  for (const it of document.querySelectorAll("[name=way], [name=way2]")) it.addEventListener("change", refresh);
+  listenForDrops();
+  addEventListener("beforeunload", (event) => stop && event.preventDefault());
+  refresh();
+}
+
+begin();

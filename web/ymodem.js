@@ -1,0 +1,49 @@
+/* Sends and receives files by YMODEM over any pair of streams: a serial port of the browser, a WebSocket, or streams of your own.
+
+   What is heard, what is written and when a transfer has ended is decided in ymodem.wasm, whose functions are proved (docs/library.md). Here
+   stand only the streams, the waits, and the rule by which a line is let clear (class Clearing, as docs/ports.md states it). */
+
+import { Engine, load, supported } from "./engine.js";
+import { MESSAGES, YmodemError } from "./errors.js";
+import { Line } from "./line.js";
+import { Receiving } from "./receiving.js";
+import { Sending, Source } from "./sending.js";
+import { openWebSocket } from "./websocket.js";
+
+const MOST_FILES = 65535;
+
+/** Takes files until the other end says that there are no more. */
+async function receive(port, options = {}) {
+  const engine = await Engine.start();
+  const line = new Line(port, { reply: 3000, within: 1000, ...options.waits }, options.signal, options.heard);
+  const receiving = new Receiving(engine, line, options);
+  return finish(line, receiving);
+}
+
+/** Sends files, in order. A file is a File, or a name and its data. */
+async function send(port, files, options = {}) {
+  const sources = Array.from(files, (file) => new Source(file));
+  if (sources.length > MOST_FILES) throw new YmodemError("too-many-files", MESSAGES["too-many-files"]);
+  const engine = await Engine.start();
+  const line = new Line(port, { reply: 10000, within: 1000, ...options.waits }, options.signal, options.heard);
+  const sending = new Sending(engine, line, sources, options);
+  return finish(line, sending);
+}
+
+/** Runs a transfer, and lets go of the streams whatever comes of it. */
+async function finish(line, transfer) {
+  let fault = null;
+  try {
+    await transfer.run();
+  } catch (what) {
+    fault = what instanceof YmodemError ? what : new YmodemError("device", String(what?.message ?? what), { cause: what });
+    await transfer.abandon(fault);
+  }
+  const rest = await line.release();
+  if (fault === null) return { files: transfer.files, rest };
+  fault.files = transfer.files;
+  fault.rest = rest;
+  throw fault;
+}
+
+export { YmodemError, load, openWebSocket, receive, send, supported };
