@@ -23,12 +23,13 @@ import gate_checks
 import make_checks
 import package_checks
 import readme_checks
+import telling_checks
 import tty_checks
 import words_checks
 from program import PROGRAM
 from skipping import Skipped
 
-BOOKS = (tty_checks, readme_checks, words_checks, chart_checks, make_checks, package_checks, gate_checks)
+BOOKS = (telling_checks, tty_checks, readme_checks, words_checks, chart_checks, make_checks, package_checks, gate_checks)
 AT_ONCE = 8
 
 

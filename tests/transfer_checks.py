@@ -190,24 +190,29 @@ def same_name_twice():
         wants_stored(there, [("same", b"one")])
 
 
-def into(dir_of, before=()):
-    """A folder that cannot take the file."""
+def into_no_folder(dir_of):
+    """What is no folder is told at once: nobody has to connect."""
 
     def check():
         with folders() as (here, there):
-            paths = write_files(here, [("first", b"x" * 9000)])
-            port = free_port()
-            relay = Relay(Clean(), port)
-            relay.start()
-            with (
-                running("receive", "--port", port, dir_of(here, there), before=before) as receive,
-                running("send", "--port", relay.port, *paths) as send,
-            ):
-                receive.ended().wants(3, "receiver files 0 sink-failed\n", "fault: device\n")
-                send.ended().wants(1, "sender done 0 cancelled\n")
+            write_files(here, [("first", b"x")])
+            run("receive", "--port", free_port(), dir_of(here, there)).wants(3, "", "fault: device\n")
             wants_stored(there, [])
 
     return check
+
+
+def full_disk():
+    """A folder that cannot take the file."""
+    with folders() as (here, there):
+        paths = write_files(here, [("first", b"x" * 9000)])
+        port = free_port()
+        relay = Relay(Clean(), port)
+        relay.start()
+        with running("receive", "--port", port, there, before=FULL_DISK) as receive, running("send", "--port", relay.port, *paths) as send:
+            receive.ended().wants(3, "receiver files 0 sink-failed\n", "fault: device\n")
+            send.ended().wants(1, "sender done 0 cancelled\n")
+        wants_stored(there, [])
 
 
 class Changing(Watch):
@@ -293,9 +298,9 @@ CHECKS = [
     ("a NAME that is there, of the second file", sink_refuses([("second", b"old")], count=1)),
     ("a NAME.part that is there", sink_refuses([("first.part", b"old")])),
     ("the same NAME twice in a batch", same_name_twice),
-    ("DIR is missing", into(lambda _, there: os.path.join(there, "missing"))),
-    ("DIR is a file", into(lambda here, _: os.path.join(here, "first"))),
-    ("a disk that is full", into(lambda _, there: there, before=FULL_DISK)),
+    ("DIR is missing", into_no_folder(lambda _, there: os.path.join(there, "missing"))),
+    ("DIR is a file", into_no_folder(lambda here, _: os.path.join(here, "first"))),
+    ("a disk that is full", full_disk),
     ("a file that shrinks while it is sent",
      changes(200_000, 1500, (3, "sender done 0 source-failed\n"), (1, "receiver files 0 cancelled\n"), "fault: device\n", False)),
     ("a file that shrinks when all of it has been read",

@@ -11,6 +11,9 @@ MAN = os.path.join(ROOT, "share", "man")
 COMPLETION = os.path.join(ROOT, "share", "completion")
 HELP = {"-h", "--help"}
 
+# What `ymodem-tty` does not take.
+NOT_OF_A_LINE = ("--port", "-p", "--keep")
+
 
 class Help:
     """What the help of a command says: what it is about, its options with a line each, its arguments, and the paragraphs behind them."""
@@ -148,15 +151,14 @@ def completion(shell, complete):
 
     def check():
         needs(shell)
-        helped = {"-h": None, "--help": None}
         top = Help()
-        wants_offered("the commands", "ymodem", ["ymodem", ""], {**top.commands, **(helped if shell != "fish" else {})})
+        wants_offered("the commands", "ymodem", ["ymodem", ""], {**top.commands, **(dict.fromkeys(top.options) if shell != "fish" else {})})
         for command in set(top.commands) - {"help"}:
             told = Help(command)
             lines = {option: told.lines.get(option) for option in told.options}
             wants_offered("the options of %s" % command, "ymodem", ["ymodem", command, "-"], lines)
             if command in ("send", "receive"):
-                rest = {option: line for option, line in lines.items() if option not in ("--port", "-p")}
+                rest = {option: line for option, line in lines.items() if option not in NOT_OF_A_LINE}
                 wants_offered("the options of ymodem-tty %s" % command, "ymodem-tty", ["ymodem-tty", command, "-"], rest)
 
     return check

@@ -5,8 +5,8 @@ _ymodem_tty() {
     [ "$COMP_CWORD" -gt 1 ] && command=${COMP_WORDS[1]}
     case $command in
     '') words='send receive --help -h' ;;
-    send) words='--short --help -h' ;;
-    receive) words='--single --no-sync --discard-parts --help -h' ;;
+    send) words='--short --verbose --quiet --help -h' ;;
+    receive) words='--single --eager --no-sync --discard-parts --verbose --quiet --help -h' ;;
     *) words= ;;
     esac
     local IFS=$'\n'

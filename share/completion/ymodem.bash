@@ -3,15 +3,15 @@
 _ymodem() {
     local cur=${COMP_WORDS[COMP_CWORD]} prev=${COMP_WORDS[COMP_CWORD - 1]} command= words
     case $prev in
-    --port) COMPREPLY=(); return ;;
+    -p | --port) COMPREPLY=(); return ;;
     esac
     [ "$COMP_CWORD" -gt 1 ] && command=${COMP_WORDS[1]}
     case $command in
-    '') words='play loop send receive help --help -h' ;;
+    '') words='play loop send receive help --help -h --version -V' ;;
     play) words='--help -h' ;;
-    loop) words='--port --help -h' ;;
-    send) words='--port --short --help -h' ;;
-    receive) words='--port --single --no-sync --discard-parts --help -h' ;;
+    loop) words='--port -p --verbose --quiet --help -h' ;;
+    send) words='--port -p --short --verbose --quiet --help -h' ;;
+    receive) words='--port -p --single --eager --keep --no-sync --discard-parts --verbose --quiet --help -h' ;;
     help) words='play loop send receive help' ;;
     *) words= ;;
     esac

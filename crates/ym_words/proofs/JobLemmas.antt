@@ -17,7 +17,8 @@ use Rattle.ym_words.specs.declared.job.JobFault.TheVariants as fault
 use Rattle.ym_words.specs.Port.{read_on, IsPort, port_value}
 use Rattle.ym_words.specs.Command.{the_app}
 use Rattle.ym_words.specs.declared.job.ReceiveFlags.{ReceiveFlags}
-use Rattle.ym_words.specs.Job.{FaultSays, IsKind, Asked, asked_for, receive_of, send_of, flag_of, receive_flags_of}
+use Rattle.ym_words.specs.declared.job.TellFlags.{TellFlags}
+use Rattle.ym_words.specs.Job.{FaultSays, IsKind, Asked, asked_for, loop_of, receive_of, send_of, flag_of, receive_flags_of, tell_flags_of}
 use Rattle.std.specs.Str.{bytes_eq}
 
 pub own : IsNumeralModel (λ ds. all_ascii_digits ds ≡ true) (read_on 0)
@@ -98,17 +99,22 @@ no_half None e = refl
 no_half (Some p) e = absurd (none-some p.1 (sym e))
 
 -- the names that were tested before, and the parts
-pub receive_case : (name : Text) (rows : List Row) (port : Option ℕ) (flags : ReceiveFlags) (dir : Option Text) → bytes_eq name (codes "play") ≡ false
+pub receive_case : (name : Text) (rows : List Row) (port : Option ℕ) (flags : ReceiveFlags) (dir : Option Text) (tell : TellFlags) → bytes_eq name (codes "play") ≡ false
     → bytes_eq name (codes "loop") ≡ false → bytes_eq name (codes "send") ≡ false → bytes_eq name (codes "receive") ≡ true
     → port_value (first_of (codes "port") rows) ≡ port → receive_flags_of rows ≡ flags → first_of (codes "dir") rows ≡ dir
-    → asked_for name rows ≡ receive_of port flags dir
-receive_case name rows port flags dir a b c d e s f = rw (a, b, c, d, e, s, f) refl
+    → tell_flags_of rows ≡ tell → asked_for name rows ≡ receive_of port flags dir tell
+receive_case name rows port flags dir tell a b c d e s f t = rw (a, b, c, d, e, s, f, t) refl
 
-pub send_case : (name : Text) (rows : List Row) (port : Option ℕ) (short : Bool) (files : Option (List Text)) → bytes_eq name (codes "play") ≡ false
+pub send_case : (name : Text) (rows : List Row) (port : Option ℕ) (short : Bool) (files : Option (List Text)) (tell : TellFlags) → bytes_eq name (codes "play") ≡ false
     → bytes_eq name (codes "loop") ≡ false → bytes_eq name (codes "send") ≡ true
     → port_value (first_of (codes "port") rows) ≡ port → flag_of (codes "short") rows ≡ short → all_of (codes "files") rows ≡ files
-    → asked_for name rows ≡ send_of port short files
-send_case name rows port short files a b c e s f = rw (a, b, c, e, s, f) refl
+    → tell_flags_of rows ≡ tell → asked_for name rows ≡ send_of port short files tell
+send_case name rows port short files tell a b c e s f t = rw (a, b, c, e, s, f, t) refl
+
+pub loop_case : (name : Text) (rows : List Row) (port : Option ℕ) (tell : TellFlags) → bytes_eq name (codes "play") ≡ false
+    → bytes_eq name (codes "loop") ≡ true → port_value (first_of (codes "port") rows) ≡ port → tell_flags_of rows ≡ tell
+    → asked_for name rows ≡ loop_of port tell
+loop_case name rows port tell a b e t = rw (a, b, e, t) refl
 
 pub first_half : {X A B : Type 0} (f : X → A) (g : X → B) (o : Option X) → option_map (λ (p : A × B). p.0) (option_map (λ (x : X). (f x, g x)) o) ≡ option_map f o
 first_half f g None = refl

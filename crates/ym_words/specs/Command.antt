@@ -1,12 +1,12 @@
--- The command line: four optional subcommands, with `--port` a required text, `--short`, `--single`, `--no-sync` and `--discard-parts`
--- flags, DIR one required positional, and FILE the last positional with one or more values.
+-- The command line: `--version`, and four optional subcommands, with `--port` (or `-p`) a required text, DIR one required positional, FILE the last
+-- positional with one or more values, and all else flags.
 use Rattle.std.specs.Prelude.{true, Some, codes}
 use Rattle.clap.specs.Words.{App, Rule, new_app, new_rule, with_rule, with_subcommand}
 use Rattle.clap.specs.Lexer.{usize_max}
 use Rattle.clap.specs.declared.builder.ArgAction.TheVariants.{Set, SetTrue, Append}
 
 abbrev pub port_rule : Rule
-port_rule = record (new_rule (codes "port")) { long = Some (codes "port"); value_names = 1; required = true; action = Some Set }
+port_rule = record (new_rule (codes "port")) { short = Some 112; long = Some (codes "port"); value_names = 1; required = true; action = Some Set }
 
 abbrev pub short_rule : Rule
 short_rule = record (new_rule (codes "short")) { long = Some (codes "short"); action = Some SetTrue }
@@ -20,6 +20,18 @@ no_sync_rule = record (new_rule (codes "no_sync")) { long = Some (codes "no-sync
 abbrev pub discard_parts_rule : Rule
 discard_parts_rule = record (new_rule (codes "discard_parts")) { long = Some (codes "discard-parts"); action = Some SetTrue }
 
+abbrev pub eager_rule : Rule
+eager_rule = record (new_rule (codes "eager")) { long = Some (codes "eager"); action = Some SetTrue }
+
+abbrev pub keep_rule : Rule
+keep_rule = record (new_rule (codes "keep")) { long = Some (codes "keep"); action = Some SetTrue }
+
+abbrev pub verbose_rule : Rule
+verbose_rule = record (new_rule (codes "verbose")) { long = Some (codes "verbose"); action = Some SetTrue }
+
+abbrev pub quiet_rule : Rule
+quiet_rule = record (new_rule (codes "quiet")) { long = Some (codes "quiet"); action = Some SetTrue }
+
 abbrev pub files_rule : Rule
 files_rule = record (new_rule (codes "files")) {
   value_names = 1;
@@ -31,25 +43,33 @@ files_rule = record (new_rule (codes "files")) {
 abbrev pub dir_rule : Rule
 dir_rule = record (new_rule (codes "dir")) { value_names = 1; required = true; action = Some Set }
 
+-- and how much is told
+abbrev pub with_telling : App → App
+with_telling app = with_rule (with_rule app verbose_rule) quiet_rule
+
 abbrev pub bare_app : App
-bare_app = new_app (codes "ymodem")
+bare_app = let app = new_app (codes "ymodem") in record app { top = record app.top { has_version = true } }
 
 abbrev pub play_app : App
 play_app = new_app (codes "play")
 
 abbrev pub loop_app : App
-loop_app = with_rule (new_app (codes "loop")) port_rule
+loop_app = with_telling (with_rule (new_app (codes "loop")) port_rule)
 
 abbrev pub send_app : App
-send_app = with_rule (with_rule (with_rule (new_app (codes "send")) port_rule) short_rule) files_rule
+send_app = with_telling (with_rule (with_rule (with_rule (new_app (codes "send")) port_rule) short_rule) files_rule)
 
 -- what the words of `receive` say of the line
 abbrev pub line_app : App
 line_app = with_rule (with_rule (new_app (codes "receive")) port_rule) single_rule
 
+-- of when it asks, and how often
+abbrev pub asking_app : App
+asking_app = with_rule (with_rule line_app eager_rule) keep_rule
+
 -- and what they say of the folder
 abbrev pub receive_app : App
-receive_app = with_rule (with_rule (with_rule line_app no_sync_rule) discard_parts_rule) dir_rule
+receive_app = with_telling (with_rule (with_rule (with_rule asking_app no_sync_rule) discard_parts_rule) dir_rule)
 
 -- the whole command
 unfoldable pub the_app : App

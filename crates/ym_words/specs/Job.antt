@@ -1,9 +1,10 @@
 -- The job that the matches of the command line stand for.
-use Rattle.std.specs.Prelude.{◌≡◌, ℕ, Bool, false, List, [], map, Option, Some, None, codes, if◌then◌else◌, option_map}
+use Rattle.std.specs.Prelude.{◌≡◌, ℕ, Bool, false, List, [], map, Option, Some, None, codes, if◌then◌else◌}
 use Rattle.clap.specs.Words.{Row, Text, Kinds, IsAmong, kind_of, all_of, first_of}
 use Rattle.std.specs.Str.{bytes_eq}
 use Rattle.ym_words.specs.Port.{port_value}
 use Rattle.ym_words.specs.declared.job.ReceiveFlags.{ReceiveFlags}
+use Rattle.ym_words.specs.declared.job.TellFlags.{TellFlags}
 use Rattle.ym_words.specs.declared.job.Job.{Job}
 use Rattle.ym_words.specs.declared.job.Job.TheVariants as job
 use Rattle.ym_words.specs.declared.job.JobFault.{JobFault}
@@ -12,9 +13,9 @@ use Rattle.ym_words.specs.declared.job.JobFault.TheVariants as fault
 -- what a contract sees of a job
 pub data Asked : Type 0 where
   Play : Asked
-  Loop : ℕ → Asked
-  Send : ℕ → Bool → List Text → Asked
-  Receive : ℕ → ReceiveFlags → Text → Asked
+  Loop : ℕ → TellFlags → Asked
+  Send : ℕ → Bool → List Text → TellFlags → Asked
+  Receive : ℕ → ReceiveFlags → Text → TellFlags → Asked
 
 abbrev pub is_true_text : Option Text → Bool
 is_true_text None = false
@@ -29,26 +30,36 @@ receive_flags_of rows = record {
   single = flag_of (codes "single") rows;
   no_sync = flag_of (codes "no_sync") rows;
   discard_parts = flag_of (codes "discard_parts") rows;
+  eager = flag_of (codes "eager") rows;
+  keep = flag_of (codes "keep") rows;
 }
 
-abbrev pub send_of : Option ℕ → Bool → Option (List Text) → Option Asked
-send_of None short files = None
-send_of (Some port) short None = None
-send_of (Some port) short (Some files) = Some (Send port short files)
+abbrev pub tell_flags_of : List Row → TellFlags
+tell_flags_of rows = record { verbose = flag_of (codes "verbose") rows; quiet = flag_of (codes "quiet") rows }
 
-abbrev pub receive_of : Option ℕ → ReceiveFlags → Option Text → Option Asked
-receive_of None flags dir = None
-receive_of (Some port) flags None = None
-receive_of (Some port) flags (Some dir) = Some (Receive port flags dir)
+abbrev pub loop_of : Option ℕ → TellFlags → Option Asked
+loop_of None tell = None
+loop_of (Some port) tell = Some (Loop port tell)
+
+abbrev pub send_of : Option ℕ → Bool → Option (List Text) → TellFlags → Option Asked
+send_of None short files tell = None
+send_of (Some port) short None tell = None
+send_of (Some port) short (Some files) tell = Some (Send port short files tell)
+
+abbrev pub receive_of : Option ℕ → ReceiveFlags → Option Text → TellFlags → Option Asked
+receive_of None flags dir tell = None
+receive_of (Some port) flags None tell = None
+receive_of (Some port) flags (Some dir) tell = Some (Receive port flags dir tell)
 
 -- the job that a subcommand and its matches ask for, unless a value is lacking
 abbrev pub asked_for : Text → List Row → Option Asked
 asked_for name rows =
     let port = port_value (first_of (codes "port") rows) in
+    let tell = tell_flags_of rows in
     if bytes_eq name (codes "play") then Some Play
-    else (if bytes_eq name (codes "loop") then option_map Loop port
-    else (if bytes_eq name (codes "send") then send_of port (flag_of (codes "short") rows) (all_of (codes "files") rows)
-    else (if bytes_eq name (codes "receive") then receive_of port (receive_flags_of rows) (first_of (codes "dir") rows)
+    else (if bytes_eq name (codes "loop") then loop_of port tell
+    else (if bytes_eq name (codes "send") then send_of port (flag_of (codes "short") rows) (all_of (codes "files") rows) tell
+    else (if bytes_eq name (codes "receive") then receive_of port (receive_flags_of rows) (first_of (codes "dir") rows) tell
     else None)))
 
 abbrev pub asked : Option (Text × List Row) → Option Asked
@@ -57,9 +68,9 @@ asked (Some p) = asked_for p.0 p.1
 
 abbrev pub asked_of : Job → Asked
 asked_of job.Play = Play
-asked_of (job.Loop port) = Loop port
-asked_of (job.Send port short files) = Send port short (map (λ f. f.now) files.items)
-asked_of (job.Receive port flags dir) = Receive port flags dir.now
+asked_of (job.Loop port tell) = Loop port tell
+asked_of (job.Send port short files tell) = Send port short (map (λ f. f.now) files.items) tell
+asked_of (job.Receive port flags dir tell) = Receive port flags dir.now tell
 
 -- what each fault says of the words
 abbrev pub FaultSays : JobFault → Option Asked → Bool → Type 0

@@ -2,7 +2,7 @@
 
 ghost use Rattle.std.specs.Prelude.{◌≡◌, IfOk, false};
 ghost use Rattle.clap.specs.Words.{app_of, rule_of};
-ghost use Rattle.ym_words.specs.Command.{the_app, port_rule, short_rule, single_rule, no_sync_rule, discard_parts_rule, files_rule, dir_rule, bare_app, play_app, loop_app, send_app, line_app, receive_app};
+ghost use Rattle.ym_words.specs.Command.{the_app, port_rule, short_rule, single_rule, eager_rule, keep_rule, no_sync_rule, discard_parts_rule, verbose_rule, quiet_rule, files_rule, dir_rule, with_telling, bare_app, play_app, loop_app, send_app, line_app, asking_app, receive_app};
 ghost use Rattle.clap.specs.declared.builder.command.Command.TheViews.{out-Command};
 
 use clap::{Arg, ArgAction, Command};
@@ -10,6 +10,9 @@ use std::alloc::{AllocError, Global};
 
 const ABOUT: &str =
     "Sends and receives files by YMODEM, and plays sessions over a line that loses and damages bytes.";
+
+/// What this version is, and the toolchain that it is proved and built with.
+const VERSION: &str = "0.1.0 (rattle-kit-13b logic dac8208d650f15bf)";
 
 const STATUSES: &str = "Without a command, `play` is meant.
 
@@ -50,8 +53,10 @@ Example:
 const SEND_ABOUT: &str = "Connects to 127.0.0.1 and sends files, in order";
 
 const SEND_HELP: &str =
-    "Each file is sent under the last part of its path, without time and mode, in blocks of 1024 bytes while as many remain and then of 128. It waits 10
-seconds for each reply, and gives up after 10 without progress.
+    "Each file is sent under the last part of its path, without time and mode, in blocks of 1024 bytes while as many remain and then of 128. Where nobody
+listens yet it tries again for 2 seconds. It waits 10 seconds for each reply, and gives up after 10 without progress.
+
+It prints `sender done D STATE`, where D files were acknowledged, and STATE is `finished` or what else it ended by.
 
 Exit status: 0 where all files were acknowledged, 1 where not, 2 where words, a name, a length or the number of files are refused, 3 at a device
 fault, a closed connection or want of memory.
@@ -64,7 +69,11 @@ const RECEIVE_ABOUT: &str =
 
 const RECEIVE_HELP: &str =
     "A file NAME is written as NAME.part and renamed when it is whole. Nothing that is there is overwritten. It acknowledges a file when the disk has it.
-A NAME.part that is there, as a receiver leaves it that is killed, refuses NAME. It waits 3 seconds for each block, and gives up after 10 without progress.
+A NAME.part that is there, as a receiver leaves it that is killed, refuses NAME. It asks for the first file 3 seconds after somebody has connected. It waits 3
+seconds for each block, and gives up after 10 without progress.
+
+It prints `file NAME LENGTH TIME MODE` for each file, as block 0 stated them, and `receiver files M STATE`. TIME, in seconds since 1970, and MODE are in
+octal, as in block 0, or `-` where it stated none.
 
 Exit status: 0 where the batch was received whole, 1 where not, 2 where the words are refused, 3 at a device fault, a closed connection or want of
 memory.
@@ -77,6 +86,7 @@ fn port_arg<'a>(alloc: Global) -> Arg<'a>
     ensures local { result.global ≡ false }
 {
     Arg::new(alloc, "port")
+        .short('p')
         .long("port")
         .value_name("P")
         .help("The port on 127.0.0.1, from 1 to 65535")
@@ -124,6 +134,46 @@ fn discard_parts_arg<'a>(alloc: Global) -> Arg<'a>
         .action(ArgAction::SetTrue)
 }
 
+fn eager_arg<'a>(alloc: Global) -> Arg<'a>
+    ensures rule { rule_of result ≡ eager_rule }
+    ensures local { result.global ≡ false }
+{
+    Arg::new(alloc, "eager")
+        .long("eager")
+        .help("Asks for the first file at once, and not after 3 seconds")
+        .action(ArgAction::SetTrue)
+}
+
+fn keep_arg<'a>(alloc: Global) -> Arg<'a>
+    ensures rule { rule_of result ≡ keep_rule }
+    ensures local { result.global ≡ false }
+{
+    Arg::new(alloc, "keep")
+        .long("keep")
+        .help("Takes one connection after another, each a session of its own, until it is ended")
+        .action(ArgAction::SetTrue)
+}
+
+fn verbose_arg<'a>(alloc: Global) -> Arg<'a>
+    ensures rule { rule_of result ≡ verbose_rule }
+    ensures local { result.global ≡ false }
+{
+    Arg::new(alloc, "verbose")
+        .long("verbose")
+        .help("Tells on standard error what it does, also where that is no terminal")
+        .action(ArgAction::SetTrue)
+}
+
+fn quiet_arg<'a>(alloc: Global) -> Arg<'a>
+    ensures rule { rule_of result ≡ quiet_rule }
+    ensures local { result.global ≡ false }
+{
+    Arg::new(alloc, "quiet")
+        .long("quiet")
+        .help("Tells nothing on standard error but why it failed")
+        .action(ArgAction::SetTrue)
+}
+
 fn files_arg<'a>(alloc: Global) -> Arg<'a>
     ensures rule { rule_of result ≡ files_rule }
     ensures local { result.global ≡ false }
@@ -147,6 +197,18 @@ fn dir_arg<'a>(alloc: Global) -> Arg<'a>
         .action(ArgAction::Set)
 }
 
+/// The command, with what its words say of what is told.
+fn with_telling_args<'a>(alloc: Global, command: Command<'a>) -> Result<Command<'a>, AllocError>
+    requires { (out-Command command).has_globals ≡ false }
+    ensures shape { IfOk result (λ c. app_of c ≡ with_telling (app_of command.entry)) }
+    ensures local { IfOk result (λ c. (out-Command c).has_globals ≡ false) }
+{
+    let verbose = verbose_arg(alloc);
+    let quiet = quiet_arg(alloc);
+    let with_verbose = command.arg(verbose)?;
+    with_verbose.arg(quiet)
+}
+
 fn play_command<'a>(alloc: Global) -> Command<'a>
     ensures shape { app_of result ≡ play_app }
     ensures local { (out-Command result).has_globals ≡ false }
@@ -161,10 +223,11 @@ fn loop_command<'a>(alloc: Global) -> Result<Command<'a>, AllocError>
     ensures local { IfOk result (λ c. (out-Command c).has_globals ≡ false) }
 {
     let port = port_arg(alloc);
-    Command::new(alloc, "loop")
+    let bare = Command::new(alloc, "loop")
         .about(LOOP_ABOUT)
-        .after_help(LOOP_HELP)
-        .arg(port)
+        .after_help(LOOP_HELP);
+    let with_port = bare.arg(port)?;
+    with_telling_args(alloc, with_port)
 }
 
 fn send_command<'a>(alloc: Global) -> Result<Command<'a>, AllocError>
@@ -179,7 +242,8 @@ fn send_command<'a>(alloc: Global) -> Result<Command<'a>, AllocError>
         .after_help(SEND_HELP);
     let with_port = bare.arg(port)?;
     let with_short = with_port.arg(short)?;
-    with_short.arg(files)
+    let with_files = with_short.arg(files)?;
+    with_telling_args(alloc, with_files)
 }
 
 /// `receive`, with what its words say of the line.
@@ -196,6 +260,18 @@ fn line_command<'a>(alloc: Global) -> Result<Command<'a>, AllocError>
     with_port.arg(single)
 }
 
+/// The same, with what its words say of when it asks, and how often.
+fn asking_command<'a>(alloc: Global) -> Result<Command<'a>, AllocError>
+    ensures shape { IfOk result (λ c. app_of c ≡ asking_app) }
+    ensures local { IfOk result (λ c. (out-Command c).has_globals ≡ false) }
+{
+    let eager = eager_arg(alloc);
+    let keep = keep_arg(alloc);
+    let bare = line_command(alloc)?;
+    let with_eager = bare.arg(eager)?;
+    with_eager.arg(keep)
+}
+
 fn receive_command<'a>(alloc: Global) -> Result<Command<'a>, AllocError>
     ensures shape { IfOk result (λ c. app_of c ≡ receive_app) }
     ensures local { IfOk result (λ c. (out-Command c).has_globals ≡ false) }
@@ -203,10 +279,11 @@ fn receive_command<'a>(alloc: Global) -> Result<Command<'a>, AllocError>
     let no_sync = no_sync_arg(alloc);
     let discard_parts = discard_parts_arg(alloc);
     let dir = dir_arg(alloc);
-    let bare = line_command(alloc)?;
+    let bare = asking_command(alloc)?;
     let with_no_sync = bare.arg(no_sync)?;
     let with_discard_parts = with_no_sync.arg(discard_parts)?;
-    with_discard_parts.arg(dir)
+    let with_dir = with_discard_parts.arg(dir)?;
+    with_telling_args(alloc, with_dir)
 }
 
 fn bare_command<'a>(alloc: Global) -> Command<'a>
@@ -214,6 +291,7 @@ fn bare_command<'a>(alloc: Global) -> Command<'a>
     ensures local { (out-Command result).has_globals ≡ false }
 {
     Command::new(alloc, "ymodem")
+        .version(VERSION)
         .about(ABOUT)
         .after_help(STATUSES)
 }

@@ -4,7 +4,7 @@ ghost use Rattle.std.specs.Prelude.{◌≡◌, [], IfOk, IfErr, Some, None, true
 ghost use Rattle.clap.specs.Words.{takes, fault_of, subcommand_of, rows_of, found_of, first_of};
 ghost use Rattle.ym_words.specs.Command.{the_app};
 ghost use Rattle.ym_words.specs.Port.{port_value};
-ghost use Rattle.ym_words.specs.Job.{asked, asked_for, asked_of, FaultSays, IsKind, flag_of, receive_flags_of};
+ghost use Rattle.ym_words.specs.Job.{asked, asked_for, asked_of, FaultSays, IsKind, flag_of, receive_flags_of, tell_flags_of};
 
 use crate::command::the_command;
 use crate::port::port_number;
@@ -21,6 +21,19 @@ pub struct ReceiveFlags {
     pub no_sync: bool,
     /// It removes parts that an earlier run left.
     pub discard_parts: bool,
+    /// It asks for the first file at once.
+    pub eager: bool,
+    /// It takes one connection after another.
+    pub keep: bool,
+}
+
+/// How much is told on standard error besides fault lines.
+#[derive(Clone, Copy, Debug, PartialEq, Eq)]
+pub struct TellFlags {
+    /// It is told also where standard error is no terminal.
+    pub verbose: bool,
+    /// Nothing is told, also where it is one.
+    pub quiet: bool,
 }
 
 /// What the program is asked to do. Ports are from 1 to 65535, on 127.0.0.1.
@@ -31,18 +44,21 @@ pub enum Job<'a> {
     /// The same, carried by a connection to itself.
     Loop {
         port: u16,
+        tell: TellFlags,
     },
     /// Send files, in order, at least one; in short blocks alone where `short` says so.
     Send {
         port: u16,
         short: bool,
         files: Vec<&'a str>,
+        tell: TellFlags,
     },
     /// Receive files into a folder, in the way that the flags say.
     Receive {
         port: u16,
         flags: ReceiveFlags,
         dir: &'a str,
+        tell: TellFlags,
     },
 }
 
@@ -85,6 +101,18 @@ fn receive_flags_in(matches: &ArgMatches<'_>) -> ReceiveFlags
         single: flag_in(matches, "single"),
         no_sync: flag_in(matches, "no_sync"),
         discard_parts: flag_in(matches, "discard_parts"),
+        eager: flag_in(matches, "eager"),
+        keep: flag_in(matches, "keep"),
+    }
+}
+
+/// What the flags say of what is told.
+fn tell_flags_in(matches: &ArgMatches<'_>) -> TellFlags
+    ensures { result ≡ tell_flags_of (rows_of (found_of matches.now)) }
+{
+    TellFlags {
+        verbose: flag_in(matches, "verbose"),
+        quiet: flag_in(matches, "quiet"),
     }
 }
 
@@ -100,8 +128,9 @@ fn job_for<'a>(alloc: Global, name: &str, matches: &ArgMatches<'a>) -> Result<Jo
     let Some(port) = port else {
         return Err(JobFault::Value);
     };
+    let tell = tell_flags_in(matches);
     if name == "loop" {
-        return Ok(Job::Loop { port });
+        return Ok(Job::Loop { port, tell });
     }
     if name == "send" {
         return match matches.get_strs("files") {
@@ -110,6 +139,7 @@ fn job_for<'a>(alloc: Global, name: &str, matches: &ArgMatches<'a>) -> Result<Jo
                     port,
                     short: flag_in(matches, "short"),
                     files,
+                    tell,
                 }),
                 Err(_) => Err(JobFault::Memory),
             },
@@ -122,6 +152,7 @@ fn job_for<'a>(alloc: Global, name: &str, matches: &ArgMatches<'a>) -> Result<Jo
                 port,
                 flags: receive_flags_in(matches),
                 dir,
+                tell,
             }),
             None => Err(JobFault::Value),
         };

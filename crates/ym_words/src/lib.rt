@@ -5,7 +5,7 @@ mod command;
 mod job;
 mod port;
 
-pub use job::{Job, JobFault, ReceiveFlags, job_of};
+pub use job::{Job, JobFault, ReceiveFlags, TellFlags, job_of};
 
 #[cfg(test)]
 mod tests;

@@ -1,6 +1,7 @@
 -- What the program does for its words.
 use Rattle.std.specs.Prelude.{◌≡◌, ◌≤◌, ◌⊎◌, ℕ, Bool, true, false, List, [], Option, Some, None, Result, Ok, Err}
-use Rattle.clap.specs.Words.{Text, takes, subcommand_of}
+use Rattle.clap.specs.Words.{Text, Kinds, IsAmong, takes, subcommand_of}
+use Rattle.clap.specs.declared.error.kind.ErrorKind.TheVariants.{DisplayVersion}
 use Rattle.ym_file.specs.declared.plan.Shape.{Shape}
 use Rattle.ym_file.specs.declared.plan.Shape.TheVariants.{Mixed, Short}
 use Rattle.ym_machine.specs.declared.confirm.Confirm.{Confirm}
@@ -12,7 +13,7 @@ use Rattle.ym_words.specs.Command.{the_app}
 use Rattle.ym_words.specs.Job.{Asked, asked}
 use Rattle.ym_words.specs.Job as job
 use Rattle.ymodem.specs.Page.{Page, TellsFault}
-use Rattle.ymodem.specs.Receiving.{ReceiveGives}
+use Rattle.ymodem.specs.Receiving.{ReceivesSo}
 use Rattle.ymodem.specs.Sending.{SendGives}
 use Rattle.ymodem.specs.Status.{IsHostFault}
 use Rattle.ymodem.specs.declared.command_fault.CommandFault.{CommandFault}
@@ -76,12 +77,20 @@ abbrev pub confirm_of : Bool → Confirm
 confirm_of true = Once
 confirm_of false = Twice
 
+-- no byte of the script was read
+pub record ReadsNothing (old new : Desk) : Type 0 where
+  pub text : new.text ≡ old.text
+  pub reads : new.reads_failed ≡ old.reads_failed
+
+abbrev pub LoopGives : Desk → Result ℕ CommandFault → Desk → Type 0
+LoopGives old answer new = IsNotLooped old answer new ⊎ ((status : ℕ) × (answer ≡ Ok status) × IsSession None old status new)
+
 -- What a job answers, and what it leaves: a status, or a fault that is still to be told. A session tells its own.
 abbrev pub JobGives : Asked → Desk → Result ℕ CommandFault → Desk → Type 0
 JobGives job.Play old answer new = (status : ℕ) × (answer ≡ Ok status) × IsSession (Some []) old status new
-JobGives (job.Loop port) old answer new = IsNotLooped old answer new ⊎ ((status : ℕ) × (answer ≡ Ok status) × IsSession None old status new)
-JobGives (job.Send port short files) old answer new = SendGives (shape_of short) files old.out answer new.out × OnlyPrints old new
-JobGives (job.Receive port flags dir) old answer new = ReceiveGives (confirm_of flags.single) old.out answer new.out × OnlyPrints old new
+JobGives (job.Loop port tell) old answer new = LoopGives old answer new
+JobGives (job.Send port short files tell) old answer new = SendGives (shape_of short) files old.out answer new.out × OnlyPrints old new
+JobGives (job.Receive port flags dir tell) old answer new = ReceivesSo flags.keep (confirm_of flags.single) old.out old.err answer new.out new.err × ReadsNothing old new
 
 -- the line of a fault was written to err, and nothing else was done
 pub record OnlyTells (why : CommandFault) (old : Desk) (status : ℕ) (new : Desk) : Type 0 where
@@ -102,9 +111,20 @@ pub record Does (asked : Asked) (old : Desk) (status : ℕ) (new : Desk) : Type 
   pub gives : JobGives asked old answer between
   pub answers : Answers answer between status new
 
+-- the version was written to out and nothing else was done, or out failed
+pub record TellsVersion (old : Desk) (status : ℕ) (new : Desk) : Type 0 where
+  pub told : ((status ≡ 0) × (new.out.failed ≡ old.out.failed)) ⊎ (status ≡ 3)
+  pub text : new.text ≡ old.text
+  pub reads : new.reads_failed ≡ old.reads_failed
+  pub err : new.err ≡ old.err
+
 -- the text of refused words was written to err and nothing else was done, or err failed
 pub record IsRefused (old : Desk) (status : ℕ) (new : Desk) : Type 0 where
   pub told : ((status ≡ 2) × (new.err.failed ≡ old.err.failed)) ⊎ (status ≡ 3)
   pub text : new.text ≡ old.text
   pub reads : new.reads_failed ≡ old.reads_failed
   pub out : new.out ≡ old.out
+
+-- words that are no job: they are refused, unless they ask for the version
+abbrev pub IsNoJob : Kinds → Desk → ℕ → Desk → Type 0
+IsNoJob kinds old status new = IsRefused old status new ⊎ (IsAmong DisplayVersion kinds × TellsVersion old status new)

@@ -1,5 +1,5 @@
 -- What `receive` prints and answers.
-use Rattle.std.specs.Prelude.{◌≡◌, ◌≢◌, ◌⊎◌, ℕ, true, is_ok, List, Result, Ok, Err, None}
+use Rattle.std.specs.Prelude.{◌≡◌, ◌≢◌, ◌≤◌, ◌⊎◌, ℕ, Bool, true, false, is_ok, IfOk, List, Result, Ok, Err, None}
 use Rattle.ym_header.specs.Header.{HeaderParts}
 use Rattle.ym_file.specs.Counts.{Rose}
 use Rattle.ym_file.specs.Kept.{Kept, IsNew}
@@ -76,3 +76,8 @@ pub record ReceivesBatch (confirm : Confirm) (out : Page) (answer : Result ℕ C
 
 abbrev pub ReceiveGives : Confirm → Page → Result ℕ CommandFault → Page → Type 0
 ReceiveGives confirm out answer new_out = ReceivesNothing out answer new_out ⊎ ReceivesBatch confirm out answer new_out
+
+-- one connection; or, with --keep, one after another, of which only the status is said
+abbrev pub ReceivesSo : Bool → Confirm → Page → Page → Result ℕ CommandFault → Page → Page → Type 0
+ReceivesSo true confirm out err answer new_out new_err = IfOk answer (λ status. status ≤ 1)
+ReceivesSo false confirm out err answer new_out new_err = ReceiveGives confirm out answer new_out × (new_err ≡ err)

@@ -84,6 +84,14 @@ pub record TellsSender (ended : Result Unit EndFault) (s : SenderParts) (out : P
   pub prints : Prints out (sender_line (done_at (length s.files) s.standing.place) s.standing.state) printed new_out
   pub answer_is : answer ≡ send_gives ended printed s.standing.state
 
+-- a sender ran over some port, and its line is printed
+pub record SendsOn (old new : SenderParts) (out : Page) (answer : Result ℕ CommandFault) (new_out : Page) : Type 0 where
+  pub ended : Result Unit EndFault
+  pub course : (deliveries : List (List ℕ)) × SenderCourse old deliveries new
+  pub memory : ended ≢ Err end.Memory
+  pub over : is_ok ended ≡ true → new.standing.state ≢ state.Running
+  pub tells : TellsSender ended new out answer new_out
+
 -- ---- The command
 
 -- nothing was sent, and nothing is printed
@@ -97,12 +105,8 @@ pub record SendsNothing (paths : List (List ℕ)) (out : Page) (answer : Result 
 pub record SendsBatch (shape : Shape) (paths : List (List ℕ)) (out : Page) (answer : Result ℕ CommandFault) (new_out : Page) : Type 0 where
   pub old : SenderParts
   pub new : SenderParts
-  pub ended : Result Unit EndFault
   pub begins : IsNewSender shape paths old
-  pub course : (deliveries : List (List ℕ)) × SenderCourse old deliveries new
-  pub memory : ended ≢ Err end.Memory
-  pub over : is_ok ended ≡ true → new.standing.state ≢ state.Running
-  pub tells : TellsSender ended new out answer new_out
+  pub on : SendsOn old new out answer new_out
 
 abbrev pub SendGives : Shape → List (List ℕ) → Page → Result ℕ CommandFault → Page → Type 0
 SendGives shape paths out answer new_out = SendsNothing paths out answer new_out ⊎ SendsBatch shape paths out answer new_out

@@ -3,17 +3,20 @@
 #![tactic(auto)]
 
 mod command_fault;
+mod folder;
 mod lines;
 mod looped;
 mod program;
 mod receiving;
 mod sending;
 mod store;
+mod telling;
 
 use program::command;
-use std::io::ErrorKind;
+use std::io::{ErrorKind, IsTerminal};
 use std::process::ExitCode;
 use std::{env, io};
+use ym_show::{Look, ShownOut, Teller};
 
 /// The status where a word is not UTF-8.
 const REFUSED: u8 = 2;
@@ -27,9 +30,36 @@ fn words(rt: &HostRuntime) -> io::Result<Vec<String>> {
     Ok(words)
 }
 
+/// How many characters of a line a terminal shows: one less than it has, so that the cursor stays in the line. The variable COLUMNS says how many it
+/// has, else it counts as 80.
+fn columns(rt: &HostRuntime) -> usize {
+    let told = match env::var(rt, "COLUMNS") {
+        Ok(text) => text.as_str().parse::<usize>().ok(),
+        Err(_) => None,
+    };
+    told.unwrap_or(80).saturating_sub(1)
+}
+
 /// Does what the words ask for. The answer is the status.
 fn run(rt: &HostRuntime) -> u8 {
+    let look = Look {
+        at_err: rt.stderr().is_terminal(),
+        columns: columns(rt),
+    };
+    let mut teller = Teller::new(rt.stderr(), look);
     match words(rt) {
+        Ok(words) if rt.stdout().is_terminal() => {
+            let mut out = ShownOut::new(rt.alloc(), rt.stdout());
+            command(
+                rt,
+                rt.alloc(),
+                words,
+                &mut rt.stdin(),
+                &mut out,
+                &mut rt.stderr(),
+                &mut teller,
+            )
+        }
         Ok(words) => command(
             rt,
             rt.alloc(),
@@ -37,6 +67,7 @@ fn run(rt: &HostRuntime) -> u8 {
             &mut rt.stdin(),
             &mut rt.stdout(),
             &mut rt.stderr(),
+            &mut teller,
         ),
         Err(error) if error.kind() == ErrorKind::InvalidData => {
             let _ = rt.eprintln("error: a word is not UTF-8");

@@ -5,21 +5,24 @@ ghost use Rattle.clap.specs.Words.{fault_of};
 ghost use Rattle.ym_words.specs.Command.{the_app};
 ghost use Rattle.ym_words.specs.Job.{Asked, Play, asked_of};
 ghost use Rattle.ymodem.specs.Page.{TellsFault};
-ghost use Rattle.ymodem.specs.Program.{AsksFor, IsPlayed, JobGives, shape_of, OnlyTells, Does, IsRefused};
+ghost use Rattle.ymodem.specs.Program.{AsksFor, IsPlayed, JobGives, shape_of, OnlyTells, Does, IsNoJob};
 
 use crate::command_fault::CommandFault;
 use crate::looped::looped_session;
-use crate::receiving::receive;
+use crate::receiving::{Order, receive_as_asked};
 use crate::sending::send;
+use clap::error::ErrorKind;
 use std::alloc::Global;
 use std::fmt::Display;
 use std::fs::{File, Files};
+use std::io::Write;
 use std::net::{Net, TcpListener, TcpStream};
 use std::time::Clock;
 use ym_file::Shape;
 use ym_line::Direct;
 use ym_play::{Input, Output, StreamFault, session_over};
-use ym_words::{Job, JobFault, job_of};
+use ym_show::Teller;
+use ym_words::{Job, JobFault, TellFlags, job_of};
 
 /// The status after refused words.
 const REFUSED: u8 = 2;
@@ -33,6 +36,16 @@ fn tell_words<E: Output, D: Display + Drop>(err: &mut E, text: D) -> u8
 {
     match err.put_text(text) {
         Ok(()) => REFUSED,
+        Err(StreamFault) => FAILED,
+    }
+}
+
+/// Writes the version. The answer is 0, or the status of a failed device where it could not be written.
+fn tell_version<O: Output, D: Display + Drop>(out: &mut O, text: D) -> u8
+    ensures { ((result ≡ 0) × (O.failures out.new ≡ O.failures out.old)) ⊎ (result ≡ 3) }
+{
+    match out.put_text(text) {
+        Ok(()) => 0,
         Err(StreamFault) => FAILED,
     }
 }
@@ -67,49 +80,84 @@ fn shape_of(is_short: bool) -> Shape
     if is_short { Shape::Short } else { Shape::Mixed }
 }
 
+/// How much is told, by the flags of a job.
+fn tell_flags(job: &Job<'_>) -> TellFlags {
+    match job {
+        Job::Play => TellFlags {
+            verbose: false,
+            quiet: false,
+        },
+        Job::Loop { tell, .. } | Job::Send { tell, .. } | Job::Receive { tell, .. } => *tell,
+    }
+}
+
 /// Does a job. The answer is the status, unless it ends in a fault that is still to be told.
-fn do_job<R, I, O, E>(
+fn do_job<R, I, O, E, T>(
     rt: &R,
     alloc: Global,
     job: Job<'_>,
     input: &mut I,
     out: &mut O,
     err: &mut E,
+    teller: &mut Teller<T>,
 ) -> Result<u8, CommandFault>
 where
     R: Files<File = File> + Net<Listener = TcpListener, Stream = TcpStream> + Clock,
     I: Input,
     O: Output,
     E: Output,
+    T: Write + Drop,
     ensures { JobGives (asked_of job.entry) (record { text = I.remaining input.old; reads_failed = I.failures input.old; out = record { holds = O.contents out.old; failed = O.failures out.old }; err = record { holds = E.contents err.old; failed = E.failures err.old } }) result (record { text = I.remaining input.new; reads_failed = I.failures input.new; out = record { holds = O.contents out.new; failed = O.failures out.new }; err = record { holds = E.contents err.new; failed = E.failures err.new } }) }
 {
     match job {
         Job::Play => Ok(play(alloc, input, out, err)),
-        Job::Loop { port } => looped_session(rt, alloc, port, input, out, err),
-        Job::Send { port, short, files } => {
-            send(rt, alloc, port, shape_of(short), files.as_slice(), out)
+        Job::Loop { port, .. } => looped_session(rt, alloc, port, input, out, err, teller),
+        Job::Send {
+            port,
+            short,
+            files,
+            ..
+        } => send(
+            rt,
+            alloc,
+            port,
+            shape_of(short),
+            files.as_slice(),
+            out,
+            teller,
+        ),
+        Job::Receive {
+            port,
+            flags,
+            dir,
+            ..
+        } => {
+            let order = Order { flags, dir };
+            receive_as_asked(rt, alloc, port, order, out, err, teller)
         }
-        Job::Receive { port, flags, dir } => receive(rt, alloc, port, flags, dir, out),
     }
 }
 
 /// Does what the words ask for, of which the first is the program's name, and answers the status of the program: 0 where both ends have finished
 /// (of `send` and `receive` its own end), 1 where it ended otherwise, 2 where the words, the script, a name, a length or the number of files is
 /// refused or help was asked for, and 3 where a device failed, the connection was closed or memory ran out. What ends in a fault prints one line
-/// that tells it to `err`, and words that are refused the text that says how they are written.
-pub fn command<R, I, O, E>(
+/// that tells it to `err`, and words that are refused the text that says how they are written. The version goes to `out`, with status 0. To somebody who
+/// looks `teller` tells besides what is done and why it failed.
+pub fn command<R, I, O, E, T>(
     rt: &R,
     alloc: Global,
     words: Vec<String>,
     input: &mut I,
     out: &mut O,
     err: &mut E,
+    teller: &mut Teller<T>,
 ) -> u8
 where
     R: Files<File = File> + Net<Listener = TcpListener, Stream = TcpStream> + Clock,
     I: Input,
     O: Output,
     E: Output,
+    T: Write + Drop,
     // The job that the words ask for, unless there was no memory to read the words.
     ensures does { (job : Asked) → AsksFor (map string_bytes words.items) (Some job)
         → Does job (record { text = I.remaining input.old; reads_failed = I.failures input.old; out = record { holds = O.contents out.old; failed = O.failures out.old }; err = record { holds = E.contents err.old; failed = E.failures err.old } }) result (record { text = I.remaining input.new; reads_failed = I.failures input.new; out = record { holds = O.contents out.new; failed = O.failures out.new }; err = record { holds = E.contents err.new; failed = E.failures err.new } })
@@ -120,7 +168,7 @@ where
         ⊎ OnlyTells CommandFault.Memory (record { text = I.remaining input.old; reads_failed = I.failures input.old; out = record { holds = O.contents out.old; failed = O.failures out.old }; err = record { holds = E.contents err.old; failed = E.failures err.old } }) result (record { text = I.remaining input.new; reads_failed = I.failures input.new; out = record { holds = O.contents out.new; failed = O.failures out.new }; err = record { holds = E.contents err.new; failed = E.failures err.new } }) }
     // Words in which clap's rule finds a fault; one of help is such a fault too.
     ensures words { fault_of the_app (map string_bytes words.items) ≢ []
-        → IsRefused (record { text = I.remaining input.old; reads_failed = I.failures input.old; out = record { holds = O.contents out.old; failed = O.failures out.old }; err = record { holds = E.contents err.old; failed = E.failures err.old } }) result (record { text = I.remaining input.new; reads_failed = I.failures input.new; out = record { holds = O.contents out.new; failed = O.failures out.new }; err = record { holds = E.contents err.new; failed = E.failures err.new } }) }
+        → IsNoJob (fault_of the_app (map string_bytes words.items)) (record { text = I.remaining input.old; reads_failed = I.failures input.old; out = record { holds = O.contents out.old; failed = O.failures out.old }; err = record { holds = E.contents err.old; failed = E.failures err.old } }) result (record { text = I.remaining input.new; reads_failed = I.failures input.new; out = record { holds = O.contents out.new; failed = O.failures out.new }; err = record { holds = E.contents err.new; failed = E.failures err.new } }) }
     // Where no read and no write fails: a session that meets one has status 3.
     ensures plays { AsksFor (map string_bytes words.items) (Some Asked.Play) → (text before wrong : List ℕ) → I.remaining input.old ≡ Some text
         → O.contents out.old ≡ Some before → E.contents err.old ≡ Some wrong → result ≢ 3
@@ -129,10 +177,17 @@ where
     ensures status { result ≤ 3 }
 {
     match job_of(alloc, words.as_slice()) {
-        Ok(job) => match do_job(rt, alloc, job, input, out, err) {
-            Ok(status) => status,
-            Err(fault) => tell_fault(err, fault),
-        },
+        Ok(job) => {
+            let TellFlags { verbose, quiet } = tell_flags(&job);
+            teller.heed(verbose, quiet);
+            match do_job(rt, alloc, job, input, out, err, teller) {
+                Ok(status) => status,
+                Err(fault) => tell_fault(err, fault),
+            }
+        }
+        Err(JobFault::Words(error)) if error.kind() == ErrorKind::DisplayVersion => {
+            tell_version(out, error)
+        }
         Err(JobFault::Words(error)) => tell_words(err, error),
         Err(JobFault::Value) => tell_fault(err, CommandFault::Port),
         Err(JobFault::Memory) => tell_fault(err, CommandFault::Memory),

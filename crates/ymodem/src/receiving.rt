@@ -1,6 +1,6 @@
 //! `receive`: files, from whoever connects first.
 
-ghost use Rattle.std.specs.Prelude.{◌≡◌, ◌≢◌, ℕ, Result, OnOk, OnErr, IfOk};
+ghost use Rattle.std.specs.Prelude.{◌≡◌, ◌≢◌, ◌≤◌, ℕ, Result, OnOk, OnErr, IfOk};
 ghost use Rattle.std.specs.Io.KnownBytes.{Appends};
 ghost use Rattle.ym_file.specs.Counts.{Rose};
 ghost use Rattle.ym_file.specs.Kept.{IsNew};
@@ -11,15 +11,19 @@ ghost use Rattle.ym_link.specs.declared.end_fault.EndFault.{EndFault as Why};
 ghost use Rattle.ymodem.specs.Lines.{file_lines, receiver_lines};
 ghost use Rattle.ymodem.specs.Page.{Prints};
 ghost use Rattle.ymodem.specs.Program.{confirm_of};
-ghost use Rattle.ymodem.specs.Receiving.{ReceiverRuns, Closes, TellsReceiver, ReceiveGives, receive_gives};
+ghost use Rattle.ymodem.specs.Receiving.{ReceiverRuns, Closes, TellsReceiver, ReceiveGives, ReceivesSo, receive_gives};
 ghost use Rattle.ymodem.specs.Status.{receive_answer};
 
 use crate::command_fault::CommandFault;
+use crate::folder::{check_folder, tell_not_stored};
 use crate::lines::{FileLine, ReceiverLine};
 use crate::store::Store;
+use crate::telling::tell_end;
 use std::alloc::{AllocError, Global};
+use std::cell::Cell;
 use std::fs::{File, Files};
 use std::io;
+use std::io::Write;
 use std::net::{Ipv4Addr, Net, SocketAddr, TcpListener, TcpStream};
 use std::time::Clock;
 use ym_file::SinkFault;
@@ -27,6 +31,10 @@ use ym_header::Header;
 use ym_host::{DirSink, Durability, Leftover, SocketPort};
 use ym_link::{Clearing, Confirm, EndFault, Port, ReceiverInto, RecvState, Role, receive_over};
 use ym_play::{Output, StreamFault};
+use ym_show::{
+    Eager, EndMessage, FileMessage, LastFile, LineMessage, Meter, Reason, Replies, StoreWatch,
+    Teller, Watched, WatchedPort,
+};
 use ym_words::ReceiveFlags;
 
 /// How many milliseconds a receiver waits for a frame.
@@ -35,13 +43,27 @@ const REPLY_MS: u32 = 3000;
 /// How many milliseconds it waits for more of a frame that has begun.
 const WITHIN_MS: u32 = 1000;
 
-/// The first connection to 127.0.0.1 at this port. It waits for it as long as it takes.
-fn accept_one<R: Net<Listener = TcpListener, Stream = TcpStream>>(
+/// Listens on 127.0.0.1 at this port.
+fn listen<R: Net<Listener = TcpListener, Stream = TcpStream>, E: Write + Drop>(
     rt: &R,
     port: u16,
+    teller: &mut Teller<E>,
+) -> io::Result<TcpListener> {
+    let bound = TcpListener::bind(rt, SocketAddr::from((Ipv4Addr::LOCALHOST, port)));
+    match &bound {
+        Ok(_) => teller.tell(LineMessage::Listening(port)),
+        Err(error) => teller.tell(LineMessage::of_error(port, error)),
+    }
+    bound
+}
+
+/// The next connection. It waits for it as long as it takes.
+fn accept<E: Write + Drop>(
+    listener: &TcpListener,
+    teller: &mut Teller<E>,
 ) -> io::Result<TcpStream> {
-    let address = SocketAddr::from((Ipv4Addr::LOCALHOST, port));
-    let (stream, _) = TcpListener::bind(rt, address)?.accept()?;
+    let (stream, _) = listener.accept()?;
+    teller.tell(LineMessage::Connected);
     Ok(stream)
 }
 
@@ -124,44 +146,202 @@ fn confirm_of(is_single: bool) -> Confirm
 }
 
 /// Runs a receiver over a port, lets its sink go of what is open, also after a fault, and prints the files that were committed and how the
-/// receiver has ended. The sink comes back, with its status: 0 where the receiver has finished.
+/// receiver has ended. The sink comes back, with how the receiver has ended, and its status: 0 where it has finished.
 pub fn receive_batch<P: Port, K: Store + Drop, O: Output>(
     port: &mut P,
     mut receiver: ReceiverInto<K>,
     out: &mut O,
-) -> (K, Result<u8, CommandFault>)
+) -> (K, RecvState, Result<u8, CommandFault>)
     ensures { (r : ReceiverParts) × (ended : Result Unit Why) × (closed : Result Unit Shut)
         × ReceiverRuns (P.tells port.old) (P.tells port.new) receiver (P.failures port.old) (P.failures port.new) ended r
         × Closes r.kept r.failures closed (K.kept result.0) (K.failures result.0)
-        × TellsReceiver ended closed r (record { holds = O.contents out.old; failed = O.failures out.old }) result.1 (record { holds = O.contents out.new; failed = O.failures out.new }) }
+        × (result.1 ≡ r.receiver.state)
+        × TellsReceiver ended closed r (record { holds = O.contents out.old; failed = O.failures out.old }) result.2 (record { holds = O.contents out.new; failed = O.failures out.new }) }
 {
     let ended = receive_over(port, &mut receiver);
     let state = receiver.state();
     let mut sink = receiver.into_sink();
     let closed = sink.close();
     let printed = print(out, sink.headers(), state);
-    (sink, answer_of(ended, closed, printed, state))
+    (sink, state, answer_of(ended, closed, printed, state))
+}
+
+/// Sees that files can be stored in the folder at this path, or tells why not.
+fn look_at<R: Files<File = File>, E: Write + Drop>(
+    rt: &R,
+    alloc: Global,
+    dir: &str,
+    teller: &mut Teller<E>,
+) -> io::Result<()> {
+    let looked = check_folder(rt, alloc, dir);
+    if let Err(error) = &looked {
+        teller.tell(FileMessage::CannotStoreIn(dir, Reason::of(error)));
+    }
+    looked
+}
+
+/// What a receiver is asked for, and where.
+#[derive(Clone, Copy)]
+pub struct Order<'a> {
+    /// How it answers and stores.
+    pub flags: ReceiveFlags,
+    /// The folder that it stores in.
+    pub dir: &'a str,
+}
+
+/// Receives files over a port into a new sink, with how far each file is shown, and why one was not stored and why the receiver has ended told.
+fn receive_shown<'a, P, R, O, E>(
+    rt: &'a R,
+    alloc: Global,
+    port: P,
+    sink: DirSink<&'a R>,
+    order: Order<'_>,
+    out: &mut O,
+    teller: &mut Teller<E>,
+) -> Result<u8, CommandFault>
+where
+    P: Port + Drop,
+    R: Files<File = File> + Clock,
+    O: Output,
+    E: Write + Drop,
+    requires { IsNew (kept_of sink) }
+    ensures { ReceiveGives (confirm_of order.entry.flags.single) (record { holds = O.contents out.old; failed = O.failures out.old }) result (record { holds = O.contents out.new; failed = O.failures out.new }) }
+{
+    let replies = Cell::new(0);
+    let besides = if order.flags.single { 1 } else { 2 };
+    let meter = Meter::new(alloc, rt, teller);
+    let watch = StoreWatch::new(alloc, meter, &replies, besides);
+    let watched = Watched { sink, watch };
+    let receiver = ReceiverInto::with_sink(alloc, watched, confirm_of(order.flags.single));
+    let watch = Replies { count: &replies };
+    let mut port = WatchedPort { port, watch };
+    let (watched, state, answer) = receive_batch(&mut port, receiver, out);
+    let Watched { sink: _sink, watch } = watched;
+    let last = watch.into_last();
+    tell_outcome(rt, alloc, order, &last, state, &answer, teller);
+    answer
+}
+
+/// Tells why a receiver has ended, and why the last file was not stored.
+fn tell_outcome<R: Files<File = File>, E: Write + Drop>(
+    rt: &R,
+    alloc: Global,
+    order: Order<'_>,
+    last: &LastFile,
+    state: RecvState,
+    answer: &Result<u8, CommandFault>,
+    teller: &mut Teller<E>,
+) {
+    let is_running = state == RecvState::Running;
+    tell_end(teller, answer, is_running, EndMessage::of_receiver(state));
+    if state == RecvState::SinkFailed {
+        tell_not_stored(
+            rt,
+            alloc,
+            order.dir,
+            order.flags.discard_parts,
+            last,
+            teller,
+        );
+    }
+}
+
+/// Receives the files of one connection, and prints them and how the receiver has ended.
+fn receive_from<R, O, E>(
+    rt: &R,
+    alloc: Global,
+    stream: TcpStream,
+    order: Order<'_>,
+    out: &mut O,
+    teller: &mut Teller<E>,
+) -> Result<u8, CommandFault>
+where
+    R: Files<File = File> + Clock,
+    O: Output,
+    E: Write + Drop,
+    ensures { ReceiveGives (confirm_of order.entry.flags.single) (record { holds = O.contents out.old; failed = O.failures out.old }) result (record { holds = O.contents out.new; failed = O.failures out.new }) }
+{
+    let sink = open_sink(rt, alloc, order.flags, order.dir)?;
+    let port = SocketPort::new(rt, stream, REPLY_MS - WITHIN_MS, WITHIN_MS);
+    let mut port = Eager::new(Clearing::new(port, Role::Receiver), order.flags.eager);
+    if teller.is_loud {
+        return receive_shown(rt, alloc, port, sink, order, out, teller);
+    }
+    let receiver = ReceiverInto::with_sink(alloc, sink, confirm_of(order.flags.single));
+    let (_sink, _state, answer) = receive_batch(&mut port, receiver, out);
+    answer
 }
 
 /// Receives files into a folder from whoever connects first to 127.0.0.1 at this port, and prints them and how the receiver has ended.
-pub fn receive<R, O>(
+pub fn receive<R, O, E>(
     rt: &R,
     alloc: Global,
     port: u16,
-    flags: ReceiveFlags,
-    dir: &str,
+    order: Order<'_>,
     out: &mut O,
+    teller: &mut Teller<E>,
 ) -> Result<u8, CommandFault>
 where
     R: Files<File = File> + Net<Listener = TcpListener, Stream = TcpStream> + Clock,
     O: Output,
-    ensures { ReceiveGives (confirm_of flags.single) (record { holds = O.contents out.old; failed = O.failures out.old }) result (record { holds = O.contents out.new; failed = O.failures out.new }) }
+    E: Write + Drop,
+    ensures { ReceiveGives (confirm_of order.entry.flags.single) (record { holds = O.contents out.old; failed = O.failures out.old }) result (record { holds = O.contents out.new; failed = O.failures out.new }) }
 {
-    let sink = open_sink(rt, alloc, flags, dir)?;
-    let receiver = ReceiverInto::with_sink(alloc, sink, confirm_of(flags.single));
-    let stream = accept_one(rt, port)?;
-    let port = SocketPort::new(rt, stream, REPLY_MS - WITHIN_MS, WITHIN_MS);
-    let mut port = Clearing::new(port, Role::Receiver);
-    let (_sink, answer) = receive_batch(&mut port, receiver, out);
-    answer
+    look_at(rt, alloc, order.dir, teller)?;
+    let listener = listen(rt, port, teller)?;
+    let stream = accept(&listener, teller)?;
+    receive_from(rt, alloc, stream, order, out, teller)
+}
+
+/// Receives files into a folder from one connection after another, and prints them and how each receiver has ended, also where it ended in a fault,
+/// whose line goes to `err`. It ends where no connection can be taken any more.
+pub fn receive_on<R, O, F, E>(
+    rt: &R,
+    alloc: Global,
+    port: u16,
+    order: Order<'_>,
+    out: &mut O,
+    err: &mut F,
+    teller: &mut Teller<E>,
+) -> Result<u8, CommandFault>
+where
+    R: Files<File = File> + Net<Listener = TcpListener, Stream = TcpStream> + Clock,
+    O: Output,
+    F: Output,
+    E: Write + Drop,
+    ensures { IfOk result (λ status. status ≤ 1) }
+{
+    look_at(rt, alloc, order.dir, teller)?;
+    let listener = listen(rt, port, teller)?;
+    for _session in 0..u64::MAX {
+        let stream = accept(&listener, teller)?;
+        if let Err(fault) = receive_from(rt, alloc, stream, order, out, teller) {
+            err.put_line(fault)?;
+        }
+    }
+    Ok(0)
+}
+
+/// Receives as the flag `--keep` says: from one connection, or from one after another.
+pub fn receive_as_asked<R, O, F, E>(
+    rt: &R,
+    alloc: Global,
+    port: u16,
+    order: Order<'_>,
+    out: &mut O,
+    err: &mut F,
+    teller: &mut Teller<E>,
+) -> Result<u8, CommandFault>
+where
+    R: Files<File = File> + Net<Listener = TcpListener, Stream = TcpStream> + Clock,
+    O: Output,
+    F: Output,
+    E: Write + Drop,
+    ensures { ReceivesSo order.entry.flags.keep (confirm_of order.entry.flags.single) (record { holds = O.contents out.old; failed = O.failures out.old }) (record { holds = F.contents err.old; failed = F.failures err.old }) result (record { holds = O.contents out.new; failed = O.failures out.new }) (record { holds = F.contents err.new; failed = F.failures err.new }) }
+{
+    if order.flags.keep {
+        receive_on(rt, alloc, port, order, out, err, teller)
+    } else {
+        receive(rt, alloc, port, order, out, teller)
+    }
 }

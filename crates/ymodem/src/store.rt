@@ -7,6 +7,7 @@ use std::fs::{File, Files};
 use ym_file::{Sink, SinkFault};
 use ym_header::Header;
 use ym_host::DirSink;
+use ym_show::{SinkWatch, Watched};
 
 /// A sink whose files have names, and which can be closed.
 pub trait Store: Sink {
@@ -26,5 +27,15 @@ impl<R: Files<File = File> + Drop> Store for DirSink<R> {
 
     fn close(&mut self) -> Result<(), SinkFault> {
         DirSink::close(self)
+    }
+}
+
+impl<K: Store + Drop, V: SinkWatch + Drop> Store for Watched<K, V> {
+    fn headers(&self) -> &[Header] {
+        self.sink.headers()
+    }
+
+    fn close(&mut self) -> Result<(), SinkFault> {
+        self.sink.close()
     }
 }

@@ -3,6 +3,7 @@
 use crate::program::command;
 use std::fmt::Write;
 use std::test::Fail;
+use ym_show::{Look, Teller};
 
 /// What a command did.
 #[derive(Drop)]
@@ -10,6 +11,8 @@ pub(super) struct Ending {
     pub(super) status: u8,
     pub(super) out: Vec<u8>,
     pub(super) err: Vec<u8>,
+    /// What was told besides.
+    pub(super) told: Vec<u8>,
 }
 
 /// Runs the words of a line, on this input.
@@ -22,8 +25,27 @@ pub(super) fn ran(rt: &HostRuntime, line: &str, input: &[u8]) -> Result<Ending, 
     let mut input = input;
     let mut out = Vec::new(alloc);
     let mut err = Vec::new(alloc);
-    let status = command(rt, alloc, words, &mut input, &mut out, &mut err);
-    Ok(Ending { status, out, err })
+    let look = Look {
+        at_err: false,
+        columns: 80,
+    };
+    let mut teller = Teller::new(Vec::new(alloc), look);
+    let status = command(
+        rt,
+        alloc,
+        words,
+        &mut input,
+        &mut out,
+        &mut err,
+        &mut teller,
+    );
+    let told = teller.err;
+    Ok(Ending {
+        status,
+        out,
+        err,
+        told,
+    })
 }
 
 /// Whether a command of this line, on this input, ends with this status and these texts.

@@ -1,6 +1,6 @@
 //! What the commands print.
 
-use super::fixtures::{ends, with_file};
+use super::fixtures::{ends, ran, with_file};
 use crate::command_fault::CommandFault;
 use crate::lines::{FileLine, ReceiverLine, SenderLine};
 use std::net::TcpListener;
@@ -113,6 +113,27 @@ fn files_that_cannot_be_sent(rt: HostRuntime) -> Result<(), Fail> {
     let line = format!(in rt.alloc(); "ymodem send --port {port} {name} /nowhere/a.txt")?;
     assert!(rt; ends(&rt, line.as_str(), b"", 2, "", "fault: name\n")?);
     fs::remove_file(&rt, &path)?;
+    Ok(())
+}
+
+/// What is told besides the fault line, to somebody who asks for it.
+#[test]
+fn told_besides(rt: HostRuntime) -> Result<(), Fail> {
+    let port = free_port(&rt)?;
+    for (words, want) in [
+        (
+            "--verbose /nowhere/a.txt",
+            "cannot open '/nowhere/a.txt': no such file or directory\n",
+        ),
+        ("/nowhere/a.txt", ""),
+        ("--verbose --quiet /nowhere/a.txt", ""),
+    ] {
+        let line = format!(in rt.alloc(); "ymodem send --port {port} {words}")?;
+        let ran = ran(&rt, line.as_str(), b"")?;
+        assert_eq!(rt; ran.status, 3, "{line}");
+        assert_eq!(rt; ran.told.as_slice(), want.as_bytes(), "{line}");
+        assert_eq!(rt; ran.err.as_slice(), b"fault: device\n".as_slice(), "{line}");
+    }
     Ok(())
 }
 

@@ -5,6 +5,7 @@ use crate::program::command;
 use std::io;
 use std::io::{ErrorKind, Write};
 use std::test::Fail;
+use ym_show::{Look, Teller};
 
 /// What a test answers whose command met want of memory.
 const WANT: &str = "want of memory";
@@ -56,7 +57,12 @@ fn run(rt: &HostRuntime, words: &[&str], input: &[u8], status: u8, line: &str) -
     let mut input = input;
     let mut out = Page::new();
     let mut err = Page::new();
-    let ended = command(rt, alloc, list, &mut input, &mut out, &mut err);
+    let look = Look {
+        at_err: false,
+        columns: 80,
+    };
+    let mut teller = Teller::new(Page::new(), look);
+    let ended = command(rt, alloc, list, &mut input, &mut out, &mut err, &mut teller);
     if ended == status && err.text() == line.as_bytes() {
         return Ok(());
     }

@@ -60,3 +60,15 @@ fn help(rt: HostRuntime) -> Result<(), Fail> {
     }
     Ok(())
 }
+
+/// The version goes to standard output, and the status is 0.
+#[test]
+fn version(rt: HostRuntime) -> Result<(), Fail> {
+    for line in ["ymodem --version", "ymodem -V"] {
+        let ran = ran(&rt, line, b"")?;
+        assert_eq!(rt; ran.status, 0, "{line}");
+        assert!(rt; ran.out.starts_with(b"ymodem "), "{line}");
+        assert!(rt; ran.err.is_empty(), "{line}");
+    }
+    Ok(())
+}

@@ -11,5 +11,6 @@ returns g c =
       c.close-closed.result,
       record { told = ran.told; course = (ran.course.0, ran.course.1); device = ran.device; over = ran.ended },
       closed,
+      c.state-state.ensures,
       tells_receiver _ _ _ (g.K.Sink.kept c.close-closed.new.self) _ _ _ _ _ _ c.headers.ensures closed.headers c.state-state.ensures c.print-printed.ensures c.answer_of.ensures,
     )

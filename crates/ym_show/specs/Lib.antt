@@ -1,0 +1,4 @@
+pub mod Eager
+pub mod Messages
+pub mod Progress
+pub mod Reasons

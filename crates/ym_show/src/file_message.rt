@@ -1,0 +1,75 @@
+//! What is told of files.
+
+use crate::reason::Reason;
+use crate::shown::Shown;
+use std::fmt;
+use ym_header::HeaderFault;
+
+/// Why a file is not sent or not stored. Its `Display` is the line that tells it, without its end; names in it are made safe for a terminal.
+#[derive(Clone, Copy, Debug, PartialEq, Eq)]
+pub enum FileMessage<'a> {
+    /// The file at this path cannot be opened.
+    CannotOpen(&'a str, Reason),
+    /// The name or the length of the file at this path cannot stand in block 0.
+    CannotSend(&'a str, HeaderFault),
+    /// Nothing can be stored in the folder at this path.
+    CannotStoreIn(&'a str, Reason),
+    /// A file of this name is there already.
+    IsThere(&'a str),
+    /// This name has a part, the second text, that an earlier run left.
+    PartIsLeft(&'a str, &'a str),
+    /// This name has a part, the second text, that may not be removed.
+    PartIsInUse(&'a str, &'a str),
+    /// The file of this name could not be stored.
+    CannotStore(&'a str, Reason),
+}
+
+/// Why a file cannot be sent.
+fn write_refused<W: fmt::Write>(
+    f: &mut fmt::Formatter<W>,
+    path: &str,
+    fault: HeaderFault,
+) -> fmt::Result {
+    let path = Shown(path);
+    write!(f, "cannot send '{path}': {fault}")
+}
+
+impl fmt::Display for FileMessage<'_> {
+    fn fmt<W: fmt::Write>(&self, f: &mut fmt::Formatter<W>) -> fmt::Result {
+        match *self {
+            FileMessage::CannotOpen(path, why) => {
+                let path = Shown(path);
+                write!(f, "cannot open '{path}': {why}")
+            }
+            FileMessage::CannotSend(path, fault) => write_refused(f, path, fault),
+            FileMessage::CannotStoreIn(path, why) => {
+                let path = Shown(path);
+                write!(f, "cannot store in '{path}': {why}")
+            }
+            FileMessage::IsThere(name) => {
+                let name = Shown(name);
+                write!(f, "cannot store '{name}': it is there already")
+            }
+            FileMessage::PartIsLeft(name, part) => {
+                let name = Shown(name);
+                let part = Shown(part);
+                write!(
+                    f,
+                    "cannot store '{name}': '{part}' is left from an earlier run; --discard-parts removes such parts"
+                )
+            }
+            FileMessage::PartIsInUse(name, part) => {
+                let name = Shown(name);
+                let part = Shown(part);
+                write!(
+                    f,
+                    "cannot store '{name}': '{part}' is in use, or is no part"
+                )
+            }
+            FileMessage::CannotStore(name, why) => {
+                let name = Shown(name);
+                write!(f, "cannot store '{name}': {why}")
+            }
+        }
+    }
+}

@@ -1,0 +1,185 @@
+//! How far a file is, in words.
+
+ghost use Rattle.std.specs.Prelude.{◌≡◌, Some};
+ghost use Rattle.ym_show.specs.Progress.{rate_of, rate_text, repeats_text, left_text, percent_of, left_of, progress_text, took_text};
+
+use crate::shown::Shown;
+use std::alloc::{AllocError, Global};
+use std::fmt;
+
+/// How far a file is.
+#[derive(Clone, Copy, Debug, PartialEq, Eq)]
+pub struct Progress {
+    /// Bytes that the other end has.
+    pub done: u64,
+    /// Bytes of the file.
+    pub length: u64,
+    /// Bytes a second, of late.
+    pub rate: u64,
+    /// Blocks that were repeated.
+    pub repeats: u64,
+}
+
+/// So many bytes a second.
+#[derive(Clone, Copy)]
+struct Rate(u64);
+
+impl fmt::Display for Rate {
+    ghost output = { λ rate. Some (rate_text rate.0) };
+
+    fn fmt<W: fmt::Write>(&self, f: &mut fmt::Formatter<W>) -> fmt::Result {
+        let rate = self.0;
+        if rate < 10_000 {
+            return write!(f, "{rate} B/s");
+        }
+        let thousands = rate / 1000;
+        write!(f, "{thousands} kB/s")
+    }
+}
+
+/// So many blocks were repeated, where any were.
+#[derive(Clone, Copy)]
+struct Repeats(u64);
+
+impl fmt::Display for Repeats {
+    ghost output = { λ repeats. Some (repeats_text repeats.0) };
+
+    fn fmt<W: fmt::Write>(&self, f: &mut fmt::Formatter<W>) -> fmt::Result {
+        let count = self.0;
+        if count == 0 {
+            return Ok(());
+        }
+        write!(f, ", {count} repeated")
+    }
+}
+
+/// So many seconds are left, where that can be told.
+#[derive(Clone, Copy)]
+struct Left(Option<u64>);
+
+impl fmt::Display for Left {
+    ghost output = { λ left. Some (left_text left.0) };
+
+    fn fmt<W: fmt::Write>(&self, f: &mut fmt::Formatter<W>) -> fmt::Result {
+        let Some(left) = self.0 else {
+            return Ok(());
+        };
+        let minutes = left / 60;
+        let tens = left % 60 / 10;
+        let ones = left % 10;
+        write!(f, ", {minutes}:{tens}{ones} left")
+    }
+}
+
+impl Progress {
+    /// How many hundredths of the file are done; all of a file without bytes.
+    fn percent(self) -> u128
+        ensures { result ≡ percent_of self.done self.length }
+    {
+        if self.length == 0 {
+            return 100;
+        }
+        u128::from(self.done.min(self.length)) * 100 / u128::from(self.length)
+    }
+
+    /// How many seconds are left at this rate.
+    fn seconds_left(self) -> Option<u64>
+        ensures { result ≡ left_of self.done self.length self.rate }
+    {
+        if self.rate == 0 {
+            return None;
+        }
+        Some(self.length.saturating_sub(self.done) / self.rate)
+    }
+}
+
+impl fmt::Display for Progress {
+    ghost output = { λ p. Some (progress_text p.done p.length p.rate p.repeats) };
+
+    fn fmt<W: fmt::Write>(&self, f: &mut fmt::Formatter<W>) -> fmt::Result {
+        let percent = self.percent();
+        let Progress { done, length, .. } = *self;
+        let rate = Rate(self.rate);
+        let left = Left(self.seconds_left());
+        let repeats = Repeats(self.repeats);
+        write!(
+            f,
+            "{percent}%, {done} of {length} bytes, {rate}{left}{repeats}"
+        )
+    }
+}
+
+/// The front of a text, of at most so many characters.
+fn front(text: &str, count: usize) -> &str {
+    match text.char_indices().nth(count) {
+        Some((end, _)) => &text[..end],
+        None => text,
+    }
+}
+
+/// The line that tells how far the file of this name is, of at most so many characters: a name that is too long for it is cut.
+pub fn progress_line(
+    alloc: Global,
+    name: &str,
+    progress: Progress,
+    columns: usize,
+) -> Result<String, AllocError> {
+    let told = format!(in alloc; ": {progress}")?;
+    let shown = Shown(name);
+    let shown = format!(in alloc; "{shown}")?;
+    let room = columns.saturating_sub(told.as_str().chars().count());
+    let mut line = String::from_str(alloc, front(shown.as_str(), room))?;
+    line.push_str(front(told.as_str(), columns))?;
+    Ok(line)
+}
+
+/// How long a file took that is whole.
+#[derive(Clone, Copy, Debug, PartialEq, Eq)]
+pub struct Took {
+    /// Its bytes.
+    pub length: u64,
+    /// The milliseconds that it took.
+    pub millis: u64,
+    /// Blocks that were repeated.
+    pub repeats: u64,
+}
+
+impl fmt::Display for Took {
+    ghost output = { λ took. Some (took_text took.length took.millis took.repeats) };
+
+    fn fmt<W: fmt::Write>(&self, f: &mut fmt::Formatter<W>) -> fmt::Result {
+        let length = self.length;
+        let seconds = self.millis / 1000;
+        let tenths = self.millis / 100 % 10;
+        let rate = Rate(rate_of(self.length, self.millis));
+        let repeats = Repeats(self.repeats);
+        write!(f, "{length} bytes in {seconds}.{tenths} s, {rate}{repeats}")
+    }
+}
+
+/// A file that is whole.
+#[derive(Clone, Copy, Debug, PartialEq, Eq)]
+pub struct Whole<'a> {
+    /// Its name.
+    pub name: &'a str,
+    /// How long it took.
+    pub took: Took,
+}
+
+impl fmt::Display for Whole<'_> {
+    fn fmt<W: fmt::Write>(&self, f: &mut fmt::Formatter<W>) -> fmt::Result {
+        let name = Shown(self.name);
+        let took = self.took;
+        write!(f, "{name}: {took}")
+    }
+}
+
+/// How many bytes a second so many bytes in so many milliseconds are; all of them where it took no millisecond.
+pub(crate) fn rate_of(bytes: u64, millis: u64) -> u64
+    ensures { result ≡ rate_of bytes millis }
+{
+    if millis == 0 {
+        return bytes;
+    }
+    bytes.saturating_mul(1000) / millis
+}

@@ -1,0 +1,67 @@
+//! Why the system refused a call.
+
+ghost use Rattle.std.specs.Prelude.{◌≡◌, Some};
+ghost use Rattle.ym_show.specs.Reasons.{reason_text};
+
+use std::io::ErrorKind;
+use std::{fmt, io};
+
+/// Why the system refused a call. Its `Display` is that, in words.
+#[derive(Clone, Copy, Debug, PartialEq, Eq)]
+pub enum Reason {
+    /// Nothing is there.
+    Absent,
+    /// The rights to it are lacking.
+    Denied,
+    /// It is no folder.
+    NoFolder,
+    /// It is a folder, a pipe or a device.
+    NoRegularFile,
+    /// It can only be read.
+    ReadOnly,
+    /// There is no room left.
+    Full,
+    /// Another error of the system, by its number.
+    Number(u32),
+    /// Another one, that has no number.
+    Other,
+}
+
+impl Reason {
+    ghost use Rattle.ym_show.specs.Reasons.{reason_of};
+
+    /// The reason that an error gives.
+    pub fn of(error: &io::Error) -> Reason
+        ensures { result ≡ reason_of error.now }
+    {
+        match error.kind() {
+            ErrorKind::NotFound => Reason::Absent,
+            ErrorKind::PermissionDenied => Reason::Denied,
+            ErrorKind::NotADirectory => Reason::NoFolder,
+            ErrorKind::IsADirectory | ErrorKind::InvalidInput => Reason::NoRegularFile,
+            ErrorKind::ReadOnlyFilesystem => Reason::ReadOnly,
+            ErrorKind::StorageFull | ErrorKind::QuotaExceeded => Reason::Full,
+            _ => match error.raw_os_error() {
+                Some(number) => Reason::Number(number.unsigned_abs()),
+                None => Reason::Other,
+            },
+        }
+    }
+}
+
+impl fmt::Display for Reason {
+    ghost output = { λ why. Some (reason_text why) };
+
+    fn fmt<W: fmt::Write>(&self, f: &mut fmt::Formatter<W>) -> fmt::Result {
+        match *self {
+            Reason::Absent => write!(f, "no such file or directory"),
+            Reason::Denied => write!(f, "permission denied"),
+            Reason::NoFolder => write!(f, "not a directory"),
+            Reason::NoRegularFile => write!(f, "not a regular file"),
+            Reason::ReadOnly => write!(f, "read-only file system"),
+            Reason::Full => write!(f, "no space left on device"),
+            Reason::Number(number) => write!(f, "error {number} of the system"),
+            Reason::Other => write!(f, "the system refused it"),
+        }
+    }
+}

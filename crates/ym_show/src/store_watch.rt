@@ -1,0 +1,116 @@
+//! Who watches the sink of a receiver, and its port.
+
+use crate::meter::Meter;
+use crate::watched::SinkWatch;
+use crate::watched_port::PortWatch;
+use std::alloc::Global;
+use std::cell::Cell;
+use std::io::Write;
+use std::time::Clock;
+use ym_header::Header;
+
+/// Counts what a receiver writes.
+#[derive(Drop)]
+pub struct Replies<'c> {
+    /// How often it has written.
+    pub count: &'c Cell<u64>,
+}
+
+impl PortWatch for Replies<'_> {
+    fn wrote(&mut self, _bytes: &[u8]) {
+        self.count.set(self.count.get().saturating_add(1));
+    }
+}
+
+/// The file that a sink was last given.
+#[derive(Drop)]
+pub struct LastFile {
+    /// Its name, where there was memory for it.
+    pub name: Option<String>,
+    /// Whether the sink opened it.
+    pub is_open: bool,
+}
+
+/// Watches the sink of a receiver, and shows how far its files are.
+#[derive(Drop)]
+pub struct StoreWatch<'t, 'c, E: Write + Drop, C: Clock + Drop> {
+    alloc: Global,
+    meter: Meter<'t, E, C>,
+    replies: &'c Cell<u64>,
+    /// How many replies a file takes besides those to its blocks.
+    besides: u64,
+    /// The file that the sink was last given.
+    last: LastFile,
+    /// How many replies were written before that file, its blocks, and its bytes.
+    before: u64,
+    blocks: u64,
+    done: u64,
+}
+
+impl<'t, 'c, E: Write + Drop, C: Clock + Drop> StoreWatch<'t, 'c, E, C> {
+    /// Nothing has come yet. A file takes so many replies besides those to its blocks.
+    pub fn new(
+        alloc: Global,
+        meter: Meter<'t, E, C>,
+        replies: &'c Cell<u64>,
+        besides: u64,
+    ) -> StoreWatch<'t, 'c, E, C> {
+        StoreWatch {
+            alloc,
+            meter,
+            replies,
+            besides,
+            last: LastFile {
+                name: None,
+                is_open: false,
+            },
+            before: 0,
+            blocks: 0,
+            done: 0,
+        }
+    }
+
+    /// The file that the sink was last given. The showing of it ends.
+    pub fn into_last(mut self) -> LastFile {
+        self.meter.end();
+        self.last
+    }
+
+    /// How many replies were written since the file was begun, besides this many.
+    fn repeats(&self, replies: u64) -> u64 {
+        let written = self.replies.get().saturating_sub(self.before);
+        written.saturating_sub(replies)
+    }
+}
+
+impl<'t, 'c, E: Write + Drop, C: Clock + Drop> SinkWatch for StoreWatch<'t, 'c, E, C> {
+    fn begins(&mut self, header: &Header) {
+        self.last = LastFile {
+            name: String::from_str(self.alloc, header.name()).ok(),
+            is_open: false,
+        };
+        self.before = self.replies.get();
+        self.blocks = 0;
+        self.done = 0;
+        self.meter.begin(header.name(), header.length());
+    }
+
+    fn begun(&mut self) {
+        self.last.is_open = true;
+    }
+
+    fn added(&mut self, count: usize) {
+        self.blocks = self.blocks.saturating_add(1);
+        self.done = self.done.saturating_add(count as u64);
+        let repeats = self.repeats(self.blocks);
+        self.meter.advance(self.done, repeats);
+    }
+
+    fn committed(&mut self) {
+        let replies = self.blocks.saturating_add(self.besides);
+        let repeats = self.repeats(replies);
+        self.meter.finish(repeats);
+    }
+
+    fn refused(&mut self) {}
+}

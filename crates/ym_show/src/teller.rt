@@ -1,0 +1,113 @@
+//! Who is told what the program does.
+
+ghost use Rattle.std.specs.Prelude.{◌≡◌, ◌&&◌, ◌||◌, not, false};
+
+use std::fmt::Display;
+use std::io;
+use std::io::Write;
+
+/// How many milliseconds pass between two showings of a line that is rewritten in place, and of one that is not.
+const LIVE_MS: u64 = 100;
+
+const LINES_MS: u64 = 10_000;
+
+/// Where somebody looks.
+#[derive(Clone, Copy, Debug, PartialEq, Eq)]
+pub struct Look {
+    /// Standard error is a terminal.
+    pub at_err: bool,
+    /// So many characters of a line are shown there.
+    pub columns: usize,
+}
+
+/// Tells lines to somebody who looks at a writer, or nothing.
+#[derive(Drop)]
+pub struct Teller<E: Write + Drop> {
+    /// Where it tells.
+    pub err: E,
+    /// Where somebody looks.
+    pub look: Look,
+    /// Whether it tells anything.
+    pub is_loud: bool,
+    /// How many characters stand in the line that is rewritten in place.
+    pub standing: usize,
+}
+
+impl<E: Write + Drop> Teller<E> {
+    /// One that tells to this writer, where that is a terminal.
+    pub fn new(err: E, look: Look) -> Teller<E>
+        ensures { result ≡ record { err = err; look = look; is_loud = look.at_err; standing = 0 } }
+    {
+        Teller {
+            err,
+            look,
+            is_loud: look.at_err,
+            standing: 0,
+        }
+    }
+
+    /// Does as the flags `--verbose` and `--quiet` say, of which the second one wins.
+    pub fn heed(&mut self, is_verbose: bool, is_quiet: bool)
+        ensures loud { self.new.is_loud ≡ not is_quiet && (self.old.is_loud || is_verbose) }
+        ensures rest { self.new ≡ record self.old { is_loud = self.new.is_loud } }
+    {
+        self.is_loud = !is_quiet && (self.is_loud || is_verbose);
+    }
+
+    /// How many milliseconds pass between two showings of the same file.
+    pub fn pause_ms(&self) -> u64 {
+        if self.look.at_err { LIVE_MS } else { LINES_MS }
+    }
+
+    /// Takes away the line that is rewritten in place.
+    fn clear(&mut self) -> io::Result<()>
+        ensures loud { self.new.is_loud ≡ self.old.is_loud }
+        ensures look { self.new.look ≡ self.old.look }
+    {
+        let width = self.standing;
+        self.standing = 0;
+        if width == 0 {
+            return Ok(());
+        }
+        write!(self.err, "\r{:width$}\r", "")
+    }
+
+    /// Tells a line. Where it cannot be written it is lost: it is no part of what the program is asked to do.
+    pub fn tell<D: Display + Drop>(&mut self, text: D)
+        ensures quiet { self.old.is_loud ≡ false → self.new ≡ self.old }
+        ensures loud { self.new.is_loud ≡ self.old.is_loud }
+        ensures look { self.new.look ≡ self.old.look }
+    {
+        if self.is_loud && self.clear().is_ok() {
+            let _ = writeln!(self.err, "{text}").and_then(|()| self.err.flush());
+        }
+    }
+
+    /// Shows a line in the place of the one that was shown last, on a terminal; elsewhere it tells it.
+    pub fn show(&mut self, line: &str)
+        ensures quiet { self.old.is_loud ≡ false → self.new ≡ self.old }
+        ensures loud { self.new.is_loud ≡ self.old.is_loud }
+        ensures look { self.new.look ≡ self.old.look }
+    {
+        if !self.is_loud {
+            return;
+        }
+        if !self.look.at_err {
+            return self.tell(line);
+        }
+        let width = self.standing;
+        self.standing = line.chars().count();
+        let _ = write!(self.err, "\r{line:width$}").and_then(|()| self.err.flush());
+    }
+
+    /// Ends the showing of a file: what is told next stands in a line of its own.
+    pub fn end(&mut self)
+        ensures quiet { self.old.is_loud ≡ false → self.new ≡ self.old }
+        ensures loud { self.new.is_loud ≡ self.old.is_loud }
+        ensures look { self.new.look ≡ self.old.look }
+    {
+        if self.is_loud {
+            let _ = self.clear().and_then(|()| self.err.flush());
+        }
+    }
+}

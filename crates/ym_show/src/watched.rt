@@ -1,0 +1,67 @@
+//! A sink that is watched.
+
+ghost use Rattle.std.specs.Prelude.{◌≡◌};
+
+use ym_file::{Sink, SinkFault};
+use ym_header::Header;
+
+/// Who watches a sink. What it does changes nothing of the sink.
+pub trait SinkWatch {
+    /// A file of this header is about to be opened.
+    fn begins(&mut self, header: &Header);
+
+    /// It was opened.
+    fn begun(&mut self);
+
+    /// So many bytes were put behind those that the open file took.
+    fn added(&mut self, count: usize);
+
+    /// The open file was committed.
+    fn committed(&mut self);
+
+    /// A call was refused.
+    fn refused(&mut self);
+}
+
+/// A sink, and who watches it. It holds what the sink holds, and fails where that fails.
+#[derive(Drop)]
+pub struct Watched<K: Sink + Drop, V: SinkWatch + Drop> {
+    /// The sink.
+    pub sink: K,
+    /// Who watches it.
+    pub watch: V,
+}
+
+impl<K: Sink + Drop, V: SinkWatch + Drop> Sink for Watched<K, V> {
+    ghost kept = { λ s. K.kept s.sink };
+
+    ghost failures = { λ s. K.failures s.sink };
+
+    fn begin(&mut self, header: Header) -> Result<(), SinkFault> {
+        self.watch.begins(&header);
+        let done = self.sink.begin(header);
+        match done {
+            Ok(()) => self.watch.begun(),
+            Err(_) => self.watch.refused(),
+        }
+        done
+    }
+
+    fn add(&mut self, bytes: &[u8]) -> Result<(), SinkFault> {
+        let done = self.sink.add(bytes);
+        match done {
+            Ok(()) => self.watch.added(bytes.len()),
+            Err(_) => self.watch.refused(),
+        }
+        done
+    }
+
+    fn commit(&mut self) -> Result<(), SinkFault> {
+        let done = self.sink.commit();
+        match done {
+            Ok(()) => self.watch.committed(),
+            Err(_) => self.watch.refused(),
+        }
+        done
+    }
+}

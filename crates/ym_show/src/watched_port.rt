@@ -1,0 +1,40 @@
+//! A port that is watched.
+
+ghost use Rattle.std.specs.Prelude.{◌≡◌};
+
+use ym_link::{Got, Port, PortFault, Wait};
+
+/// Who watches a port. What it does changes nothing of the port.
+pub trait PortWatch {
+    /// These bytes were written.
+    fn wrote(&mut self, bytes: &[u8]);
+}
+
+/// A port, and who watches it. It brings and takes what the port does, and fails where that fails.
+#[derive(Drop)]
+pub struct WatchedPort<P: Port + Drop, V: PortWatch + Drop> {
+    /// The port.
+    pub port: P,
+    /// Who watches it.
+    pub watch: V,
+}
+
+impl<P: Port + Drop, V: PortWatch + Drop> Port for WatchedPort<P, V> {
+    ghost tells = { λ w t. P.tells w.port t };
+
+    ghost asked = { λ w waits. P.asked w.port waits };
+
+    ghost failures = { λ w. P.failures w.port };
+
+    fn read(&mut self, wait: Wait, buf: &mut [u8]) -> Result<Got, PortFault> {
+        self.port.read(wait, buf)
+    }
+
+    fn write(&mut self, bytes: &[u8]) -> Result<(), PortFault> {
+        let done = self.port.write(bytes);
+        if done.is_ok() {
+            self.watch.wrote(bytes);
+        }
+        done
+    }
+}
