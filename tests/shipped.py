@@ -1,5 +1,5 @@
 #!/usr/bin/env python3
-"""Tries what is shipped beside the program: ymodem-tty under a terminal program, the manual pages, the completion, the charts, the packages and
+"""Tries what is shipped beside the program: what it tells, ymodem-tty under a terminal program, the manual pages, the completion, the charts, the packages and
 the Makefile.
 
 Prints a line for each check, and ends with the line 'N passed, M failed, K skipped'; the status is 1 where a check failed. A check that needs a
@@ -23,13 +23,26 @@ import gate_checks
 import make_checks
 import package_checks
 import readme_checks
+import showing_checks
+import starting_checks
 import telling_checks
 import tty_checks
 import words_checks
 from program import PROGRAM
 from skipping import Skipped
 
-BOOKS = (telling_checks, tty_checks, readme_checks, words_checks, chart_checks, make_checks, package_checks, gate_checks)
+BOOKS = (
+    telling_checks,
+    showing_checks,
+    starting_checks,
+    tty_checks,
+    readme_checks,
+    words_checks,
+    chart_checks,
+    make_checks,
+    package_checks,
+    gate_checks,
+)
 AT_ONCE = 8
 
 

@@ -1,0 +1,109 @@
+"""How `send` and `receive` start: calls that are made again, the look at the folder, --eager, --keep and --version."""
+
+import os
+import signal
+import subprocess
+import time
+
+from frames import END, START
+from program import LIMIT, connected, file_lines, folders, free_port, run, running, wants_stored, write_files
+from skipping import needs
+from telling import FAULT, FILE, connecting, wants
+
+
+def calls_again():
+    """A sender that is started first finds a receiver that comes a little later; on a machine that is slow, at one of the tries."""
+    for _ in range(5):
+        with folders() as (here, there):
+            paths, port = write_files(here, FILE), free_port()
+            with running("send", "-p", port, "--verbose", *paths) as send:
+                wants("its first line", send.child.stderr.readline().decode(), connecting(port))
+                with running("receive", "-p", port, there) as receive:
+                    if send.ended().status == 3:
+                        continue
+                    receive.ended().wants(0, file_lines(FILE) + "receiver files 1 finished\n")
+            wants_stored(there, FILE)
+            return
+    raise AssertionError("it never called again")
+
+
+def leaves_no_probe():
+    """What looks at the folder leaves nothing there."""
+    with folders() as (_, there), running("receive", "-p", (port := free_port()), there) as receive, connected(port, receive):
+        wants("the folder", os.listdir(there), [])
+
+
+def asks_at_once():
+    """With --eager the first C comes at once; on a machine that is slow, at one of the tries."""
+    soonest = LIMIT
+    for _ in range(5):
+        with folders() as (_, there), running("receive", "-p", (port := free_port()), "--eager", there) as receive, connected(port, receive) as end:
+            began = time.monotonic()
+            wants("the first byte", end.recv(1), bytes((START,)))
+            soonest = min(soonest, time.monotonic() - began)
+            end.sendall(END)
+            receive.ended().wants(0, "receiver files 0 finished\n")
+        if soonest < 1:
+            return
+    raise AssertionError("it asked after %.1f s" % soonest)
+
+
+def sb_to_eager():
+    """A file from `sb` to a receiver that asks at once."""
+    needs("socat", "sb")
+    soonest = LIMIT
+    for _ in range(5):
+        with folders() as (here, there):
+            paths, port = write_files(here, FILE), free_port()
+            with running("receive", "-p", port, "--eager", "--keep", there) as receive:
+                connected(port, receive).close()
+                began = time.monotonic()
+                subprocess.run(["socat", "EXEC:sb '%s'" % paths[0], "TCP:127.0.0.1:%d" % port], capture_output=True, timeout=LIMIT, check=True)
+                soonest = min(soonest, time.monotonic() - began)
+            wants_stored(there, FILE)
+        if soonest < 0.3:
+            return
+    raise AssertionError("it took %.1f s" % soonest)
+
+
+def one_connection_after_another():
+    """With --keep a session that fails does not end the program, which ends by a signal."""
+    with folders() as (here, there):
+        paths, port = write_files(here, FILE), free_port()
+        with running("receive", "-p", port, "--eager", "--keep", there) as receive:
+            connected(port, receive).close()
+            told = receive.child.stdout
+            wants("the first session", told.readline(), b"receiver files 0 running\n")
+            run("send", "-p", port, *paths).wants(0, "sender done 1 finished\n")
+            wants("the second session", told.readline() + told.readline(), (file_lines(FILE) + "receiver files 1 finished\n").encode())
+            run("send", "-p", port, *paths).wants(1, "sender done 0 cancelled\n")
+            wants("the third session", told.readline(), b"receiver files 0 sink-failed\n")
+            os.remove(os.path.join(there, FILE[0][0]))
+            run("send", "-p", port, *paths).wants(0, "sender done 1 finished\n")
+            wants("the fourth session", told.readline() + told.readline(), (file_lines(FILE) + "receiver files 1 finished\n").encode())
+            receive.child.send_signal(signal.SIGTERM)
+            receive.ended().wants(-signal.SIGTERM, "", "fault: closed\n" + FAULT)
+        wants_stored(there, FILE)
+
+
+def version():
+    """The version goes to standard output, with the toolchain's identity."""
+    said = run("--version")
+    run("-V").wants(0, said.out)
+    name, _, rest = said.out.partition(" ")
+    if said.status != 0 or said.err or name != "ymodem" or not rest[0].isdigit() or said.out.count("\n") != 1:
+        raise AssertionError("it said %r %r" % (said.out, said.err))
+    needs("rt")
+    kit = subprocess.run(["rt", "version"], capture_output=True, text=True, check=True).stdout.strip()
+    if "(%s)" % kit not in said.out:
+        raise AssertionError("the toolchain is %r, and it said %r" % (kit, said.out))
+
+
+CHECKS = [
+    ("leaves nothing of its look at the folder", leaves_no_probe),
+    ("calls again where nobody listens yet", calls_again),
+    ("asks at once with --eager", asks_at_once),
+    ("takes a file of sb at once with --eager", sb_to_eager),
+    ("takes one connection after another with --keep", one_connection_after_another),
+    ("tells its version", version),
+]
