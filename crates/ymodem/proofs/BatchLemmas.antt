@@ -1,5 +1,5 @@
 -- A batch, file by file.
-use Rattle.std.proofs.Common.{◌≡◌, ◌+◌, ◌<◌, ◌≤◌, ◌∙◌, ◌++◌, ℕ, List, [], ◌∷◌, All, length, take, map, slice_index_or, refl, sym, ap, ap₂, arith}
+use Rattle.std.proofs.Common.{◌≡◌, ◌+◌, ◌<◌, ◌∙◌, ◌++◌, ℕ, List, [], ◌∷◌, length, take, slice_index_or, refl, sym, ap, ap₂, arith}
 use Rattle.ym_file.specs.declared.plan.Shape.{Shape}
 use Rattle.std.proofs.Common.{below_more, inl, inr, Result, Ok, Err}
 use Rattle.std.specs.Result.{IsErrAnd}

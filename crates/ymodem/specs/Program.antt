@@ -17,7 +17,6 @@ use Rattle.ymodem.specs.Receiving.{ReceivesSo}
 use Rattle.ymodem.specs.Sending.{SendGives}
 use Rattle.ymodem.specs.Status.{IsHostFault}
 use Rattle.ymodem.specs.declared.command_fault.CommandFault.{CommandFault}
-use Rattle.ymodem.specs.declared.command_fault.CommandFault.TheVariants as fault
 
 -- the command line takes these words, and they ask for this job, or for none
 abbrev pub AsksFor : List Text → Option Asked → Type 0

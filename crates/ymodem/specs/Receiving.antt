@@ -1,6 +1,5 @@
 -- What `receive` prints and answers.
 use Rattle.std.specs.Prelude.{◌≡◌, ◌≢◌, ◌≤◌, ◌⊎◌, ℕ, Bool, true, false, is_ok, IfOk, List, Result, Ok, Err, None}
-use Rattle.ym_header.specs.Header.{HeaderParts}
 use Rattle.ym_file.specs.Counts.{Rose}
 use Rattle.ym_file.specs.Kept.{Kept, IsNew}
 use Rattle.ym_file.specs.declared.sink.SinkFault.{SinkFault}
