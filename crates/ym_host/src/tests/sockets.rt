@@ -107,6 +107,38 @@ fn a_write_without_headway_fails(rt: HostRuntime) -> Result<(), Fail> {
     Err(Fail::new("it took 65 MB that nobody reads"))
 }
 
+/// Bytes that the far end never reads leave no room for a delivery, and the carry ends all the same.
+#[test]
+fn a_carry_without_headway_fails(rt: HostRuntime) -> Result<(), Fail> {
+    for way in [Way::There, Way::Back] {
+        let (mut near, mut far) = pair(&rt)?;
+        let silent = match way {
+            Way::There => &mut near,
+            Way::Back => &mut far,
+        };
+        silent.set_write_timeout(Some(Duration::from_millis(100)))?;
+        let bytes = [0; 65536];
+        let mut refused = 0u32;
+        for _ in 0..1000 {
+            if silent.write_all(&bytes).is_err() {
+                refused = refused.saturating_add(1);
+            }
+            if refused == 3 {
+                break;
+            }
+        }
+        assert_eq!(rt; refused, 3, "it took 65 MB that nobody reads");
+        let mut carrier = SocketCarrier::new(near, far);
+        let mut into = Vec::new(rt.alloc());
+        let start = Instant::now(&rt)?;
+        let delivery = [1; 2048];
+        let carried = carrier.carry(way, &delivery, &mut into);
+        assert_eq!(rt; carried, Err(CarryFault::Device));
+        assert!(rt; start.elapsed(&rt)?.as_millis() >= 9000);
+    }
+    Ok(())
+}
+
 #[test]
 fn a_carrier_passes_bytes_both_ways(rt: HostRuntime) -> Result<(), Fail> {
     let (near, far) = pair(&rt)?;

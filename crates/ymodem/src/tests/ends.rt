@@ -123,71 +123,53 @@ fn receiver_into<'r>(
     Ok(ReceiverInto::with_sink(rt.alloc(), sink, Confirm::Twice))
 }
 
-/// The frames of the file `a` of 128 bytes, with a stamp, and of the end of the batch.
-fn frames(alloc: Global) -> Result<[Vec<u8>; 3], Fail> {
-    let header = Header::new(alloc, "a", 128, Stamp::TimeMode(12, 420))?;
-    let Ok(block) = Block::new(1, &[b'x'; 128]) else {
-        return Err(Fail::new("no block"));
-    };
-    let mut frames = [Vec::new(alloc), Vec::new(alloc), Vec::new(alloc)];
-    for (i, block) in [write(&header), block, write_end()].into_iter().enumerate() {
-        let frame = encode(&Item::Block(block));
-        frames[i].extend_from_slice(frame.as_bytes())?;
-    }
-    Ok(frames)
+/// The bytes of a block's frame.
+fn frame_of(alloc: Global, block: Block) -> Result<Vec<u8>, AllocError> {
+    let frame = encode(&Item::Block(block));
+    Vec::from_slice(alloc, frame.as_bytes())
+}
+
+/// Whether a receiver to which these pieces come ends with this answer and prints this text, and lets go of what was open.
+fn is_told(
+    rt: &HostRuntime,
+    name: &str,
+    pieces: &[&[u8]],
+    want: Result<u8, CommandFault>,
+    text: &str,
+) -> Result<bool, Fail> {
+    let alloc = rt.alloc();
+    let dir = folder(rt, name)?;
+    let receiver = receiver_into(rt, &dir)?;
+    let mut port = port_of(alloc, pieces)?;
+    let mut out = Vec::new(alloc);
+    let (_sink, answer) = receive_batch(&mut port, receiver, &mut out);
+    let part = dir.join(alloc, "a.part")?;
+    let is_gone = !fs::exists(rt, &part)?;
+    fs::remove_dir_all(rt, &dir)?;
+    Ok(answer == want && out.as_slice() == text.as_bytes() && is_gone)
 }
 
 #[test]
 fn a_receiver_is_told(rt: HostRuntime) -> Result<(), Fail> {
     let alloc = rt.alloc();
-    let [header, block, end] = frames(alloc)?;
-    let eot = b"\x04".as_slice();
-    let all = [
-        header.as_slice(),
-        block.as_slice(),
-        eot,
-        eot,
-        end.as_slice(),
-    ];
+    let first = Header::new(alloc, "a", 128, Stamp::TimeMode(12, 420))?;
+    let header = frame_of(alloc, write(&first))?;
+    let Ok(data) = Block::new(1, &[b'x'; 128]) else {
+        return Err(Fail::new("no block"));
+    };
+    let data = frame_of(alloc, data)?;
+    let end = frame_of(alloc, write_end())?;
+    let file: [&[u8]; 4] = [&header, &data, b"\x04", b"\x04"];
+    let whole: [&[u8]; 5] = [&header, &data, b"\x04", b"\x04", &end];
+    let cancelled: [&[u8]; 1] = [b"\x18\x18"];
     let closed = Err(CommandFault::Closed);
-    for (name, pieces, want, text) in [
-        (
-            "whole",
-            &all[..],
-            Ok(0),
-            "file a 128 14 644\nreceiver files 1 finished\n",
-        ),
-        (
-            "no-end",
-            &all[..4],
-            closed,
-            "file a 128 14 644\nreceiver files 1 running\n",
-        ),
-        ("open", &all[..2], closed, "receiver files 0 running\n"),
-        (
-            "cancelled",
-            &[b"\x18\x18".as_slice()],
-            Ok(1),
-            "receiver files 0 cancelled\n",
-        ),
-    ] {
-        let dir = folder(&rt, name)?;
-        let mut out = Vec::new(alloc);
-        let (sink, answer) = receive_batch(
-            &mut port_of(alloc, pieces)?,
-            receiver_into(&rt, &dir)?,
-            &mut out,
-        );
-        assert_eq!(rt; answer, want, "{name}");
-        assert_eq!(rt; out.as_slice(), text.as_bytes());
-        assert_eq!(rt;
-            sink.headers().len(),
-            text.lines().count().saturating_sub(1)
-        );
-        // what was open is gone
-        let part = dir.join(alloc, "a.part")?;
-        assert!(rt; !fs::exists(&rt, &part)?);
-        fs::remove_dir_all(&rt, &dir)?;
-    }
+    let all = "file a 128 14 644\nreceiver files 1 finished\n";
+    assert!(rt; is_told(&rt, "whole", &whole, Ok(0), all)?);
+    let no_end = "file a 128 14 644\nreceiver files 1 running\n";
+    assert!(rt; is_told(&rt, "no-end", &file, closed, no_end)?);
+    let open = "receiver files 0 running\n";
+    assert!(rt; is_told(&rt, "open", &file[..2], closed, open)?);
+    let none = "receiver files 0 cancelled\n";
+    assert!(rt; is_told(&rt, "cancelled", &cancelled, Ok(1), none)?);
     Ok(())
 }
