@@ -1,4 +1,5 @@
 mod folders;
+mod receivers;
 mod sinks;
 mod sockets;
 mod sources;
