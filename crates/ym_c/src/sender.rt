@@ -18,8 +18,8 @@ ghost use Rattle.ym_machine.specs.declared.limits.TheConstants.{GIVE_UP};
 use crate::codes::code_of_fault;
 use ym_core::{Batch, Mode, Place, SendState, Standing, first_place};
 use ym_frame::seal_block;
-use ym_machine::GIVE_UP;
 use ym_header::{HeaderRef, Stamp, write_body};
+use ym_machine::GIVE_UP;
 
 /// A sender, and the frame that was filled last.
 #[repr(C)]

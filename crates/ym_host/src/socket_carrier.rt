@@ -9,8 +9,8 @@ use std::io::{Read, Write};
 use std::marker::Model;
 use std::net::TcpStream;
 use std::time::Duration;
-use ym_link::DELIVERY_LIMIT;
 use ym_line::{Carrier, CarryFault, Way};
+use ym_link::DELIVERY_LIMIT;
 
 /// How many seconds a delivery may take from one end of the connection to the other.
 const WAIT_SECONDS: u64 = 10;

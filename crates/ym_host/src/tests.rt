@@ -1,5 +1,4 @@
 mod folders;
-mod receivers;
 mod sinks;
 mod sockets;
 mod sources;

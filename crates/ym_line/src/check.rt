@@ -5,8 +5,8 @@ ghost use Rattle.ym_line.specs.Damage.{ShowsThere, ShowsBack, IsShort, IsHeardBa
 
 use crate::delivery::Delivery;
 use crate::fault::LineFault;
-use ym_link::DELIVERY_LIMIT;
 use ym_frame::{Reply, controls_within, has_frame};
+use ym_link::DELIVERY_LIMIT;
 
 /// Refuses a delivery of round `n` to the receiver whose damage does not show, or which is too long.
 pub(crate) fn check_there(delivery: &Delivery, n: usize) -> Result<(), LineFault>

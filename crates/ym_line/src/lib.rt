@@ -13,7 +13,6 @@ mod text;
 mod trace;
 
 pub use carrier::{Carrier, CarryFault};
-pub use ym_link::DELIVERY_LIMIT;
 pub use delivery::{Delivery, Handed, Round, Way};
 pub use direct::Direct;
 pub use fault::LineFault;
@@ -21,6 +20,7 @@ pub use needed::whole_rounds_needed;
 pub use rounds::{round, run};
 pub use text::trace_text;
 pub use trace::{How, Seen, Trace, What};
+pub use ym_link::DELIVERY_LIMIT;
 
 #[cfg(test)]
 mod tests;

@@ -15,7 +15,7 @@ use ym_file::{Sink, SinkFault};
 use ym_header::{Header, HeaderFault, Stamp};
 
 /// A sink that stores files in this folder.
-pub(super) fn new_sink<'r>(
+fn new_sink<'r>(
     rt: &'r HostRuntime,
     dir: &PathBuf,
     leftover: Leftover,

@@ -107,41 +107,6 @@ fn a_write_without_headway_fails(rt: HostRuntime) -> Result<(), Fail> {
     Err(Fail::new("it took 65 MB that nobody reads"))
 }
 
-/// Writes to a stream that nobody reads at the other end, until it takes no more.
-fn fill(stream: &mut TcpStream) -> Result<(), Fail> {
-    stream.set_write_timeout(Some(Duration::from_millis(100)))?;
-    let bytes = [0; 65536];
-    let mut refused = 0u32;
-    for _ in 0..1000 {
-        if stream.write_all(&bytes).is_err() {
-            refused = refused.saturating_add(1);
-        }
-        if refused == 3 {
-            return Ok(());
-        }
-    }
-    Err(Fail::new("it took 65 MB that nobody reads"))
-}
-
-/// Bytes that the far end never reads leave no room for a delivery, and the carry ends all the same.
-#[test]
-fn a_carry_without_headway_fails(rt: HostRuntime) -> Result<(), Fail> {
-    for way in [Way::There, Way::Back] {
-        let (mut near, mut far) = pair(&rt)?;
-        match way {
-            Way::There => fill(&mut near)?,
-            Way::Back => fill(&mut far)?,
-        }
-        let mut carrier = SocketCarrier::new(near, far);
-        let mut into = Vec::new(rt.alloc());
-        let start = Instant::now(&rt)?;
-        let carried = carrier.carry(way, &[1; 2048], &mut into);
-        assert_eq!(rt; carried, Err(CarryFault::Device));
-        assert!(rt; start.elapsed(&rt)?.as_millis() >= 9000);
-    }
-    Ok(())
-}
-
 #[test]
 fn a_carrier_passes_bytes_both_ways(rt: HostRuntime) -> Result<(), Fail> {
     let (near, far) = pair(&rt)?;

@@ -48,10 +48,25 @@ fn rounds_needed(rt: HostRuntime) -> Result<(), Fail> {
     let bytes = a128(rt.alloc())?;
     let batch = one_file(rt.alloc(), "a.txt", &bytes, None)?;
     assert_eq!(rt; batch.len(), 1);
-    assert!(rt; same(&whole_rounds_needed(&batch, Shape::Mixed, Confirm::Twice), &6));
-    assert!(rt; same(&whole_rounds_needed(&batch, Shape::Mixed, Confirm::Once), &5));
+    assert!(rt;
+        same(
+            &whole_rounds_needed(&batch, Shape::Mixed, Confirm::Twice),
+            &6
+        )
+    );
+    assert!(rt;
+        same(
+            &whole_rounds_needed(&batch, Shape::Mixed, Confirm::Once),
+            &5
+        )
+    );
     let none: Vec<SendFile> = Vec::new(rt.alloc());
-    assert!(rt; same(&whole_rounds_needed(&none, Shape::Mixed, Confirm::Twice), &2));
+    assert!(rt;
+        same(
+            &whole_rounds_needed(&none, Shape::Mixed, Confirm::Twice),
+            &2
+        )
+    );
     Ok(())
 }
 
