@@ -59,6 +59,8 @@ def accept(listener):
             here.close()
             continue
         answer = base64.b64encode(hashlib.sha1(key + KEY).digest())
+        # Without a time for each call, which would be a call of the system more.
+        here.settimeout(None)
         here.sendall(b"HTTP/1.1 101 Switching Protocols\r\nUpgrade: websocket\r\nConnection: Upgrade\r\nSec-WebSocket-Accept: " + answer + b"\r\n\r\n")
         return here
 

@@ -19,7 +19,7 @@ HERE = os.path.dirname(os.path.abspath(__file__))
 TARGET = "wasm64-unknown-unknown"
 # The deepest call takes some 3 KB.
 STACK = 65536
-LIBRARY = ("codes", "errors", "engine", "line", "clearing", "log", "receiving", "sending", "websocket", "ymodem")
+LIBRARY = ("codes", "errors", "engine", "alarm", "line", "clearing", "log", "receiving", "sending", "websocket", "ymodem")
 PAGE = ("words", "terminal", "chart", "progress", "ports", "page")
 
 IMPORT = re.compile(r"^import [^;]*;\n+", re.M)

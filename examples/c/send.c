@@ -1,4 +1,5 @@
-/* Sends files by YMODEM on standard input and output, as `sb -k` does. usage: send FILE.. */
+/* Sends files by YMODEM on standard input and output, as `sb -k` does. usage: send FILE..
+   As a line's end: socat EXEC:'send firmware.bin' file:/dev/ttyUSB0,b115200,raw,echo=0 */
 #include "ymodem.h"
 
 #include <errno.h>
