@@ -31,6 +31,15 @@ def chosen(checks, words):
     return [it for it in checks if not words or any(word in it[0] for word in words)]
 
 
+def missing(*files):
+    """Whether one of these files is not there, which is told as a failure."""
+    for path in files:
+        if not os.access(path, os.R_OK):
+            print("there is no %s\n0 passed, 1 failed, 0 skipped" % path)
+            return True
+    return False
+
+
 class Report:
     """How the checks of a program came out: a line for each, and at the end their counts."""
 
@@ -69,9 +78,7 @@ class Report:
 def report(checks, words, at_once=None, needed=()):
     """Makes the checks that the words choose, all at once where no number is given, tells them, and gives the status. They fail as one where a file
     that they need is not there."""
-    missing = [path for path in needed if not os.access(path, os.R_OK)]
-    if missing:
-        print("there is no %s\n0 passed, 1 failed, 0 skipped" % missing[0])
+    if missing(*needed):
         return 1
     made, some = Report(), chosen(checks, words)
     made.make(some, at_once or len(some) or 1)

@@ -8,6 +8,7 @@ import threading
 
 from calls import receiving, sending
 from program import LIMIT, connected
+from skipping import needs
 from web_bridge import Bridge
 
 
@@ -25,6 +26,31 @@ class Flips:
         made = bytearray(data)
         made[self.random.randrange(3, len(made))] ^= self.random.randint(1, 255)
         return bytes(made)
+
+
+class Held:
+    """A line that carries so many bytes, and then stands still until it goes on: a check can look at a transfer that is under way, for as long as it takes."""
+
+    def __init__(self, most, damage=None):
+        self.left, self.damage = most, damage or (lambda data: data)
+        self.goes_on = threading.Event()
+
+    def __call__(self, data):
+        if self.left < len(data):
+            self.goes_on.wait(LIMIT)
+        self.left = max(0, self.left - len(data))
+        return self.damage(data)
+
+    def go_on(self):
+        self.goes_on.set()
+
+
+def needs_lrzsz(check):
+    def checked(room):
+        needs("sb", "rb")
+        check(room)
+
+    return checked
 
 
 @contextlib.contextmanager
