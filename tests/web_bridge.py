@@ -92,13 +92,13 @@ class Bridge(threading.Thread):
             self.fault = fault
 
     def carry(self, here, there):
-        held = b""
+        held, far = b"", there.fileno()
         ready = select.poll()
         for it in (here, there):
             ready.register(it, select.POLLIN)
         while not self.is_cut.is_set():
             for number, _ in ready.poll(100):
-                if number == there.fileno():
+                if number == far:
                     came = read(there)
                     if not came:
                         hand(here, framed(b"", CLOSE))

@@ -14,20 +14,18 @@ from web_bridge import Bridge
 from web_module_checks import Empty
 from web_peers import lrzsz
 
-# MiB a second, and of a file.
+# MiB a second.
 LEAST = 4
-SIZE = 8
-BLOCKS = SIZE << 10
 FRAME = 1029
-# The best of so many tries counts, since the machine may be busy for a while.
-TRIES = 6
 
 
 class Rates:
-    """The best of each rate that was measured."""
+    """The best of each rate that was measured, in some tries where it is judged, since the machine may be busy for a while; else in one, of a smaller file."""
 
     def __init__(self, room):
         self.room, self.best = room, {}
+        # MiB
+        self.size, self.tries = (8, 6) if room.are_rates_wanted else (2, 1)
 
     def add(self, what, rate):
         self.best[what] = max(rate, self.best.get(what, 0))
@@ -45,7 +43,7 @@ IN_ONE_PAGE = """(async () => {
   const onFile = () => { began = performance.now(); return { write() {}, close() {} }; };
   await Promise.all([y.send(here, [{ name: "big", data }]), y.receive(there, { onFile })]);
   return %d / ((performance.now() - began) / 1000);
-})()""" % (SIZE, SIZE)
+})()"""
 
 FROM_SB = """(async () => {
   const port = await y.openWebSocket(%s);
@@ -82,26 +80,26 @@ BARE = """(async () => {
 def in_one_page(room):
     rates = Rates(room)
     with Empty(room) as page:
-        for _ in range(TRIES):
-            rates.add("both", page.run(IN_ONE_PAGE))
+        for _ in range(rates.tries):
+            rates.add("both", page.run(IN_ONE_PAGE % (rates.size, rates.size)))
             if rates.best["both"] >= LEAST:
                 break
     rates.end("both", "both ends in one page: %(both).1f MiB/s")
 
 
-def exchange(page):
-    """The rate of frames and bytes that answer them."""
+def exchange(page, size):
+    """The rate of so many MiB in frames, and bytes that answer them."""
     near, far = socket.socketpair()
 
     def peer():
         with near:
-            for _ in range(BLOCKS):
+            for _ in range(size << 10):
                 near.sendall(bytes(FRAME))
                 near.recv(1)
 
     bridge = Bridge(lambda: far)
     threading.Thread(target=peer, daemon=True).start()
-    return page.run(BARE % (json.dumps(bridge.address), SIZE))
+    return page.run(BARE % (json.dumps(bridge.address), size))
 
 
 def over_socket(room):
@@ -109,13 +107,13 @@ def over_socket(room):
     needs("sb", "rb")
     rates = Rates(room)
     with folders() as (here, there), Empty(room) as page:
-        write_files(here, [("big", random.Random(5).randbytes(SIZE << 20))])
-        for _ in range(TRIES):
-            rates.add("bare", exchange(page))
+        write_files(here, [("big", random.Random(5).randbytes(rates.size << 20))])
+        for _ in range(rates.tries):
+            rates.add("bare", exchange(page, rates.size))
             with lrzsz(["sb", "-q", "-k", "big"], here) as (bridge, _):
-                rates.add("sb", page.run(FROM_SB % (json.dumps(bridge.address), SIZE)))
+                rates.add("sb", page.run(FROM_SB % (json.dumps(bridge.address), rates.size)))
             with lrzsz(["rb", "-q", "-y"], there) as (bridge, _):
-                rates.add("rb", page.run(TO_RB % (json.dumps(bridge.address), SIZE, SIZE)))
+                rates.add("rb", page.run(TO_RB % (json.dumps(bridge.address), rates.size, rates.size)))
             if rates.best["sb"] >= LEAST:
                 break
     rates.end("sb", "over a WebSocket: from sb %(sb).1f MiB/s, to rb %(rb).1f, the same bytes without a protocol %(bare).1f")
