@@ -22,7 +22,7 @@ def main():
         sums = [one + int(more) for one, more in zip(sums, LAST.fullmatch(last).groups())]
         for line in skipped:
             print("skipped by tests/%s.py: %s" % (name, line))
-    print("tests/%s.py: %d passed, %d failed, %d skipped" % (", ".join(names), *sums))
+    print("in all: %d passed, %d failed, %d skipped (%s)" % (*sums, ", ".join(names)))
 
 
 main()

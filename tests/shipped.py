@@ -25,6 +25,7 @@ import showing_checks
 import starting_checks
 import telling_checks
 import tty_checks
+import user_checks
 import words_checks
 from program import PROGRAM
 from reporting import report
@@ -38,6 +39,7 @@ BOOKS = (
     words_checks,
     chart_checks,
     make_checks,
+    user_checks,
     package_checks,
     gate_checks,
 )
