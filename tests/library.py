@@ -20,6 +20,7 @@ import tempfile
 sys.dont_write_bytecode = True
 sys.path.insert(0, os.path.dirname(os.path.abspath(__file__)))
 
+import library_late
 import library_lines
 import library_package
 from calls import receiving, sending
@@ -261,6 +262,7 @@ CHECKS = [
     ("receive from sb -k", with_lrzsz(pair(c_receive, lambda names: ["sb", "-q", "-k", *names]))),
     ("send to rb", with_lrzsz(pair(lambda there: ["rb", "-q"], c_send))),
     *library_lines.CHECKS,
+    *library_late.CHECKS,
     ("both ends in WebAssembly, in node", in_node),
     ("two Debian packages of the library are the same", library_package.is_same_twice(LIBRARY)),
     ("lintian finds no error and no warning in the library's package", library_package.lintian_is_silent(LIBRARY)),
