@@ -30,6 +30,7 @@ test: build replay
 	tests/transfer.py
 	tests/shipped.py
 	tests/memory.py
+	@tests/counts.py
 	rt ci
 
 # The program that plays recorded reads to the engines, for tests/transfer.py.
@@ -91,10 +92,11 @@ test-lib: build
 	tests/uboot.py
 
 install-lib: lib
-	install -D -m 644 out/lib/$(TARGET)/libymodem.a $(DESTDIR)$(PREFIX)/lib/libymodem.a
-	install -D -m 644 include/ymodem.h $(DESTDIR)$(PREFIX)/include/ymodem.h
-	install -d $(DESTDIR)$(PREFIX)/lib/pkgconfig
-	sed 's|@PREFIX@|$(PREFIX)|; s|@LIBDIR@|$${prefix}/lib|' include/ymodem.pc.in > $(DESTDIR)$(PREFIX)/lib/pkgconfig/ymodem.pc
+	install -D -m 644 out/lib/$(TARGET)/libymodem.a "$(DESTDIR)$(PREFIX)/lib/libymodem.a"
+	install -D -m 644 include/ymodem.h "$(DESTDIR)$(PREFIX)/include/ymodem.h"
+	install -d "$(DESTDIR)$(PREFIX)/lib/pkgconfig"
+	sed 's|@PREFIX@|$(PREFIX)|; s|@LIBDIR@|$${prefix}/lib|' include/ymodem.pc.in > "$(DESTDIR)$(PREFIX)/lib/pkgconfig/ymodem.pc"
+	chmod 644 "$(DESTDIR)$(PREFIX)/lib/pkgconfig/ymodem.pc"
 
 # ---- The page
 

@@ -16,7 +16,6 @@ import sys
 import tempfile
 import threading
 import zlib
-from concurrent.futures import ThreadPoolExecutor
 
 sys.dont_write_bytecode = True
 sys.path.insert(0, os.path.dirname(os.path.abspath(__file__)))
@@ -24,7 +23,7 @@ sys.path.insert(0, os.path.dirname(os.path.abspath(__file__)))
 from bare_board import board, from_lrzsz, from_program
 from program import LIMIT, PROGRAM, ROOT, write_files
 from relay import Seeded
-from shipped import outcome
+from reporting import report
 from skipping import needs
 
 EXAMPLE = os.path.join(ROOT, "examples", "bare")
@@ -180,21 +179,5 @@ CHECKS = [
 ]
 
 
-def main(words):
-    for path in (LIBRARY, PROGRAM):
-        if not os.access(path, os.R_OK):
-            print("there is no %s\n0 passed, 1 failed, 0 skipped" % path)
-            return 1
-    chosen = [it for it in CHECKS if not words or any(word in it[0] for word in words)]
-    counts = {"ok": 0, "FAILED": 0, "skipped": 0}
-    with ThreadPoolExecutor(AT_ONCE) as pool:
-        for name, begun in [(name, pool.submit(outcome, check)) for name, check in chosen]:
-            word, why, seconds = begun.result()
-            counts[word] += 1
-            print("%-7s  %s (%.1f s)%s" % (word, name, seconds, why), flush=True)
-    print("%d passed, %d failed, %d skipped" % (counts["ok"], counts["FAILED"], counts["skipped"]))
-    return 1 if counts["FAILED"] else 0
-
-
 if __name__ == "__main__":
-    sys.exit(main(sys.argv[1:]))
+    sys.exit(report(CHECKS, sys.argv[1:], AT_ONCE, [LIBRARY, PROGRAM]))

@@ -6,8 +6,9 @@ import socket
 import subprocess
 import threading
 
-from program import LIMIT, running
-from relay import Relay, at_once
+from calls import sending
+from program import LIMIT
+from relay import at_once
 from skipping import needs
 
 QEMU = "qemu-system-aarch64"
@@ -91,25 +92,9 @@ def from_program(paths, line=None, status=0, told=None):
     """What sends by `ymodem send`, over a line that may be damaged."""
 
     def send(port):
-        with socket.create_server(("127.0.0.1", 0)) as listener:
-            listener.settimeout(LIMIT)
-            number = listener.getsockname()[1]
-            relay = None
-            if line:
-                relay = Relay(line, number)
-                relay.start()
-                number = relay.port
-            with running("send", "--port", number, *paths) as sender:
-                end, _ = listener.accept()
-                at_once(end)
-                port.carry(end)
-                sender.ended().wants(status, told or "sender done %d finished\n" % len(paths))
-        if relay:
-            relay.join(LIMIT)
-            if relay.fault:
-                raise AssertionError("the relay: %r" % relay.fault)
-            if line.bad_frames + line.bad_replies < line.most:
-                raise AssertionError("only %d frames and %d replies were damaged" % (line.bad_frames, line.bad_replies))
+        with sending(paths, line) as (sender, called):
+            port.carry(called())
+            sender.ended().wants(status, told or "sender done %d finished\n" % len(paths))
 
     return send
 

@@ -16,45 +16,28 @@ import socket
 import subprocess
 import sys
 import tempfile
-import time
-from concurrent.futures import ThreadPoolExecutor
 
 sys.dont_write_bytecode = True
 sys.path.insert(0, os.path.dirname(os.path.abspath(__file__)))
 
+import library_late
+import library_lines
 import library_package
-from program import LIMIT, PROGRAM, ROOT, folders, free_port, running, stored, wants_stored, write_files
-from relay import Relay, Seeded
-from shipped import outcome
+from calls import receiving, sending
+from library_built import BUILT, INCLUDE, LIBRARY, STRICT, built, example
+from program import LIMIT, PROGRAM, ROOT, connected, folders, wants_stored, write_files
+from relay import Seeded
+from reporting import report
 from skipping import Skipped, needs
+from wanting import command, wants
 
 TESTS = os.path.join(ROOT, "tests")
-INCLUDE = os.path.join(ROOT, "include")
-LIBRARY = os.path.abspath(os.environ.get("YM_LIBRARY", os.path.join(ROOT, "out", "lib", "x86_64-unknown-linux-gnu", "libymodem.a")))
 WASM = "wasm64-unknown-unknown"
-STRICT = ["-Wall", "-Wextra", "-Wpedantic", "-Werror"]
-BUILT = tempfile.TemporaryDirectory(prefix="ymodem-c-")
+SOURCES = " ".join("tests/library_%s.c" % name for name in ("beside", "program", "sends", "receives"))
 
 # Streams of deliveries that an end of the library and the program's hear, for each end, and how many are under way at once.
 STREAMS = 10_000
 WORKERS = 250
-
-
-def wants(holds, text):
-    if not holds:
-        raise AssertionError(text)
-
-
-def command(*words, **how):
-    done = subprocess.run(words, stdout=subprocess.PIPE, stderr=subprocess.STDOUT, timeout=LIMIT, **how)
-    wants(done.returncode == 0, "%s: status %d: %s" % (" ".join(words[:3]), done.returncode, done.stdout.decode(errors="replace")[-600:]))
-    return done.stdout.decode(errors="replace")
-
-
-def built(source, name, *flags, compiler="cc"):
-    path = os.path.join(BUILT.name, name)
-    command(compiler, "-std=gnu11", "-O2", *STRICT, *flags, "-I", INCLUDE, os.path.join(ROOT, source), LIBRARY, "-o", path)
-    return path
 
 
 # ---- The header and the archives
@@ -136,34 +119,24 @@ def pair(receive, send):
 
 
 def c_receive(there):
-    return [RECEIVE, there]
+    return [example("receive"), there]
 
 
 def c_send(names):
-    return [SEND, *names]
+    return [example("send"), *names]
 
 
 def from_program(line=None):
     """`ymodem send`, on a line that may be damaged, to the example."""
 
     def check():
-        with folders() as (here, there), socket.create_server(("127.0.0.1", 0)) as listener:
+        with folders() as (here, there):
             batch = files()
-            paths = write_files(here, batch)
-            listener.settimeout(LIMIT)
-            port = listener.getsockname()[1]
-            if line:
-                relay = Relay(line, port)
-                relay.start()
-                port = relay.port
-            with running("send", "--port", port, *paths) as send:
-                end, _ = listener.accept()
-                end.settimeout(None)
-                with on_line([RECEIVE, there], end) as receiver:
+            with sending(write_files(here, batch), line) as (send, called):
+                with on_line(c_receive(there), called()) as receiver:
                     send.ended().wants(0, "sender done %d finished\n" % len(batch))
                     wants_end(receiver, "receive")
             wants_stored(there, batch)
-            wants(not line or line.bad_frames + line.bad_replies >= line.most, "too little was damaged")
 
     return check
 
@@ -175,32 +148,21 @@ def to_program(line=None):
         with folders() as (here, there):
             batch = files()
             write_files(here, batch)
-            port = last = free_port()
-            if line:
-                relay = Relay(line, last)
-                relay.start()
-                port = relay.port
-            with running("receive", "--port", last, there) as receive:
-                with on_line([SEND, *(name for name, _ in batch)], line_to(port), cwd=here) as sender:
+            with receiving(there, line) as (receive, port):
+                with on_line(c_send([name for name, _ in batch]), line_to(port, receive), cwd=here) as sender:
                     ended = receive.ended()
                     wants(ended.status == 0 and ended.out.endswith("receiver files %d finished\n" % len(batch)), "receive: %r %r" % (ended.out, ended.err))
                     wants_end(sender, "send")
             wants_stored(there, batch)
-            wants(not line or line.bad_frames + line.bad_replies >= line.most, "too little was damaged")
 
     return check
 
 
-def line_to(port):
-    until = time.monotonic() + LIMIT / 3
-    while True:
-        try:
-            end = socket.create_connection(("127.0.0.1", port))
-            end.setsockopt(socket.IPPROTO_TCP, socket.TCP_NODELAY, 1)
-            return end
-        except ConnectionRefusedError:
-            wants(time.monotonic() < until, "nobody listens")
-            time.sleep(0.02)
+def line_to(port, child):
+    end = connected(port, child)
+    end.setsockopt(socket.IPPROTO_TCP, socket.TCP_NODELAY, 1)
+    end.settimeout(None)
+    return end
 
 
 # ---- Calls with rubbish
@@ -236,7 +198,7 @@ def beside(end):
 
     def check():
         with tempfile.TemporaryDirectory(prefix="ymodem-") as top:
-            done = subprocess.run([BESIDE, end, PROGRAM, top, "0", str(STREAMS), str(WORKERS)], capture_output=True, text=True, timeout=LIMIT, check=False)
+            done = subprocess.run([built(SOURCES, "beside-" + end), end, PROGRAM, top, "0", str(STREAMS), str(WORKERS)], capture_output=True, text=True, timeout=LIMIT, check=False)
         wants(done.returncode == 0, "status %d: %s" % (done.returncode, done.stderr[:900]))
         *ends, _, _ = map(int, done.stdout.split())
         wants(sum(ends) == STREAMS, "only %d streams" % sum(ends))
@@ -299,6 +261,8 @@ CHECKS = [
     ("receive from sb", with_lrzsz(pair(c_receive, lambda names: ["sb", "-q", *names]))),
     ("receive from sb -k", with_lrzsz(pair(c_receive, lambda names: ["sb", "-q", "-k", *names]))),
     ("send to rb", with_lrzsz(pair(lambda there: ["rb", "-q"], c_send))),
+    *library_lines.CHECKS,
+    *library_late.CHECKS,
     ("both ends in WebAssembly, in node", in_node),
     ("two Debian packages of the library are the same", library_package.is_same_twice(LIBRARY)),
     ("lintian finds no error and no warning in the library's package", library_package.lintian_is_silent(LIBRARY)),
@@ -306,23 +270,5 @@ CHECKS = [
 ]
 
 
-def main(words):
-    global RECEIVE, SEND, BESIDE
-    for path in (LIBRARY, PROGRAM):
-        if not os.access(path, os.R_OK):
-            print("there is no %s\n0 passed, 1 failed, 0 skipped" % path)
-            return 1
-    RECEIVE, SEND = built("examples/c/receive.c", "receive"), built("examples/c/send.c", "send")
-    BESIDE = built("tests/library_beside.c", "beside")
-    chosen = [it for it in CHECKS if not words or any(word in it[0] for word in words)]
-    counts = {"ok": 0, "FAILED": 0, "skipped": 0}
-    with ThreadPoolExecutor(len(chosen) or 1) as pool:
-        for name, begun in [(name, pool.submit(outcome, check)) for name, check in chosen]:
-            word, why, seconds = begun.result()
-            counts[word] += 1
-            print("%-7s  %s (%.1f s)%s" % (word, name, seconds, why), flush=True)
-    print("%d passed, %d failed, %d skipped" % (counts["ok"], counts["FAILED"], counts["skipped"]))
-    return 1 if counts["FAILED"] else 0
-
-
-sys.exit(main(sys.argv[1:]))
+if __name__ == "__main__":
+    sys.exit(report(CHECKS, sys.argv[1:], needed=[LIBRARY, PROGRAM]))

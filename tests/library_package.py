@@ -13,6 +13,7 @@ FILES = (
     "lib/x86_64-linux-gnu/libymodem.a",
     "lib/x86_64-linux-gnu/pkgconfig/ymodem.pc",
     "share/doc/libymodem-dev/library.md",
+    "share/doc/libymodem-dev/examples/c/line.h",
     "share/doc/libymodem-dev/examples/c/receive.c",
     "share/doc/libymodem-dev/examples/c/send.c",
     "share/doc/libymodem-dev/examples/bare/load.c",

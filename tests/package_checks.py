@@ -7,6 +7,7 @@ import stat
 import subprocess
 import tempfile
 
+from locales import turkish_if_it_can_be_had
 from program import PROGRAM, ROOT, wants_same
 from skipping import Skipped, needs
 
@@ -72,17 +73,17 @@ def sum_of(file):
 
 
 def is_same_twice(kind, *tools):
-    """Two packages of one tree, made in different folders and by users with different umasks, are the same byte for byte."""
+    """Two packages of one tree, made in different folders and by users with different umasks and languages, are the same byte for byte."""
 
     def check():
         needs("strip", "readelf", *tools)
         linked_program()
         with tempfile.TemporaryDirectory(prefix="ymodem-") as top:
-            trees = [(copied(top + "/one", "022"), "022"), (copied(top + "/two of them", "077"), "077")]
+            trees = [(copied(top + "/one", "022"), "022", {"LC_ALL": "C"}), (copied(top + "/two of them", "077"), "077", turkish_if_it_can_be_had())]
             os.utime(trees[1][0] + "/README.md", (10**9, 10**9))
             # Files are older than one of these commits, and younger than the other one.
             for epoch in ("1700000000", "4000000000"):
-                if len({sum_of(packed(kind, *it, SOURCE_DATE_EPOCH=epoch)) for it in trees}) != 1:
+                if len({sum_of(packed(kind, tree, umask, SOURCE_DATE_EPOCH=epoch, **language)) for tree, umask, language in trees}) != 1:
                     raise AssertionError("they differ, for a commit at %s" % epoch)
 
     return check

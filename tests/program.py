@@ -3,6 +3,7 @@
 import contextlib
 import os
 import resource
+import signal
 import socket
 import subprocess
 import tempfile
@@ -18,6 +19,11 @@ LIMIT = 300
 
 # Several transfers run side by side, each with its sockets and pipes.
 resource.setrlimit(resource.RLIMIT_NOFILE, (resource.getrlimit(resource.RLIMIT_NOFILE)[1],) * 2)
+
+# What was started in the background, or by nohup, ignores signals, and so would all that it starts: a program has to do here what a signal does to it.
+for ignored in (signal.SIGHUP, signal.SIGINT, signal.SIGQUIT):
+    if signal.getsignal(ignored) is signal.SIG_IGN:
+        signal.signal(ignored, lambda *_: None)
 
 HELD = []
 

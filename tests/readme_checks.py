@@ -4,9 +4,9 @@ import os
 import re
 import subprocess
 import tempfile
-import time
 
 from program import LIMIT, PROGRAM, ROOT, free_port, wants_same
+from waits import listeners, wait_until
 
 PROGRAM_THERE = "crates/ymodem/out/ymodem"
 
@@ -53,11 +53,6 @@ def example():
         wants_same({"the session": ended(started(words, top), words)}, {"the session": found[2]})
 
 
-def listens(port):
-    with open("/proc/net/tcp", encoding="ascii") as it:
-        return any(row.split()[1].endswith(":%04X" % port) and row.split()[3] == "0A" for row in list(it)[1:])
-
-
 def send_and_receive():
     port = free_port()
     receive, send = (line("ymodem %s --port 4000" % it).replace("4000", str(port)) for it in ("receive", "send"))
@@ -67,9 +62,7 @@ def send_and_receive():
             with open(os.path.join(top, name), "w", encoding="utf-8") as it:
                 it.write(name * 100)
         receiver = started(receive, top)
-        until = time.monotonic() + LIMIT
-        while not listens(port) and receiver.poll() is None and time.monotonic() < until:
-            time.sleep(0.02)
+        wait_until(lambda: listeners(port) or receiver.poll() is not None, "somebody listened")
         try:
             ended(started(send, top), send)
             ended(receiver, receive)

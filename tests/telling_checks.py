@@ -4,11 +4,12 @@ import contextlib
 import fcntl
 import os
 import socket
+import subprocess
 
 from frames import CANCEL, START, header
 from peers import receive_from, send_to
-from program import folders, free_port, run, running, wants_stored, write_files
-from skipping import Skipped
+from program import PROGRAM, folders, free_port, run, running, wants_stored, write_files
+from skipping import Skipped, needs
 from telling import FAULT, FILE, connecting, listening, missing, wants
 
 LOUD = ("--verbose",)
@@ -48,14 +49,14 @@ def unstored(flags, there_is, told, lock=False):
     return check
 
 
-def no_folder(make, told):
+def no_folder(make, told, before=tuple):
     """A folder that nothing can be stored in is told before anybody can connect: the program ends by itself."""
 
     def check():
         with folders() as (here, _):
-            there = make(here)
-            run("receive", "--port", free_port(), there).wants(3, "", FAULT)
-            run("receive", "--port", free_port(), "--verbose", there).wants(3, "", "cannot store in '%s': %s\n" % (there, told) + FAULT)
+            there, words = make(here), before()
+            run("receive", "--port", free_port(), there, before=words).wants(3, "", FAULT)
+            run("receive", "--port", free_port(), "--verbose", there, before=words).wants(3, "", "cannot store in '%s': %s\n" % (there, told) + FAULT)
 
     return check
 
@@ -65,10 +66,23 @@ def a_file(here):
 
 
 def read_only(here):
-    if os.geteuid() == 0:
-        raise Skipped("root may write everywhere")
-    os.mkdir(os.path.join(here, "closed"), 0o555)
-    return os.path.join(here, "closed")
+    closed = os.path.join(here, "closed")
+    for folder in (os.path.dirname(here), here):
+        os.chmod(folder, 0o755)
+    os.mkdir(closed)
+    os.chmod(closed, 0o555)
+    return closed
+
+
+def not_by_root():
+    """The words by which somebody else runs a program, since root may write everywhere."""
+    if os.geteuid():
+        return ()
+    needs("setpriv")
+    words = ("setpriv", "--reuid=65534", "--regid=65534", "--clear-groups")
+    if subprocess.run([*words, "test", "-x", PROGRAM], check=False).returncode:
+        raise Skipped("the program is where only root can reach it")
+    return words
 
 
 def port_in_use(*words):
@@ -164,7 +178,7 @@ CHECKS = [
     ),
     ("tells that the folder is missing, before it listens", no_folder(missing, "no such file or directory")),
     ("tells that the folder is none, before it listens", no_folder(a_file, "not a directory")),
-    ("tells that the folder is only read, before it listens", no_folder(read_only, "permission denied")),
+    ("tells that the folder is only read, before it listens", no_folder(read_only, "permission denied", not_by_root)),
     ("tells that a port is in use: receive", port_in_use("receive")),
     ("tells that a port is in use: loop", port_in_use("loop")),
     ("tells that nobody listens", nobody_listens),

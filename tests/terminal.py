@@ -29,6 +29,11 @@ def joined(read, write):
     threading.Thread(target=carry, daemon=True).start()
 
 
+def is_raw(end):
+    """Whether a terminal changes no bytes."""
+    return not termios.tcgetattr(end)[3] & (termios.ICANON | termios.ECHO)
+
+
 class UnderTerminal:
     """A program whose standard streams and controlling terminal are a pseudo terminal, and what it shows."""
 

@@ -37,6 +37,7 @@ import tape_checks
 import transfer_checks
 from program import PROGRAM, Skipped
 from pulse import Pulse
+from reporting import Report, chosen, missing
 from storing import steadily
 
 # What depends on how soon this process answers comes first, and by itself: most of these checks wait most of the time. The others have work to do.
@@ -66,21 +67,22 @@ def outcome(check, pulse):
     return came, why, time.monotonic() - began, made > 0
 
 
-def told(named, pool, pulse, counts):
-    """Makes these checks, tells each of them, and counts how they came out."""
+def make(named, pool, pulse, report):
+    """Makes these checks, and tells each of them. Gives how many were made again."""
     begun = [(name, pool.submit(outcome, check, pulse)) for name, check in named]
+    again = 0
     for name, future in begun:
         came, why, seconds, is_again = future.result()
-        counts[came] += 1
-        counts["again"] += is_again
-        print("%-7s %s (%.1f s)%s" % (came, name, seconds, why and ": " + why), flush=True)
+        again += is_again
+        report.tell(name, came, why, seconds)
+    return again
 
 
 def checks_of(books):
     return [check for book in books for check in book.CHECKS]
 
 
-def chosen(words):
+def wanted(words):
     """The checks that these words name, first those that depend on how soon this process answers; and what is left out."""
     if "--interop" in words:
         return lrzsz_checks.CHECKS, [], []
@@ -93,27 +95,23 @@ def chosen(words):
 
 
 def main(words):
-    if not os.access(PROGRAM, os.X_OK):
-        print("there is no program at %s" % PROGRAM)
-        print("0 passed, 1 failed, 0 skipped")
+    if missing(PROGRAM):
         return 1
     if "--interop" in words and not lrzsz_checks.is_installed():
         print("lrzsz is not installed")
         print("0 passed, 1 failed, 0 skipped")
         return 1
-    *both, notes = chosen(words)
-    wanted = [word for word in words if not word.startswith("--")]
-    counts = {"ok": 0, "FAILED": 0, "skipped": 0, "again": 0}
-    pulse = Pulse()
+    *both, notes = wanted(words)
+    named = [word for word in words if not word.startswith("--")]
+    report, pulse, again = Report(), Pulse(), 0
     for checks, at_once in zip(both, (TIMED_AT_ONCE, OTHERS_AT_ONCE)):
         with ThreadPoolExecutor(at_once) as pool:
-            told([it for it in checks if not wanted or any(word in it[0] for word in wanted)], pool, pulse, counts)
-    if counts["again"]:
-        notes.append("made again: %d checks, since this machine was up to %.1f s late with what was due" % (counts["again"], pulse.worst))
+            again += make(chosen(checks, named), pool, pulse, report)
+    if again:
+        notes.append("made again: %d checks, since this machine was up to %.1f s late with what was due" % (again, pulse.worst))
     for note in notes:
         print(note)
-    print("%d passed, %d failed, %d skipped" % (counts["ok"], counts["FAILED"], counts["skipped"]))
-    return 1 if counts["FAILED"] else 0
+    return report.end()
 
 
 sys.exit(main(sys.argv[1:]))

@@ -3,17 +3,16 @@
 import contextlib
 import os
 import random
-import re
 import shutil
 import signal
 import subprocess
-import termios
-import time
 
 from frames import END
+from picocom import KEY_TO_RECEIVE, KEY_TO_SEND, picocom, recipe, transfer
 from program import LIMIT, PROGRAM, ROOT, folders, run, wants_same, wants_stored, write_files
 from skipping import needs
-from terminal import UnderTerminal, joined
+from terminal import is_raw, joined
+from waits import wait_until
 
 SCRIPT = os.path.join(ROOT, "ymodem-tty")
 CHANCE = random.Random(17)
@@ -34,6 +33,17 @@ def piped(words, folder, environment=None):
     finally:
         child.kill()
         child.communicate()
+
+
+@contextlib.contextmanager
+def pseudo_terminal():
+    """Both ends of one, as the system makes it."""
+    ends = os.openpty()
+    try:
+        yield ends
+    finally:
+        for end in ends:
+            os.close(end)
 
 
 def told(child):
@@ -76,31 +86,18 @@ def under_picocom(key, typed, from_here, peer, *needed):
 
     def check():
         needs("picocom", "socat", *needed)
-        with folders() as (here, there), contextlib.ExitStack() as later:
+        with folders() as (here, there):
             write_files(here, FILES)
-            line, far = os.openpty()
-            for end in (line, far):
-                later.callback(os.close, end)
             near, away = (here, there) if from_here else (there, here)
-            typed_first = recipe("picocom .*").replace("/dev/ttyUSB0", os.ttyname(far))
-            picocom = UnderTerminal(["sh", "-c", typed_first], cwd=near, env={**AT_HAND, "HOME": near})
-            later.callback(picocom.stop)
-            picocom.sees(b"Terminal ready")
-            # The peer comes now, since picocom has made the line one that changes no bytes.
-            other = later.enter_context(piped(peer, away))
-            joined(other.stdout.fileno(), line)
-            joined(line, other.stdin.fileno())
-            picocom.type(b"\x01" + key)
-            picocom.sees(b"*** file: ")
-            picocom.type(typed + b"\r")
-            picocom.sees(b"exit status: 0")
-            other.stdin.close()
-            other.stdin = None
-            wants_status(peer[0], other, 0)
-            picocom.type(b"\x01\x18")
-            picocom.sees(b"Thanks for using picocom")
-            with contextlib.suppress(FileNotFoundError):
-                os.remove(os.path.join(near, ".picocom_history"))
+            with pseudo_terminal() as (line, far), picocom(recipe("picocom .*").replace("/dev/ttyUSB0", os.ttyname(far)), near, AT_HAND) as shown:
+                # The peer comes now, since picocom has made the line one that changes no bytes.
+                with piped(peer, away) as other:
+                    joined(other.stdout.fileno(), line)
+                    joined(line, other.stdin.fileno())
+                    transfer(shown, key, typed)
+                    other.stdin.close()
+                    other.stdin = None
+                    wants_status(peer[0], other, 0)
             wants_stored(there, FILES)
 
     return check
@@ -162,42 +159,18 @@ def left_of(session):
     return found
 
 
-def wait_until(is_so, what):
-    until = time.monotonic() + LIMIT
-    while not is_so():
-        if time.monotonic() > until:
-            raise AssertionError("this never came: " + what)
-        time.sleep(0.02)
-
-
-def is_raw(end):
-    return not termios.tcgetattr(end)[3] & (termios.ICANON | termios.ECHO)
-
-
-def recipe(words):
-    """What the README says to type for a serial line."""
-    with open(os.path.join(ROOT, "README.md"), encoding="utf-8") as it:
-        found = re.findall(r"^%s /dev/ttyUSB0$" % words, it.read(), re.M)
-    if len(found) != 1:
-        raise AssertionError("the README has %d lines %s" % (len(found), words))
-    return found[0]
-
-
 def by_readme(job, peer, *needed):
     """The README's line for a serial port, on a pseudo terminal as the system makes it, which has to be told to change no bytes."""
 
     def check():
         needs("socat", *needed)
-        with folders() as (here, there), contextlib.ExitStack() as later:
-            line, far = os.openpty()
-            for end in (line, far):
-                later.callback(os.close, end)
+        with folders() as (here, there), pseudo_terminal() as (line, far), contextlib.ExitStack() as later:
             typed = recipe("ymodem-tty %s .*" % job).replace("/dev/ttyUSB0", os.ttyname(far))
             near, away = (here, there) if job == "send" else (there, here)
             write_files(here, [("firmware.bin", FILES[0][1])])
             os.mkdir(os.path.join(there, "incoming"))
             script = later.enter_context(piped(["sh", "-c", typed], near, AT_HAND))
-            wait_until(lambda: is_raw(line), "a line that changes no bytes")
+            wait_until(lambda: is_raw(line), "the line changes no bytes")
             other = later.enter_context(piped(peer, away))
             joined(other.stdout.fileno(), line)
             joined(line, other.stdin.fileno())
@@ -223,7 +196,7 @@ def interrupted(words, by):
         needs("socat")
         with folders() as (here, _), piped([SCRIPT, *words], here) as script:
             write_files(here, FILES)
-            wait_until(lambda: is_carried(script.pid), "a transfer")
+            wait_until(lambda: is_carried(script.pid), "a transfer began")
             script.send_signal(by)
             wants_status("ymodem-tty", script, -by)
             if left_of(script.pid):
@@ -240,10 +213,10 @@ CHECKS = [
     ("sb to ymodem-tty receive", over_pipes(["sb"], RECEIVE, "sb")),
     ("ymodem-tty send to ymodem-tty receive", over_pipes(SEND, RECEIVE)),
     ("ymodem-tty send --short to ymodem-tty receive --single DIR", over_pipes([*SEND, "--short"], [*RECEIVE, "--single", "."])),
-    ("picocom sends to rb", under_picocom(b"\x13", TYPED, True, ["rb"], "rb")),
-    ("picocom sends to ymodem", under_picocom(b"\x13", TYPED, True, RECEIVE)),
-    ("picocom receives from sb", under_picocom(b"\x12", b"", False, ["sb", *NAMES], "sb")),
-    ("picocom receives from ymodem", under_picocom(b"\x12", b".", False, [*SEND, *NAMES])),
+    ("picocom sends to rb", under_picocom(KEY_TO_SEND, TYPED, True, ["rb"], "rb")),
+    ("picocom sends to ymodem", under_picocom(KEY_TO_SEND, TYPED, True, RECEIVE)),
+    ("picocom receives from sb", under_picocom(KEY_TO_RECEIVE, b"", False, ["sb", *NAMES], "sb")),
+    ("picocom receives from ymodem", under_picocom(KEY_TO_RECEIVE, b".", False, [*SEND, *NAMES])),
     ("the README's line to send, to rb", by_readme("send", ["rb"], "rb")),
     ("the README's line to receive, from sb", by_readme("receive", ["sb", "firmware.bin"], "sb")),
     ("ymodem-tty send, cancelled by its peer", keeps_status(["send", "none"], b"\x18\x18", 1)),

@@ -13,7 +13,6 @@ import random
 import sys
 import tempfile
 import zlib
-from concurrent.futures import ThreadPoolExecutor
 
 sys.dont_write_bytecode = True
 sys.path.insert(0, os.path.dirname(os.path.abspath(__file__)))
@@ -21,7 +20,7 @@ sys.path.insert(0, os.path.dirname(os.path.abspath(__file__)))
 from bare_board import QEMU, board, from_program
 from program import PROGRAM, write_files
 from relay import Seeded
-from shipped import outcome
+from reporting import report
 from skipping import Skipped, needs
 
 U_BOOT = os.environ.get("U_BOOT", "/usr/lib/u-boot/qemu_arm64/u-boot.bin")
@@ -79,20 +78,5 @@ CHECKS = [
 ]
 
 
-def main(words):
-    if not os.access(PROGRAM, os.X_OK):
-        print("there is no program at %s\n0 passed, 1 failed, 0 skipped" % PROGRAM)
-        return 1
-    chosen = [it for it in CHECKS if not words or any(word in it[0] for word in words)]
-    counts = {"ok": 0, "FAILED": 0, "skipped": 0}
-    with ThreadPoolExecutor(len(chosen) or 1) as pool:
-        for name, begun in [(name, pool.submit(outcome, check)) for name, check in chosen]:
-            word, why, seconds = begun.result()
-            counts[word] += 1
-            print("%-7s  %s (%.1f s)%s" % (word, name, seconds, why), flush=True)
-    print("%d passed, %d failed, %d skipped" % (counts["ok"], counts["FAILED"], counts["skipped"]))
-    return 1 if counts["FAILED"] else 0
-
-
 if __name__ == "__main__":
-    sys.exit(main(sys.argv[1:]))
+    sys.exit(report(CHECKS, sys.argv[1:], needed=[PROGRAM]))

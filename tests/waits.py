@@ -26,11 +26,11 @@ def wait_for(end, count):
         time.sleep(0.02)
 
 
-def wait_until(is_so, what, child):
-    """Waits until this is so, or the child that has to bring it about has ended."""
+def wait_until(is_so, what, child=None):
+    """Waits until this is so, or the child that has to bring it about has ended, where one is named."""
     until = time.monotonic() + LIMIT
     while not is_so():
-        if child.child.poll() is not None:
+        if child and child.child.poll() is not None:
             raise AssertionError("it has ended before %s: %r" % (what, child.ended().err))
         if time.monotonic() > until:
             raise AssertionError("it never came that " + what)

@@ -59,6 +59,8 @@ def accept(listener):
             here.close()
             continue
         answer = base64.b64encode(hashlib.sha1(key + KEY).digest())
+        # Without a time for each call, which would be a call of the system more.
+        here.settimeout(None)
         here.sendall(b"HTTP/1.1 101 Switching Protocols\r\nUpgrade: websocket\r\nConnection: Upgrade\r\nSec-WebSocket-Accept: " + answer + b"\r\n\r\n")
         return here
 
@@ -90,13 +92,13 @@ class Bridge(threading.Thread):
             self.fault = fault
 
     def carry(self, here, there):
-        held = b""
+        held, far = b"", there.fileno()
         ready = select.poll()
         for it in (here, there):
             ready.register(it, select.POLLIN)
         while not self.is_cut.is_set():
             for number, _ in ready.poll(100):
-                if number == there.fileno():
+                if number == far:
                     came = read(there)
                     if not came:
                         hand(here, framed(b"", CLOSE))

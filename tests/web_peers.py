@@ -6,8 +6,9 @@ import socket
 import subprocess
 import threading
 
-from program import LIMIT, connected, free_port, running
-from relay import Relay
+from calls import receiving, sending
+from program import LIMIT, connected
+from skipping import needs
 from web_bridge import Bridge
 
 
@@ -25,6 +26,31 @@ class Flips:
         made = bytearray(data)
         made[self.random.randrange(3, len(made))] ^= self.random.randint(1, 255)
         return bytes(made)
+
+
+class Held:
+    """A line that carries so many bytes, and then stands still until it goes on: a check can look at a transfer that is under way, for as long as it takes."""
+
+    def __init__(self, most, damage=None):
+        self.left, self.damage = most, damage or (lambda data: data)
+        self.goes_on = threading.Event()
+
+    def __call__(self, data):
+        if self.left < len(data):
+            self.goes_on.wait(LIMIT)
+        self.left = max(0, self.left - len(data))
+        return self.damage(data)
+
+    def go_on(self):
+        self.goes_on.set()
+
+
+def needs_lrzsz(check):
+    def checked(room):
+        needs("sb", "rb")
+        check(room)
+
+    return checked
 
 
 @contextlib.contextmanager
@@ -45,17 +71,10 @@ def lrzsz(words, folder, damage=None):
 @contextlib.contextmanager
 def program_sends(paths, line=None, damage=None):
     """`ymodem send`, and the bridge to it."""
-    with socket.create_server(("127.0.0.1", 0)) as listener:
-        listener.settimeout(LIMIT)
-        port = listener.getsockname()[1]
-        if line:
-            relay = Relay(line, port)
-            relay.start()
-            port = relay.port
-        bridge = Bridge(lambda: listener.accept()[0], damage)
+    with sending(paths, line) as (child, called):
+        bridge = Bridge(called, damage)
         try:
-            with running("send", "--port", port, *paths) as child:
-                yield bridge, child.ended
+            yield bridge, child.ended
         finally:
             bridge.is_cut.set()
 
@@ -63,13 +82,8 @@ def program_sends(paths, line=None, damage=None):
 @contextlib.contextmanager
 def program_receives(folder, line=None):
     """`ymodem receive`, and the bridge to it."""
-    port = free_port()
-    with running("receive", "--port", port, folder) as child:
-        relay = None
-        if line:
-            relay = Relay(line, port)
-            relay.start()
-        bridge = Bridge(lambda: connected(relay.port if relay else port, child))
+    with receiving(folder, line) as (child, port):
+        bridge = Bridge(lambda: connected(port, child))
         try:
             yield bridge, child.ended
         finally:

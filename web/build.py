@@ -19,8 +19,9 @@ HERE = os.path.dirname(os.path.abspath(__file__))
 TARGET = "wasm64-unknown-unknown"
 # The deepest call takes some 3 KB.
 STACK = 65536
-LIBRARY = ("codes", "errors", "engine", "line", "clearing", "log", "receiving", "sending", "websocket", "ymodem")
+LIBRARY = ("codes", "errors", "engine", "alarm", "line", "clearing", "log", "receiving", "sending", "websocket", "ymodem")
 PAGE = ("words", "terminal", "chart", "progress", "ports", "page")
+STYLES = ("controls", "line", "page")
 
 IMPORT = re.compile(r"^import [^;]*;\n+", re.M)
 EXPORT = re.compile(r"^export (?=(?:async function|function|class|const|let)\b)", re.M)
@@ -59,8 +60,9 @@ def shortened(text):
     return KEPT_OR_SPACE.sub(squeezed, text)
 
 
-def styled(text):
-    """The same of a style."""
+def styled(names):
+    """The same of styles: the last one has the last word."""
+    text = COMMENT.sub("", "".join(read(name + ".css") for name in names))
     return re.sub(r"\s*([{};:,])\s+", r"\1", EDGES.sub("\n", text)).strip() + "\n"
 
 
@@ -100,7 +102,7 @@ def page(module):
     """The page, whole. What it may load is what stands in it; it may connect to a WebSocket."""
     packed = base64.b64encode(gzip.compress(module, 9, mtime=0)).decode()
     script = "const PACKED = '%s';\n%s\n{\n%s}\n" % (packed, shortened(joined(LIBRARY)), shortened(joined(PAGE)))
-    style = styled(read("page.css"))
+    style = styled(STYLES)
     policy = "; ".join(
         (
             "default-src 'none'",

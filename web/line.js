@@ -1,5 +1,6 @@
 /* The streams of a port, as a transfer reads and writes them: piece by piece, within a time. */
 
+import { Alarm } from "./alarm.js";
 import { YmodemError } from "./errors.js";
 
 /** As many bytes as one delivery has at most. */
@@ -19,6 +20,7 @@ export class Line {
   #fault = null;
   #ended = false;
   #stopAt = Infinity;
+  #alarm = new Alarm();
   #onAbort = () => this.#stop();
 
   /** With what was heard before, and belongs to the transfer. */
@@ -74,10 +76,10 @@ export class Line {
     while (this.#came.length === 0) {
       if (this.#ended) throw new YmodemError("closed", "the line was closed");
       if (this.#fault) throw new YmodemError("device", "the line failed while it was read", { cause: this.#fault });
-      const left = Math.min(until, this.#stopAt) - performance.now();
-      if (left <= 0) return this.#quiet();
+      const end = Math.min(until, this.#stopAt);
+      if (performance.now() >= end) return this.#quiet();
       this.#fetch();
-      await this.#woken(left);
+      await this.#woken(end);
     }
     this.#since ??= performance.now();
     return this.#piece(most);
@@ -88,13 +90,10 @@ export class Line {
     return QUIET;
   }
 
-  #woken(millis) {
+  #woken(until) {
     return new Promise((resolve) => {
-      const timer = setTimeout(resolve, millis);
-      this.#wake = () => {
-        clearTimeout(timer);
-        resolve();
-      };
+      this.#wake = resolve;
+      this.#alarm.set(until, resolve);
     });
   }
 
@@ -108,16 +107,13 @@ export class Line {
   /** Writes all of it, or fails where the line takes nothing for as long as an answer may take. */
   async write(bytes) {
     this.#since = null;
-    let timer;
-    const late = new Promise((_, reject) => {
-      timer = setTimeout(() => reject(new Error("the line takes no bytes")), this.waits.reply);
-    });
     try {
-      await Promise.race([this.#writer.write(bytes), late]);
+      await new Promise((resolve, reject) => {
+        this.#alarm.set(performance.now() + this.waits.reply, () => reject(new Error("the line takes no bytes")));
+        this.#writer.write(bytes).then(resolve, reject);
+      });
     } catch (fault) {
       throw new YmodemError("device", "the line failed while it was written", { cause: fault });
-    } finally {
-      clearTimeout(timer);
     }
   }
 
@@ -125,6 +121,7 @@ export class Line {
   async release() {
     this.signal?.removeEventListener("abort", this.#onAbort);
     const coming = this.#coming;
+    this.#alarm.close();
     this.#reader.releaseLock();
     this.#writer.releaseLock();
     await coming;

@@ -79,7 +79,8 @@ static void receive(void) {
         deliver();
         ym_receiver_hear(&receiver, &ask);
         uint32_t done = act(&ask);
-        if (ask.bad && receiver.len) clear();
+        /* More may be coming behind what is no frame, and where this loader has asked more than once: each C may be answered. */
+        if (receiver.len && (ask.bad || receiver.stand.count)) clear();
         uart_write(reply, ym_receiver_answer(&receiver, done, reply, sizeof reply));
     }
 }

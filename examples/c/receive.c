@@ -1,37 +1,15 @@
 /* Receives files by YMODEM on standard input and output into a folder, as `rb` does. usage: receive FOLDER
    As a line's end: socat EXEC:'receive incoming' file:/dev/ttyUSB0,b115200,raw,echo=0 */
+#include "line.h"
 #include "ymodem.h"
 
-#include <errno.h>
 #include <fcntl.h>
-#include <poll.h>
 #include <stdio.h>
 #include <string.h>
 #include <unistd.h>
 
 /* Milliseconds: to the next C while nothing comes, to the end of a delivery that has begun, and for a line to be clear. */
 enum { ASK_AGAIN = 3000, QUIET = 1000 };
-
-static int put(int to, const uint8_t *bytes, size_t len) {
-    while (len) {
-        ssize_t done = write(to, bytes, len);
-        if (done < 0 && errno == EINTR) continue;
-        if (done <= 0) return 0;
-        bytes += done;
-        len -= (size_t)done;
-    }
-    return 1;
-}
-
-/* How many bytes came, 0 where none came in time, -1 where the line is closed. */
-static ssize_t get(uint8_t *bytes, size_t room, int wait) {
-    struct pollfd line = { .fd = 0, .events = POLLIN };
-    int ready = poll(&line, 1, wait);
-    if (ready < 0) return errno == EINTR ? 0 : -1;
-    if (ready == 0) return 0;
-    ssize_t came = read(0, bytes, room);
-    return came > 0 ? came : -1;
-}
 
 /* Reads one delivery. 0 where the line is closed. */
 static int deliver(ym_receiver *receiver) {
@@ -42,16 +20,6 @@ static int deliver(ym_receiver *receiver) {
         if (came < 0) return 0;
         if (came == 0) return 1;
         ym_receiver_feed(receiver, bytes, (size_t)came);
-    }
-    return 1;
-}
-
-/* Drops what comes until the line is quiet. 0 where it is closed. */
-static int clear(void) {
-    uint8_t bytes[1029];
-    ssize_t came;
-    for (int i = 0; i < 4096; i++) {
-        if ((came = get(bytes, sizeof bytes, QUIET)) <= 0) return came == 0;
     }
     return 1;
 }
@@ -103,7 +71,8 @@ int main(int count, char **words) {
         if (!deliver(&receiver)) break;
         ym_receiver_hear(&receiver, &ask);
         int done = act(&receiver, &ask);
-        if (ask.bad && receiver.len && !clear()) break;
+        /* More may be coming behind what is no frame, and where this receiver has asked more than once: each C may be answered. */
+        if (receiver.len && (ask.bad || receiver.stand.count) && !clear(QUIET)) break;
         size_t len = ym_receiver_answer(&receiver, (uint32_t)done, reply, sizeof reply);
         if (!put(1, reply, len)) break;
     }

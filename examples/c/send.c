@@ -1,17 +1,17 @@
-/* Sends files by YMODEM on standard input and output, as `sb -k` does. usage: send FILE.. */
+/* Sends files by YMODEM on standard input and output, as `sb -k` does. usage: send FILE..
+   As a line's end: socat EXEC:'send firmware.bin' file:/dev/ttyUSB0,b115200,raw,echo=0 */
+#include "line.h"
 #include "ymodem.h"
 
-#include <errno.h>
 #include <fcntl.h>
-#include <poll.h>
 #include <stdio.h>
 #include <stdlib.h>
 #include <string.h>
 #include <sys/stat.h>
 #include <unistd.h>
 
-/* Milliseconds: for a reply, to the end of one that has begun. */
-enum { REPLY = 10000, QUIET = 1000 };
+/* Milliseconds: for a reply, to the end of one that has begun, and for a line to be clear. */
+enum { REPLY = 10000, QUIET = 1000, CLEAR = 2000 };
 
 struct file {
     const char *name;
@@ -19,17 +19,6 @@ struct file {
     uint64_t length, time;
     uint32_t mode;
 };
-
-static int put(int to, const uint8_t *bytes, size_t len) {
-    while (len) {
-        ssize_t done = write(to, bytes, len);
-        if (done < 0 && errno == EINTR) continue;
-        if (done <= 0) return 0;
-        bytes += done;
-        len -= (size_t)done;
-    }
-    return 1;
-}
 
 /* A long block while at least 1024 bytes remain, and then short ones. */
 static uint64_t blocks_of(uint64_t length) {
@@ -58,19 +47,38 @@ static int open_file(struct file *file, const char *path) {
     return 1;
 }
 
-/* Reads one reply. -1 where the line is closed. */
-static ssize_t hear(const ym_sender *sender, const uint64_t *blocks, size_t files, uint8_t *bytes, size_t room) {
+/* Reads one reply. -1 where the line is closed. It is late where a second was quiet before it. */
+static ssize_t hear(const ym_sender *sender, const uint64_t *blocks, size_t files, uint8_t *bytes, size_t room, int *late) {
     size_t held = 0;
+    *late = 0;
     while (held < room && !ym_sender_settled(sender, blocks, files, bytes, held)) {
-        struct pollfd line = { .fd = 0, .events = POLLIN };
-        int ready = poll(&line, 1, held ? QUIET : REPLY);
-        if (ready < 0 && errno == EINTR) continue;
-        if (ready <= 0) break;
-        ssize_t came = read(0, bytes + held, room - held);
-        if (came <= 0) return -1;
+        ssize_t came = get(bytes + held, room - held, *late && !held ? REPLY - QUIET : QUIET);
+        if (came < 0) return -1;
+        if (came == 0 && (held || *late)) break;
+        if (came == 0) *late = 1;
         held += (size_t)came;
     }
     return (ssize_t)held;
+}
+
+/* How often a frame has gone out, and so how many answers may come. The second EOT of a file is none more where the first one and the
+   frame before it were answered at once: so a receiver asks for it that confirms twice. */
+struct copies {
+    int of_frame, prompt;
+};
+
+/* Takes that a reply was heard. 0 where the line had to clear before the next frame, and is closed. */
+static int heard(struct copies *out, const ym_sender *sender, int late) {
+    int several = out->of_frame > 1;
+    if (sender->misses) return 1;
+    out->prompt = !late && !several;
+    out->of_frame = 0;
+    return !several || clear(CLEAR);
+}
+
+static void sent(struct copies *out, const ym_sender *sender, int late) {
+    int confirms = sender->len == 1 && sender->misses == 1 && !late && out->prompt;
+    if (!confirms) out->of_frame++;
 }
 
 static int fill_block(ym_sender *sender, const struct file *file, uint64_t number) {
@@ -93,10 +101,10 @@ static int fill(ym_sender *sender, const struct file *files, const ym_fill *what
 }
 
 /* Sends what is to be sent. 0 where the line is closed. */
-static int send(const ym_sender *sender, const uint64_t *blocks, size_t count) {
+static int send(const ym_sender *sender, const uint64_t *blocks, size_t count, struct copies *out, int late) {
     static const uint8_t cancel[2] = { 0x18, 0x18 };
     switch (ym_sender_out(sender, blocks, count)) {
-    case YM_OUT_FRAME: return put(1, sender->frame, sender->len);
+    case YM_OUT_FRAME: sent(out, sender, late); return put(1, sender->frame, sender->len);
     case YM_OUT_CANCEL: return put(1, cancel, sizeof cancel);
     default: return 1;
     }
@@ -117,13 +125,16 @@ int main(int words, char **word) {
         blocks[i] = blocks_of(files[i].length);
     }
     ym_sender_init(&sender, blocks, count);
+    struct copies out = { 0, 1 };
     while (sender.state == YM_SENDING) {
         ym_fill what;
-        ssize_t held = hear(&sender, blocks, count, reply, sizeof reply);
+        int late;
+        ssize_t held = hear(&sender, blocks, count, reply, sizeof reply, &late);
         if (held < 0) break;
         ym_sender_hear(&sender, blocks, count, reply, (size_t)held, &what);
+        if (!heard(&out, &sender, late)) break;
         if (!fill(&sender, files, &what)) ym_sender_failed(&sender, blocks, count);
-        if (!send(&sender, blocks, count)) break;
+        if (!send(&sender, blocks, count, &out, late)) break;
     }
     fprintf(stderr, "send: state %u\n", (unsigned)sender.state);
     return sender.state == YM_SENT ? 0 : 1;

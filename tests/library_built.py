@@ -1,0 +1,29 @@
+"""The library for C, and the programs that are built of it for the checks."""
+
+import os
+import tempfile
+import threading
+
+from program import ROOT
+from wanting import command
+
+INCLUDE = os.path.join(ROOT, "include")
+LIBRARY = os.path.abspath(os.environ.get("YM_LIBRARY", os.path.join(ROOT, "out", "lib", "x86_64-unknown-linux-gnu", "libymodem.a")))
+STRICT = ["-Wall", "-Wextra", "-Wpedantic", "-Werror"]
+BUILT = tempfile.TemporaryDirectory(prefix="ymodem-c-")
+
+ONE_BY_ONE = threading.Lock()
+
+
+def built(source, name, *flags, compiler="cc"):
+    """A program, made of a source of the repository and the library."""
+    path = os.path.join(BUILT.name, name)
+    command(compiler, "-std=gnu11", "-O2", *STRICT, *flags, "-I", INCLUDE, *(os.path.join(ROOT, it) for it in source.split()), LIBRARY, "-o", path)
+    return path
+
+
+def example(name):
+    """One of examples/c, made once."""
+    path = os.path.join(BUILT.name, name)
+    with ONE_BY_ONE:
+        return path if os.path.exists(path) else built("examples/c/%s.c" % name, name)

@@ -1,0 +1,92 @@
+"""A copy of the tree, where a stand-in for `rt` proves nothing and says what `rt` says."""
+
+import contextlib
+import os
+import shutil
+import subprocess
+import tempfile
+
+from program import PROGRAM, ROOT
+from skipping import needs
+
+# It tells what it was called with in the file `called`. Where the file `slow` is there, `rt run` waits for its end.
+STAND_IN = r"""#!/bin/sh
+echo "$*" >> "$CALLED/called"
+case $1 in
+run)
+    echo "logic: read"
+    echo "rt: chose --jobs 4 for ym_frame"
+    echo "so far: 40 of 91 functions checked"
+    echo "fn ym_frame::check16: proved"
+    [ ! -e "$CALLED/slow" ] || { echo $$ > "$CALLED/process"; exec sleep 1000; }
+    [ ! -e "$CALLED/wrong" ] || { echo "src/check.rt:1:1: error: not so"; exit 1; }
+    echo "rt: chose --jobs 4 for ymodem"
+    cmp -s "$YMODEM" out/ymodem || { mkdir -p out && cp "$YMODEM" out/ymodem; }
+    ;;
+lib)
+    mkdir -p out && echo "$*" > out/libym_c.a
+    ;;
+try)
+    [ ! -e "$CALLED/wrong" ] || { echo "src/check.rt:1:1: error: not so" >&2; exit 2; }
+    [ "$2" != -- ] || "$YMODEM" play
+    echo "checked: ended status=0" >&2
+    echo "run=ended status=0 runners=1 proved=no" >&2
+    ;;
+esac
+"""
+
+
+class Tree:
+    """A fresh copy of the tree, in a folder with a space in its name, with the stand-in on the path."""
+
+    def __init__(self, top):
+        self.top, self.calls = os.path.join(top, "a tree"), os.path.join(top, "calls")
+        os.makedirs(self.calls)
+        names = [it for it in os.listdir(ROOT) if it not in ("out", ".git")]
+        for name in names:
+            source, to = os.path.join(ROOT, name), os.path.join(self.top, name)
+            if os.path.isdir(source):
+                shutil.copytree(source, to, ignore=shutil.ignore_patterns("out", "proofs", "must-fail", "__pycache__"))
+            else:
+                os.makedirs(self.top, exist_ok=True)
+                shutil.copy2(source, to)
+        with open(os.path.join(self.calls, "rt"), "w", encoding="utf-8") as it:
+            it.write(STAND_IN)
+        os.chmod(it.name, 0o755)
+        self.environment = {**os.environ, "PATH": self.calls + ":" + os.environ["PATH"], "CALLED": self.calls, "YMODEM": PROGRAM}
+        self.words = ["make", "--no-print-directory"]
+        self.how = {}
+
+    def make(self, *words):
+        return self.run(*self.words, *words)
+
+    def run(self, *words):
+        """A command in the tree: its status, and what it wrote."""
+        ran = subprocess.run(words, cwd=self.top, env=self.environment, capture_output=True, text=True, check=False, **self.how)
+        return ran.returncode, ran.stdout, ran.stderr
+
+    def mark(self, name):
+        with open(os.path.join(self.calls, name), "w", encoding="utf-8"):
+            pass
+
+    def called(self):
+        """The calls of rt since the last time."""
+        file = os.path.join(self.calls, "called")
+        if not os.path.exists(file):
+            return []
+        with open(file, encoding="utf-8") as it:
+            found = it.read().splitlines()
+        os.remove(file)
+        return found
+
+
+@contextlib.contextmanager
+def tree():
+    needs("make")
+    with tempfile.TemporaryDirectory(prefix="ymodem-") as top:
+        yield Tree(top)
+
+
+def session():
+    with open(os.path.join(ROOT, "crates", "ymodem", "stdout"), encoding="utf-8") as it:
+        return it.read()

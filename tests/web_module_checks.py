@@ -1,0 +1,268 @@
+"""The module in a page without anything else: against `sb`, `rb` and `ymodem` behind a WebSocket, and both ends in one page."""
+
+import base64
+import json
+import os
+import random
+import re
+import tempfile
+
+from program import ROOT, folders, wants_same, wants_stored, write_files
+from relay import Seeded
+from wanting import command, wants
+from web_browser import Page
+from web_peers import Flips, lrzsz, needs_lrzsz, program_receives, program_sends
+
+WEB = os.path.join(ROOT, "out", "web")
+
+
+def files():
+    """Thirty files."""
+    chance = random.Random(77)
+    sizes = (0, 1, 2, 127, 128, 129, 255, 256, 257, 895, 896, 897, 1022, 1023, 1024, 1025, 1151, 1152, 1153, 2047, 2048, 3000, 33333, 65536, 100001)
+    made = [("size-%d.bin" % size, chance.randbytes(size)) for size in sizes]
+    made += [("two words.txt", b"\x1a" * 200), ("n" * 100, b"\x18\x18\x04" * 100), ("Größe.txt", b"caf\xc3\xa9\n" * 90)]
+    return [*made, ("cancel.bin", b"\x18" * 2500), ("C.bin", b"C" * 1300)]
+
+
+TOOLS = """
+globalThis.tools = {
+  bytes: (text) => Uint8Array.from(atob(text), (sign) => sign.charCodeAt(0)),
+  text: async (file) => new Promise((resolve) => {
+    const reader = new FileReader();
+    reader.onload = () => resolve(reader.result.split(",")[1] ?? "");
+    reader.readAsDataURL(file);
+  }),
+  pair() {
+    const pipe = () => new TransformStream(undefined, { highWaterMark: 64 }, { highWaterMark: 64 });
+    const [one, two] = [pipe(), pipe()];
+    return [{ readable: one.readable, writable: two.writable }, { readable: two.readable, writable: one.writable }];
+  },
+  ended: (promise) => promise.then((done) => ({ code: "", ...done }), (fault) => ({ code: fault.code ?? String(fault), fault: fault.fault, files: fault.files, answered: fault.answered })),
+};
+"""
+
+
+class Empty:
+    """A page with the module as `y`."""
+
+    def __init__(self, room):
+        self.page = Page(room.browser, room.base + "/empty", TOOLS)
+        self.page.run("import('/ymodem.js').then((it) => { globalThis.y = it; })")
+
+    def __enter__(self):
+        return self.page
+
+    def __exit__(self, *_):
+        self.page.close()
+
+
+def received(page, address):
+    """The files that the page receives there: names and bytes."""
+    script = """(async () => {
+      const port = await y.openWebSocket(%s);
+      const done = await y.receive(port);
+      port.close();
+      const made = [];
+      for (const { name, file } of done.files) made.push([name, await tools.text(file)]);
+      return JSON.stringify(made);
+    })()"""
+    return {name: base64.b64decode(text) for name, text in json.loads(page.run(script % json.dumps(address)))}
+
+
+def sends(page, address, batch):
+    data = json.dumps([[name, base64.b64encode(text).decode()] for name, text in batch])
+    script = """(async () => {
+      const port = await y.openWebSocket(%s);
+      const files = %s.map(([name, text]) => ({ name, data: tools.bytes(text) }));
+      // the port is open until the page is closed: the other end has its last answer to write
+      const done = await y.send(port, files);
+      return done.files.length;
+    })()"""
+    wants(page.run(script % (json.dumps(address), data)) == len(batch), "not all files are reported as done")
+
+
+def from_sb(flags=(), damage=None):
+    def check(room):
+        with folders() as (here, _), Empty(room) as page:
+            batch = files()
+            write_files(here, batch)
+            with lrzsz(["sb", "-q", *flags, *(name for name, _ in batch)], here, damage() if damage else None) as (bridge, status):
+                wants_same(received(page, bridge.address), dict(batch))
+                wants(status() == 0, "sb failed")
+
+    return check
+
+
+def to_rb(damage=None):
+    def check(room):
+        with folders() as (_, there), Empty(room) as page:
+            batch = files()
+            with lrzsz(["rb", "-q"], there, damage() if damage else None) as (bridge, status):
+                sends(page, bridge.address, batch)
+                wants(status() == 0, "rb failed")
+            wants_stored(there, batch)
+
+    return check
+
+
+def from_program(line=None):
+    def check(room):
+        with folders() as (here, _), Empty(room) as page:
+            batch = files()
+            with program_sends(write_files(here, batch), line() if line else None) as (bridge, ended):
+                wants_same(received(page, bridge.address), dict(batch))
+                wants(ended().status == 0, "ymodem send failed")
+
+    return check
+
+
+def to_program(line=None):
+    def check(room):
+        with folders() as (_, there), Empty(room) as page:
+            batch = files()
+            with program_receives(there, line() if line else None) as (bridge, ended):
+                sends(page, bridge.address, batch)
+                wants(ended().status == 0, "ymodem receive failed")
+            wants_stored(there, batch)
+
+    return check
+
+
+# ---- What the module says of itself
+
+
+def layout(_):
+    """The fields stand where a C compiler has them."""
+    with open(os.path.join(ROOT, "web", "codes.js"), encoding="utf-8") as it:
+        text = re.search(r"const LAYOUT = \{(.*?)\n\};", it.read(), re.S).group(1)
+    asked = {name: dict(re.findall(r"(\w+): (\d+)", fields)) for name, fields in re.findall(r"(\w+): \{([^}]*)\}", text)}
+    inside = {"ym_receiver": {"length": "stand.length", "taken": "stand.taken", "files": "stand.files", "state": "stand.state", "fault": "stand.fault", "in_file": "stand.in_file"}, "ym_front": {"width": "size"}}
+    lines, wanted = [], []
+    for name, fields in asked.items():
+        for field, at in fields.items():
+            where = "sizeof(%s)" % name if field == "size" else "offsetof(%s, %s)" % (name, inside.get(name, {}).get(field, field))
+            lines.append('printf("%%s %%zu\\n", "%s.%s", %s);' % (name, field, where))
+            wanted.append("%s.%s %s" % (name, field, at))
+    wants(len(wanted) > 30, "the table was not found")
+    with tempfile.TemporaryDirectory() as folder:
+        source, program = os.path.join(folder, "layout.c"), os.path.join(folder, "layout")
+        with open(source, "w", encoding="utf-8") as it:
+            it.write('#include "ymodem.h"\n#include <stdio.h>\nint main(void) { %s return 0; }\n' % " ".join(lines))
+        command("cc", "-I", os.path.join(ROOT, "include"), source, "-o", program)
+        found = command(program).splitlines()
+    wants(found == wanted, "C says otherwise: %s" % sorted(set(found) ^ set(wanted)))
+
+
+def sizes(_):
+    """What is shipped is as small as docs/web.md says."""
+    sizes = {name: os.path.getsize(os.path.join(WEB, name)) for name in os.listdir(WEB)}
+    wants(sizes["ymodem.wasm"] < 40 << 10 and sum(sizes.values()) < 120 << 10, "too large: %s" % sizes)
+
+
+def exact(room):
+    """Two ends of one page: names, lengths, stamps, and what a sink of one's own sees."""
+    with Empty(room) as page:
+        got = json.loads(
+            page.run(
+                """(async () => {
+      const [here, there] = tools.pair();
+      const seen = [], told = [], went = [];
+      const onFile = (about) => ({ write: (bytes) => seen.push([about.name, bytes.length]), close: () => seen.push([about.name, "closed"]) });
+      const files = [{ name: "a", data: new Uint8Array(1300), time: 1234567890, mode: 0o100644 }, new File(["hello"], "b")];
+      const [sent, received] = await Promise.all([
+        y.send(here, files, { onFrame: (it) => it.isOurs && went.push(it.text) }),
+        y.receive(there, { onFile, onProgress: ({ file, files, bytes, length }) => told.push([file.name, files, bytes, length]) }),
+      ]);
+      return JSON.stringify({ seen, told, went, sent: sent.files, received: received.files, locked: here.readable.locked || there.writable.locked });
+    })()"""
+            )
+        )
+    wants(got["seen"] == [["a", 1024], ["a", 128], ["a", 128], ["a", 20], ["a", "closed"], ["b", 5], ["b", "closed"]], "the sink saw %s" % got["seen"])
+    wants(got["received"] == [{"name": "a", "length": 1300, "time": 1234567890, "mode": 33188}, {"name": "b", "length": 5}], "received %s" % got["received"])
+    wants(got["sent"] == [{"name": "a", "length": 1300}, {"name": "b", "length": 5}], "sent %s" % got["sent"])
+    wants(["a", 0, 1172, 1300] not in got["told"] and ["a", 0, 1152, 1300] in got["told"] and got["told"][-1] == ["b", 2, 5, 5], "progress %s" % got["told"])
+    wants([it for it in got["went"] if it.startswith("block")] == ["block 0", "block 1", "block 2", "block 3", "block 4", "block 0", "block 1", "block 0"], "went %s" % got["went"])
+    wants(not got["locked"], "the streams are locked")
+
+
+def ended_by(script, wanted):
+    """A transfer that does not end well: its codes at both ends."""
+
+    def check(room):
+        with Empty(room) as page:
+            got = json.loads(page.run("(async () => { const [here, there] = tools.pair(); const data = new Uint8Array(5000); %s })()" % script))
+        wants(got == wanted, "%s, wanted %s" % (got, wanted))
+
+    return check
+
+
+BOTH = "const ends = await Promise.all([tools.ended(%s), tools.ended(%s)]); return JSON.stringify(ends.map((it) => [it.code, it.files.length]));"
+
+
+def stalls(room):
+    """Both ends in one page, on a line that now and then hands on late what one of them wrote, so that it is written twice and answered twice."""
+    with Empty(room) as page:
+        got = json.loads(
+            page.run(
+                """(async () => {
+      const waits = { reply: 1500, within: 200 };
+      let left = 6, count = 0, late = 0;
+      // the stalls of each way: at these pieces
+      const slow = () => {
+        let until = 0, last = Promise.resolve(), to;
+        const readable = new ReadableStream({ start: (controller) => { to = controller; } });
+        const writable = new WritableStream({
+          write(piece) {
+            const now = performance.now();
+            if (left > 0 && ++count % 13 === 0) { left--; until = now + 1700; }
+            if (until > now) late++;
+            last = last.then(() => new Promise((resolve) => setTimeout(resolve, until - performance.now()))).then(() => to.enqueue(piece));
+          },
+        });
+        return { readable, writable };
+      };
+      const [one, two] = [slow(), slow()];
+      const here = { readable: one.readable, writable: two.writable }, there = { readable: two.readable, writable: one.writable };
+      const files = Array.from({ length: 9 }, (_, at) => ({ name: `file ${at}`, data: new Uint8Array(1024 * at + 300).fill(at + 1) }));
+      const [sent, received] = await Promise.all([tools.ended(y.send(here, files, { waits })), tools.ended(y.receive(there, { waits: { ...waits, reply: 800 } }))]);
+      const same = [];
+      for (const { file, name } of received.files) {
+        const bytes = new Uint8Array(await file.arrayBuffer());
+        const wanted = files.find((it) => it.name === name).data;
+        same.push(bytes.length === wanted.length && bytes.every((byte, at) => byte === wanted[at]));
+      }
+      return JSON.stringify({ late, codes: [sent.code, received.code], sent: sent.files.length, same });
+    })()"""
+            )
+        )
+    wants(got["codes"] == ["", ""] and got["sent"] == 9 and got["same"] == [True] * 9, "%s" % got)
+    wants(got["late"] >= 6, "the line was not late: %s" % got)
+
+
+WAITS = "{ waits: { reply: 60, within: 20 } }"
+STOP = "const stop = new AbortController();"
+
+CHECKS = [
+    ("the fields of the structs", layout),
+    ("the sizes of what is shipped", sizes),
+    ("two ends in one page", exact),
+    ("two ends on a line that stalls", stalls),
+    ("receives thirty files from ymodem send", from_program()),
+    ("sends thirty files to ymodem receive", to_program()),
+    ("receives thirty files from ymodem send, six deliveries damaged", from_program(lambda: Seeded(51, 0.05, 6))),
+    ("sends thirty files to ymodem receive, six deliveries damaged", to_program(lambda: Seeded(52, 0.05, 6))),
+    ("a name that cannot be sent", ended_by("const it = await tools.ended(y.send(here, [{ name: 'a/b', data }], { heard: Uint8Array.of(67) })); return JSON.stringify([it.code, it.fault]);", ["bad-header", "name-unsafe"])),
+    ("a sink that fails", ended_by(BOTH % ("y.send(here, [{ name: 'a', data: '' }, { name: 'b', data }])", "y.receive(there, { onFile: ({ name }) => { if (name === 'b') throw new Error('full'); } })"), [["cancelled", 1], ["host-failed", 1]])),
+    ("nobody sends", ended_by("const it = await tools.ended(y.receive(there, %s)); return JSON.stringify([it.code, it.answered]);" % WAITS, ["too-many-errors", False])),
+    ("nobody receives", ended_by("const it = await tools.ended(y.send(here, [{ name: 'a', data }], %s)); return JSON.stringify([it.code, it.answered]);" % WAITS, ["no-reply", False])),
+    ("the line is closed", ended_by("here.writable.close(); const it = await tools.ended(y.receive(there)); return JSON.stringify([it.code]);", ["closed"])),
+    ("the sender is stopped", ended_by(STOP + BOTH % ("y.send(here, [{ name: 'a', data }], { signal: stop.signal })", "y.receive(there, { onProgress: ({ bytes }) => bytes > 2000 && stop.abort() })"), [["aborted", 0], ["cancelled", 0]])),
+    ("the receiver is stopped", ended_by(STOP + BOTH % ("y.send(here, [{ name: 'a', data }])", "y.receive(there, { signal: stop.signal, onProgress: ({ bytes }) => bytes > 2000 && stop.abort() })"), [["cancelled", 0], ["aborted", 0]])),
+    ("stopped before it begins", ended_by("const it = await tools.ended(y.receive(there, { signal: AbortSignal.abort() })); return JSON.stringify([it.code, here.readable.locked, there.readable.locked]);", ["aborted", False, False])),
+    ("receives thirty files from sb", needs_lrzsz(from_sb())),
+    ("receives thirty files from sb -k", needs_lrzsz(from_sb(("-k",)))),
+    ("sends thirty files to rb", needs_lrzsz(to_rb())),
+    ("receives thirty files from sb, six blocks damaged", needs_lrzsz(from_sb(("-k",), lambda: Flips(61, 6)))),
+    ("sends thirty files to rb, six blocks damaged", needs_lrzsz(to_rb(lambda: Flips(62, 6)))),
+]

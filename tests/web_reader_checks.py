@@ -1,0 +1,201 @@
+"""For whom the page is: who uses the keyboard alone, a narrow window, a dark screen or a screen reader, or a browser that lacks something; and its policy."""
+
+import json
+
+from program import folders, wants_stored, write_files
+from wanting import wants
+from web_peers import Held, Loader, needs_lrzsz
+from web_shown import SIZE, Loud, Shown, begin, dial, firmware, picture, text, until_ended, until_share
+
+
+def by_keyboard(room):
+    """Connects and sends with Tab, Enter, the arrow keys and the space bar."""
+    with folders() as (here, there), Shown(room) as page:
+        loader = Loader(there)
+        focused = lambda: page.run("document.activeElement.id || document.activeElement.value || document.activeElement.tagName")
+
+        def reach(wanted):
+            for _ in range(40):
+                if focused() == wanted:
+                    return
+                page.key("Tab")
+            raise AssertionError("the Tab key never reaches " + wanted)
+
+        reach("serial")
+        page.key("ArrowDown", "ArrowDown")
+        page.run("document.querySelector('[name=way][value=socket]').checked || document.querySelector('[name=way][value=socket]').click()")
+        reach("address")
+        page.run("document.getElementById('address').value = %s" % json.dumps(loader.bridge.address))
+        page.key("Enter", text="\r")
+        page.until("!document.getElementById('connected').hidden")
+        wants(focused() == "screen", "not at the terminal but at " + focused())
+        reach("pick")
+        page.give("#pick", write_files(here, [("a.txt", b"hello")]))
+        reach("send-command")
+        for sign in "loady":
+            page.key(sign, text=sign)
+        page.key("Enter", text="\r")
+        until_ended(page)
+        wants(focused() == "result-title", "not at the result but at " + focused())
+        wants_stored(there, [("a.txt", b"hello")])
+        loader.close()
+
+
+def narrow(room):
+    with folders() as (here, there), Shown(room, width=340, height=720) as page:
+        line = Held(40000)
+        loader = Loader(there, line)
+        dial(page, loader.bridge.address)
+        page.give("#pick", write_files(here, [("a-name-that-is-rather-long-for-such-a-window-" * 4 + ".bin", bytes(90000))]))
+        fits = lambda: wants(page.run("document.documentElement.scrollWidth <= innerWidth"), "wider than the window")
+        fits()
+        begin(page, [], "loady")
+        until_share(page, 0.2)
+        fits()
+        picture(page, "13-narrow")
+        line.go_on()
+        until_ended(page)
+        fits()
+        page.scheme("dark")
+        picture(page, "13-narrow-dark")
+        loader.close()
+
+
+# What is used, or jumped to.
+USED = ("button", "textbox", "radio", "spinbutton", "link", "progressbar", "log", "region", "heading", "combobox", "image", "list")
+
+
+class Read:
+    """The page as a screen reader is given it: the browser's own tree of what is there for it."""
+
+    def __init__(self, page):
+        page.call("Accessibility.enable")
+        self.nodes = [Node(it) for it in page.call("Accessibility.getFullAXTree")["nodes"] if not it.get("ignored")]
+
+    def of(self, *roles):
+        return [it for it in self.nodes if it.role in roles]
+
+    def one(self, role, name):
+        found = [it for it in self.of(role) if it.name == name]
+        wants(len(found) == 1, "%d of %s %r, among %s" % (len(found), role, name, [it.name for it in self.of(role)]))
+        return found[0]
+
+    def wants_names(self):
+        """Everything that can be used has a name."""
+        used = self.of(*USED)
+        wants(len(used) > 15, "only %d" % len(used))
+        bare = [it.role for it in used if not it.name]
+        wants(not bare, "without a name: %s" % bare)
+
+
+class Node:
+    def __init__(self, it):
+        value = lambda what: it.get(what, {}).get("value", "")
+        self.role, self.name, self.value = value("role"), str(value("name")).strip(), value("value")
+        self.more = {more["name"]: more["value"].get("value") for more in it.get("properties", ())}
+
+
+# What the page says by itself to who listens to it, in its order.
+LISTEN = """(() => {
+  const says = document.getElementById('says');
+  globalThis.said = [];
+  new MutationObserver(() => said.push(says.textContent)).observe(says, { childList: true, characterData: true, subtree: true });
+})()"""
+
+
+def spoken(room):
+    """A transfer as a screen reader is told of it: what is said by itself, and what it finds meanwhile and behind it."""
+    with folders() as (here, there), Shown(room) as page:
+        line = Held(SIZE * 3 // 10)
+        loader = Loader(there, line)
+        address = loader.bridge.address
+        page.run(LISTEN)
+        dial(page, address)
+        begin(page, write_files(here, firmware()), "loady")
+        page.until("said.includes('25 percent')")
+        read = Read(page)
+        read.wants_names()
+        for title in ("Sending 1 file", "Terminal"):
+            read.one("region", title)
+            read.one("heading", title)
+        read.one("button", "Cancel")
+        wants(0.2 < float(read.one("progressbar", "Progress").value) < 0.4, "the progress bar is at %s" % read.one("progressbar", "Progress").value)
+        read.one("image", "The last frames and replies between this page and the device")
+        # One place speaks by itself. Each byte of the terminal would be too much.
+        live = [(it.role, it.more["live"]) for it in read.nodes if it.more.get("live", "off") != "off"]
+        wants(live == [("status", "polite")], "what is told by itself is %s" % live)
+        read.one("log", "What the device prints. Keys typed here go to the device.")
+        line.go_on()
+        until_ended(page)
+        ended = Read(page)
+        ended.wants_names()
+        wants(ended.one("heading", "✓ Sent: the device has it all").more.get("focused"), "the end is not where somebody reads on")
+        said = [it for it in page.run("said") if "percent" not in it]
+        wants(said[:2] == ["Connected: " + address, "1 file chosen"], "it said %s" % said)
+        wants(len(said) == 3 and said[2].startswith("Sent: the device has it all. 1 file, 781 KiB in "), "it said %s" % said)
+        loader.close()
+
+
+def names(room):
+    """Everything that can be used has a name, and headings stand in order."""
+    with Shown(room) as page:
+        Read(page).wants_names()
+        levels = page.run("[...document.querySelectorAll('h1, h2, h3')].map((it) => it.tagName).join(' ')")
+        wants(levels.startswith("H1 H2") and "H3" not in levels, "headings: " + levels)
+
+
+def contrast(room):
+    """Text stands out from its ground by 4.5 to 1, light and dark."""
+    script = """(() => {
+      const canvas = document.createElement('canvas').getContext('2d', { willReadFrequently: true });
+      const rgb = (color) => { canvas.clearRect(0, 0, 1, 1); canvas.fillStyle = color; canvas.fillRect(0, 0, 1, 1); return [...canvas.getImageData(0, 0, 1, 1).data]; };
+      const light = ([r, g, b]) => [r, g, b].map((x) => x / 255).map((x) => x <= 0.04045 ? x / 12.92 : ((x + 0.055) / 1.055) ** 2.4).reduce((sum, x, at) => sum + x * [0.2126, 0.7152, 0.0722][at], 0);
+      const ground = (node) => { for (; node; node = node.parentElement) { const color = rgb(getComputedStyle(node).backgroundColor); if (color[3] === 255) return color; } return [255, 255, 255]; };
+      const poor = [];
+      for (const node of document.querySelectorAll('body *')) {
+        const own = [...node.childNodes].some((it) => it.nodeType === 3 && it.data.trim());
+        if (!own || !node.checkVisibility() || node.closest(':disabled, .unseen, .skip, svg')) continue;
+        const [one, two] = [light(rgb(getComputedStyle(node).color)), light(ground(node))].sort((a, b) => b - a);
+        const ratio = (one + 0.05) / (two + 0.05);
+        if (ratio < 4.5) poor.push(node.tagName + ' ' + node.textContent.trim().slice(0, 30) + ' ' + ratio.toFixed(2));
+      }
+      return poor;
+    })()"""
+    with Shown(room) as page:
+        page.run("document.querySelectorAll('[hidden]').forEach((it) => it.id === 'datalist' || (it.hidden = false))")
+        for scheme in ("light", "dark"):
+            page.scheme(scheme)
+            poor = page.run(script)
+            wants(not poor, "%s: %s" % (scheme, poor))
+
+
+def lacking(room):
+    """A browser without serial ports and 64-bit memory."""
+    before = "WebAssembly.validate = () => false; delete Navigator.prototype.serial;"
+    with Shown(room, before) as page:
+        said = text(page, "#lacks")
+        wants("64-bit memory" in said and "133" in said and "serial ports" in said, "the page says " + said)
+        wants(page.run("document.querySelector('[name=way]:checked').value") == "socket", "serial ports are offered")
+        picture(page, "14-lacking")
+
+
+def policy(room):
+    """No code from text, no script of others, nothing fetched."""
+    with Loud(room) as page:
+        tried = page.call("Runtime.evaluate", expression="eval('1 + 1')", allowUnsafeEvalBlockedByCSP=False)
+        wants("exceptionDetails" in tried, "code is made from text")
+        wants(page.run("fetch('http://127.0.0.1:1/').then(() => 'fetched', (fault) => fault.name)") == "TypeError", "fetched")
+        wants(page.run("(() => { const it = document.createElement('script'); it.textContent = 'globalThis.alien = 1'; document.body.append(it); return globalThis.alien === undefined; })()"), "an alien script runs")
+        said = " ".join(page.complaints())
+        wants("Content Security Policy" in said, "the browser does not say why: " + said)
+
+
+CHECKS = [
+    ("page: from a disk, its policy", policy),
+    ("page: names for who does not see it", names),
+    ("page: what a screen reader is told of a transfer", needs_lrzsz(spoken)),
+    ("page: contrast", contrast),
+    ("page: a browser that lacks what it needs", lacking),
+    ("page: the keyboard alone", needs_lrzsz(by_keyboard)),
+    ("page: a narrow window", needs_lrzsz(narrow)),
+]
