@@ -22,6 +22,8 @@ def by_keyboard(room):
             raise AssertionError("the Tab key never reaches " + wanted)
 
         reach("serial")
+        shown = page.run("getComputedStyle(document.activeElement).outlineStyle")
+        wants(shown != "none", "where the keyboard is does not show")
         page.key("ArrowDown", "ArrowDown")
         page.run("document.querySelector('[name=way][value=socket]').checked || document.querySelector('[name=way][value=socket]').click()")
         reach("address")
@@ -137,11 +139,40 @@ def spoken(room):
 
 
 def names(room):
-    """Everything that can be used has a name, and headings stand in order."""
     with Shown(room) as page:
         Read(page).wants_names()
-        levels = page.run("[...document.querySelectorAll('h1, h2, h3')].map((it) => it.tagName).join(' ')")
-        wants(levels.startswith("H1 H2") and "H3" not in levels, "headings: " + levels)
+
+
+# What is wrong with the page's text, by the rules that need no eye, whatever of it is shown.
+RULES = """(() => {
+  const all = (what) => [...document.querySelectorAll(what)], wrong = [];
+  const wants = (holds, text) => holds || wrong.push(text);
+  const ids = all('[id]').map((it) => it.id);
+  wants(new Set(ids).size === ids.length, 'an id stands twice');
+  wants(document.documentElement.lang === 'en' && document.title !== '', 'no language, or no title');
+  for (const it of ['header', 'main', 'footer', 'h1']) wants(all(it).length === 1, `${all(it).length} of ${it}`);
+  wants(all('h1, h2, h3, h4').map((it) => it.tagName).join(' ').match(/^H1( H2)+$/), 'headings with a gap');
+  wants(!/maximum-scale|user-scalable/.test(document.querySelector('[name=viewport]').content), 'it cannot be made larger');
+  wants(all('[tabindex]').every((it) => it.tabIndex <= 0), 'an order of its own for the Tab key');
+  wants(all('[aria-hidden] *, [aria-hidden]').every((it) => it.tabIndex < 0), 'something that is hidden can be reached');
+  wants(all('ul').every((list) => [...list.children].every((it) => it.tagName === 'LI')), 'a list with something else in it');
+  wants(all('fieldset').every((it) => it.firstElementChild.tagName === 'LEGEND'), 'a group without a legend');
+  wants(all('input').every((it) => it.labels.length === 1), 'a field without its label');
+  for (const it of all('*')) {
+    for (const { name, value } of it.attributes) {
+      if (name === 'aria-labelledby') wants(document.getElementById(value), `${value} is not there`);
+      else if (name.startsWith('aria-')) wants(['aria-label', 'aria-hidden', 'aria-live'].includes(name), `${name} at ${it.tagName}`);
+      else if (name === 'role') wants(['log', 'status', 'img'].includes(value), `the role ${value}`);
+    }
+  }
+  return wrong;
+})()"""
+
+
+def rules(room):
+    with Shown(room) as page:
+        wrong = page.run(RULES)
+        wants(not wrong, "; ".join(wrong))
 
 
 def contrast(room):
@@ -193,6 +224,7 @@ def policy(room):
 CHECKS = [
     ("page: from a disk, its policy", policy),
     ("page: names for who does not see it", names),
+    ("page: the rules for who does not see it", rules),
     ("page: what a screen reader is told of a transfer", needs_lrzsz(spoken)),
     ("page: contrast", contrast),
     ("page: a browser that lacks what it needs", lacking),
