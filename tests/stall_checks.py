@@ -1,9 +1,12 @@
 """Peers that stall before one frame or one answer, and take up where they stood: what they have to answer meanwhile waits in the line."""
 
+import time
+
 from claims import Claim, claim_of_receive, claim_of_send, wants_true
-from frames import EOT, NAK, PLACES, frames_of, mixed, place, short
-from peers import Pause, PlainReceiver, PlainSender, receive_from, receive_plainly, send_to
+from frames import EOT, NAK, PLACES, START, frames_of, mixed, place, short
+from peers import Pause, PlainReceiver, PlainSender, frames_at, receive_from, receive_plainly, send_to
 from program import folders, stored
+from waits import waiting
 
 SECONDS = (1, 9, 11, 12, 21, 35)
 FILES = [("first", b"x" * 3000), ("second", bytes(range(100)))]
@@ -11,6 +14,10 @@ SHAPES = (("", [], mixed), (", --short", ["--short"], short))
 CONFIRMATIONS = ((", two EOTs", False), (", one EOT", True))
 
 NOISE_FILES = [("a", b"x" * 700), ("b", b""), ("c", b"y" * 2304), ("d", b"")]
+
+# A receiver that asks so often, in seconds, and gives up after so many times. `send` passes over ten reads that bring C alone; a busy machine may take longer.
+ASKS_EVERY = 0.4
+MOST_ASKS = 100
 
 # How long `send` waits for a reply before it writes its frame again.
 SEND_WAITS = 10
@@ -68,6 +75,30 @@ def noise_meanwhile(at, flags):
     return check
 
 
+def asks_on(flags):
+    """A receiver that a block 0 does not reach, and that asks for it more often than a sender's short wait ends, as boot loaders do: it is heard in the end."""
+
+    def check():
+        receiver = PlainReceiver()
+
+        def peer(end):
+            end.sendall(bytes((START,)))
+            next(frames_at(end))
+            for _ in range(MOST_ASKS):
+                end.sendall(bytes((START,)))
+                until = time.monotonic() + ASKS_EVERY
+                while not waiting(end) and time.monotonic() < until:
+                    time.sleep(0.02)
+                if waiting(end):
+                    return receive_plainly(end, receiver)
+            raise AssertionError("asked %d times, and no block 0 came again" % MOST_ASKS)
+
+        ended = send_to(peer, FILES, flags)
+        wants_true(FILES, receiver.kept, [claim_of_send(ended), Claim("the receiver", receiver.is_finished)], True)
+
+    return check
+
+
 def sends_late(where, seconds, flags, cut):
     """A plain sender that writes a frame so late, and then answers each byte that asked for it meanwhile."""
 
@@ -82,7 +113,7 @@ def sends_late(where, seconds, flags, cut):
 
 
 def send_checks():
-    checks = []
+    checks = [("send: a lost block 0, and a receiver that asks every 0.4 s%s" % shape, asks_on(flags)) for shape, flags, _ in SHAPES]
     for shape, flags, cut in SHAPES:
         for confirmation, is_single in CONFIRMATIONS:
             how = confirmation + shape

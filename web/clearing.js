@@ -8,6 +8,8 @@ export const CANCEL = Uint8Array.of(0x18, 0x18);
 const CAN = 0x18;
 const ASK = 0x43;
 const MOST_READS = 65536;
+// How many reads behind a new block 0 may bring C alone and be passed over: a receiver that asks on lacks it.
+const STALE_READS = 10;
 
 // How many waits in a row the line has to be quiet, and how many there are in all.
 const SWEEP = { sender: { quiet: 2, all: 11 }, receiver: { quiet: 1, all: 1 } };
@@ -44,7 +46,7 @@ export class Clearing {
     const { reply, within } = this.#line.waits;
     for (let reads = 0; ; reads++) {
       const piece = await this.#line.read(within, most, reads === 0);
-      if (piece !== QUIET && reads < MOST_READS && this.#isStale(piece)) continue;
+      if (piece !== QUIET && reads < STALE_READS && this.#isStale(piece)) continue;
       this.#heard(piece);
       if (piece !== QUIET) return piece;
       break;

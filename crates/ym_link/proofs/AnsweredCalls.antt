@@ -5,7 +5,7 @@ use Rattle.ym_link.specs.Clearing.{cleared, said, new_talk, once, fresh}
 use Rattle.ym_link.specs.Exchange.{front_of, new_exchange, is_same, is_taken, wrote, all_ask, is_opening, is_stale}
 use Rattle.ym_link.specs.LateAnswers.{AreLate, late_and_quiet, waits, Act, Writes, Reads, gives, Call, acts_of, hears, behind, comes, all_acts, all_comes, all_hears, AreCalls, one}
 use Rattle.ym_link.specs.Port.{Seen, Data, Silence, read_gives}
-use Rattle.ym_link.specs.Sweep.{most_reads}
+use Rattle.ym_link.specs.declared.clearing.TheConstants.{STALE_READS}
 use Rattle.ym_link.specs.declared.clearing.Talk.{Talk}
 use Rattle.ym_link.specs.declared.event.Event.{Event}
 use Rattle.ym_link.specs.declared.event.Event.TheVariants as event
@@ -49,8 +49,8 @@ not-stale : (role : Role) (x : Exchange) (answer : List ℕ) → all_ask answer 
 not-stale role x answer answers = rw answers (and-false (is_opening role x))
 
 read-fresh : (talk : Talk) (events : List Event) (seen : Seen) → seen ≡ read_gives DELIVERY_LIMIT events → is_stale talk.role talk.exchange seen ≡ false
-    → fresh most_reads DELIVERY_LIMIT talk events ≡ once DELIVERY_LIMIT talk events
-read-fresh talk events seen gives new = fresh-over most_reads 0 DELIVERY_LIMIT talk events seen (lit< tt) gives new
+    → fresh STALE_READS DELIVERY_LIMIT talk events ≡ once DELIVERY_LIMIT talk events
+read-fresh talk events seen gives new = fresh-over STALE_READS 0 DELIVERY_LIMIT talk events seen (lit< tt) gives new
 
 read-answer : (acts : List Act) (role : Role) (owed : ℕ) (prompt repeat : Bool) (front : Front) (answer : List ℕ) (rest : List Event) → 0 < length answer → length answer < DELIVERY_LIMIT
     → all_ask answer ≡ false → gives (Reads ∷ acts) (talk_of role (said_of owed 0 prompt front repeat)) (event.Piece answer ∷ rest)

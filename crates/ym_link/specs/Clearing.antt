@@ -4,6 +4,7 @@ use Rattle.ym_link.specs.Exchange.{new_exchange, front_of, heard, after_seen, is
 use Rattle.ym_link.specs.Port.{Tape, Seen, Data, Silence, End, Failed, read_gives, read_leaves, after_write}
 use Rattle.ym_link.specs.Sweep.{Swept, swept, most_reads, new_sweep}
 use Rattle.ym_link.specs.declared.clearing.Talk.{Talk}
+use Rattle.ym_link.specs.declared.clearing.TheConstants.{STALE_READS}
 use Rattle.ym_link.specs.declared.event.Event.{Event}
 use Rattle.ym_link.specs.declared.event.Event.TheVariants as event
 use Rattle.ym_link.specs.declared.exchange.Role.{Role}
@@ -69,7 +70,7 @@ once room talk events = record {
   rest = read_leaves room events;
 }
 
--- A read for a reply passes over what asks for the block 0 that was just written.
+-- A read for a reply passes over what asks for the block 0 that was just written: so many reads, for a receiver that asks on lacks it.
 unfoldable pub fresh : ℕ → ℕ → Talk → List Event → Read
 fresh zero room talk events = once room talk events
 fresh (suc reads) room talk events =
@@ -82,7 +83,7 @@ rest_of _ room r = r
 
 abbrev pub patient : Wait → ℕ → Talk → List Event → Read
 patient Within room talk events = once room talk events
-patient Reply room talk events = let r = fresh most_reads room talk events in rest_of r.seen room r
+patient Reply room talk events = let r = fresh STALE_READS room talk events in rest_of r.seen room r
 
 -- What is to be heard yet is heard first.
 abbrev pub read_in : Held → Wait → ℕ → Talk → List Event → Read

@@ -9,7 +9,11 @@ ghost use Rattle.ym_link.specs.declared.port.Wait.{Wait as Asked};
 
 use crate::exchange::{Exchange, Front, Role};
 use crate::port::{Got, Port, PortFault, Wait};
-use crate::sweep::{CAN, Held, MOST_READS, Sweep, let_clear};
+use crate::sweep::{CAN, Held, Sweep, let_clear};
+
+/// How many reads behind a new block 0 may bring C alone and be passed over. A receiver that was started long before its peer has asked
+/// no more often; one that asks on is heard, since it lacks block 0.
+pub const STALE_READS: u32 = 10;
 
 /// What an end and its line have said of late.
 #[derive(Clone, Copy)]
@@ -55,11 +59,11 @@ fn clear_for<P: Port>(port: &mut P, talk: &Talk, clears: bool) -> Result<Held, P
     }
 }
 
-/// A port that lets the line clear before a write, where more may be under way than the answer to it: where an end has written more than
-/// once before an answer came, where noise filled a delivery, and where a sender repeats a frame that was answered otherwise than by
-/// ACK. What then comes is dropped until the line has been quiet, for a receiver as long as within a delivery, for a sender twice as
-/// long; at most 65,536 reads are made for it. CAN CAN and the end of the line are not dropped: they are heard at the next read. Where each
-/// write was answered, nothing is read and nothing waits.
+/// A port that lets the line clear before a write, where more may be under way than the answer to it: before a sender goes on to another
+/// frame, where it has written the one before more than once; before a receiver answers a frame, where it has written more than once since
+/// the last one; and where noise filled a delivery. What then comes is dropped until the line has been quiet, for a receiver as long as
+/// within a delivery, for a sender twice as long; at most 65,536 reads are made for it. CAN CAN and the end of the line are not dropped: they
+/// are heard at the next read. Where each write was answered, nothing is read and nothing waits.
 #[derive(Drop)]
 pub struct Clearing<P: Port + Drop> {
     port: P,
@@ -68,7 +72,7 @@ pub struct Clearing<P: Port + Drop> {
 
 impl<P: Port + Drop> Clearing<P> {
     ghost use Rattle.ym_link.specs.Clearing.{new_talk, AskedLast, IsRead, once, fresh, patient, read_by};
-    ghost use Rattle.ym_link.specs.Sweep.{most_reads};
+    ghost use Rattle.ym_link.specs.declared.clearing.TheConstants.{STALE_READS};
 
     /// The port as this end has it.
     pub fn new(port: P, role: Role) -> Clearing<P>
@@ -107,12 +111,12 @@ impl<P: Port + Drop> Clearing<P> {
         requires { 0 < length buf.old }
         ensures count { (n : ℕ) → result ≡ Ok (Got.Bytes n) → (0 < n) × (n ≤ length buf.old) }
         ensures exact { (u : Tape) → P.tells self.new.port u → (t : Tape) × P.tells self.old.port t
-            × IsRead (fresh most_reads (length buf.old) self.old.talk t.coming) (seen_of result buf.new) self.new.talk t u }
+            × IsRead (fresh STALE_READS (length buf.old) self.old.talk t.coming) (seen_of result buf.new) self.new.talk t u }
         ensures asked { (w : List Asked) → P.asked self.new.port w → (v : List Asked) × P.asked self.old.port v × AskedLast Wait.Within v w }
         ensures ok { OnOk result (P.failures self.new.port ≡ P.failures self.old.port) }
         ensures failed { OnErr result (Rose (P.failures self.old.port) (P.failures self.new.port)) }
     {
-        for _done in 0..MOST_READS {
+        for _done in 0..STALE_READS {
             let got = self.port.read(Wait::Within, buf);
             if !self.talk.exchange.is_stale(self.talk.role, &got, buf) {
                 self.talk.exchange.take(&got);

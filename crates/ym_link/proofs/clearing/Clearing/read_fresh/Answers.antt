@@ -4,6 +4,7 @@ use Rattle.std.proofs.lemmas.List.{append-nil}
 use Rattle.ym_link.specs.Clearing.{fresh}
 use Rattle.ym_link.specs.Exchange.{is_stale, after_seen}
 use Rattle.ym_link.specs.Port.{Tape, seen_of, read_gives}
+use Rattle.ym_link.specs.declared.clearing.TheConstants.{STALE_READS}
 use Rattle.ym_link.specs.declared.port.Wait.{Wait}
 use Rattle.ym_link.specs.declared.port.Wait.TheVariants.{Within}
 use Rattle.ym_link.proofs.Fresh.{fresh-on, fresh-over, fresh-out, read-of, stale-calm, talk-after}
@@ -46,8 +47,8 @@ loop-done-preserved g c =
             inv.0,
             inv.1,
             ap (λ (x : Tape). x.written) got.3 ∙ inv.2,
-            inv.3 ∙ (fresh-on 65536 c.loop-done._done (length c.args.buf.now) c.args.self.now.talk got.0.coming _ c.loop-done-test.true seen stale
-                ∙ ap (λ (x : Tape). fresh (65536 - (c.loop-done._done + 1)) (length c.args.buf.now) c.args.self.now.talk x.coming) (sym left)),
+            inv.3 ∙ (fresh-on STALE_READS c.loop-done._done (length c.args.buf.now) c.args.self.now.talk got.0.coming _ c.loop-done-test.true seen stale
+                ∙ ap (λ (x : Tape). fresh (STALE_READS - (c.loop-done._done + 1)) (length c.args.buf.now) c.args.self.now.talk x.coming) (sym left)),
           );
       asked = λ w e.
           let got = c.read-got.ensures.asked w e in
@@ -66,7 +67,7 @@ returns-then-not-is_stale-clause-exact g c u e =
     let inv = c.loop-done.invariant.told got.0 got.1 in
     let seen : seen_of c.read-got.result c.read-got.new.buf ≡ read_gives (length c.args.buf.now) got.0.coming = rw sized at got.2 in
     let left = rw sized at got.3 in
-    let whole = inv.3 ∙ fresh-over 65536 c.loop-done._done (length c.args.buf.now) c.args.self.now.talk got.0.coming _ c.loop-done-test.true seen new in
+    let whole = inv.3 ∙ fresh-over STALE_READS c.loop-done._done (length c.args.buf.now) c.args.self.now.talk got.0.coming _ c.loop-done-test.true seen new in
     let after : c.take.new.self ≡ after_seen (seen_of c.read-got.result c.read-got.new.buf) c.loop-done.self.talk.exchange = search rules in
     let read = read-of _ (length c.args.buf.now) c.args.self.now.talk (record c.loop-done.self.talk { exchange = c.take.new.self }) (seen_of c.read-got.result c.read-got.new.buf) u got.0 inv.0 whole inv.2
     (seen, talk-after c.loop-done.self.talk c.args.self.now.talk c.take.new.self _ _ same after seen, left) in
@@ -78,6 +79,6 @@ returns-clause-exact g c u e =
     let sized : length c.loop-done.buf ≡ length c.args.buf.now = c.loop-done.invariant.sized in
     let got = c.read_once.ensures.exact u e in
     let inv = c.loop-done.invariant.told got.0 got.1 in
-    let whole = inv.3 ∙ fresh-out 65536 c.loop-done._done (length c.args.buf.now) c.args.self.now.talk got.0.coming c.loop-done-test.false in
+    let whole = inv.3 ∙ fresh-out STALE_READS c.loop-done._done (length c.args.buf.now) c.args.self.now.talk got.0.coming c.loop-done-test.false in
     let read = rw (sized, same) at got.2 in
     (inv.0, inv.1, read-of _ (length c.args.buf.now) c.args.self.now.talk c.read_once.new.self.talk _ u got.0 inv.0 whole inv.2 read)

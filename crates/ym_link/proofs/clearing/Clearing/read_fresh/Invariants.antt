@@ -2,7 +2,7 @@
 use Rattle.std.proofs.Common.{◌≡◌, ◌<◌, ◌-◌, ◌++◌, List, length}
 use Rattle.ym_link.specs.Clearing.{fresh}
 use Rattle.ym_link.specs.Port.{Tape}
-use Rattle.ym_link.specs.Sweep.{most_reads}
+use Rattle.ym_link.specs.declared.clearing.TheConstants.{STALE_READS}
 use Rattle.ym_link.specs.declared.port.Wait.{Wait}
 use Rattle.ym_link.proofs.clearing.Clearing.read_fresh.Given as goal
 
@@ -12,7 +12,7 @@ invariant-loop-done g l = record {
   sized : length l.buf ≡ length l.fn.buf;
   talk : l.self.talk ≡ l.fn.self.talk;
   told : (u : Tape) → g.P.Port.tells l.self.port u → (t : Tape) × g.P.Port.tells l.fn.self.port t × (u.written ≡ t.written)
-      × (fresh most_reads (length l.fn.buf) l.fn.self.talk t.coming ≡ fresh (65536 - l._done) (length l.fn.buf) l.fn.self.talk u.coming);
+      × (fresh STALE_READS (length l.fn.buf) l.fn.self.talk t.coming ≡ fresh (STALE_READS - l._done) (length l.fn.buf) l.fn.self.talk u.coming);
   asked : (w : List Wait) → g.P.Port.asked l.self.port w → (v : List Wait) × g.P.Port.asked l.fn.self.port v × (between : List Wait) × (w ≡ v ++ between);
   calm : g.P.Port.failures l.self.port ≡ g.P.Port.failures l.fn.self.port;
 }
