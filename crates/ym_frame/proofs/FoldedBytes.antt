@@ -1,6 +1,6 @@
 -- Bytes as words that are folded, and the check of the bytes before them.
 use Rattle.std.specs.Prelude.{◌≡◌, ℕ, ◌+◌, ◌*◌, ◌/◌, ◌%◌, ◌^◌, ◌<◌, ◌≤◌, suc, Bool, false, List, [], ◌∷◌, ◌++◌, length, take, drop, get_or, replicate, bit_xor, refl}
-use Rattle.std.specs.Int.{from_be_bytes, w128}
+use Rattle.std.specs.Int.{from_be_bytes, w64}
 use Rattle.std.proofs.Common.{sym, ◌∙◌, ap, subst, arith, append_assoc}
 use Rattle.std.proofs.lemmas.Grind.{flat_map-append}
 use Rattle.std.proofs.lemmas.List.{take_all}
@@ -20,12 +20,12 @@ remainder-append xs ys bs e =
     sym (run-append start ys bs) ∙ sym (remainder_is_run (ys ++ bs))
 
 -- a word for the bytes so far, what it becomes, and the word of the next bytes
-pub next_word : (word m next : ℕ) (bytes more : List ℕ) → remainder (bits 128 word) ≡ remainder (body_bits bytes) →
-    remainder (bits 128 word ++ replicate 128 false) ≡ remainder (bits 128 m) → bits 128 next ≡ body_bits more →
-    remainder (bits 128 (bit_xor m next)) ≡ remainder (body_bits (bytes ++ more))
+pub next_word : (word m next : ℕ) (bytes more : List ℕ) → remainder (bits 64 word) ≡ remainder (body_bits bytes) →
+    remainder (bits 64 word ++ replicate 64 false) ≡ remainder (bits 64 m) → bits 64 next ≡ body_bits more →
+    remainder (bits 64 (bit_xor m next)) ≡ remainder (body_bits (bytes ++ more))
 next_word word m next bytes more is folds reads =
-    sym (folded_in 128 word m next folds) ∙
-    remainder-append (bits 128 word) (body_bits bytes) (bits 128 next) is ∙
+    sym (folded_in 64 word m next folds) ∙
+    remainder-append (bits 64 word) (body_bits bytes) (bits 64 next) is ∙
     ap (λ t. remainder (body_bits bytes ++ t)) reads ∙
     ap remainder (sym (flat_map-append (bits 8) bytes more))
 
@@ -36,13 +36,13 @@ subtract_front (b ∷ bs) (v ∷ vs) rest h =
     let k : length vs ≤ length bs = omega arith in
     ap (λ t. minus b v ∷ t) (subtract_front bs vs rest k)
 
-zeros_behind : (n : ℕ) (xs vs : List Bool) → subtract xs (vs ++ replicate n false) ≡ subtract xs vs
+pub zeros_behind : (n : ℕ) (xs vs : List Bool) → subtract xs (vs ++ replicate n false) ≡ subtract xs vs
 zeros_behind n xs [] = subtract-zeros n xs
 zeros_behind n [] (v ∷ vs) = refl
 zeros_behind n (x ∷ xs) (v ∷ vs) = ap (λ t. minus x v ∷ t) (zeros_behind n xs vs)
 
 -- a register that is not at the start goes into the bits that come
-entered : (v bs : List Bool) → length v ≡ 16 → 16 ≤ length bs → run v bs ≡ run start (subtract bs v)
+pub entered : (v bs : List Bool) → length v ≡ 16 → 16 ≤ length bs → run v bs ≡ run start (subtract bs v)
 entered v bs h l =
     let less = subtract bs v in
     sym (zeros-subtract 16 (run v bs) (length-run v bs ∙ h)) ∙
@@ -53,30 +53,7 @@ entered v bs h l =
     divided-run less start start refl ∙
     zeros-subtract 16 (run start less) (length-run start less)
 
-moved_up : (old : ℕ) → old < 2 ^ 16 → bits 128 (old * 2 ^ 112 % 2 ^ 128) ≡ bits 16 old ++ replicate 112 false
-moved_up old l =
-    ap (bits 128) (shl_whole old 16 112 128 l (omega arith)) ∙
-    bits-split 16 112 (old * 2 ^ 112) ∙
-    ap (λ n. bits 16 n ++ bits 112 (old * 2 ^ 112)) (shl-shr old 112) ∙
-    ap (λ t. bits 16 old ++ t) (ap (bits 112) (let e : old * 2 ^ 112 ≡ old * 2 ^ 112 + 0 = omega arith in e) ∙ bits-above 112 112 old 0 (omega arith))
-
--- the first word takes the check of the bytes before it
-pub first_word : (old next : ℕ) (bytes more : List ℕ) → old ≡ check_of bytes → bits 128 next ≡ body_bits more →
-    remainder (bits 128 (bit_xor next (old * 2 ^ 112 % 2 ^ 128))) ≡ remainder (body_bits (bytes ++ more))
-first_word old next bytes more is reads =
-    let register = bits 16 old in
-    let small : old < 2 ^ 16 = let P : ℕ → Type 0 = λ n. n < 2 ^ 16 in subst P (sym is) (check_of-lt bytes) in
-    let held : register ≡ run start (body_bits bytes) = ap (bits 16) is ∙ check_bits bytes in
-    remainder_is_run (bits 128 (bit_xor next (old * 2 ^ 112 % 2 ^ 128))) ∙
-    ap (run start) (bits-xor 128 next (old * 2 ^ 112 % 2 ^ 128) ∙ ap (subtract (bits 128 next)) (moved_up old small) ∙ zeros_behind 112 (bits 128 next) register) ∙
-    sym (entered register (bits 128 next) (length-bits 16 old) (omega (arith, length-bits 128 next))) ∙
-    ap (λ v. run v (bits 128 next)) held ∙
-    ap (run (run start (body_bits bytes))) reads ∙
-    sym (run-append start (body_bits bytes) (body_bits more)) ∙
-    ap (run start) (sym (flat_map-append (bits 8) bytes more)) ∙
-    sym (remainder_is_run (body_bits (bytes ++ more)))
-
--- ---- sixteen bytes as a number
+-- ---- eight bytes as a number, the first byte highest
 
 abbrev high_first : List ℕ → ℕ
 high_first [] = 0
@@ -104,11 +81,11 @@ bits-high_first (b ∷ bs) h =
     ap (λ q. bits 8 q ++ bits k n) (div-mul-add b (2 ^ k) (high_first bs) rest) ∙
     ap (λ t. bits 8 b ++ t) (bits-above k k b (high_first bs) (omega arith) ∙ bits-high_first bs (λ i. h (suc i)))
 
-pub word_bits : (bs : List ℕ) (n : ℕ) → length bs ≡ 16 → ((i : ℕ) → get_or bs i 0 < 256) → n ≡ from_be_bytes w128 bs → bits 128 n ≡ body_bits bs
-word_bits (a ∷ b ∷ c ∷ d ∷ e ∷ f ∷ g ∷ h ∷ i ∷ j ∷ k ∷ l ∷ m ∷ n ∷ o ∷ p ∷ []) number long small is =
-    let bytes = a ∷ b ∷ c ∷ d ∷ e ∷ f ∷ g ∷ h ∷ i ∷ j ∷ k ∷ l ∷ m ∷ n ∷ o ∷ p ∷ [] in
+pub word_bits : (bs : List ℕ) (n : ℕ) → length bs ≡ 8 → ((i : ℕ) → get_or bs i 0 < 256) → n ≡ from_be_bytes w64 bs → bits 64 n ≡ body_bits bs
+word_bits (a ∷ b ∷ c ∷ d ∷ e ∷ f ∷ g ∷ h ∷ []) number long small is =
+    let bytes = a ∷ b ∷ c ∷ d ∷ e ∷ f ∷ g ∷ h ∷ [] in
     let same : number ≡ high_first bytes = omega arith in
-    ap (bits 128) same ∙ bits-high_first bytes small
+    ap (bits 64) same ∙ bits-high_first bytes small
 word_bits bs number long small is = absurd (omega arith)
 
 -- ---- what the functions cite
@@ -128,21 +105,3 @@ two_more n m is =
     entered register zeros long (omega arith) ∙
     ap (run start) (zeros-subtract 16 register long ∙ sym held) ∙
     sym (remainder_is_run (bits 16 m))
-
-pub check_is : (bytes : List ℕ) → check_of bytes ≡ number_of (remainder (body_bits bytes))
-unfolding check_of
-check_is bytes = refl
-
--- one more word of some bytes
-pub taken_more : (word m next i : ℕ) (before bytes : List ℕ) → remainder (bits 128 word) ≡ remainder (body_bits (before ++ take (16 * i) bytes)) →
-    remainder (bits 128 word ++ replicate 128 false) ≡ remainder (bits 128 m) → bits 128 next ≡ body_bits (take 16 (drop (16 * i) bytes)) →
-    remainder (bits 128 (bit_xor m next)) ≡ remainder (body_bits (before ++ take (16 * (i + 1)) bytes))
-taken_more word m next i before bytes is folds reads =
-    let more : 16 * (i + 1) ≡ 16 * i + 16 = omega arith in
-    next_word word m next (before ++ take (16 * i) bytes) (take 16 (drop (16 * i) bytes)) is folds reads ∙
-    ap (λ t. remainder (body_bits t)) (append_assoc before (take (16 * i) bytes) (take 16 (drop (16 * i) bytes)) ∙
-    ap (λ t. before ++ t) (sym (take-add (16 * i) 16 bytes) ∙ ap (λ k. take k bytes) (sym more)))
-
--- all words are all bytes
-pub all_words : (i : ℕ) (bytes : List ℕ) → length bytes % 16 ≡ 0 → length bytes / 16 ≤ i → take (16 * i) bytes ≡ bytes
-all_words i bytes whole h = take_all (16 * i) bytes (omega arith)

@@ -1,7 +1,7 @@
--- Bytes in front of others, folded into them: modulo the divisor, x^16 is x^12 + x^5 + 1, and so x^16n is x^12n + x^5n + 1 for n = 2, 4, 8.
+-- Bytes in front of others, folded into them: modulo the divisor, x^16 is x^12 + x^5 + 1, and so x^16n is x^12n + x^5n + 1 for n = 2, 4.
 use Rattle.std.specs.Prelude.{◌≡◌, ℕ, ◌+◌, ◌*◌, ◌/◌, ◌%◌, ◌^◌, ◌<◌, zero, suc, Bool, true, false, eqb, cond, List, [], ◌∷◌, ◌++◌, length, replicate, bit_xor, refl}
 use Rattle.std.proofs.Common.{sym, ◌∙◌, ap, arith, length-append}
-use Rattle.std.proofs.lemmas.Nat.{xor_lt, mod_below, shr_le, shl-shr, shr_split}
+use Rattle.std.proofs.lemmas.Nat.{xor_lt, xor_comm, mod_below, shr_le, shl-shr, shr_split}
 use Rattle.std.proofs.Math.ListN.{length-replicate}
 use Rattle.std.proofs.Math.Nat.{div-one}
 use Rattle.ym_frame.specs.Check.{bits, number_of, minus, subtract, remainder}
@@ -69,10 +69,7 @@ fold_at w f lf none same n l =
     same_below (in_front w) (alone w f) (in_front-linear w) (alone-linear w f lf) none w same n l ∙
     sym (remainder_is_run (bits w (f n)))
 
--- ---- the four widths
-
-abbrev pub folded_128 : ℕ → ℕ
-folded_128 n = folded_of 32 64 88 40 96 128 n
+-- ---- the three widths
 
 abbrev pub folded_64 : ℕ → ℕ
 folded_64 n = folded_of 16 32 44 20 48 64 n
@@ -85,10 +82,10 @@ folded_16 n = folded_of 4 8 11 5 12 16 n
 
 -- ---- the register as a number, with which the checker computes: its low sixteen bits count
 
-abbrev number_next : ℕ → Bool → ℕ
+abbrev pub number_next : ℕ → Bool → ℕ
 number_next n b = elim (minus b (eqb (n / 2 ^ 15 % 2) 1)) [ true ↦ bit_xor (n * 2) 0x1021 | false ↦ n * 2 ]
 
-abbrev number_run : ℕ → List Bool → ℕ
+abbrev pub number_run : ℕ → List Bool → ℕ
 number_run n [] = n
 number_run n (b ∷ more) = number_run (number_next n b) more
 
@@ -110,37 +107,28 @@ number_run-run n (b ∷ bs) =
     number_run-run (number_next n b) bs ∙
     ap (λ v. run v bs) (next_bits n (minus b (eqb (n / 2 ^ 15 % 2) 1)))
 
-abbrev quick_in_front : ℕ → ℕ → List Bool
-quick_in_front w n = bits 16 (number_run 0 (bits w n ++ replicate w false))
+abbrev pub quick : (ℕ → List Bool) → ℕ → List Bool
+quick F n = bits 16 (number_run 0 (F n))
 
-abbrev quick_alone : ℕ → (ℕ → ℕ) → ℕ → List Bool
-quick_alone w f n = bits 16 (number_run 0 (bits w (f n)))
+at_powers-quick : (F : ℕ → List Bool) (low n : ℕ) → at_powers (quick F) low n ≡ at_powers (λ k. run start (F k)) low n
+at_powers-quick F low zero = refl
+at_powers-quick F low (suc n) =
+    ap (λ t. t ∷ at_powers (quick F) low n) (number_run-run 0 (F (2 ^ (low + n)))) ∙
+    ap (λ t. run start (F (2 ^ (low + n))) ∷ t) (at_powers-quick F low n)
 
-at_powers-same : (f g : ℕ → List Bool) (low n : ℕ) → ((k : ℕ) → f k ≡ g k) → at_powers f low n ≡ at_powers g low n
-at_powers-same f g low zero same = refl
-at_powers-same f g low (suc n) same =
-    ap (λ t. t ∷ at_powers f low n) (same (2 ^ (low + n))) ∙
-    ap (λ t. g (2 ^ (low + n)) ∷ t) (at_powers-same f g low n same)
-
-agree_quickly : (w : ℕ) (f : ℕ → ℕ) (low n : ℕ) → AgreeBelow (in_front w) (alone w f) low → at_powers (quick_in_front w) low n ≡ at_powers (quick_alone w f) low n →
-    AgreeBelow (in_front w) (alone w f) (low + n)
-agree_quickly w f low n below e =
-    agree_further (in_front w) (alone w f) low n below
-    (sym (at_powers-same (quick_in_front w) (in_front w) low n (λ k. number_run-run 0 (bits w k ++ replicate w false))) ∙
-    e ∙
-    at_powers-same (quick_alone w f) (alone w f) low n (λ k. number_run-run 0 (bits w (f k))))
+-- two rows of bits have the same check at so many powers of two, where their registers as numbers are the same at each of them
+pub agree_quickly : (F G : ℕ → List Bool) (n : ℕ) → at_powers (quick F) 0 n ≡ at_powers (quick G) 0 n →
+    AgreeBelow (λ k. run start (F k)) (λ k. run start (G k)) (0 + n)
+agree_quickly F G n e =
+    let f : ℕ → List Bool = λ k. run start (F k) in
+    let g : ℕ → List Bool = λ k. run start (G k) in
+    agree_further f g 0 n (agree_nowhere f g) (sym (at_powers-quick F 0 n) ∙ e ∙ at_powers-quick G 0 n)
 
 agree_32 : AgreeBelow (in_front 32) (alone 32 folded_32) 32
-agree_32 = agree_quickly 32 folded_32 0 32 (agree_nowhere (in_front 32) (alone 32 folded_32)) refl
+agree_32 = agree_quickly (λ n. bits 32 n ++ replicate 32 false) (λ n. bits 32 (folded_32 n)) 32 refl
 
 agree_64 : AgreeBelow (in_front 64) (alone 64 folded_64) 64
-agree_64 = agree_quickly 64 folded_64 0 64 (agree_nowhere (in_front 64) (alone 64 folded_64)) refl
-
-agree_128 : AgreeBelow (in_front 128) (alone 128 folded_128) 128
-agree_128 = agree_quickly 128 folded_128 0 128 (agree_nowhere (in_front 128) (alone 128 folded_128)) refl
-
-pub fold_128 : (n : ℕ) → n < 2 ^ 128 → remainder (bits 128 n ++ replicate 128 false) ≡ remainder (bits 128 (folded_128 n))
-fold_128 n l = fold_at 128 folded_128 (folded_of-linear 32 64 88 40 96 128) refl agree_128 n l
+agree_64 = agree_quickly (λ n. bits 64 n ++ replicate 64 false) (λ n. bits 64 (folded_64 n)) 64 refl
 
 pub fold_64 : (n : ℕ) → n < 2 ^ 64 → remainder (bits 64 n ++ replicate 64 false) ≡ remainder (bits 64 (folded_64 n))
 fold_64 n l = fold_at 64 folded_64 (folded_of-linear 16 32 44 20 48 64) refl agree_64 n l
@@ -184,26 +172,33 @@ fold_16 n l =
 
 -- ---- a word and the next one
 
+-- bits in front of others are added to these as what they become
+pub added_behind : (w k : ℕ) (front rest becomes : List Bool) → length front ≡ w → length rest ≡ k → length becomes ≡ k →
+    run start (front ++ replicate k false) ≡ run start becomes → run start (front ++ rest) ≡ run start (subtract rest becomes)
+added_behind w k front rest becomes high low same e =
+    let before = replicate w false in
+    let behind = replicate k false in
+    let zeros_long : length before ≡ length front = length-replicate w false ∙ sym high in
+    let apart : subtract (before ++ rest) (front ++ behind) ≡ front ++ rest =
+    subtract-append before rest front behind zeros_long ∙
+    ap (λ t. t ++ subtract rest behind) (zeros-subtract w front high) ∙
+    ap (λ t. front ++ t) (subtract-zeros k rest) in
+    let long : length (before ++ rest) ≡ length (front ++ behind) =
+    omega (arith, length-append before rest, length-append front behind, length-replicate k false) in
+    ap (run start) (sym apart) ∙
+    start-subtract (before ++ rest) (front ++ behind) long ∙
+    ap (λ t. subtract t (run start (front ++ behind))) (zeros_in_front w rest) ∙
+    ap (subtract (run start rest)) e ∙
+    sym (start-subtract rest becomes (low ∙ sym same))
+
 -- the next word is added to what the word in front becomes
 pub folded_in : (w n m next : ℕ) → remainder (bits w n ++ replicate w false) ≡ remainder (bits w m) →
     remainder (bits w n ++ bits w next) ≡ remainder (bits w (bit_xor m next))
 folded_in w n m next e =
-    let zeros = replicate w false in
-    let high : length (bits w n) ≡ length zeros = length-bits w n ∙ sym (length-replicate w false) in
-    let apart : subtract (bits w n ++ zeros) (zeros ++ bits w next) ≡ bits w n ++ bits w next =
-    subtract-append (bits w n) zeros zeros (bits w next) high ∙
-    ap (λ t. t ++ subtract zeros (bits w next)) (subtract-zeros w (bits w n)) ∙
-    ap (λ t. bits w n ++ t) (zeros-subtract w (bits w next) (length-bits w next)) in
-    let long : length (bits w n ++ zeros) ≡ length (zeros ++ bits w next) =
-    omega (arith, length-append (bits w n) zeros, length-append zeros (bits w next), length-bits w n, length-bits w next) in
-    let same : length (bits w m) ≡ length (bits w next) = length-bits w m ∙ sym (length-bits w next) in
     remainder_is_run (bits w n ++ bits w next) ∙
-    ap (run start) (sym apart) ∙
-    start-subtract (bits w n ++ zeros) (zeros ++ bits w next) long ∙
-    ap (λ t. subtract t (run start (zeros ++ bits w next))) (sym (remainder_is_run (bits w n ++ zeros)) ∙ e ∙ remainder_is_run (bits w m)) ∙
-    ap (subtract (run start (bits w m))) (zeros_in_front w (bits w next)) ∙
-    sym (start-subtract (bits w m) (bits w next) same) ∙
-    ap (run start) (sym (bits-xor w m next)) ∙
+    added_behind w w (bits w n) (bits w next) (bits w m) (length-bits w n) (length-bits w next) (length-bits w m)
+    (sym (remainder_is_run (bits w n ++ replicate w false)) ∙ e ∙ remainder_is_run (bits w m)) ∙
+    ap (run start) (sym (bits-xor w next m) ∙ ap (bits w) (xor_comm next m)) ∙
     sym (remainder_is_run (bits w (bit_xor m next)))
 
 -- both halves of a word

@@ -1,4 +1,5 @@
 pub mod Check
+pub mod Fold
 pub mod Block
 pub mod Frame
 pub mod WholeFrame

@@ -1,25 +1,17 @@
-//! The check of sixteen bytes at a time.
+//! The check of eight bytes at a time.
 //!
-//! Modulo x^16 + x^12 + x^5 + 1, x^128 is x^96 + x^40 + 1: sixteen bytes in front of sixteen others are added to these in three
-//! places. So a message is folded from the front into its last sixteen bytes, which have the same check, and these are folded into
+//! Modulo x^16 + x^12 + x^5 + 1, x^256 is x^192 + x^80 + 1: eight bytes in front of thirty-two others are added to these in three
+//! places. So a message is folded from the front into its last thirty-two bytes, which have the same check, and these are folded into
 //! their last eight, four and two in the same way.
 
 ghost use Rattle.std.specs.Prelude.{◌≡◌, ◌%◌, List, ℕ, ◌++◌, length, replicate, false};
 ghost use Rattle.ym_frame.specs.Check.{bits, body_bits, number_of, remainder, check_of};
+ghost use Rattle.ym_frame.specs.Fold.{eight, window_bytes};
 
-/// Sixteen bytes folded down: with as many zeros behind them they have the check of the sixteen bytes of the result.
+/// Eight bytes folded down: with as many zeros behind them they have the check of the eight bytes of the result.
 ///
-/// They are added in three places, at x^96, x^40 and 1. What would stay in front of the sixteen bytes behind is added in the same
-/// way: the three sums of that, with what was there, are `above`.
-fn folded_128(word: u128) -> u128
-    ensures { remainder (bits 128 word ++ replicate 128 false) ≡ remainder (bits 128 result) }
-{
-    let first = word ^ (word >> 32);
-    let above = first ^ (first >> 64) ^ (word >> 88);
-    above ^ (above << 40) ^ (above << 96)
-}
-
-/// The same for eight bytes: x^64 is x^48 + x^20 + 1.
+/// They are added in three places, since x^64 is x^48 + x^20 + 1. What would stay in front of the eight bytes behind is added in
+/// the same way: the three sums of that, with what was there, are `above`.
 fn folded_64(word: u64) -> u64
     ensures { remainder (bits 64 word ++ replicate 64 false) ≡ remainder (bits 64 result) }
 {
@@ -62,36 +54,72 @@ fn check_of_64(word: u64) -> u16
     check_of_32(high ^ ((word % 0x1_0000_0000) as u32))
 }
 
-/// The check of sixteen bytes.
-fn check_of_128(word: u128) -> u16
-    ensures { result ≡ number_of (remainder (bits 128 word)) }
+/// Eight bytes as they lie in memory.
+fn word_of(bytes: &[u8]) -> u64
+    requires { length bytes.now ≡ 8 }
+    ensures { eight result ≡ bytes.now }
 {
-    let high = folded_64((word >> 64) as u64);
-    check_of_64(high ^ ((word % 0x1_0000_0000_0000_0000) as u64))
-}
-
-/// Sixteen bytes as a number, the first byte highest.
-fn word_of(bytes: &[u8]) -> u128
-    requires { length bytes.now ≡ 16 }
-    ensures { bits 128 result ≡ body_bits bytes.now }
-{
-    let mut block = [0; 16];
+    let mut block = [0; 8];
     block.copy_from_slice(bytes);
-    u128::from_be_bytes(block)
+    u64::from_le_bytes(block)
 }
 
-/// The check of some bytes and of these behind them, sixteen bytes at a time, where the check of the first ones is known.
+/// A check at the place of the first two of eight bytes.
+fn in_first_two(check: u16) -> u64
+    ensures { body_bits (eight result) ≡ bits 16 check ++ replicate 48 false }
+{
+    u64::from((check >> 8) ^ (check << 8)) // high byte first
+}
+
+/// Thirty-two bytes, which have the check of all bytes so far: eight in each word, as they lie in memory.
+#[derive(Clone, Copy)]
+struct Window {
+    first: u64,
+    second: u64,
+    third: u64,
+    fourth: u64,
+}
+
+impl Window {
+    /// Takes the next eight bytes.
+    ///
+    /// The first eight go: they are added to those behind them in three places, since x^256 is x^192 + x^80 + 1. Eighty bits are a word
+    /// and two bytes, so in one of these places they lie across two words.
+    fn moved(self, next: u64) -> Self
+        ensures { check_of (window_bytes self.first self.second self.third self.fourth ++ eight next) ≡ check_of (window_bytes result.first result.second result.third result.fourth) }
+    {
+        let gone = self.first;
+        Window {
+            first: self.second ^ gone,
+            second: self.third ^ (gone << 48),
+            third: self.fourth ^ (gone >> 16),
+            fourth: next ^ gone,
+        }
+    }
+
+    /// The check of the thirty-two bytes.
+    fn check(self) -> u16
+        ensures { result ≡ check_of (window_bytes self.first self.second self.third self.fourth) }
+    {
+        let two = folded_64(self.first.swap_bytes()) ^ self.second.swap_bytes();
+        let three = folded_64(two) ^ self.third.swap_bytes();
+        check_of_64(folded_64(three) ^ self.fourth.swap_bytes())
+    }
+}
+
+/// The check of some bytes and of these behind them, eight bytes at a time, where the check of the first ones is known.
 pub(crate) fn with_words(check: u16, bytes: &[u8]) -> u16
-    requires { length bytes.now % 16 ≡ 0 }
+    requires { length bytes.now % 8 ≡ 0 }
     ensures { (before : List ℕ) → check ≡ check_of before → result ≡ check_of (before ++ bytes.now) }
 {
-    let count = bytes.len() / 16;
+    let count = bytes.len() / 8;
     if count == 0 {
         return check;
     }
-    let mut word = word_of(&bytes[..16]) ^ (u128::from(check) << 112);
+    let fourth = word_of(&bytes[..8]) ^ in_first_two(check);
+    let mut window = Window { first: 0, second: 0, third: 0, fourth };
     for i in 1..count {
-        word = folded_128(word) ^ word_of(&bytes[16 * i..16 * i + 16]);
+        window = window.moved(word_of(&bytes[8 * i..8 * i + 8]));
     }
-    check_of_128(word)
+    window.check()
 }
