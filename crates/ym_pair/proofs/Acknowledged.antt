@@ -1,155 +1,34 @@
 -- A sender goes past a frame only where it wrote it, and then read an ACK.
-use Rattle.std.proofs.Common.{◌≡◌, ◌∙◌, ◌+◌, ◌-◌, ◌≤◌, ◌<◌, slice_set, ◌⊎◌, inl, inr, ℕ, zero, suc, Bool, true, false, nat_lt, List, [], ◌∷◌, ◌++◌, length, Option, None, Some, IfSome, refl, sym, ap, subst, arith, add-one, append_assoc, append-nil}
-use Rattle.std.proofs.lemmas.Bool.{cases_eq, cond_both, ltb-false}
+use Rattle.std.proofs.Common.{◌≡◌, ◌∙◌, ◌-◌, ◌<◌, slice_set, ◌⊎◌, inl, inr, ℕ, Bool, true, false, List, [], ◌∷◌, ◌++◌, length, Option, None, Some, IfSome, refl, sym, ap, subst, append_assoc, append-nil}
+use Rattle.std.proofs.lemmas.Bool.{cases_eq}
 use Rattle.std.proofs.lemmas.List.{length-map, get_or-set_same, get_or-set_other}
-use Rattle.ym_frame.specs.declared.control.Control.{Control}
-use Rattle.ym_frame.specs.declared.control.Control.TheVariants.{Ack, Nak, Start, Can}
 use Rattle.ym_header.specs.Header.{HeaderParts}
 use Rattle.ym_header.specs.Text.{text}
 use Rattle.ym_file.specs.Plan.{piece_at, size_at}
 use Rattle.ym_file.specs.declared.plan.Shape.{Shape}
 use Rattle.ym_frame.specs.declared.frame.Item.{Item}
 use Rattle.ym_frame.specs.declared.frame.Item.TheVariants as item
-use Rattle.ym_pair.specs.AnyPeer.{SaysAck, AreAcknowledged, block_places, files_places, places_before}
+use Rattle.ym_pair.specs.AnyPeer.{AreAcknowledged, batch_places, block_places, files_places, places_before}
 use Rattle.ym_pair.specs.Logs.{Spoke, spoke_in, spoke_along}
-use Rattle.ym_core.specs.Place.{IsPlace, count_at, next_of, first_of, done_at}
+use Rattle.ym_core.specs.Place.{count_at, first_of, done_at}
 use Rattle.ym_link.specs.FrameAt.{IsFrameAt, IsItemAt}
 use Rattle.ym_link.specs.Course.{SenderHears, sender_none, sender_more}
 use Rattle.ym_link.specs.Port.{Tape}
-use Rattle.ym_core.specs.Reading.{controls_in, reads}
+use Rattle.ym_core.specs.Reading.{controls_in}
 use Rattle.ym_link.specs.Sender.{SenderParts, IsSender, IsStep, IsFilled, FilledAt, FailedAt, counts, spoken, spoken_in}
 use Rattle.ym_link.specs.SendOver.{Outcome, Sends, ended, unwritten, unread, heard, written_for}
 use Rattle.ym_link.specs.SourceFile.{FileParts, counts_of, file_at, filled, no_file}
-use Rattle.ym_core.specs.Standing.{missed, read_through, after_reading, after_fill, hears, hears_in, new_standing}
+use Rattle.ym_core.specs.Standing.{hears, new_standing}
 use Rattle.ym_core.specs.declared.place.Place.{Place}
 use Rattle.ym_core.specs.declared.place.Place.TheVariants.{Header, Block, Eot, End}
 use Rattle.ym_core.specs.declared.place.Mode.{Mode}
-use Rattle.ym_core.specs.declared.place.Mode.TheVariants.{Waiting, Sent}
-use Rattle.ym_core.specs.declared.reading.Reading.{Reading}
-use Rattle.ym_core.specs.declared.reading.Stop.{Stop}
-use Rattle.ym_core.specs.declared.reading.Stop.TheVariants.{Sends as Stop_sends, Again, Finishes, Cancels}
+use Rattle.ym_core.specs.declared.place.Mode.TheVariants.{Sent}
 use Rattle.ym_core.specs.declared.standing.Standing.{Standing}
-use Rattle.ym_core.specs.declared.standing.SendStep.{SendStep as Step}
 use Rattle.ym_core.specs.declared.state.SendState.{SendState}
-use Rattle.ym_core.specs.declared.state.SendState.TheVariants.{Running}
+use Rattle.ym_core.specs.declared.state.SendState.TheVariants.{Running, Finished}
 use Rattle.ym_link.proofs.Files.{filled_counts}
-use Rattle.ym_link.proofs.Steps.{IsBefore, Reaches, stays, cancels, again, finishes, sends, waits_next, sends_next, cancels_next, reaches}
-use Rattle.ym_machine.specs.declared.limits.TheConstants.{GIVE_UP}
-
--- ---- One place more
-
-before-block : (counts : List ℕ) (file k : ℕ) → 1 ≤ k → places_before counts (Block file k) ++ Block file k ∷ [] ≡ places_before counts (Block file (k + 1))
-before-block counts file zero least = absurd (omega arith)
-before-block counts file (suc j) least =
-    let less : suc j - 1 ≡ j = omega arith in
-    let more : suc j + 1 - 1 ≡ suc j = omega arith in
-    append_assoc (files_places counts file) (Header file ∷ block_places file (suc j - 1)) (Block file (suc j) ∷ [])
-    ∙ (ap (λ n. files_places counts file ++ (Header file ∷ (block_places file n ++ Block file (suc j) ∷ []))) less
-    ∙ ap (λ n. files_places counts file ++ (Header file ∷ block_places file n)) (sym more))
-
-before-eot : (counts : List ℕ) (file k : ℕ) → 1 ≤ k → k ≡ count_at counts file → places_before counts (Block file k) ++ Block file k ∷ [] ≡ places_before counts (Eot file)
-before-eot counts file zero least last = absurd (omega arith)
-before-eot counts file (suc j) least last =
-    let less : suc j - 1 ≡ j = omega arith in
-    append_assoc (files_places counts file) (Header file ∷ block_places file (suc j - 1)) (Block file (suc j) ∷ [])
-    ∙ (ap (λ n. files_places counts file ++ (Header file ∷ (block_places file n ++ Block file (suc j) ∷ []))) less
-    ∙ ap (λ n. files_places counts file ++ (Header file ∷ block_places file n)) last)
-
-before-file : (counts : List ℕ) (file : ℕ) → places_before counts (Eot file) ++ Eot file ∷ [] ≡ files_places counts (file + 1)
-before-file counts file =
-    append_assoc (files_places counts file) (Header file ∷ block_places file (count_at counts file)) (Eot file ∷ [])
-    ∙ ap (files_places counts) (sym (add-one file))
-
-pub before-next : (counts : List ℕ) (place : Place) → IsPlace counts place → IsBefore place → places_before counts place ++ place ∷ [] ≡ places_before counts (next_of counts place)
-before-next counts (Header file) within before =
-    cond_both (nat_lt 0 (count_at counts file)) (Block file 1) (Eot file) (λ p. places_before counts (Header file) ++ Header file ∷ [] ≡ places_before counts p)
-    (λ e. refl)
-    (λ e. let none = ltb-false 0 (count_at counts file) e in let zero_is : 0 ≡ count_at counts file = omega (arith, none) in ap (λ n. files_places counts file ++ (Header file ∷ block_places file n)) zero_is)
-before-next counts (Block file k) within before =
-    cond_both (nat_lt k (count_at counts file)) (Block file (k + 1)) (Eot file) (λ p. places_before counts (Block file k) ++ Block file k ∷ [] ≡ places_before counts p)
-    (λ e. before-block counts file k within.1)
-    (λ e. let most = ltb-false k (count_at counts file) e in let last = within.2 in before-eot counts file k within.1 (omega (arith, most, last)))
-before-next counts (Eot file) within before =
-    cond_both (nat_lt (file + 1) (length counts)) (Header (file + 1)) End (λ p. places_before counts (Eot file) ++ Eot file ∷ [] ≡ places_before counts p)
-    (λ e. before-file counts file)
-    (λ e. let most = ltb-false (file + 1) (length counts) e in let all : file + 1 ≡ length counts = omega (arith, most, within) in before-file counts file ∙ ap (files_places counts) all)
-before-next counts End within before = absurd before
-
--- ---- A delivery
-
--- the place stays, or it is the next one, behind an ACK of what was sent
-abbrev pub Moves : List ℕ → Place → Mode → List Control → Place → Type 0
-Moves counts place mode cs new = (new ≡ place) ⊎ ((mode ≡ Sent) × IsBefore place × SaysAck cs × (new ≡ next_of counts place))
-
-acked : (counts : List ℕ) (place : Place) (cs : List Control) → ((reads counts place Sent cs).place ≡ place) ⊎ SaysAck cs
-acked counts place [] = inl refl
-acked counts place (Ack ∷ cs) = inr tt
-acked counts place (Nak ∷ cs) = inl refl
-acked counts place (Start ∷ cs) = inl refl
-acked counts place (Can ∷ []) = inl refl
-acked counts place (Can ∷ Can ∷ cs) = inl refl
-acked counts place (Can ∷ Ack ∷ cs) = inr tt
-acked counts place (Can ∷ Nak ∷ cs) = inl refl
-acked counts place (Can ∷ Start ∷ cs) = inl refl
-
-moves-next : (counts : List ℕ) (place : Place) (mode : Mode) (cs : List Control) → mode ≡ Sent → IsBefore place → (reads counts place mode cs).place ≡ next_of counts place →
-    Moves counts place mode cs (reads counts place mode cs).place
-moves-next counts place mode cs sent before next =
-    elim (acked counts place cs) [
-      | inl same ↦ inl (ap (λ m. (reads counts place m cs).place) sent ∙ same)
-      | inr ack ↦ inr (sent, before, ack, next)
-    ]
-
-reads-move : (counts : List ℕ) (place : Place) (mode : Mode) (cs : List Control) → Reaches counts place mode (reads counts place mode cs) → Moves counts place mode cs (reads counts place mode cs).place
-reads-move counts place mode cs (stays e) = inl (ap (λ (r : Reading). r.place) e)
-reads-move counts place mode cs (cancels e) = inl (ap (λ (r : Reading). r.place) e)
-reads-move counts place mode cs (again m e) = inl (ap (λ (r : Reading). r.place) e)
-reads-move counts place mode cs (finishes m e) = inl (ap (λ (r : Reading). r.place) e)
-reads-move counts place mode cs (sends m e) = inl (ap (λ (r : Reading). r.place) e)
-reads-move counts place mode cs (waits_next m before e) = moves-next counts place mode cs m before (ap (λ (r : Reading). r.place) e)
-reads-move counts place mode cs (sends_next m before e) = moves-next counts place mode cs m before (ap (λ (r : Reading). r.place) e)
-reads-move counts place mode cs (cancels_next m before e) = moves-next counts place mode cs m before (ap (λ (r : Reading). r.place) e)
-
-missed-place : (s : Standing) → (missed s).standing.place ≡ s.place
-missed-place s = cond_both (nat_lt (s.misses + 1) GIVE_UP) _ _ (λ (x : Step). x.standing.place ≡ s.place) (λ e. refl) (λ e. refl)
-
-through-place : (s : Standing) (place : Place) (old new : Mode) → ((read_through s place old new).standing.place ≡ s.place) ⊎ ((read_through s place old new).standing.place ≡ place)
-through-place s place Sent Sent = inl (missed-place s)
-through-place s place Waiting Waiting = inl (missed-place s)
-through-place s place Sent Waiting = inr refl
-through-place s place Waiting Sent = inr refl
-
-reading-place : (s : Standing) (place : Place) (mode : Mode) (stop : Option Stop) →
-    ((after_reading s place mode stop).standing.place ≡ s.place) ⊎ ((after_reading s place mode stop).standing.place ≡ place)
-reading-place s place mode None = through-place s place s.mode mode
-reading-place s place mode (Some Again) = inl (missed-place s)
-reading-place s place mode (Some Stop_sends) = inr refl
-reading-place s place mode (Some Finishes) = inl refl
-reading-place s place mode (Some Cancels) = inr refl
-
-fill-place : (failed : Bool) (fills : Option Place) (s : Standing) → (after_fill failed fills s).place ≡ s.place
-fill-place false fills s = refl
-fill-place true None s = refl
-fill-place true (Some (Header file)) s = refl
-fill-place true (Some (Block file k)) s = refl
-fill-place true (Some (Eot file)) s = refl
-fill-place true (Some End) s = refl
-
-hears-move : (counts : List ℕ) (s : Standing) (cs : List Control) → s.state ≡ Running → Moves counts s.place s.mode cs (hears counts s cs).standing.place
-hears-move counts s cs on =
-    let r : Reading = reads counts s.place s.mode cs in
-    let moved : Moves counts s.place s.mode cs (after_reading s r.place r.mode r.stop).standing.place = elim (reading-place s r.place r.mode r.stop) [
-      | inl same ↦ inl same
-      | inr there ↦ subst (Moves counts s.place s.mode cs) (sym there) (reads-move counts s.place s.mode cs (reaches counts s.place s.mode cs))
-    ] in
-    subst (λ now. Moves counts s.place s.mode cs (hears_in now counts s cs).standing.place) (sym on) moved
-
-pub step-moves : (s : SenderParts) (cs : List Control) (failed : Bool) (new : SenderParts) → s.standing.state ≡ Running → IsStep s (hears (counts s) s.standing cs) failed new →
-    Moves (counts s) s.standing.place s.standing.mode cs new.standing.place
-step-moves s cs failed new on step =
-    let taken : Step = hears (counts s) s.standing cs in
-    let place : new.standing.place ≡ taken.standing.place = ap (λ (x : Standing). x.place) step.standing ∙ fill-place failed taken.fills taken.standing in
-    subst (Moves (counts s) s.standing.place s.standing.mode cs) (sym place) (hears-move (counts s) s.standing cs on)
+use Rattle.ym_link.proofs.Steps.{IsBefore}
+use Rattle.ym_pair.proofs.Moving.{Moves, before-next, step-moves, step-finishes}
 
 -- ---- The files, apart from their counts
 
@@ -247,9 +126,18 @@ acknowledged-append shape files (place ∷ first) later (one ∷ front) all (inr
 spoken-frame : (now : SendState) (mode : Mode) (farewell : Bool) (frame : List ℕ) → now ≡ Running → mode ≡ Sent → written_for (spoken_in now mode farewell frame) ≡ frame
 spoken-frame now mode farewell frame on sent = ap (λ s. written_for (spoken_in s mode farewell frame)) on ∙ ap (λ m. written_for (spoken_in Running m farewell frame)) sent
 
+-- Where it has finished: it has heard nothing, or the end block was acknowledged behind the frames passed.
+record Ends (s : SenderParts) (all : List Spoke) (new : SenderParts) (more : List Place) : Type 0 where
+  place : new.standing.place ≡ End
+  acknowledged : AreAcknowledged s.shape s.files (more ++ End ∷ []) all
+
+abbrev EndsOr : SenderParts → List Spoke → SenderParts → List Place → Type 0
+EndsOr s all new more = ((new ≡ s) × (more ≡ [])) ⊎ Ends s all new more
+
 -- of what the sender wrote and heard from the one to the other: the frames passed, in order, and the files are the same
 record Passes (s : SenderParts) (all : List Spoke) (new : SenderParts) : Type 0 where
   more : List Place
+  finished : new.standing.state ≡ Finished → EndsOr s all new more
   acknowledged : AreAcknowledged s.shape s.files more all
   before : places_before (counts s) new.standing.place ≡ places_before (counts s) s.standing.place ++ more
   shape : new.shape ≡ s.shape
@@ -259,6 +147,7 @@ record Passes (s : SenderParts) (all : List Spoke) (new : SenderParts) : Type 0 
 passes-none : (s : SenderParts) → Passes s [] s
 passes-none s = record {
   more = [];
+  finished = λ over. inl (refl, refl);
   acknowledged = tt;
   before = sym (append-nil (places_before (counts s) s.standing.place));
   shape = refl;
@@ -279,9 +168,19 @@ passes-one s new one failed is on wrote step = by (step-moves s (controls_in one
     counts_same : counts new ≡ counts s
     counts_same = ap (λ shape. counts_of shape new.files) step.shape ∙ filled_counts s.shape failed fills s.files new.files step.files
 
+    held : s.standing.mode ≡ Sent → one.wrote ≡ s.frame
+    held sent = wrote ∙ spoken-frame s.standing.state s.standing.mode s.standing.farewell s.frame on sent
+
+    ends : new.standing.state ≡ Finished → Ends s (one ∷ []) new []
+    ends over =
+        let at = step-finishes s (controls_in one.came) failed new on step over in
+        let frame : IsFrameAt s.shape s.files End s.frame = subst (λ place. IsFrameAt s.shape s.files place s.frame) at.place (is.frame on at.mode) in
+        record { place = at.after; acknowledged = inl (subst (IsFrameAt s.shape s.files End) (sym (held at.mode)) frame, at.ack, tt) }
+
     by : Moves (counts s) s.standing.place s.standing.mode (controls_in one.came) new.standing.place → Passes s (one ∷ []) new
     by (inl stayed) = record {
       more = [];
+      finished = λ over. inr (ends over);
       acknowledged = tt;
       before = ap (places_before (counts s)) stayed ∙ sym (append-nil (places_before (counts s) s.standing.place));
       shape = step.shape;
@@ -289,15 +188,37 @@ passes-one s new one failed is on wrote step = by (step-moves s (controls_in one
       counted = counts_same;
     }
     by (inr moved) =
-        let frame : one.wrote ≡ s.frame = wrote ∙ spoken-frame s.standing.state s.standing.mode s.standing.farewell s.frame on moved.0 in
         record {
           more = s.standing.place ∷ [];
-          acknowledged = inl (subst (IsFrameAt s.shape s.files s.standing.place) (sym frame) (is.frame on moved.0), moved.2, tt);
+          finished = λ over. absurd (subst IsBefore (step-finishes s (controls_in one.came) failed new on step over).place moved.1);
+          acknowledged = inl (subst (IsFrameAt s.shape s.files s.standing.place) (sym (held moved.0)) (is.frame on moved.0), moved.2, tt);
           before = ap (places_before (counts s)) moved.3 ∙ sym (before-next (counts s) s.standing.place is.place moved.1);
           shape = step.shape;
           same = same_files;
           counted = counts_same;
         }
+
+ends-early : (s between new : SenderParts) (first later : List Spoke) (one more : List Place) → new ≡ between → more ≡ [] → EndsOr s first between one → EndsOr s (first ++ later) new (one ++ more)
+ends-early s between new first later one more same none (inl early) = inl (same ∙ early.0, ap (λ front. front ++ more) early.1 ∙ none)
+ends-early s between new first later one more same none (inr ends) =
+    let longer : (one ++ more) ++ End ∷ [] ≡ (one ++ End ∷ []) ++ [] =
+    ap (λ rest. (one ++ rest) ++ End ∷ []) none ∙ (ap (λ front. front ++ End ∷ []) (append-nil one) ∙ sym (append-nil (one ++ End ∷ []))) in
+    inr (record {
+      place = ap (λ (x : SenderParts). x.standing.place) same ∙ ends.place;
+      acknowledged = subst (λ places. AreAcknowledged s.shape s.files places (first ++ later)) (sym longer) (acknowledged-append s.shape s.files (one ++ End ∷ []) [] first later ends.acknowledged tt);
+    })
+
+ends-then : (s between new : SenderParts) (first later : List Spoke) (one : Passes s first between) (more : List Place) → new.standing.state ≡ Finished → EndsOr between later new more →
+    EndsOr s (first ++ later) new (one.more ++ more)
+ends-then s between new first later one more over (inl early) =
+    ends-early s between new first later one.more more early.0 early.1 (one.finished (subst (λ (x : SenderParts). x.standing.state ≡ Finished) early.0 over))
+ends-then s between new first later one more over (inr ends) =
+    let rest = acknowledged-same s.shape between.shape s.files between.files (more ++ End ∷ []) later one.shape one.same ends.acknowledged in
+    inr (record {
+      place = ends.place;
+      acknowledged = subst (λ places. AreAcknowledged s.shape s.files places (first ++ later)) (sym (append_assoc one.more more (End ∷ [])))
+          (acknowledged-append s.shape s.files one.more (more ++ End ∷ []) first later one.acknowledged rest);
+    })
 
 passes-then : (s between new : SenderParts) (first later : List Spoke) → Passes s first between → Passes between later new → Passes s (first ++ later) new
 passes-then s between new first later one rest =
@@ -305,6 +226,7 @@ passes-then s between new first later one rest =
     subst (λ c. places_before c new.standing.place ≡ places_before c between.standing.place ++ rest.more) one.counted rest.before in
     record {
       more = one.more ++ rest.more;
+      finished = λ over. ends-then s between new first later one rest.more over (rest.finished over);
       acknowledged = acknowledged-append s.shape s.files one.more rest.more first later one.acknowledged
           (acknowledged-same s.shape between.shape s.files between.files rest.more later one.shape one.same rest.acknowledged);
       before = behind ∙ (ap (λ front. front ++ rest.more) one.before ∙ append_assoc (places_before (counts s) s.standing.place) one.more rest.more);
@@ -353,6 +275,21 @@ passed-done s new all fresh passed =
     acknowledged-front s.shape s.files (files_places (counts s) (done_at (length s.files) new.standing.place)) front.0 all
     (subst (λ places. AreAcknowledged s.shape s.files places all) front.1 (passed-before s new all fresh passed))
 
+fresh-runs : (s : SenderParts) → s.standing ≡ new_standing (counts s) → s.standing.state ≡ Running
+fresh-runs s fresh = ap (λ (x : Standing). x.state) fresh
+
+ended-fresh : Finished ≡ Running → ⊥
+ended-fresh same = absurd cc
+
+passed-all : (s new : SenderParts) (all : List Spoke) → s.standing ≡ new_standing (counts s) → new.standing.state ≡ Finished → Passes s all new → AreAcknowledged s.shape s.files (batch_places (counts s)) all
+passed-all s new all fresh over passed = elim (passed.finished over) [
+  | inl none ↦ absurd (ended-fresh (sym over ∙ (ap (λ (x : SenderParts). x.standing.state) none.0 ∙ fresh-runs s fresh)))
+  | inr ends ↦
+      let first : places_before (counts s) s.standing.place ≡ [] = ap (λ (x : Standing). places_before (counts s) x.place) fresh ∙ none-before (counts s) in
+      let whole : files_places (counts s) (length (counts s)) ≡ passed.more = ap (places_before (counts s)) (sym ends.place) ∙ (passed.before ∙ ap (λ front. front ++ passed.more) first) in
+      subst (λ places. AreAcknowledged s.shape s.files places all) (ap (λ front. front ++ End ∷ []) (sym whole)) ends.acknowledged
+]
+
 pub all-before : (s : SenderParts) (t : Tape) (out : Outcome) (run : Sends s t out) → s.standing ≡ new_standing (counts s) →
     AreAcknowledged s.shape s.files (places_before (counts s) out.sender.standing.place) (spoke_in s t out run)
 all-before s t out run fresh = passed-before s out.sender (spoke_in s t out run) fresh (passes s t out run)
@@ -364,3 +301,11 @@ all-done s t out run fresh = passed-done s out.sender (spoke_in s t out run) fre
 pub course-done : (s new : SenderParts) (deliveries : List (List ℕ)) (progress : ℕ) (hears : SenderHears s deliveries progress new) → s.standing ≡ new_standing (counts s) →
     AreAcknowledged s.shape s.files (files_places (counts s) (done_at (length s.files) new.standing.place)) (spoke_along s deliveries progress new hears)
 course-done s new deliveries progress hears fresh = passed-done s new (spoke_along s deliveries progress new hears) fresh (passes-along s deliveries progress new hears)
+
+pub all-finished : (s : SenderParts) (t : Tape) (out : Outcome) (run : Sends s t out) → s.standing ≡ new_standing (counts s) → out.sender.standing.state ≡ Finished →
+    AreAcknowledged s.shape s.files (batch_places (counts s)) (spoke_in s t out run)
+all-finished s t out run fresh over = passed-all s out.sender (spoke_in s t out run) fresh over (passes s t out run)
+
+pub course-finished : (s new : SenderParts) (deliveries : List (List ℕ)) (progress : ℕ) (hears : SenderHears s deliveries progress new) → s.standing ≡ new_standing (counts s) → new.standing.state ≡ Finished →
+    AreAcknowledged s.shape s.files (batch_places (counts s)) (spoke_along s deliveries progress new hears)
+course-finished s new deliveries progress hears fresh over = passed-all s new (spoke_along s deliveries progress new hears) fresh over (passes-along s deliveries progress new hears)

@@ -42,7 +42,7 @@ use Rattle.ym_line.specs.declared.delivery.Delivery.TheVariants.{Whole, Lost, Da
 use Rattle.ym_line.proofs.Turns.{WithinReply, came-within, controls-arrive}
 use Rattle.ym_pair.specs.Logs.{Spoke, Answered, spoke_in, spoke_along, last_words, answered_in, answered_along}
 use Rattle.ym_pair.specs.Pairing.{AreBytes, ArrivesThere, ArrivesBack, ends, up_to_start}
-use Rattle.ym_pair.proofs.Acknowledged.{Moves, step-moves}
+use Rattle.ym_pair.proofs.Moving.{Moves, step-moves}
 
 -- ---- Nothing is read behind the first C
 

@@ -110,6 +110,10 @@ abbrev pub files_places : List ℕ → ℕ → List Place
 files_places counts zero = []
 files_places counts (suc n) = files_places counts n ++ file_places n (count_at counts n)
 
+-- of all frames of a batch: those of its files, and the end block
+abbrev pub batch_places : List ℕ → List Place
+batch_places counts = files_places counts (length counts) ++ place.End ∷ []
+
 -- of all frames before this place
 abbrev pub places_before : List ℕ → Place → List Place
 places_before counts (place.Header file) = files_places counts file

@@ -12,7 +12,7 @@ ghost use Rattle.ym_link.specs.Port.{Tape};
 ghost use Rattle.ym_link.specs.ReceiveOver as receiving;
 ghost use Rattle.ym_link.specs.Sender.{counts};
 ghost use Rattle.ym_link.specs.SendOver as sending;
-ghost use Rattle.ym_pair.specs.AnyPeer.{CommitsTheHeard, AreAcknowledged, files_places};
+ghost use Rattle.ym_pair.specs.AnyPeer.{CommitsTheHeard, AreAcknowledged, batch_places, files_places};
 ghost use Rattle.ym_machine.specs.declared.limits.TheConstants.{BURST};
 ghost use Rattle.ym_line.specs.Completion.{NoneRose, longest_bad_run};
 ghost use Rattle.ym_line.specs.Promise.{AreNew, CommitsAPrefix};
@@ -21,8 +21,8 @@ ghost use Rattle.ym_pair.specs.Pairing.{AreCalls, CallsPairUp, HaveBothFinished,
 ghost use Rattle.ym_pair.specs.Logs.{heard_in, spoke_in, spoke_along};
 
 use crate::laws::{
-    a_receiver_commits_what_it_heard, a_sender_was_acknowledged, two_engines_commit_a_prefix,
-    two_engines_complete,
+    a_finished_sender_was_acknowledged, a_receiver_commits_what_it_heard,
+    a_sender_was_acknowledged, two_engines_commit_a_prefix, two_engines_complete,
 };
 use ym_file::{Sink, Source};
 use ym_link::{EndFault, Port, ReceiverInto, SenderFrom, receive_over, send_over};
@@ -45,7 +45,7 @@ pub fn receive_from_any_peer<P: Port, K: Sink>(
 }
 
 /// Sends over a port, as `send_over` does. However it returns, and whatever the peer is, each frame of each file that a new sender reports as done was
-/// acknowledged while it was what had been written last.
+/// acknowledged while it was what had been written last; and where it has finished, so was the end block behind them.
 pub fn send_to_any_peer<P: Port, S: Source>(
     port: &mut P,
     sender: &mut SenderFrom<S>,
@@ -53,11 +53,15 @@ pub fn send_to_any_peer<P: Port, S: Source>(
     ensures acknowledged { sender.old.standing ≡ new_standing (counts sender.old) →
         (deliveries : List (List ℕ)) × (progress : ℕ) × (hears : SenderHears sender.old deliveries progress sender.new)
         × AreAcknowledged sender.old.shape sender.old.files (files_places (counts sender.old) (done_at (length sender.old.files) sender.new.standing.place)) (spoke_along sender.old deliveries progress sender.new hears) }
+    ensures finished { sender.old.standing ≡ new_standing (counts sender.old) → sender.new.standing.state ≡ state.Finished →
+        (deliveries : List (List ℕ)) × (progress : ℕ) × (hears : SenderHears sender.old deliveries progress sender.new)
+        × AreAcknowledged sender.old.shape sender.old.files (batch_places (counts sender.old)) (spoke_along sender.old deliveries progress sender.new hears) }
     ensures told { sender.old.standing ≡ new_standing (counts sender.old) → (u : Tape) → P.tells port.new u →
         (t : Tape) × P.tells port.old t × (run : sending.Sends sender.old t (record { sender = sender.new; tape = u; answer = result }))
         × AreAcknowledged sender.old.shape sender.old.files (files_places (counts sender.old) (done_at (length sender.old.files) sender.new.standing.place)) (spoke_in sender.old t _ run) }
 {
     a_sender_was_acknowledged();
+    a_finished_sender_was_acknowledged();
     send_over(port, sender)
 }
 

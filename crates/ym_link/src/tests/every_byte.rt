@@ -144,11 +144,16 @@ fn zero_of(alloc: Global, heard: &Heard) -> Result<Zero, HeaderFault> {
     }
 }
 
+/// The reply to a delivery. It tells a proof nothing of it, and so costs it little.
+fn reply_to(receiver: &mut Receiver, heard: &Heard) -> Result<Reply, Fail> {
+    Ok(receiver.hear(heard)?)
+}
+
 /// Whether a delivery does to a receiver what the table says.
 fn answers_alike(alloc: Global, receiver: &mut Receiver, heard: &Heard) -> Result<bool, Fail> {
     let zero = zero_of(alloc, heard);
     let (stand, reply) = receiver_table::hears(receiver.stand(), &zero, heard);
-    let told = receiver.hear(heard)?;
+    let told = reply_to(receiver, heard)?;
     Ok(told == reply && receiver.stand() == stand)
 }
 
@@ -261,11 +266,8 @@ fn replies_to_the_batch(rt: HostRuntime) -> Result<(), Fail> {
         Reply::Ack,
     ];
     for (index, reply) in replies.iter().enumerate() {
-        assert_eq!(rt;
-            receiver.hear(&step(alloc, index)?)?,
-            *reply,
-            "at step {index}"
-        );
+        let told = reply_to(&mut receiver, &step(alloc, index)?)?;
+        assert!(rt; told == *reply, "at step {index}");
     }
     Ok(())
 }

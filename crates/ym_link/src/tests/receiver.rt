@@ -67,7 +67,7 @@ fn refused_header(rt: HostRuntime) -> Result<(), Fail> {
     body[0] = b'a';
     let block = Block::new(0, &body).ok().ok_or("no block")?;
     let mut receiver = Receiver::new(rt.alloc());
-    let reply = receiver.hear(&Heard::Item(Item::Block(block)))?;
+    let reply = reply_to(&mut receiver, &Heard::Item(Item::Block(block)))?;
     assert!(rt; same(&reply, &Reply::Cancel));
     assert!(rt;
         same(

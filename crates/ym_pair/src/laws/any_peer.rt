@@ -10,13 +10,14 @@ ghost use Rattle.ym_core.specs.Receiver.{new_receiver};
 ghost use Rattle.ym_core.specs.Standing.{new_standing};
 ghost use Rattle.ym_core.specs.declared.delivery.Heard.{Heard};
 ghost use Rattle.ym_core.specs.declared.delivery.Heard.TheVariants as heard_variant;
+ghost use Rattle.ym_core.specs.declared.state.SendState.TheVariants as sender_is;
 ghost use Rattle.ym_link.specs.Course.{ReceiverHears, SenderHears};
 ghost use Rattle.ym_link.specs.Port.{Tape};
 ghost use Rattle.ym_link.specs.ReceiveOver as receiving;
 ghost use Rattle.ym_link.specs.ReceiverInto.{ReceiverParts};
 ghost use Rattle.ym_link.specs.Sender.{SenderParts, counts};
 ghost use Rattle.ym_link.specs.SendOver as sending;
-ghost use Rattle.ym_pair.specs.AnyPeer.{CommitsTheHeard, AreAcknowledged, files_places, places_before};
+ghost use Rattle.ym_pair.specs.AnyPeer.{CommitsTheHeard, AreAcknowledged, batch_places, files_places, places_before};
 ghost use Rattle.ym_pair.specs.Logs.{Spoke, AreTaken, AreHeard, heard_in, spoke_in, last_words, answered_in, spoke_along, words_of, replies_of};
 
 use ym_frame::laws::{frame_found, one_verdict};
@@ -50,6 +51,14 @@ pub fn a_sender_was_acknowledged()
         AreAcknowledged s.shape s.files (places_before (counts s) out.sender.standing.place) (spoke_in s t out run) }
     ensures course { (s new : SenderParts) (deliveries : List (List ℕ)) (progress : ℕ) (hears : SenderHears s deliveries progress new) → s.standing ≡ new_standing (counts s) →
         AreAcknowledged s.shape s.files (files_places (counts s) (done_at (length s.files) new.standing.place)) (spoke_along s deliveries progress new hears) }
+{}
+
+/// So was each frame of the whole batch, the end block behind all others, where the sender has finished.
+pub fn a_finished_sender_was_acknowledged()
+    ensures told { (s : SenderParts) (t : Tape) (out : sending.Outcome) (run : sending.Sends s t out) → s.standing ≡ new_standing (counts s) → out.sender.standing.state ≡ sender_is.Finished →
+        AreAcknowledged s.shape s.files (batch_places (counts s)) (spoke_in s t out run) }
+    ensures course { (s new : SenderParts) (deliveries : List (List ℕ)) (progress : ℕ) (hears : SenderHears s deliveries progress new) → s.standing ≡ new_standing (counts s) → new.standing.state ≡ sender_is.Finished →
+        AreAcknowledged s.shape s.files (batch_places (counts s)) (spoke_along s deliveries progress new hears) }
 {}
 
 /// What an engine is said to have heard is what the events of its tape make up, delivery by delivery: none of it twice, and none left out between.

@@ -1,0 +1,224 @@
+-- What a delivery does to the place of a sender: it stays, or goes past a frame that was sent and acknowledged; and so it finishes behind the end block.
+use Rattle.std.proofs.Common.{◌≡◌, ◌∙◌, ◌+◌, ◌-◌, ◌≤◌, ◌⊎◌, inl, inr, ℕ, zero, suc, Bool, true, false, nat_lt, List, [], ◌∷◌, ◌++◌, length, Option, None, Some, refl, sym, ap, subst, arith, add-one, append_assoc}
+use Rattle.std.proofs.lemmas.Bool.{cond_both, ltb-false}
+use Rattle.ym_frame.specs.declared.control.Control.{Control}
+use Rattle.ym_frame.specs.declared.control.Control.TheVariants.{Ack, Nak, Start, Can}
+use Rattle.ym_pair.specs.AnyPeer.{SaysAck, block_places, files_places, places_before}
+use Rattle.ym_core.specs.Place.{IsPlace, count_at, next_of}
+use Rattle.ym_core.specs.Reading.{reads}
+use Rattle.ym_link.specs.Sender.{SenderParts, IsStep, counts}
+use Rattle.ym_core.specs.Standing.{missed, read_through, after_reading, after_fill, hears, hears_in}
+use Rattle.ym_core.specs.declared.place.Place.{Place}
+use Rattle.ym_core.specs.declared.place.Place.TheVariants.{Header, Block, Eot, End}
+use Rattle.ym_core.specs.declared.place.Mode.{Mode}
+use Rattle.ym_core.specs.declared.place.Mode.TheVariants.{Waiting, Sent}
+use Rattle.ym_core.specs.declared.reading.Reading.{Reading}
+use Rattle.ym_core.specs.declared.reading.Stop.{Stop}
+use Rattle.ym_core.specs.declared.reading.Stop.TheVariants.{Sends as Stop_sends, Again, Finishes, Cancels}
+use Rattle.ym_core.specs.declared.standing.Standing.{Standing}
+use Rattle.ym_core.specs.declared.standing.SendStep.{SendStep as Step}
+use Rattle.ym_core.specs.declared.state.SendState.TheVariants.{Running, Finished}
+use Rattle.ym_link.proofs.Steps.{IsBefore, Reaches, stays, cancels, again, finishes, sends, waits_next, sends_next, cancels_next, reaches}
+use Rattle.ym_machine.specs.declared.limits.TheConstants.{GIVE_UP}
+
+-- ---- One place more
+
+before-block : (counts : List ℕ) (file k : ℕ) → 1 ≤ k → places_before counts (Block file k) ++ Block file k ∷ [] ≡ places_before counts (Block file (k + 1))
+before-block counts file zero least = absurd (omega arith)
+before-block counts file (suc j) least =
+    let less : suc j - 1 ≡ j = omega arith in
+    let more : suc j + 1 - 1 ≡ suc j = omega arith in
+    append_assoc (files_places counts file) (Header file ∷ block_places file (suc j - 1)) (Block file (suc j) ∷ [])
+    ∙ (ap (λ n. files_places counts file ++ (Header file ∷ (block_places file n ++ Block file (suc j) ∷ []))) less
+    ∙ ap (λ n. files_places counts file ++ (Header file ∷ block_places file n)) (sym more))
+
+before-eot : (counts : List ℕ) (file k : ℕ) → 1 ≤ k → k ≡ count_at counts file → places_before counts (Block file k) ++ Block file k ∷ [] ≡ places_before counts (Eot file)
+before-eot counts file zero least last = absurd (omega arith)
+before-eot counts file (suc j) least last =
+    let less : suc j - 1 ≡ j = omega arith in
+    append_assoc (files_places counts file) (Header file ∷ block_places file (suc j - 1)) (Block file (suc j) ∷ [])
+    ∙ (ap (λ n. files_places counts file ++ (Header file ∷ (block_places file n ++ Block file (suc j) ∷ []))) less
+    ∙ ap (λ n. files_places counts file ++ (Header file ∷ block_places file n)) last)
+
+before-file : (counts : List ℕ) (file : ℕ) → places_before counts (Eot file) ++ Eot file ∷ [] ≡ files_places counts (file + 1)
+before-file counts file =
+    append_assoc (files_places counts file) (Header file ∷ block_places file (count_at counts file)) (Eot file ∷ [])
+    ∙ ap (files_places counts) (sym (add-one file))
+
+pub before-next : (counts : List ℕ) (place : Place) → IsPlace counts place → IsBefore place → places_before counts place ++ place ∷ [] ≡ places_before counts (next_of counts place)
+before-next counts (Header file) within before =
+    cond_both (nat_lt 0 (count_at counts file)) (Block file 1) (Eot file) (λ p. places_before counts (Header file) ++ Header file ∷ [] ≡ places_before counts p)
+    (λ e. refl)
+    (λ e. let none = ltb-false 0 (count_at counts file) e in let zero_is : 0 ≡ count_at counts file = omega (arith, none) in ap (λ n. files_places counts file ++ (Header file ∷ block_places file n)) zero_is)
+before-next counts (Block file k) within before =
+    cond_both (nat_lt k (count_at counts file)) (Block file (k + 1)) (Eot file) (λ p. places_before counts (Block file k) ++ Block file k ∷ [] ≡ places_before counts p)
+    (λ e. before-block counts file k within.1)
+    (λ e. let most = ltb-false k (count_at counts file) e in let last = within.2 in before-eot counts file k within.1 (omega (arith, most, last)))
+before-next counts (Eot file) within before =
+    cond_both (nat_lt (file + 1) (length counts)) (Header (file + 1)) End (λ p. places_before counts (Eot file) ++ Eot file ∷ [] ≡ places_before counts p)
+    (λ e. before-file counts file)
+    (λ e. let most = ltb-false (file + 1) (length counts) e in let all : file + 1 ≡ length counts = omega (arith, most, within) in before-file counts file ∙ ap (files_places counts) all)
+before-next counts End within before = absurd before
+
+-- ---- A delivery
+
+-- the place stays, or it is the next one, behind an ACK of what was sent
+abbrev pub Moves : List ℕ → Place → Mode → List Control → Place → Type 0
+Moves counts place mode cs new = (new ≡ place) ⊎ ((mode ≡ Sent) × IsBefore place × SaysAck cs × (new ≡ next_of counts place))
+
+acked : (counts : List ℕ) (place : Place) (cs : List Control) → ((reads counts place Sent cs).place ≡ place) ⊎ SaysAck cs
+acked counts place [] = inl refl
+acked counts place (Ack ∷ cs) = inr tt
+acked counts place (Nak ∷ cs) = inl refl
+acked counts place (Start ∷ cs) = inl refl
+acked counts place (Can ∷ []) = inl refl
+acked counts place (Can ∷ Can ∷ cs) = inl refl
+acked counts place (Can ∷ Ack ∷ cs) = inr tt
+acked counts place (Can ∷ Nak ∷ cs) = inl refl
+acked counts place (Can ∷ Start ∷ cs) = inl refl
+
+moves-next : (counts : List ℕ) (place : Place) (mode : Mode) (cs : List Control) → mode ≡ Sent → IsBefore place → (reads counts place mode cs).place ≡ next_of counts place →
+    Moves counts place mode cs (reads counts place mode cs).place
+moves-next counts place mode cs sent before next =
+    elim (acked counts place cs) [
+      | inl same ↦ inl (ap (λ m. (reads counts place m cs).place) sent ∙ same)
+      | inr ack ↦ inr (sent, before, ack, next)
+    ]
+
+reads-move : (counts : List ℕ) (place : Place) (mode : Mode) (cs : List Control) → Reaches counts place mode (reads counts place mode cs) → Moves counts place mode cs (reads counts place mode cs).place
+reads-move counts place mode cs (stays e) = inl (ap (λ (r : Reading). r.place) e)
+reads-move counts place mode cs (cancels e) = inl (ap (λ (r : Reading). r.place) e)
+reads-move counts place mode cs (again m e) = inl (ap (λ (r : Reading). r.place) e)
+reads-move counts place mode cs (finishes m e) = inl (ap (λ (r : Reading). r.place) e)
+reads-move counts place mode cs (sends m e) = inl (ap (λ (r : Reading). r.place) e)
+reads-move counts place mode cs (waits_next m before e) = moves-next counts place mode cs m before (ap (λ (r : Reading). r.place) e)
+reads-move counts place mode cs (sends_next m before e) = moves-next counts place mode cs m before (ap (λ (r : Reading). r.place) e)
+reads-move counts place mode cs (cancels_next m before e) = moves-next counts place mode cs m before (ap (λ (r : Reading). r.place) e)
+
+missed-place : (s : Standing) → (missed s).standing.place ≡ s.place
+missed-place s = cond_both (nat_lt (s.misses + 1) GIVE_UP) _ _ (λ (x : Step). x.standing.place ≡ s.place) (λ e. refl) (λ e. refl)
+
+through-place : (s : Standing) (place : Place) (old new : Mode) → ((read_through s place old new).standing.place ≡ s.place) ⊎ ((read_through s place old new).standing.place ≡ place)
+through-place s place Sent Sent = inl (missed-place s)
+through-place s place Waiting Waiting = inl (missed-place s)
+through-place s place Sent Waiting = inr refl
+through-place s place Waiting Sent = inr refl
+
+reading-place : (s : Standing) (place : Place) (mode : Mode) (stop : Option Stop) →
+    ((after_reading s place mode stop).standing.place ≡ s.place) ⊎ ((after_reading s place mode stop).standing.place ≡ place)
+reading-place s place mode None = through-place s place s.mode mode
+reading-place s place mode (Some Again) = inl (missed-place s)
+reading-place s place mode (Some Stop_sends) = inr refl
+reading-place s place mode (Some Finishes) = inl refl
+reading-place s place mode (Some Cancels) = inr refl
+
+fill-place : (failed : Bool) (fills : Option Place) (s : Standing) → (after_fill failed fills s).place ≡ s.place
+fill-place false fills s = refl
+fill-place true None s = refl
+fill-place true (Some (Header file)) s = refl
+fill-place true (Some (Block file k)) s = refl
+fill-place true (Some (Eot file)) s = refl
+fill-place true (Some End) s = refl
+
+hears-move : (counts : List ℕ) (s : Standing) (cs : List Control) → s.state ≡ Running → Moves counts s.place s.mode cs (hears counts s cs).standing.place
+hears-move counts s cs on =
+    let r : Reading = reads counts s.place s.mode cs in
+    let moved : Moves counts s.place s.mode cs (after_reading s r.place r.mode r.stop).standing.place = elim (reading-place s r.place r.mode r.stop) [
+      | inl same ↦ inl same
+      | inr there ↦ subst (Moves counts s.place s.mode cs) (sym there) (reads-move counts s.place s.mode cs (reaches counts s.place s.mode cs))
+    ] in
+    subst (λ now. Moves counts s.place s.mode cs (hears_in now counts s cs).standing.place) (sym on) moved
+
+pub step-moves : (s : SenderParts) (cs : List Control) (failed : Bool) (new : SenderParts) → s.standing.state ≡ Running → IsStep s (hears (counts s) s.standing cs) failed new →
+    Moves (counts s) s.standing.place s.standing.mode cs new.standing.place
+step-moves s cs failed new on step =
+    let taken : Step = hears (counts s) s.standing cs in
+    let place : new.standing.place ≡ taken.standing.place = ap (λ (x : Standing). x.place) step.standing ∙ fill-place failed taken.fills taken.standing in
+    subst (Moves (counts s) s.standing.place s.standing.mode cs) (sym place) (hears-move (counts s) s.standing cs on)
+
+-- ---- The end
+
+is-sent : Waiting ≡ Sent → ⊥
+is-sent same = absurd cc
+
+-- a reading that finishes began behind a frame that was sent
+finishes-sent : (counts : List ℕ) (place : Place) (mode : Mode) (r : Reading) → Reaches counts place mode r → r.stop ≡ Some Finishes → mode ≡ Sent
+finishes-sent counts place mode r (stays e) stop = absurd cc
+finishes-sent counts place mode r (cancels e) stop = absurd cc
+finishes-sent counts place mode r (again m e) stop = m
+finishes-sent counts place mode r (finishes m e) stop = m
+finishes-sent counts place mode r (sends m e) stop = absurd cc
+finishes-sent counts place mode r (waits_next m before e) stop = m
+finishes-sent counts place mode r (sends_next m before e) stop = m
+finishes-sent counts place mode r (cancels_next m before e) stop = m
+
+waiting-stays : (counts : List ℕ) (place : Place) (cs : List Control) → (reads counts place Waiting cs).stop ≡ Some Finishes → ⊥
+waiting-stays counts place cs stop = is-sent (finishes-sent counts place Waiting (reads counts place Waiting cs) (reaches counts place Waiting cs) stop)
+
+-- and that frame was the end block, behind which an ACK was read
+acked-end : (counts : List ℕ) (place : Place) (cs : List Control) → (reads counts place Sent cs).stop ≡ Some Finishes → (place ≡ End) × SaysAck cs
+acked-end counts place [] stop = absurd cc
+acked-end counts (Header file) (Ack ∷ cs) stop = absurd (waiting-stays counts (next_of counts (Header file)) cs stop)
+acked-end counts (Block file k) (Ack ∷ cs) stop = absurd cc
+acked-end counts (Eot file) (Ack ∷ cs) stop = absurd (waiting-stays counts (next_of counts (Eot file)) cs stop)
+acked-end counts End (Ack ∷ cs) stop = (refl, tt)
+acked-end counts place (Nak ∷ cs) stop = absurd cc
+acked-end counts place (Start ∷ cs) stop = absurd cc
+acked-end counts place (Can ∷ []) stop = absurd cc
+acked-end counts place (Can ∷ Can ∷ cs) stop = absurd cc
+acked-end counts (Header file) (Can ∷ Ack ∷ cs) stop = absurd (waiting-stays counts (next_of counts (Header file)) cs stop)
+acked-end counts (Block file k) (Can ∷ Ack ∷ cs) stop = absurd cc
+acked-end counts (Eot file) (Can ∷ Ack ∷ cs) stop = absurd (waiting-stays counts (next_of counts (Eot file)) cs stop)
+acked-end counts End (Can ∷ Ack ∷ cs) stop = (refl, tt)
+acked-end counts place (Can ∷ Nak ∷ cs) stop = absurd cc
+acked-end counts place (Can ∷ Start ∷ cs) stop = absurd cc
+
+missed-goes : (s : Standing) → s.state ≡ Running → (missed s).standing.state ≡ Finished → ⊥
+missed-goes s on = cond_both (nat_lt (s.misses + 1) GIVE_UP) _ _ (λ (x : Step). x.standing.state ≡ Finished → ⊥) (λ e over. absurd cc) (λ e over. absurd cc)
+
+through-goes : (s : Standing) (place : Place) (old new : Mode) → s.state ≡ Running → (read_through s place old new).standing.state ≡ Finished → ⊥
+through-goes s place Sent Sent on over = missed-goes s on over
+through-goes s place Waiting Waiting on over = missed-goes s on over
+through-goes s place Sent Waiting on over = absurd cc
+through-goes s place Waiting Sent on over = absurd cc
+
+finished-stop : (s : Standing) (place : Place) (mode : Mode) (stop : Option Stop) → s.state ≡ Running → (after_reading s place mode stop).standing.state ≡ Finished →
+    (stop ≡ Some Finishes) × ((after_reading s place mode stop).standing.place ≡ s.place)
+finished-stop s place mode None on over = absurd (through-goes s place s.mode mode on over)
+finished-stop s place mode (Some Again) on over = absurd (missed-goes s on over)
+finished-stop s place mode (Some Stop_sends) on over = absurd cc
+finished-stop s place mode (Some Finishes) on over = (refl, refl)
+finished-stop s place mode (Some Cancels) on over = absurd cc
+
+fill-finished : (failed : Bool) (fills : Option Place) (s : Standing) → (after_fill failed fills s).state ≡ Finished → s.state ≡ Finished
+fill-finished false fills s over = over
+fill-finished true None s over = over
+fill-finished true (Some (Header file)) s over = over
+fill-finished true (Some (Block file k)) s over = absurd cc
+fill-finished true (Some (Eot file)) s over = over
+fill-finished true (Some End) s over = over
+
+-- a delivery at which a sender finishes
+pub record FinishesAt (s : Standing) (cs : List Control) (new : Place) : Type 0 where
+  pub place : s.place ≡ End
+  pub after : new ≡ End
+  pub mode : s.mode ≡ Sent
+  pub ack : SaysAck cs
+
+hears-finish : (counts : List ℕ) (s : Standing) (cs : List Control) → s.state ≡ Running → (hears_in Running counts s cs).standing.state ≡ Finished → FinishesAt s cs (hears_in Running counts s cs).standing.place
+hears-finish counts s cs on over =
+    let r : Reading = reads counts s.place s.mode cs in
+    let stop = finished-stop s r.place r.mode r.stop on over in
+    let mode = finishes-sent counts s.place s.mode r (reaches counts s.place s.mode cs) stop.0 in
+    let end = acked-end counts s.place cs (subst (λ m. (reads counts s.place m cs).stop ≡ Some Finishes) mode stop.0) in
+    record { place = end.0; after = stop.1 ∙ end.0; mode = mode; ack = end.1 }
+
+pub step-finishes : (s : SenderParts) (cs : List Control) (failed : Bool) (new : SenderParts) → s.standing.state ≡ Running → IsStep s (hears (counts s) s.standing cs) failed new →
+    new.standing.state ≡ Finished → FinishesAt s.standing cs new.standing.place
+step-finishes s cs failed new on step over =
+    let taken : Step = hears (counts s) s.standing cs in
+    let runs_is : hears (counts s) s.standing cs ≡ hears_in Running (counts s) s.standing cs = ap (λ now. hears_in now (counts s) s.standing cs) on in
+    let place : new.standing.place ≡ taken.standing.place = ap (λ (x : Standing). x.place) step.standing ∙ fill-place failed taken.fills taken.standing in
+    let ended : taken.standing.state ≡ Finished = fill-finished failed taken.fills taken.standing (sym (ap (λ (x : Standing). x.state) step.standing) ∙ over) in
+    let at = hears-finish (counts s) s.standing cs on (sym (ap (λ (x : Step). x.standing.state) runs_is) ∙ ended) in
+    subst (FinishesAt s.standing cs) (sym (place ∙ ap (λ (x : Step). x.standing.place) runs_is)) at
