@@ -69,11 +69,18 @@ abbrev pub round_lines : ℕ → List Seen → List ℕ
 round_lines n [] = []
 round_lines n (seen ∷ more) = round_line n seen ++ round_lines (n + 1) more
 
+-- the lines of both ends, without and with the end of a line
+abbrev pub sender_words : ℕ → SendState → List ℕ
+sender_words done state = codes "sender done " ++ (decimal done ++ (codes " " ++ send_text state))
+
+abbrev pub receiver_words : ℕ → RecvState → List ℕ
+receiver_words files state = codes "receiver files " ++ (decimal files ++ (codes " " ++ recv_text state))
+
 abbrev pub sender_line : ℕ → SendState → List ℕ
-sender_line done state = codes "sender done " ++ (decimal done ++ (codes " " ++ (send_text state ++ codes "\n")))
+sender_line done state = sender_words done state ++ codes "\n"
 
 abbrev pub receiver_line : ℕ → RecvState → List ℕ
-receiver_line files state = codes "receiver files " ++ (decimal files ++ (codes " " ++ (recv_text state ++ codes "\n")))
+receiver_line files state = receiver_words files state ++ codes "\n"
 
 abbrev pub trace_text : Trace → List ℕ
 trace_text trace = round_lines 1 trace.rounds.items ++ (sender_line trace.done trace.send ++ receiver_line trace.files trace.recv)
