@@ -11,7 +11,6 @@ The library is the archive that YM_LIBRARY_ARM names, else out/lib/aarch64-unkno
 
 import os
 import random
-import subprocess
 import sys
 import tempfile
 import threading
@@ -25,6 +24,7 @@ from program import LIMIT, PROGRAM, ROOT, write_files
 from relay import Seeded
 from reporting import report
 from skipping import needs
+from wanting import command, wants
 
 EXAMPLE = os.path.join(ROOT, "examples", "bare")
 LIBRARY = os.path.abspath(os.environ.get("YM_LIBRARY_ARM", os.path.join(ROOT, "out", "lib", "aarch64-unknown-linux-gnu", "libymodem.a")))
@@ -39,17 +39,6 @@ COMPILERS = {
 AT_ONCE = 4
 
 
-def wants(holds, text):
-    if not holds:
-        raise AssertionError(text)
-
-
-def command(*words):
-    done = subprocess.run(words, stdout=subprocess.PIPE, stderr=subprocess.STDOUT, timeout=LIMIT, check=False)
-    wants(done.returncode == 0, "%s: status %d: %s" % (" ".join(words[:3]), done.returncode, done.stdout.decode(errors="replace")[-900:]))
-    return done.stdout.decode(errors="replace")
-
-
 class Images:
     """The loader and the program that it loads, by one compiler, made once."""
 
@@ -61,7 +50,9 @@ class Images:
         needs(*(it.split()[0] for it in self.words), "make")
         with self.lock:
             if not os.path.exists(self.out):
-                said = command("make", "-C", EXAMPLE, "OUT=" + self.out, "LIBRARY=" + LIBRARY, *("%s=%s" % it for it in zip(("CC", "LINK", "COPY"), self.words)))
+                # By its way from there, in which no space stands: make takes no name with one.
+                library = os.path.relpath(LIBRARY, EXAMPLE)
+                said = command("make", "-C", EXAMPLE, "OUT=" + self.out, "LIBRARY=" + library, *("%s=%s" % it for it in zip(("CC", "LINK", "COPY"), self.words)))
                 wants("warning" not in said, said)
         return os.path.join(self.out, name)
 

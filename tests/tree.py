@@ -50,6 +50,8 @@ class Tree:
             else:
                 os.makedirs(self.top, exist_ok=True)
                 shutil.copy2(source, to)
+        # What it is a copy of may be one that can only be read.
+        subprocess.run(["chmod", "-R", "u+w", self.top], check=True)
         with open(os.path.join(self.calls, "rt"), "w", encoding="utf-8") as it:
             it.write(STAND_IN)
         os.chmod(it.name, 0o755)

@@ -1,5 +1,6 @@
 """The page in a browser, from a disk, and what somebody does at it."""
 
+import contextlib
 import json
 import os
 import random
@@ -38,8 +39,10 @@ class Shown(Loud):
 
 
 def picture(page, name):
-    os.makedirs(PICTURES, exist_ok=True)
-    page.picture(os.path.join(PICTURES, name + ".png"))
+    """Keeps a picture of the page, but in a tree that is only read."""
+    with contextlib.suppress(PermissionError):
+        os.makedirs(PICTURES, exist_ok=True)
+        page.picture(os.path.join(PICTURES, name + ".png"))
 
 
 def click(page, where):
