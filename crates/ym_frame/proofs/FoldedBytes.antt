@@ -1,14 +1,12 @@
 -- Bytes as words that are folded, and the check of the bytes before them.
-use Rattle.std.specs.Prelude.{◌≡◌, ℕ, ◌+◌, ◌*◌, ◌/◌, ◌%◌, ◌^◌, ◌<◌, ◌≤◌, suc, Bool, false, List, [], ◌∷◌, ◌++◌, length, take, drop, get_or, replicate, bit_xor, refl}
+use Rattle.std.specs.Prelude.{◌≡◌, ℕ, ◌+◌, ◌*◌, ◌^◌, ◌<◌, ◌≤◌, suc, Bool, false, List, [], ◌∷◌, ◌++◌, length, get_or, replicate, bit_xor, refl}
 use Rattle.std.specs.Int.{from_be_bytes, w64}
-use Rattle.std.proofs.Common.{sym, ◌∙◌, ap, subst, arith, append_assoc}
+use Rattle.std.proofs.Common.{sym, ◌∙◌, ap, subst, arith}
 use Rattle.std.proofs.lemmas.Grind.{flat_map-append}
-use Rattle.std.proofs.lemmas.List.{take_all}
-use Rattle.std.proofs.lemmas.Nat.{shl-shr, shl_whole, pow-add, mul-add-lt, div-mul-add}
-use Rattle.std.proofs.Math.Seq.{take-add}
-use Rattle.ym_frame.specs.Check.{bits, number_of, minus, subtract, divided, remainder, body_bits, check_of}
+use Rattle.std.proofs.lemmas.Nat.{pow-add, mul-add-lt, div-mul-add}
+use Rattle.ym_frame.specs.Check.{bits, number_of, minus, subtract, divided, remainder, body_bits}
 use Rattle.ym_frame.proofs.Division.{run, start, run-append, length-run, length-subtract, divided-run, subtract-zeros, zeros-subtract, remainder_is_run}
-use Rattle.ym_frame.proofs.CheckNumbers.{length-bits, bits-xor, bits-split, bits-above, bits-number_of, check_bits, check_of-lt}
+use Rattle.ym_frame.proofs.CheckNumbers.{bits-split, bits-above, bits-number_of}
 use Rattle.ym_frame.proofs.Folding.{folded_in}
 
 -- ---- bytes that come

@@ -1,5 +1,5 @@
 -- Eight bytes in front of thirty-two others, added to these: modulo the divisor, x^256 is x^192 + x^80 + 1.
-use Rattle.std.specs.Prelude.{◌≡◌, ℕ, ◌+◌, ◌*◌, ◌/◌, ◌%◌, ◌^◌, ◌<◌, ◌≤◌, zero, suc, Bool, false, List, [], ◌∷◌, ◌++◌, length, take, drop, get_or, replicate, bit_xor, refl}
+use Rattle.std.specs.Prelude.{◌≡◌, ℕ, ◌+◌, ◌*◌, ◌/◌, ◌%◌, ◌^◌, ◌<◌, ◌≤◌, zero, suc, Bool, false, List, ◌++◌, length, take, drop, get_or, replicate, bit_xor, refl}
 use Rattle.std.specs.Int.{w64, byte_at, bytes_low_first, to_le_bytes, swap_bytes}
 use Rattle.std.proofs.Common.{sym, ◌∙◌, ap, arith, append_assoc, length-append}
 use Rattle.std.proofs.lemmas.Grind.{flat_map-append}
@@ -10,8 +10,8 @@ use Rattle.std.proofs.Math.Seq.{take-add}
 use Rattle.ym_frame.specs.Check.{bits, number_of, subtract, remainder, body_bits, check_of}
 use Rattle.ym_frame.specs.Fold.{eight, window_bytes}
 use Rattle.ym_frame.proofs.Division.{run, start, run-append, subtract-append, subtract-zeros, remainder_is_run}
-use Rattle.ym_frame.proofs.CheckNumbers.{length-bits, bits-xor, check_bits, check_of-lt}
-use Rattle.ym_frame.proofs.Linear.{IsLinear, IsLinearInBits, added, right, left, AgreeBelow, agree_nowhere, agree_further, same_below}
+use Rattle.ym_frame.proofs.CheckNumbers.{length-bits, bits-xor, check_bits}
+use Rattle.ym_frame.proofs.Linear.{IsLinearInBits, added, right, left, AgreeBelow, agree_nowhere, agree_further, same_below}
 use Rattle.ym_frame.proofs.Register.{start-subtract, zeros_in_front}
 use Rattle.ym_frame.proofs.Folding.{agree_quickly, added_behind}
 use Rattle.ym_frame.proofs.FoldedBytes.{next_word, entered, zeros_behind, word_bits}

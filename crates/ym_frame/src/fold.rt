@@ -117,7 +117,12 @@ pub(crate) fn with_words(check: u16, bytes: &[u8]) -> u16
         return check;
     }
     let fourth = word_of(&bytes[..8]) ^ in_first_two(check);
-    let mut window = Window { first: 0, second: 0, third: 0, fourth };
+    let mut window = Window {
+        first: 0,
+        second: 0,
+        third: 0,
+        fourth,
+    };
     for i in 1..count {
         window = window.moved(word_of(&bytes[8 * i..8 * i + 8]));
     }
