@@ -75,7 +75,7 @@ void ym_receiver_init(ym_receiver *receiver, uint32_t confirm);
 /* Takes bytes as they come, and tells how many it took. Call it again with the rest; 0 where the delivery is whole. */
 size_t ym_receiver_feed(ym_receiver *receiver, const uint8_t *bytes, size_t len);
 
-/* 0: hear now. Else at least so many bytes are missing: read on, and hear when the line has been quiet. */
+/* 0: hear now. Else at least so many bytes are missing, at most 1029: read on, and hear when the line has been quiet. */
 size_t ym_receiver_wants(const ym_receiver *receiver);
 
 /* Hears what was fed, and tells what is to be done before the answer. */

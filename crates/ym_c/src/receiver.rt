@@ -103,7 +103,10 @@ pub extern "C" fn ym_receiver_feed(receiver: &mut YmReceiver, bytes: &[u8]) -> u
 /// to be heard now.
 #[unsafe(no_mangle)]
 pub extern "C" fn ym_receiver_wants(receiver: &YmReceiver) -> usize
-    ensures { (core : Receiver) (held : List ℕ) → Holds receiver.now core held → (0 < result ↔ IsOpen (verdict_of held)) }
+    ensures whether { (core : Receiver) (held : List ℕ) → Holds receiver.now core held → (0 < result ↔ IsOpen (verdict_of held)) }
+    ensures missing { (core : Receiver) (held : List ℕ) → Holds receiver.now core held →
+        (more : List ℕ) → length more < result → IsOpen (verdict_of (held ++ more)) }
+    ensures room { result ≤ 1029 }
 {
     wanted(delivery(&receiver.held, receiver.len))
 }
