@@ -122,7 +122,8 @@ void ym_sender_init(ym_sender *sender, const uint64_t *blocks, size_t files);
 /* 1: these bytes can be heard now; 0: read on until the line is quiet, or the wait for a reply is over. */
 uint32_t ym_sender_settled(const ym_sender *sender, const uint64_t *blocks, size_t files, const uint8_t *bytes, size_t len);
 
-/* Hears a delivery, of no bytes too, and tells what is to be filled by ym_sender_header or ym_sender_block. */
+/* Hears a delivery, of no bytes too, and tells what is to be filled by ym_sender_header or ym_sender_block. Where nothing is, the frame stays
+   as it was. */
 void ym_sender_hear(ym_sender *sender, const uint64_t *blocks, size_t files, const uint8_t *bytes, size_t len, ym_fill *fill);
 
 /* Makes the frame of a file's block 0: stamp 0 none, 1 the time, 2 the time and the mode. Answers 0 or an enum ym_fault. */

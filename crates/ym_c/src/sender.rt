@@ -152,7 +152,9 @@ fn load(kept: &YmSender, blocks: &[u64]) -> Standing
 
 /// Keeps where a sender stands.
 fn store(kept: &mut YmSender, standing: Standing)
-    ensures { FitsC standing.place → KeepsStanding kept.new standing }
+    ensures stands { FitsC standing.place → KeepsStanding kept.new standing }
+    ensures len { kept.new.len ≡ kept.old.len }
+    ensures frame { kept.new.frame ≡ kept.old.frame }
 {
     let (place, file, number) = match standing.place {
         Place::Header { file } => (0, file, 0),
@@ -245,7 +247,7 @@ pub extern "C" fn ym_sender_hear(
     ensures { (s : Stood) → KeepsStanding sender.old s → Stands blocks.now s →
         KeepsStanding sender.new (table.hears blocks.now s (controls_in bytes.now)).standing
         × IsFill (table.hears blocks.now s (controls_in bytes.now)).fills fill.new
-        × IsFilled (table.hears blocks.now s (controls_in bytes.now)).fills sender.new }
+        × IsFilled (table.hears blocks.now s (controls_in bytes.now)).fills sender.old sender.new }
 {
     fill.kind = 0;
     fill.file = 0;
