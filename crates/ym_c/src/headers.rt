@@ -119,3 +119,4 @@ pub extern "C" fn ym_header_write(
         Err(fault) => code_of_fault(fault),
     }
 }
+    ensures within { result ≤ 1024 }

@@ -183,7 +183,8 @@ fn store(kept: &mut YmSender, standing: Standing)
 /// Makes a sender that waits at the first frame of a batch, of which each file has so many data blocks.
 #[unsafe(no_mangle)]
 pub extern "C" fn ym_sender_init(sender: &mut YmSender, blocks: &[u64])
-    ensures { KeepsStanding sender.new (table.new_standing blocks.now) }
+    ensures stands { KeepsStanding sender.new (table.new_standing blocks.now) }
+    ensures empty { sender.new.len ≡ 0 }
 {
     store(sender, Standing::new(first_place(&Counts { blocks })));
     sender.len = 0;
@@ -202,7 +203,8 @@ pub fn seal_frame(frame: &mut [u8], number: u8, body: &[u8])
 /// Makes the frame of the block of this number and this body at the front, and answers its length.
 fn seal_body(frame: &mut [u8; 1029], number: u8, body: &[u8]) -> u32
     requires { (length body.now ≡ 128) ⊎ (length body.now ≡ 1024) }
-    ensures { IsBlockFrame number body.now (take result frame.new) }
+    ensures frame { IsBlockFrame number body.now (take result frame.new) }
+    ensures room { result ≤ 1029 }
 {
     if body.len() == 128 {
         seal_frame(&mut frame[..133], number, body);
@@ -214,7 +216,8 @@ fn seal_body(frame: &mut [u8; 1029], number: u8, body: &[u8]) -> u32
 
 /// Makes the frame of a header's block 0 at the front, and answers its length.
 fn seal_header(frame: &mut [u8; 1029], header: &HeaderRef<'_>) -> u32
-    ensures { IsBlockFrame 0 (text header.entry.now) (take result frame.new) }
+    ensures frame { IsBlockFrame 0 (text header.entry.now) (take result frame.new) }
+    ensures room { result ≤ 1029 }
 {
     let mut body = [0; 1024];
     let size = write_body(header, &mut body);
@@ -223,7 +226,8 @@ fn seal_header(frame: &mut [u8; 1029], header: &HeaderRef<'_>) -> u32
 
 /// Makes the frame of an EOT at the front, and answers its length.
 fn seal_eot(frame: &mut [u8; 1029]) -> u32
-    ensures { take result frame.new ≡ 0x04 ∷ [] }
+    ensures frame { take result frame.new ≡ 0x04 ∷ [] }
+    ensures room { result ≤ 1029 }
 {
     frame[0] = 0x04;
     1
@@ -231,7 +235,8 @@ fn seal_eot(frame: &mut [u8; 1029]) -> u32
 
 /// Makes the frame of the end block at the front, and answers its length.
 fn seal_end(frame: &mut [u8; 1029]) -> u32
-    ensures { IsBlockFrame 0 end_text (take result frame.new) }
+    ensures frame { IsBlockFrame 0 end_text (take result frame.new) }
+    ensures room { result ≤ 1029 }
 {
     seal_body(frame, 0, &[0; 128])
 }
@@ -244,7 +249,8 @@ pub extern "C" fn ym_sender_hear(
     bytes: &[u8],
     fill: &mut YmFill,
 )
-    ensures { (s : Stood) → KeepsStanding sender.old s → Stands blocks.now s →
+    ensures room { sender.old.len ≤ 1029 → sender.new.len ≤ 1029 }
+    ensures hears { (s : Stood) → KeepsStanding sender.old s → Stands blocks.now s →
         KeepsStanding sender.new (table.hears blocks.now s (controls_in bytes.now)).standing
         × IsFill (table.hears blocks.now s (controls_in bytes.now)).fills fill.new
         × IsFilled (table.hears blocks.now s (controls_in bytes.now)).fills sender.old sender.new }
@@ -340,12 +346,13 @@ pub extern "C" fn ym_sender_block(sender: &mut YmSender, body: &[u8]) -> u32
     let number = (sender.number % 256) as u8;
     sender.len = seal_body(&mut sender.frame, number, body);
     0
+    ensures frame { (sender.new.len ≡ sender.old.len) × (sender.new.frame ≡ sender.old.frame) }
 }
 
 /// The host cannot fill the frame: the sender ends, with CAN CAN to go.
 #[unsafe(no_mangle)]
 pub extern "C" fn ym_sender_failed(sender: &mut YmSender, blocks: &[u64])
-    ensures { (s : Stood) → KeepsStanding sender.old s → Stands blocks.now s →
+    ensures ends { (s : Stood) → KeepsStanding sender.old s → Stands blocks.now s →
         KeepsStanding sender.new (record s { state = SendState.SourceFailed; farewell = true }) }
 {
     let standing = load(sender, blocks).source_failed();
