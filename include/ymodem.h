@@ -126,7 +126,8 @@ uint32_t ym_sender_settled(const ym_sender *sender, const uint64_t *blocks, size
    as it was. */
 void ym_sender_hear(ym_sender *sender, const uint64_t *blocks, size_t files, const uint8_t *bytes, size_t len, ym_fill *fill);
 
-/* Makes the frame of a file's block 0: stamp 0 none, 1 the time, 2 the time and the mode. Answers 0 or an enum ym_fault. */
+/* Makes the frame of a file's block 0: stamp 0 none, 1 the time, 2 the time and the mode. Answers 0, or an enum ym_fault: the first that
+   applies. */
 uint32_t ym_sender_header(ym_sender *sender, const uint8_t *name, size_t name_len, uint64_t length, uint32_t stamp, uint64_t time, uint32_t mode);
 
 /* Makes the frame of the data block that the sender stands at: 128 or 1024 bytes, the file's last ones filled up with 1A. Answers 0, or

@@ -12,13 +12,15 @@ ghost use Rattle.ym_frame.specs.Seal.{IsBlockFrame};
 ghost use Rattle.ym_header.specs.Text.{text, end_text};
 ghost use Rattle.ym_c.specs.Codes.{bool_code};
 ghost use Rattle.ym_c.specs.Fronts.{stamp_of};
+ghost use Rattle.ym_c.specs.Headers.{IsRefusal};
 ghost use Rattle.ym_c.specs.Sending.{FitsC, KeepsPlace, send_code, KeepsStanding, Stands, IsFill, IsFilled, out_code};
 ghost use Rattle.ym_machine.specs.declared.limits.TheConstants.{GIVE_UP};
 
 use crate::codes::code_of_fault;
+use crate::headers::{header_of, stamp_from};
 use ym_core::{Batch, Mode, Place, SendState, Standing, first_place};
 use ym_frame::seal_block;
-use ym_header::{HeaderRef, Stamp, write_body};
+use ym_header::{HeaderRef, write_body};
 use ym_machine::GIVE_UP;
 
 /// A sender, and the frame that was filled last.
@@ -295,19 +297,8 @@ pub extern "C" fn ym_sender_settled(sender: &YmSender, blocks: &[u64], bytes: &[
     }
 }
 
-/// The stamp of these numbers.
-pub fn stamp_from(kind: u32, time: u64, mode: u32) -> Stamp
-    ensures { result ≡ stamp_of kind time mode }
-{
-    match kind {
-        0 => Stamp::Nothing,
-        1 => Stamp::Time(time),
-        _ => Stamp::TimeMode(time, mode),
-    }
-}
-
 /// Fills the header of a file: stamp 0 none, 1 the time, 2 the time and the mode. Answers 0, or the
-/// number of the header's fault, and then the frame is not to be sent.
+/// number of the header's first fault, 1 to 5, and then the frame is not to be sent.
 #[unsafe(no_mangle)]
 pub extern "C" fn ym_sender_header(
     sender: &mut YmSender,
@@ -317,13 +308,13 @@ pub extern "C" fn ym_sender_header(
     time: u64,
     mode: u32,
 ) -> u32
-    ensures { result ≡ 0 → IsBlockFrame 0 (text (record { name = name.now; length = length; stamp = stamp_of stamp time mode })) (take sender.new.len sender.new.frame) }
+    ensures frame { result ≡ 0 → IsBlockFrame 0 (text (record { name = name.now; length = length; stamp = stamp_of stamp time mode })) (take sender.new.len sender.new.frame) }
+    ensures stands { (s : Stood) → KeepsStanding sender.old s → KeepsStanding sender.new s }
+    ensures refused { 0 < result → IsRefusal name.now length result }
+    ensures room { sender.new.len ≤ 1029 }
 {
     sender.len = 0;
-    let Ok(name) = str::from_utf8(name) else {
-        return 3;
-    };
-    match HeaderRef::new(name, length, stamp_from(stamp, time, mode)) {
+    match header_of(name, length, stamp_from(stamp, time, mode)) {
         Ok(header) => {
             sender.len = seal_header(&mut sender.frame, &header);
             0
@@ -338,6 +329,8 @@ pub extern "C" fn ym_sender_header(
 pub extern "C" fn ym_sender_block(sender: &mut YmSender, body: &[u8]) -> u32
     ensures valid { result ≡ 0 ↔ ((length body.now ≡ 128) ⊎ (length body.now ≡ 1024)) }
     ensures frame { result ≡ 0 → IsBlockFrame (sender.old.number % 256) body.now (take sender.new.len sender.new.frame) }
+    ensures room { sender.old.len ≤ 1029 → sender.new.len ≤ 1029 }
+    ensures stands { (s : Stood) → KeepsStanding sender.old s → KeepsStanding sender.new s }
 {
     let size = body.len();
     if size != 128 && size != 1024 {
@@ -346,7 +339,6 @@ pub extern "C" fn ym_sender_block(sender: &mut YmSender, body: &[u8]) -> u32
     let number = (sender.number % 256) as u8;
     sender.len = seal_body(&mut sender.frame, number, body);
     0
-    ensures frame { (sender.new.len ≡ sender.old.len) × (sender.new.frame ≡ sender.old.frame) }
 }
 
 /// The host cannot fill the frame: the sender ends, with CAN CAN to go.
@@ -354,6 +346,7 @@ pub extern "C" fn ym_sender_block(sender: &mut YmSender, body: &[u8]) -> u32
 pub extern "C" fn ym_sender_failed(sender: &mut YmSender, blocks: &[u64])
     ensures ends { (s : Stood) → KeepsStanding sender.old s → Stands blocks.now s →
         KeepsStanding sender.new (record s { state = SendState.SourceFailed; farewell = true }) }
+    ensures frame { (sender.new.len ≡ sender.old.len) × (sender.new.frame ≡ sender.old.frame) }
 {
     let standing = load(sender, blocks).source_failed();
     store(sender, standing);
