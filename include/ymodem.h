@@ -76,7 +76,7 @@ void ym_receiver_init(ym_receiver *receiver, uint32_t confirm);
 /* Takes bytes as they come, and tells how many it took. Call it again with the rest; 0 where the delivery is whole. */
 size_t ym_receiver_feed(ym_receiver *receiver, const uint8_t *bytes, size_t len);
 
-/* 0: hear now. Else at least so many bytes are missing: read on, and hear when the line has been quiet. */
+/* 0: hear now. Else at least so many bytes are missing, at most 1029: read on, and hear when the line has been quiet. */
 size_t ym_receiver_wants(const ym_receiver *receiver);
 
 /* Hears what was fed, and tells what is to be done before the answer. */
@@ -123,10 +123,12 @@ void ym_sender_init(ym_sender *sender, const uint64_t *blocks, size_t files);
 /* 1: these bytes can be heard now; 0: read on until the line is quiet, or the wait for a reply is over. */
 uint32_t ym_sender_settled(const ym_sender *sender, const uint64_t *blocks, size_t files, const uint8_t *bytes, size_t len);
 
-/* Hears a delivery, of no bytes too, and tells what is to be filled by ym_sender_header or ym_sender_block. */
+/* Hears a delivery, of no bytes too, and tells what is to be filled by ym_sender_header or ym_sender_block. Where nothing is, the frame stays
+   as it was. */
 void ym_sender_hear(ym_sender *sender, const uint64_t *blocks, size_t files, const uint8_t *bytes, size_t len, ym_fill *fill);
 
-/* Makes the frame of a file's block 0: stamp 0 none, 1 the time, 2 the time and the mode. Answers 0 or an enum ym_fault. */
+/* Makes the frame of a file's block 0: stamp 0 none, 1 the time, 2 the time and the mode. Answers 0, or an enum ym_fault: the first that
+   applies. */
 uint32_t ym_sender_header(ym_sender *sender, const uint8_t *name, size_t name_len, uint64_t length, uint32_t stamp, uint64_t time, uint32_t mode);
 
 /* Makes the frame of the data block that the sender stands at: 128 or 1024 bytes, the file's last ones filled up with 1A. Answers 0, or

@@ -1,15 +1,10 @@
--- A body in its frame, and what a sender fills by itself.
-use Rattle.std.specs.Prelude.{◌≡◌, ◌≤◌, ℕ, ◌+◌, ◌-◌, ◌/◌, ◌%◌, List, [], ◌∷◌, ◌++◌, length, take, drop, Option, Some, refl}
+-- A body in its frame.
+use Rattle.std.specs.Prelude.{◌≡◌, ◌≤◌, ℕ, ◌+◌, ◌-◌, ◌/◌, ◌%◌, List, [], ◌∷◌, ◌++◌, length, take, drop, refl}
 use Rattle.std.proofs.Common.{sym, ◌∙◌, ap, ap₂, subst, arith, inl, inr, length-append, length-drop}
 use Rattle.std.proofs.lemmas.List.{length-take-le, take_at, take_all, drop_at}
 use borrow.Rule.Slice.PartMut.{put_mid}
 use Rattle.ym_frame.specs.Check.{check_of}
 use Rattle.ym_frame.specs.Seal.{IsBlockFrame}
-use Rattle.ym_header.specs.Text.{end_text}
-use Rattle.ym_core.specs.declared.place.Place.{Place}
-use Rattle.ym_core.specs.declared.place.Place.TheVariants.{Eot, End}
-use Rattle.ym_c.specs.declared.sender.YmSender.{YmSender}
-use Rattle.ym_c.specs.Sending.{IsFilled}
 
 -- a body that was put behind the first three bytes and before the last two
 pub body_put : (n : ℕ) (frame body : List ℕ) → length frame ≡ n + 5 → length body ≡ n → take (length (put_mid 3 n frame body) - 5) (drop 3 (put_mid 3 n frame body)) ≡ body
@@ -21,13 +16,6 @@ body_put n frame body p q =
     let others = length-drop 3 frame in
     let size : length (put_mid 3 n frame body) - 5 ≡ length body = omega (arith, whole, behind, last, others, front) in
     ap₂ take size (drop_at (take 3 frame) (body ++ drop n (drop 3 frame)) 3 front) ∙ take_at body (drop n (drop 3 frame)) (length body) refl
-
--- what is filled, where it is an EOT or an end block
-pub eot_filled : (fills : Option Place) (file : ℕ) (s : YmSender) → fills ≡ Some (Eot file) → take s.len s.frame ≡ 0x04 ∷ [] → IsFilled fills s
-eot_filled fills file s e h = subst (λ f. IsFilled f s) (sym e) h
-
-pub end_filled : (fills : Option Place) (s : YmSender) → fills ≡ Some End → IsBlockFrame 0 end_text (take s.len s.frame) → IsFilled fills s
-end_filled fills s e h = subst (λ f. IsFilled f s) (sym e) h
 
 -- the frame of a block has five bytes more than its body
 pub frame_length : (number : ℕ) (body frame : List ℕ) → IsBlockFrame number body frame → length frame ≡ length body + 5

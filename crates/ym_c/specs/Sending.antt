@@ -1,5 +1,5 @@
 -- A sender as C keeps it.
-use Rattle.std.specs.Prelude.{ℕ, Bool, ◌*◌, ◌≡◌, ◌<◌, ◌≤◌, ◌^◌, List, [], ◌∷◌, length, take, Option, Some}
+use Rattle.std.specs.Prelude.{ℕ, Bool, ◌*◌, ◌≡◌, ◌<◌, ◌≤◌, ◌^◌, List, [], ◌∷◌, length, take, Option, Some, None}
 use Rattle.ym_frame.specs.Seal.{IsBlockFrame}
 use Rattle.ym_header.specs.Text.{end_text}
 use Rattle.ym_core.specs.Place.{IsPlace}
@@ -60,11 +60,14 @@ IsFill (Some (Header file)) fill = (fill.kind ≡ 1) × (fill.file ≡ file)
 IsFill (Some (Block file k)) fill = (fill.kind ≡ 2) × (fill.file ≡ file) × (fill.number ≡ k)
 IsFill _ fill = fill.kind ≡ 0
 
--- an EOT and an end block are filled without the host
-abbrev pub IsFilled : Option Place → YmSender → Type 0
-IsFilled (Some (Eot file)) s = take s.len s.frame ≡ 0x04 ∷ []
-IsFilled (Some End) s = IsBlockFrame 0 end_text (take s.len s.frame)
-IsFilled _ s = Unit {0}
+-- what becomes of the frame: an EOT and an end block are filled without the host; what the host is to fill is empty until it does; and
+-- where nothing is to be filled, the frame stays as it was, to be sent again
+abbrev pub IsFilled : Option Place → YmSender → YmSender → Type 0
+IsFilled (Some (Header file)) old new = new.len ≡ 0
+IsFilled (Some (Block file k)) old new = new.len ≡ 0
+IsFilled (Some (Eot file)) old new = take new.len new.frame ≡ 0x04 ∷ []
+IsFilled (Some End) old new = IsBlockFrame 0 end_text (take new.len new.frame)
+IsFilled None old new = (new.len ≡ old.len) × (new.frame ≡ old.frame)
 
 -- what is to be sent: 0 nothing, 1 the frame, 2 CAN CAN
 abbrev pub out_in : SendState → Mode → Bool → ℕ

@@ -1,6 +1,6 @@
 //! The numbers that stand for states, faults and replies.
 
-ghost use Rattle.std.specs.Prelude.{◌≡◌, Some};
+ghost use Rattle.std.specs.Prelude.{◌≡◌, Some, None};
 ghost use Rattle.ym_core.specs.declared.state.RecvState.{RecvState};
 ghost use Rattle.ym_frame.specs.declared.control.Reply.{Reply as Replied};
 ghost use Rattle.ym_c.specs.Codes as codes;
@@ -91,7 +91,8 @@ pub fn code_of_reply(reply: Reply) -> u32
 
 /// The reply that has this number.
 pub fn reply_of(code: u32) -> Option<Reply>
-    ensures { (known : Replied) → code ≡ codes.reply_code known → result ≡ Some known }
+    ensures known { (known : Replied) → code ≡ codes.reply_code known → result ≡ Some known }
+    ensures unheard { code ≡ 0 → result ≡ None }
 {
     match code {
         1 => Some(Reply::Silence),

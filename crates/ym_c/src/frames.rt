@@ -63,6 +63,7 @@ pub extern "C" fn ym_frame_read(bytes: &[u8], front: &mut YmFront)
 #[unsafe(no_mangle)]
 pub extern "C" fn ym_frame_write(number: u32, body: &[u8], frame: &mut [u8]) -> usize
     ensures made { 0 < result → IsBlockFrame (number % 256) body.now (take result frame.new) }
+    ensures room { result ≤ list_length frame.old }
     ensures whether { 0 < result ↔ (((list_length body.now ≡ 128) ⊎ (list_length body.now ≡ 1024)) × list_length body.now + 5 ≤ list_length frame.old) }
 {
     let size = body.len();

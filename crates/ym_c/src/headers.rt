@@ -11,7 +11,6 @@ ghost use Rattle.ym_c.specs.Fronts.{stamp_of};
 ghost use Rattle.ym_c.specs.Headers.{IsTold, IsRefusal};
 
 use crate::codes::code_of_fault;
-use crate::sender::stamp_from;
 use ym_header::{HeaderFault, HeaderRef, Stamp, ZeroRef, read_borrowed, write_body};
 
 /// What the body of a block 0 stands for.
@@ -78,8 +77,19 @@ pub extern "C" fn ym_header_read(body: &[u8], header: &mut YmHeader)
     }
 }
 
+/// The stamp of these numbers.
+pub fn stamp_from(kind: u32, time: u64, mode: u32) -> Stamp
+    ensures { result ≡ stamp_of kind time mode }
+{
+    match kind {
+        0 => Stamp::Nothing,
+        1 => Stamp::Time(time),
+        _ => Stamp::TimeMode(time, mode),
+    }
+}
+
 /// The header of these parts, or its first fault.
-fn header_of(name: &[u8], length: u64, stamp: Stamp) -> Result<HeaderRef<'_>, HeaderFault>
+pub fn header_of(name: &[u8], length: u64, stamp: Stamp) -> Result<HeaderRef<'_>, HeaderFault>
     ensures ok { IfOk result (λ header. header ≡ record { name = name.entry.now; length = length; stamp = stamp }) }
     ensures refused { IfErr result (λ fault. IsUnfit length_limit name.entry.now length fault) }
 {
@@ -110,6 +120,7 @@ pub extern "C" fn ym_header_write(
     ensures written { 5 < result → take result body.new ≡ text (record { name = name.now; length = length; stamp = stamp_of stamp time mode }) }
     ensures refused { 0 < result → result ≤ 5 → IsRefusal name.now length result }
     ensures room { result ≡ 0 ↔ list_length body.old < 1024 }
+    ensures within { result ≤ 1024 }
 {
     if body.len() < 1024 {
         return 0;

@@ -71,7 +71,8 @@ fn delivery(held: &[u8; 1029], len: u32) -> &[u8]
 /// questioned.
 #[unsafe(no_mangle)]
 pub extern "C" fn ym_receiver_init(receiver: &mut YmReceiver, confirm: u32)
-    ensures { Holds receiver.new (new_receiver (confirm_of confirm)) [] }
+    ensures holds { Holds receiver.new (new_receiver (confirm_of confirm)) [] }
+    ensures unheard { receiver.new.reply ≡ 0 }
 {
     let confirm = if confirm == 0 {
         Confirm::Twice
@@ -103,7 +104,10 @@ pub extern "C" fn ym_receiver_feed(receiver: &mut YmReceiver, bytes: &[u8]) -> u
 /// to be heard now.
 #[unsafe(no_mangle)]
 pub extern "C" fn ym_receiver_wants(receiver: &YmReceiver) -> usize
-    ensures { (core : Receiver) (held : List ℕ) → Holds receiver.now core held → (0 < result ↔ IsOpen (verdict_of held)) }
+    ensures whether { (core : Receiver) (held : List ℕ) → Holds receiver.now core held → (0 < result ↔ IsOpen (verdict_of held)) }
+    ensures missing { (core : Receiver) (held : List ℕ) → Holds receiver.now core held →
+        (more : List ℕ) → length more < result → IsOpen (verdict_of (held ++ more)) }
+    ensures room { result ≤ 1029 }
 {
     wanted(delivery(&receiver.held, receiver.len))
 }
@@ -195,7 +199,8 @@ pub extern "C" fn ym_receiver_hear(receiver: &mut YmReceiver, ask: &mut YmAsk)
 
 /// Writes a reply where there is room, and tells how many bytes it has.
 fn write_reply(answer: Reply, reply: &mut [u8]) -> usize
-    ensures { 2 ≤ length reply.old → take result reply.new ≡ reply_bytes answer }
+    ensures written { 2 ≤ length reply.old → take result reply.new ≡ reply_bytes answer }
+    ensures room { result ≤ length reply.old }
 {
     let bytes = answer.as_bytes();
     if bytes.len() > reply.len() {
@@ -214,9 +219,12 @@ pub extern "C" fn ym_receiver_answer(
     done: u32,
     reply: &mut [u8],
 ) -> usize
-    ensures { (core : Receiver) (step : TableStep) → Awaits receiver.old core step →
+    ensures step { (core : Receiver) (step : TableStep) → Awaits receiver.old core step →
         Holds receiver.new (outcome done core step).receiver []
-        × (2 ≤ length reply.old → take result reply.new ≡ reply_bytes (outcome done core step).reply) }
+        × (2 ≤ length reply.old → take result reply.new ≡ reply_bytes (outcome done core step).reply)
+        × (receiver.new.reply ≡ 0) }
+    ensures room { result ≤ length reply.old }
+    ensures unheard { receiver.old.reply ≡ 0 → (result ≡ 0) × (receiver.new ≡ receiver.old) }
 {
     let Some(answer) = reply_of(receiver.reply) else {
         return 0;

@@ -12,13 +12,15 @@ ghost use Rattle.ym_frame.specs.Seal.{IsBlockFrame};
 ghost use Rattle.ym_header.specs.Text.{text, end_text};
 ghost use Rattle.ym_c.specs.Codes.{bool_code};
 ghost use Rattle.ym_c.specs.Fronts.{stamp_of};
+ghost use Rattle.ym_c.specs.Headers.{IsRefusal};
 ghost use Rattle.ym_c.specs.Sending.{FitsC, KeepsPlace, send_code, KeepsStanding, Stands, IsFill, IsFilled, out_code};
 ghost use Rattle.ym_machine.specs.declared.limits.TheConstants.{GIVE_UP};
 
 use crate::codes::code_of_fault;
+use crate::headers::{header_of, stamp_from};
 use ym_core::{Batch, Mode, Place, SendState, Standing, first_place};
 use ym_frame::seal_block;
-use ym_header::{HeaderRef, Stamp, write_body};
+use ym_header::{HeaderRef, write_body};
 use ym_machine::GIVE_UP;
 
 /// A sender, and the frame that was filled last.
@@ -152,7 +154,9 @@ fn load(kept: &YmSender, blocks: &[u64]) -> Standing
 
 /// Keeps where a sender stands.
 fn store(kept: &mut YmSender, standing: Standing)
-    ensures { FitsC standing.place → KeepsStanding kept.new standing }
+    ensures stands { FitsC standing.place → KeepsStanding kept.new standing }
+    ensures len { kept.new.len ≡ kept.old.len }
+    ensures frame { kept.new.frame ≡ kept.old.frame }
 {
     let (place, file, number) = match standing.place {
         Place::Header { file } => (0, file, 0),
@@ -181,7 +185,8 @@ fn store(kept: &mut YmSender, standing: Standing)
 /// Makes a sender that waits at the first frame of a batch, of which each file has so many data blocks.
 #[unsafe(no_mangle)]
 pub extern "C" fn ym_sender_init(sender: &mut YmSender, blocks: &[u64])
-    ensures { KeepsStanding sender.new (table.new_standing blocks.now) }
+    ensures stands { KeepsStanding sender.new (table.new_standing blocks.now) }
+    ensures empty { sender.new.len ≡ 0 }
 {
     store(sender, Standing::new(first_place(&Counts { blocks })));
     sender.len = 0;
@@ -200,7 +205,8 @@ pub fn seal_frame(frame: &mut [u8], number: u8, body: &[u8])
 /// Makes the frame of the block of this number and this body at the front, and answers its length.
 fn seal_body(frame: &mut [u8; 1029], number: u8, body: &[u8]) -> u32
     requires { (length body.now ≡ 128) ⊎ (length body.now ≡ 1024) }
-    ensures { IsBlockFrame number body.now (take result frame.new) }
+    ensures frame { IsBlockFrame number body.now (take result frame.new) }
+    ensures room { result ≤ 1029 }
 {
     if body.len() == 128 {
         seal_frame(&mut frame[..133], number, body);
@@ -212,7 +218,8 @@ fn seal_body(frame: &mut [u8; 1029], number: u8, body: &[u8]) -> u32
 
 /// Makes the frame of a header's block 0 at the front, and answers its length.
 fn seal_header(frame: &mut [u8; 1029], header: &HeaderRef<'_>) -> u32
-    ensures { IsBlockFrame 0 (text header.entry.now) (take result frame.new) }
+    ensures frame { IsBlockFrame 0 (text header.entry.now) (take result frame.new) }
+    ensures room { result ≤ 1029 }
 {
     let mut body = [0; 1024];
     let size = write_body(header, &mut body);
@@ -221,7 +228,8 @@ fn seal_header(frame: &mut [u8; 1029], header: &HeaderRef<'_>) -> u32
 
 /// Makes the frame of an EOT at the front, and answers its length.
 fn seal_eot(frame: &mut [u8; 1029]) -> u32
-    ensures { take result frame.new ≡ 0x04 ∷ [] }
+    ensures frame { take result frame.new ≡ 0x04 ∷ [] }
+    ensures room { result ≤ 1029 }
 {
     frame[0] = 0x04;
     1
@@ -229,7 +237,8 @@ fn seal_eot(frame: &mut [u8; 1029]) -> u32
 
 /// Makes the frame of the end block at the front, and answers its length.
 fn seal_end(frame: &mut [u8; 1029]) -> u32
-    ensures { IsBlockFrame 0 end_text (take result frame.new) }
+    ensures frame { IsBlockFrame 0 end_text (take result frame.new) }
+    ensures room { result ≤ 1029 }
 {
     seal_body(frame, 0, &[0; 128])
 }
@@ -242,10 +251,11 @@ pub extern "C" fn ym_sender_hear(
     bytes: &[u8],
     fill: &mut YmFill,
 )
-    ensures { (s : Stood) → KeepsStanding sender.old s → Stands blocks.now s →
+    ensures room { sender.old.len ≤ 1029 → sender.new.len ≤ 1029 }
+    ensures hears { (s : Stood) → KeepsStanding sender.old s → Stands blocks.now s →
         KeepsStanding sender.new (table.hears blocks.now s (controls_in bytes.now)).standing
         × IsFill (table.hears blocks.now s (controls_in bytes.now)).fills fill.new
-        × IsFilled (table.hears blocks.now s (controls_in bytes.now)).fills sender.new }
+        × IsFilled (table.hears blocks.now s (controls_in bytes.now)).fills sender.old sender.new }
 {
     fill.kind = 0;
     fill.file = 0;
@@ -287,19 +297,8 @@ pub extern "C" fn ym_sender_settled(sender: &YmSender, blocks: &[u64], bytes: &[
     }
 }
 
-/// The stamp of these numbers.
-pub fn stamp_from(kind: u32, time: u64, mode: u32) -> Stamp
-    ensures { result ≡ stamp_of kind time mode }
-{
-    match kind {
-        0 => Stamp::Nothing,
-        1 => Stamp::Time(time),
-        _ => Stamp::TimeMode(time, mode),
-    }
-}
-
 /// Fills the header of a file: stamp 0 none, 1 the time, 2 the time and the mode. Answers 0, or the
-/// number of the header's fault, and then the frame is not to be sent.
+/// number of the header's first fault, 1 to 5, and then the frame is not to be sent.
 #[unsafe(no_mangle)]
 pub extern "C" fn ym_sender_header(
     sender: &mut YmSender,
@@ -309,13 +308,13 @@ pub extern "C" fn ym_sender_header(
     time: u64,
     mode: u32,
 ) -> u32
-    ensures { result ≡ 0 → IsBlockFrame 0 (text (record { name = name.now; length = length; stamp = stamp_of stamp time mode })) (take sender.new.len sender.new.frame) }
+    ensures frame { result ≡ 0 → IsBlockFrame 0 (text (record { name = name.now; length = length; stamp = stamp_of stamp time mode })) (take sender.new.len sender.new.frame) }
+    ensures stands { (s : Stood) → KeepsStanding sender.old s → KeepsStanding sender.new s }
+    ensures refused { 0 < result → IsRefusal name.now length result }
+    ensures room { sender.new.len ≤ 1029 }
 {
     sender.len = 0;
-    let Ok(name) = str::from_utf8(name) else {
-        return 3;
-    };
-    match HeaderRef::new(name, length, stamp_from(stamp, time, mode)) {
+    match header_of(name, length, stamp_from(stamp, time, mode)) {
         Ok(header) => {
             sender.len = seal_header(&mut sender.frame, &header);
             0
@@ -330,6 +329,8 @@ pub extern "C" fn ym_sender_header(
 pub extern "C" fn ym_sender_block(sender: &mut YmSender, body: &[u8]) -> u32
     ensures valid { result ≡ 0 ↔ ((length body.now ≡ 128) ⊎ (length body.now ≡ 1024)) }
     ensures frame { result ≡ 0 → IsBlockFrame (sender.old.number % 256) body.now (take sender.new.len sender.new.frame) }
+    ensures room { sender.old.len ≤ 1029 → sender.new.len ≤ 1029 }
+    ensures stands { (s : Stood) → KeepsStanding sender.old s → KeepsStanding sender.new s }
 {
     let size = body.len();
     if size != 128 && size != 1024 {
@@ -343,8 +344,9 @@ pub extern "C" fn ym_sender_block(sender: &mut YmSender, body: &[u8]) -> u32
 /// The host cannot fill the frame: the sender ends, with CAN CAN to go.
 #[unsafe(no_mangle)]
 pub extern "C" fn ym_sender_failed(sender: &mut YmSender, blocks: &[u64])
-    ensures { (s : Stood) → KeepsStanding sender.old s → Stands blocks.now s →
+    ensures ends { (s : Stood) → KeepsStanding sender.old s → Stands blocks.now s →
         KeepsStanding sender.new (record s { state = SendState.SourceFailed; farewell = true }) }
+    ensures frame { (sender.new.len ≡ sender.old.len) × (sender.new.frame ≡ sender.old.frame) }
 {
     let standing = load(sender, blocks).source_failed();
     store(sender, standing);

@@ -5,10 +5,10 @@ use Rattle.ym_frame.specs.Seal.{IsBlockFrame}
 use Rattle.ym_header.specs.Text.{text}
 use Rattle.ym_c.proofs.sender.seal_header.Goals as goal
 
-pub returns : goal.returns
-returns c =
+pub returns-clause-frame : goal.returns-clause-frame
+returns-clause-frame c =
     let size = c.write_body-size.result in
     let body = c.write_body-size.new.body in
     let whole : take size body ≡ text c.args.header.now = ap (take size) c.write_body-size.ensures.written ∙ take_at (text c.args.header.now) _ size (sym c.write_body-size.ensures.size) in
     let P : List ℕ → Type 0 = λ b. IsBlockFrame 0 b (take c.seal_body.result c.seal_body.new.frame) in
-    subst P whole c.seal_body.ensures
+    subst P whole c.seal_body.ensures.frame
