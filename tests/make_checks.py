@@ -4,14 +4,11 @@ import os
 import signal
 
 from program import ROOT
+from telling import wants
 from terminal import UnderTerminal
 from tree import session, tree
 
 NOT_PROVED = "this run is not proved: make build proves it (minutes the first time)\n"
-
-def wants(what, got, wanted):
-    if got != wanted:
-        raise AssertionError("%s: %r, wanted %r" % (what, got, wanted))
 
 
 def crates_of_program():

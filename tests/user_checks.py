@@ -15,6 +15,7 @@ from wanting import wants
 NOBODY = 65534
 FILES = [("two words.bin", bytes(range(256)) * 20), ("I\u0131\u0130i Gr\u00f6\u00dfe.txt", b"hello\n" * 90)]
 
+
 def becomes_another(it):
     """From now on this tree is used by somebody who is not root, with a umask by which nobody else may read what he writes. His tools and the program are
     where he can reach them."""

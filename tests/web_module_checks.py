@@ -242,6 +242,7 @@ def stalls(room):
 
 WAITS = "{ waits: { reply: 60, within: 20 } }"
 STOP = "const stop = new AbortController();"
+STUCK = "const stuck = { readable: here.readable, writable: new WritableStream({ write: () => new Promise(() => {}) }) };"
 
 CHECKS = [
     ("the fields of the structs", layout),
@@ -256,6 +257,7 @@ CHECKS = [
     ("a sink that fails", ended_by(BOTH % ("y.send(here, [{ name: 'a', data: '' }, { name: 'b', data }])", "y.receive(there, { onFile: ({ name }) => { if (name === 'b') throw new Error('full'); } })"), [["cancelled", 1], ["host-failed", 1]])),
     ("nobody sends", ended_by("const it = await tools.ended(y.receive(there, %s)); return JSON.stringify([it.code, it.answered]);" % WAITS, ["too-many-errors", False])),
     ("nobody receives", ended_by("const it = await tools.ended(y.send(here, [{ name: 'a', data }], %s)); return JSON.stringify([it.code, it.answered]);" % WAITS, ["no-reply", False])),
+    ("the line takes nothing", ended_by(STUCK + "const it = await tools.ended(y.receive(stuck, %s)); return JSON.stringify([it.code]);" % WAITS, ["device"])),
     ("the line is closed", ended_by("here.writable.close(); const it = await tools.ended(y.receive(there)); return JSON.stringify([it.code]);", ["closed"])),
     ("the sender is stopped", ended_by(STOP + BOTH % ("y.send(here, [{ name: 'a', data }], { signal: stop.signal })", "y.receive(there, { onProgress: ({ bytes }) => bytes > 2000 && stop.abort() })"), [["aborted", 0], ["cancelled", 0]])),
     ("the receiver is stopped", ended_by(STOP + BOTH % ("y.send(here, [{ name: 'a', data }])", "y.receive(there, { signal: stop.signal, onProgress: ({ bytes }) => bytes > 2000 && stop.abort() })"), [["cancelled", 0], ["aborted", 0]])),
