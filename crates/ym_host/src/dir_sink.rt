@@ -1,9 +1,9 @@
 //! A sink that stores files in a folder.
 
-ghost use Rattle.std.specs.Prelude.{◌≡◌, ◌≢◌, ◌≤◌, [], None, Err, OnOk, OnErr, IfOk};
+ghost use Rattle.std.specs.Prelude.{◌≡◌, ◌≢◌, ◌≤◌, [], None, Some, Err, OnOk, OnErr, IfOk, unwrap_or};
 ghost use Rattle.ym_file.specs.Counts.{Rose};
 ghost use Rattle.ym_file.specs.Kept.{IsNew, IsCoveredFile, room};
-ghost use Rattle.ym_host.specs.DirSink.{kept_of};
+ghost use Rattle.ym_host.specs.DirSink.{kept_of, IsTold};
 
 use crate::file_id::stands_at;
 use crate::part::{
@@ -35,6 +35,17 @@ pub enum Leftover {
     Refused,
     /// The part is removed, unless somebody has it locked. One that is there because this sink stored a file of that name is never removed.
     Discarded,
+}
+
+/// Why a sink failed.
+#[derive(Clone, Copy, Debug)]
+pub enum StoreFault {
+    /// The name of the file has been taken already.
+    IsThere,
+    /// The name of its part has been taken already. Where such parts are to be removed, somebody has this one locked, or it is none.
+    PartIsThere,
+    /// The system refused a call.
+    System(io::Error),
 }
 
 /// What the disk has of the file that is being taken.
@@ -74,25 +85,41 @@ pub struct DirSink<R: Files<File = File> + Drop> {
     behind: WriteBehind,
     committed: Vec<Header>,
     failed: u64,
+    /// Why it failed for the first time.
+    first: Option<StoreFault>,
 }
 
 impl<R: Files<File = File> + Drop> Model for DirSink<R> {
     ghost use Rattle.std.specs.Vec.{vec_len, vec_capacity};
-    ghost use Rattle.ym_host.specs.DirSink.{DirSinkParts};
+    ghost use Rattle.ym_host.specs.DirSink.{DirSinkParts, IsTold};
     ghost use Rattle.ym_host.specs.OpenPart.{open_header, open_taken, IsReady};
 
     ghost Value = { DirSinkParts };
 
-    ghost view = { λ s. record { opened = open_header s.taking; taken = open_taken s.taking; headers = s.committed.items; failures = s.failed } };
+    ghost view = { λ s. record { opened = open_header s.taking; taken = open_taken s.taking; headers = s.committed.items; failures = s.failed; first = s.first } };
 
-    ghost invariant = { λ s. IsReady s.taking (vec_len s.committed) (vec_capacity s.committed) };
+    ghost invariant = { λ s. IsReady s.taking (vec_len s.committed) (vec_capacity s.committed) × IsTold s.failed s.first };
 }
 
-/// Whether something stands at a path. What cannot be told counts as something.
-fn is_taken<R: Files>(rt: &R, path: &PathBuf) -> bool {
+/// Refuses a path at which something stands. What cannot be told counts as something.
+fn check_free<R: Files>(rt: &R, path: &PathBuf) -> Result<(), StoreFault> {
     match fs::symlink_metadata(rt, path) {
-        Ok(_) => true,
-        Err(error) => error.kind() != ErrorKind::NotFound,
+        Ok(_) => Err(StoreFault::IsThere),
+        Err(error) if error.kind() == ErrorKind::NotFound => Ok(()),
+        Err(error) => Err(StoreFault::System(error)),
+    }
+}
+
+/// Why a part could not be made.
+fn part_fault(error: io::Error) -> StoreFault {
+    match error.kind() {
+        // It is there, or somebody has it locked.
+        ErrorKind::AlreadyExists | ErrorKind::WouldBlock => StoreFault::PartIsThere,
+        // Somebody took it away meanwhile, or it is no regular file: these two are no errors of the system.
+        ErrorKind::ResourceBusy | ErrorKind::InvalidInput if error.raw_os_error().is_none() => {
+            StoreFault::PartIsThere
+        }
+        _ => StoreFault::System(error),
     }
 }
 
@@ -101,6 +128,8 @@ impl OpenPart {
     fn put(&mut self, behind: &mut WriteBehind, bytes: &[u8]) -> io::Result<()>
         ensures header { self.new.header ≡ self.old.header }
         ensures taken { self.new.taken ≡ self.old.taken }
+        ensures was_sound { OnOk result (self.old.standing ≡ Standing.Sound) }
+        ensures torn { OnErr result (self.new.standing ≢ Standing.Sound) }
     {
         self.check_sound()?;
         self.standing = Standing::Torn;
@@ -110,7 +139,10 @@ impl OpenPart {
     }
 
     /// Refuses a part of which it is not known what stands in it, and one that has its name.
-    fn check_sound(&self) -> io::Result<()> {
+    fn check_sound(&self) -> io::Result<()>
+        ensures sound { OnOk result (self.now.standing ≡ Standing.Sound) }
+        ensures not_sound { OnErr result (self.now.standing ≢ Standing.Sound) }
+    {
         match self.standing {
             Standing::Sound => Ok(()),
             Standing::Torn | Standing::Named => Err(io::Error::from(ErrorKind::InvalidData)),
@@ -127,6 +159,9 @@ impl OpenPart {
     ) -> io::Result<()>
         ensures header { self.new.header ≡ self.old.header }
         ensures taken { self.new.taken ≡ self.old.taken }
+        ensures was_sound { OnOk result (self.old.standing ≡ Standing.Sound) }
+        ensures named { OnOk result (self.new.standing ≡ Standing.Named) }
+        ensures torn { OnErr result (self.new.standing ≢ Standing.Sound) }
     {
         self.check_sound()?;
         self.standing = Standing::Torn;
@@ -145,6 +180,8 @@ impl OpenPart {
     fn name<R: Files<File = File>>(&mut self, rt: &R) -> io::Result<()>
         ensures header { self.new.header ≡ self.old.header }
         ensures taken { self.new.taken ≡ self.old.taken }
+        ensures named { OnOk result (self.new.standing ≡ Standing.Named) }
+        ensures not_named { OnErr result (self.new.standing ≡ self.old.standing) }
     {
         if !stands_at(rt, &self.file, &self.part) {
             return Err(io::Error::from(ErrorKind::NotFound));
@@ -166,7 +203,7 @@ impl<R: Files<File = File> + Drop> DirSink<R> {
         durability: Durability,
         leftover: Leftover,
     ) -> Result<DirSink<R>, AllocError>
-        ensures parts { IfOk result (λ sink. sink ≡ record { opened = None; taken = 0; headers = []; failures = 0 }) }
+        ensures parts { IfOk result (λ sink. sink ≡ record { opened = None; taken = 0; headers = []; failures = 0; first = None }) }
         ensures new { IfOk result (λ sink. IsNew (kept_of sink)) }
     {
         let dir = String::from_str(alloc, dir)?;
@@ -181,6 +218,7 @@ impl<R: Files<File = File> + Drop> DirSink<R> {
             behind,
             committed: Vec::new(alloc),
             failed: 0,
+            first: None,
         })
     }
 
@@ -189,6 +227,14 @@ impl<R: Files<File = File> + Drop> DirSink<R> {
         ensures { result.now ≡ self.now.headers }
     {
         self.committed.as_slice()
+    }
+
+    /// Why it failed for the first time, where it failed.
+    pub fn first_fault(&self) -> Option<StoreFault>
+        ensures first { result ≡ self.now.first }
+        ensures told { IsTold self.now.failures result }
+    {
+        self.first
     }
 
     /// Removes the part that is open, if there is one. Where that fails it stays on the disk, and the sink has no open file all the same. A file that
@@ -208,17 +254,18 @@ impl<R: Files<File = File> + Drop> DirSink<R> {
         }
         match remove_part(&self.rt, &open.file, &open.part) {
             Ok(()) => Ok(()),
-            Err(_) => Err(self.fail()),
+            Err(error) => Err(self.fail(StoreFault::System(error))),
         }
     }
 
-    /// Counts a failure.
-    fn fail(&mut self) -> SinkFault
+    /// Counts a failure, and keeps why the first one was.
+    fn fail(&mut self, why: StoreFault) -> SinkFault
         ensures fault { result ≡ SinkFault.Failed }
         ensures rose { Rose self.old.failures self.new.failures }
-        ensures same { self.new ≡ record self.old { failures = self.new.failures } }
+        ensures same { self.new ≡ record self.old { failures = self.new.failures; first = Some (unwrap_or self.old.first why) } }
     {
         self.failed = self.failed.saturating_add(1);
+        self.first = Some(self.first.unwrap_or(why));
         SinkFault::Failed
     }
 
@@ -265,8 +312,8 @@ impl<R: Files<File = File> + Drop> Sink for DirSink<R> {
         else {
             return Err(SinkFault::Memory);
         };
-        if is_taken(&self.rt, &target) {
-            return Err(self.fail());
+        if let Err(why) = check_free(&self.rt, &target) {
+            return Err(self.fail(why));
         }
         match self.open_part(part_name.as_str(), &part) {
             Ok(file) => {
@@ -281,37 +328,36 @@ impl<R: Files<File = File> + Drop> Sink for DirSink<R> {
                 });
                 Ok(())
             }
-            Err(_) => Err(self.fail()),
+            Err(error) => Err(self.fail(part_fault(error))),
         }
     }
 
     fn add(&mut self, bytes: &[u8]) -> Result<(), SinkFault> {
-        match &mut self.taking {
-            Some(open) => {
-                if open.put(&mut self.behind, bytes).is_ok() {
+        let error = match &mut self.taking {
+            Some(open) => match open.put(&mut self.behind, bytes) {
+                Ok(()) => {
                     open.taken += bytes.len() as u64;
                     return Ok(());
                 }
-            }
+                Err(error) => error,
+            },
             None => unreachable!(),
-        }
-        Err(self.fail())
+        };
+        Err(self.fail(StoreFault::System(error)))
     }
 
     fn commit(&mut self) -> Result<(), SinkFault> {
-        let is_stored = match &mut self.taking {
-            Some(open) => open
-                .store(
-                    &self.rt,
-                    &mut self.behind,
-                    self.dir.as_str(),
-                    self.durability,
-                )
-                .is_ok(),
+        let stored = match &mut self.taking {
+            Some(open) => open.store(
+                &self.rt,
+                &mut self.behind,
+                self.dir.as_str(),
+                self.durability,
+            ),
             None => unreachable!(),
         };
-        if !is_stored {
-            return Err(self.fail());
+        if let Err(error) = stored {
+            return Err(self.fail(StoreFault::System(error)));
         }
         match self.taking.take() {
             Some(OpenPart { header, .. }) => self.committed.push_reserved(header),

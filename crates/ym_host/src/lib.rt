@@ -10,7 +10,7 @@ mod socket_carrier;
 mod socket_port;
 mod write_behind;
 
-pub use dir_sink::{DirSink, Durability, Leftover};
+pub use dir_sink::{DirSink, Durability, Leftover, StoreFault};
 pub use file_source::FileSource;
 pub use socket_carrier::SocketCarrier;
 pub use socket_port::SocketPort;

@@ -1,4 +1,5 @@
 mod bursts;
+mod calls;
 mod fixtures;
 mod losses;
 mod memory;

@@ -1,3 +1,4 @@
+mod ends;
 mod fixtures;
 mod jobs;
 mod memory;

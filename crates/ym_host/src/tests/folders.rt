@@ -1,5 +1,6 @@
 //! Folders and files for the tests. Each test has a folder of its own below the folder for temporary files, and removes it.
 
+use std::alloc::{AllocError, Global};
 use std::path::PathBuf;
 use std::test::Fail;
 use std::{env, fs, io, process};
@@ -28,4 +29,18 @@ pub(super) fn holds(
         }),
         Err(error) => Ok(error.kind() == io::ErrorKind::NotFound && want.is_none()),
     }
+}
+
+/// So many bytes, counted on from 0.
+pub(super) fn counted(alloc: Global, count: u32) -> Result<Vec<u8>, AllocError> {
+    let mut all = Vec::new(alloc);
+    for k in 0..count {
+        all.push((k % 251) as u8)?;
+    }
+    Ok(all)
+}
+
+/// Whether two values are the same. It tells a proof nothing of them, and so costs it little, as the other helpers of these tests.
+pub(super) fn same<T: PartialEq>(left: &T, right: &T) -> bool {
+    left == right
 }

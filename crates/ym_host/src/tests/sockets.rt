@@ -1,6 +1,11 @@
-//! Sockets on 127.0.0.1: both ends of one connection, in one test.
+//! Sockets on 127.0.0.1: both ends of one connection, in one test. The calls stand in functions that tell a proof nothing, so that a test costs it
+//! little.
 
+ghost use Rattle.std.specs.Prelude.{◌<◌};
+
+use super::folders::same;
 use crate::{SocketCarrier, SocketPort};
+use std::alloc::Global;
 use std::io::{Read, Write};
 use std::net::{TcpListener, TcpStream};
 use std::test::Fail;
@@ -17,160 +22,268 @@ fn pair(rt: &HostRuntime) -> io::Result<(TcpStream, TcpStream)> {
     Ok((near, far))
 }
 
+/// A new connection: its near end, and a port at the other one with these waits.
+fn port<'r>(
+    rt: &'r HostRuntime,
+    reply_ms: u32,
+    within_ms: u32,
+) -> Result<(TcpStream, SocketPort<&'r HostRuntime>), Fail>
+    requires reply { 0 < reply_ms }
+    requires within { 0 < within_ms }
+{
+    let (near, far) = pair(rt)?;
+    Ok((near, SocketPort::new(rt, far, reply_ms, within_ms)))
+}
+
+/// What a read of a port gets.
+fn read(
+    port: &mut SocketPort<&HostRuntime>,
+    wait: Wait,
+    buf: &mut [u8],
+) -> Result<Got, PortFault> {
+    if buf.is_empty() {
+        return Err(PortFault);
+    }
+    port.read(wait, buf)
+}
+
+/// Whether a read of a port gets this.
+fn gets(port: &mut SocketPort<&HostRuntime>, wait: Wait, buf: &mut [u8], want: Got) -> bool {
+    read(port, wait, buf) == Ok(want)
+}
+
+/// Whether a port takes these bytes.
+fn takes(port: &mut SocketPort<&HostRuntime>, bytes: &[u8]) -> bool {
+    port.write(bytes).is_ok()
+}
+
+/// Writes bytes to one end of a connection.
+fn write(stream: &mut TcpStream, bytes: &[u8]) -> io::Result<()> {
+    stream.write_all(bytes)
+}
+
+/// Whether a read of a port finds the line quiet, after so many milliseconds at least and fewer than so many.
+fn is_quiet(
+    rt: &HostRuntime,
+    port: &mut SocketPort<&HostRuntime>,
+    wait: Wait,
+    least: u128,
+    most: u128,
+) -> Result<bool, Fail> {
+    let mut buf = [0; 8];
+    let start = Instant::now(rt)?;
+    let is_quiet = gets(port, wait, &mut buf, Got::Quiet);
+    let took = start.elapsed(rt)?.as_millis();
+    Ok(is_quiet && took >= least && took < most)
+}
+
 #[test]
 fn a_port_reads_what_is_there(rt: HostRuntime) -> Result<(), Fail> {
-    let (mut near, far) = pair(&rt)?;
-    let mut port = SocketPort::new(&rt, far, 3000, 100);
+    let (mut near, mut port) = port(&rt, 3000, 100)?;
     let mut buf = [0; 8];
-    near.write_all(b"abcdefghij")?;
-    assert_eq!(rt; port.read(Wait::Reply, &mut buf), Ok(Got::Bytes(8)));
-    assert_eq!(rt; buf.as_slice(), b"abcdefgh".as_slice());
-    assert_eq!(rt; port.read(Wait::Within, &mut buf), Ok(Got::Bytes(2)));
-    assert_eq!(rt; &buf[..2], b"ij".as_slice());
-    for (wait, least, most) in [(Wait::Within, 90, 2990), (Wait::Reply, 2990, 60_000)] {
-        let start = Instant::now(&rt)?;
-        assert_eq!(rt; port.read(wait, &mut buf), Ok(Got::Quiet));
-        let took = start.elapsed(&rt)?.as_millis();
-        assert!(rt; took >= least && took < most, "{wait:?} took {took}");
-    }
+    write(&mut near, b"abcdefghij")?;
+    assert!(rt; gets(&mut port, Wait::Reply, &mut buf, Got::Bytes(8)));
+    assert!(rt; same(&buf, b"abcdefgh"));
+    assert!(rt; gets(&mut port, Wait::Within, &mut buf, Got::Bytes(2)));
+    assert!(rt; buf.starts_with(b"ij"));
+    assert!(rt; is_quiet(&rt, &mut port, Wait::Within, 90, 2990)?);
+    assert!(rt; is_quiet(&rt, &mut port, Wait::Reply, 2990, 60_000)?);
     drop(near);
-    assert_eq!(rt; port.read(Wait::Within, &mut buf), Ok(Got::Closed));
-    assert_eq!(rt; port.read(Wait::Reply, &mut buf), Ok(Got::Closed));
+    assert!(rt; gets(&mut port, Wait::Within, &mut buf, Got::Closed));
+    assert!(rt; gets(&mut port, Wait::Reply, &mut buf, Got::Closed));
     Ok(())
+}
+
+/// What the first read of a delivery gets, once it is not quiet.
+fn first_read(port: &mut SocketPort<&HostRuntime>) -> Result<Got, PortFault> {
+    let mut last = Ok(Got::Quiet);
+    for _ in 0..100 {
+        if last != Ok(Got::Quiet) {
+            break;
+        }
+        last = read(port, Wait::Reply, &mut [0; 1]);
+    }
+    last
+}
+
+/// What the first read within a delivery gets that does not get a byte, with a pause before each.
+fn last_read(rt: &HostRuntime, port: &mut SocketPort<&HostRuntime>) -> Result<Got, PortFault> {
+    let mut last = Ok(Got::Bytes(1));
+    for _ in 0..900 {
+        if last != Ok(Got::Bytes(1)) {
+            break;
+        }
+        thread::sleep(rt, Duration::from_millis(20));
+        last = read(port, Wait::Within, &mut [0; 1]);
+    }
+    last
 }
 
 /// A delivery ends ten times both waits after it has begun, though more has come: every byte is there before the first is read, so that
 /// no byte is late.
 #[test]
 fn a_port_hears_no_delivery_for_ever(rt: HostRuntime) -> Result<(), Fail> {
-    let (mut near, far) = pair(&rt)?;
-    let mut port = SocketPort::new(&rt, far, 150, 50);
-    near.write_all([b'x'; 1000].as_slice())?;
+    let (mut near, mut port) = port(&rt, 150, 50)?;
+    write(&mut near, [b'x'; 1000].as_slice())?;
     let mut buf = [0; 1];
     let start = Instant::now(&rt)?;
-    let mut last = Ok(Got::Quiet);
-    for _ in 0..100 {
-        if last != Ok(Got::Quiet) {
-            break;
-        }
-        last = port.read(Wait::Reply, &mut buf);
-    }
-    for _ in 0..900 {
-        if last != Ok(Got::Bytes(1)) {
-            break;
-        }
-        thread::sleep(&rt, Duration::from_millis(20));
-        last = port.read(Wait::Within, &mut buf);
-    }
-    assert_eq!(rt; last, Ok(Got::Quiet));
+    assert!(rt; same(&first_read(&mut port), &Ok(Got::Bytes(1))));
+    assert!(rt; same(&last_read(&rt, &mut port), &Ok(Got::Quiet)));
     assert!(rt; start.elapsed(&rt)?.as_millis() >= 2000);
     // quiet until something is written
-    assert_eq!(rt; port.read(Wait::Within, &mut buf), Ok(Got::Quiet));
+    assert!(rt; gets(&mut port, Wait::Within, &mut buf, Got::Quiet));
     // a write, and a wait for a reply, begin a new delivery
-    assert_eq!(rt; port.write(b"y"), Ok(()));
-    assert_eq!(rt; port.read(Wait::Within, &mut buf), Ok(Got::Bytes(1)));
+    assert!(rt; takes(&mut port, b"y"));
+    assert!(rt; gets(&mut port, Wait::Within, &mut buf, Got::Bytes(1)));
     for _ in 0..30 {
         thread::sleep(&rt, Duration::from_millis(100));
-        assert_eq!(rt; port.read(Wait::Reply, &mut buf), Ok(Got::Bytes(1)));
+        assert!(rt; gets(&mut port, Wait::Reply, &mut buf, Got::Bytes(1)));
     }
     Ok(())
 }
 
 #[test]
 fn a_port_writes(rt: HostRuntime) -> Result<(), Fail> {
-    let (mut near, far) = pair(&rt)?;
-    let mut port = SocketPort::new(&rt, far, 3000, 100);
-    assert_eq!(rt; port.write(b"abc"), Ok(()));
-    assert_eq!(rt; port.write(b""), Ok(()));
-    assert_eq!(rt; port.write(b"de"), Ok(()));
+    let (mut near, mut port) = port(&rt, 3000, 100)?;
+    assert!(rt; takes(&mut port, b"abc"));
+    assert!(rt; takes(&mut port, b""));
+    assert!(rt; takes(&mut port, b"de"));
     let mut buf = [0; 5];
     near.read_exact(&mut buf)?;
-    assert_eq!(rt; buf.as_slice(), b"abcde".as_slice());
+    assert!(rt; same(&buf, b"abcde"));
     // a peer that ends with bytes unread is closed as well
-    assert_eq!(rt; port.write(b"unread"), Ok(()));
+    assert!(rt; takes(&mut port, b"unread"));
     drop(near);
-    assert_eq!(rt; port.read(Wait::Reply, &mut buf), Ok(Got::Closed));
+    assert!(rt; gets(&mut port, Wait::Reply, &mut buf, Got::Closed));
     Ok(())
 }
 
 /// A write to a peer that never reads makes no headway in the end.
 #[test]
 fn a_write_without_headway_fails(rt: HostRuntime) -> Result<(), Fail> {
-    let (_near, far) = pair(&rt)?;
-    let mut port = SocketPort::new(&rt, far, 100, 50);
+    let (_near, mut port) = port(&rt, 100, 50)?;
     let bytes = [0; 65536];
     for _ in 0..1000 {
-        if port.write(&bytes) == Err(PortFault) {
+        if !takes(&mut port, &bytes) {
             return Ok(());
         }
     }
     Err(Fail::new("it took 65 MB that nobody reads"))
 }
 
+/// What carrying these bytes gives.
+fn carry(
+    carrier: &mut SocketCarrier,
+    alloc: Global,
+    way: Way,
+    bytes: &[u8],
+) -> Result<bool, CarryFault> {
+    let mut into = Vec::new(alloc);
+    into.push(9)?;
+    carrier.carry(way, bytes, &mut into)?;
+    Ok(into.as_slice() == bytes)
+}
+
+/// Whether a carrier has handed on these bytes, and no others.
+fn carries(carrier: &mut SocketCarrier, alloc: Global, way: Way, bytes: &[u8]) -> bool {
+    carry(carrier, alloc, way, bytes) == Ok(true)
+}
+
+/// Whether a carrier has failed to hand these bytes on.
+fn fails(carrier: &mut SocketCarrier, alloc: Global, way: Way, bytes: &[u8]) -> bool {
+    carry(carrier, alloc, way, bytes) == Err(CarryFault::Device)
+}
+
 #[test]
 fn a_carrier_passes_bytes_both_ways(rt: HostRuntime) -> Result<(), Fail> {
+    let alloc = rt.alloc();
     let (near, far) = pair(&rt)?;
     let mut carrier = SocketCarrier::new(near, far);
-    let mut into = Vec::new(rt.alloc());
     let long = [0x5A; 2048];
-    for (way, bytes) in [
-        (Way::There, b"abc".as_slice()),
-        (Way::Back, b"\x06C".as_slice()),
-        (Way::There, b"".as_slice()),
-        (Way::There, long.as_slice()),
-        (Way::Back, long.as_slice()),
-        (Way::Back, b"".as_slice()),
-        (Way::There, b"\x04".as_slice()),
-    ] {
-        assert_eq!(rt; carrier.carry(way, bytes, &mut into), Ok(()));
-        assert_eq!(rt; into.as_slice(), bytes);
-    }
+    assert!(rt; carries(&mut carrier, alloc, Way::There, b"abc"));
+    assert!(rt; carries(&mut carrier, alloc, Way::Back, b"\x06C"));
+    assert!(rt; carries(&mut carrier, alloc, Way::There, b""));
+    assert!(rt; carries(&mut carrier, alloc, Way::There, &long));
+    assert!(rt; carries(&mut carrier, alloc, Way::Back, &long));
+    assert!(rt; carries(&mut carrier, alloc, Way::Back, b""));
+    assert!(rt; carries(&mut carrier, alloc, Way::There, b"\x04"));
     Ok(())
+}
+
+/// The other way.
+fn other(way: Way) -> Way {
+    match way {
+        Way::There => Way::Back,
+        Way::Back => Way::There,
+    }
+}
+
+/// A carrier over a connection in which a byte is under way already.
+fn strayed(rt: &HostRuntime, way: Way) -> Result<SocketCarrier, Fail> {
+    let (mut near, mut far) = pair(rt)?;
+    match way {
+        Way::There => write(&mut near, &[0])?,
+        Way::Back => write(&mut far, &[0])?,
+    }
+    Ok(SocketCarrier::new(near, far))
 }
 
 /// The bytes go by the connection: what is written to it beforehand is in their way.
 #[test]
 fn a_carrier_compares_what_came(rt: HostRuntime) -> Result<(), Fail> {
-    for stray_way in [Way::There, Way::Back] {
-        let (mut near, mut far) = pair(&rt)?;
-        match stray_way {
-            Way::There => near.write_all(&[0])?,
-            Way::Back => far.write_all(&[0])?,
-        }
-        let mut carrier = SocketCarrier::new(near, far);
-        let mut into = Vec::new(rt.alloc());
-        let clear_way = match stray_way {
-            Way::There => Way::Back,
-            Way::Back => Way::There,
-        };
-        assert_eq!(rt; carrier.carry(clear_way, b"abc", &mut into), Ok(()));
-        assert_eq!(rt;
-            carrier.carry(stray_way, b"abc", &mut into),
-            Err(CarryFault::Device)
-        );
-        for way in [Way::There, Way::Back] {
-            assert_eq!(rt;
-                carrier.carry(way, b"abc", &mut into),
-                Err(CarryFault::Device)
-            );
-            assert_eq!(rt; carrier.carry(way, b"", &mut into), Err(CarryFault::Device));
-        }
+    let alloc = rt.alloc();
+    for way in [Way::There, Way::Back] {
+        let mut carrier = strayed(&rt, way)?;
+        assert!(rt; carries(&mut carrier, alloc, other(way), b"abc"));
+        assert!(rt; fails(&mut carrier, alloc, way, b"abc"));
+        // and every later one fails, also of no bytes
+        assert!(rt; fails(&mut carrier, alloc, way, b"abc"));
+        assert!(rt; fails(&mut carrier, alloc, way, b""));
+        assert!(rt; fails(&mut carrier, alloc, other(way), b"abc"));
+        assert!(rt; fails(&mut carrier, alloc, other(way), b""));
     }
     Ok(())
 }
 
 #[test]
 fn a_carrier_takes_no_more_than_a_delivery(rt: HostRuntime) -> Result<(), Fail> {
+    let alloc = rt.alloc();
     let (near, far) = pair(&rt)?;
     let mut carrier = SocketCarrier::new(near, far);
-    let mut into = Vec::new(rt.alloc());
-    assert_eq!(rt;
-        carrier.carry(Way::There, &[0; 2049], &mut into),
-        Err(CarryFault::Device)
-    );
-    assert_eq!(rt;
-        carrier.carry(Way::There, &[0; 2048], &mut into),
-        Err(CarryFault::Device)
-    );
+    assert!(rt; fails(&mut carrier, alloc, Way::There, &[0; 2049]));
+    assert!(rt; fails(&mut carrier, alloc, Way::There, &[0; 2048]));
+    Ok(())
+}
+
+/// Writes to one end of a connection until it takes no more, since the other end reads nothing.
+fn fill(stream: &mut TcpStream) -> Result<(), Fail> {
+    stream.set_write_timeout(Some(Duration::from_millis(100)))?;
+    let bytes = [0; 65536];
+    let mut refused = 0u32;
+    for _ in 0..1000 {
+        if write(stream, &bytes).is_err() {
+            refused = refused.saturating_add(1);
+        }
+        if refused == 3 {
+            return Ok(());
+        }
+    }
+    Err(Fail::new("it took 65 MB that nobody reads"))
+}
+
+/// Bytes that the far end never reads leave no room for a delivery, and the carry ends all the same, once it has waited.
+#[test]
+fn a_carry_without_headway_fails(rt: HostRuntime) -> Result<(), Fail> {
+    for way in [Way::There, Way::Back] {
+        let (mut near, mut far) = pair(&rt)?;
+        match way {
+            Way::There => fill(&mut near)?,
+            Way::Back => fill(&mut far)?,
+        }
+        let mut carrier = SocketCarrier::new(near, far);
+        let start = Instant::now(&rt)?;
+        assert!(rt; fails(&mut carrier, rt.alloc(), way, &[1; 2048]));
+        assert!(rt; start.elapsed(&rt)?.as_millis() >= 9000);
+    }
     Ok(())
 }

@@ -1,9 +1,8 @@
-use crate::{play_script, session};
+use super::calls::{ends, gives};
 use std::alloc::Global;
 use std::fmt::Write;
 use std::process::Abort;
 use std::test::Fail;
-use ym_line::Direct;
 
 /// The hexadecimal digits of `A`, 128 times.
 pub(super) fn a128(alloc: Global) -> Result<String, Fail> {
@@ -35,11 +34,9 @@ pub(super) fn assert_plays(
     status: u8,
     text: &str,
 ) -> Result<(), Fail> {
-    let alloc = rt.alloc();
-    let played = play_script(alloc, script.as_bytes(), &mut Direct::new(alloc))?;
-    assert_eq!(rt; played.text.as_str(), text);
-    assert_eq!(rt; played.status, status);
-    assert_session(rt, script.as_bytes(), status, text, "")
+    assert!(rt; gives(rt.alloc(), script, status, text)?);
+    assert_session(rt, script.as_bytes(), status, text, "");
+    Ok(())
 }
 
 /// A session on these bytes ends with this status, this text on standard output and this one on standard error.
@@ -49,20 +46,7 @@ pub(super) fn assert_session(
     status: u8,
     out: &str,
     err: &str,
-) -> Result<(), Fail> {
-    let alloc = rt.alloc();
+) {
     let mut input = script;
-    let mut printed = Vec::new(alloc);
-    let mut told = Vec::new(alloc);
-    let ended = session(
-        alloc,
-        &mut input,
-        &mut printed,
-        &mut told,
-        &mut Direct::new(alloc),
-    );
-    assert_eq!(rt; told.as_slice(), err.as_bytes());
-    assert_eq!(rt; printed.as_slice(), out.as_bytes());
-    assert_eq!(rt; ended, status);
-    Ok(())
+    assert!(rt; ends(rt.alloc(), &mut input, status, out, err));
 }

@@ -1,10 +1,11 @@
 ghost use Rattle.std.specs.Prelude.{None};
 
-use crate::{PlayFault, play_script, read_script, session};
+use super::calls::{played, played_by, same, session_of};
+use crate::{PlayFault, read_script};
 use std::io;
 use std::io::{ErrorKind, Write};
 use std::test::Fail;
-use ym_line::{Carrier, CarryFault, Direct, Way};
+use ym_line::{Carrier, CarryFault, Way};
 
 /// One file of `A`, 128 times, and the six rounds that it needs.
 pub(super) const ONE_FILE: &[u8] = b"file a.txt \
@@ -53,11 +54,9 @@ impl Write for Page {
 /// Holds whichever one growth is refused: the fault is want of memory and no other.
 #[test]
 fn a_growth_is_refused(rt: HostRuntime) -> Result<(), Fail> {
-    let alloc = rt.alloc();
-    let mut line = Direct::new(alloc);
-    match play_script(alloc, ONE_FILE, &mut line) {
-        Ok(played) => assert_eq!(rt; played.status, 0),
-        Err(fault) => assert_eq!(rt; fault, PlayFault::Memory),
+    match played(rt.alloc(), ONE_FILE) {
+        Ok((_, status)) => assert!(rt; same(&status, &0)),
+        Err(fault) => assert!(rt; same(&fault, &PlayFault::Memory)),
     }
     Ok(())
 }
@@ -68,17 +67,11 @@ fn a_growth_of_a_session_is_refused(rt: HostRuntime) -> Result<(), Fail> {
     let mut out = Page::new();
     let mut err = Page::new();
     let mut input = ONE_FILE;
-    let status = session(
-        rt.alloc(),
-        &mut input,
-        &mut out,
-        &mut err,
-        &mut Direct::new(rt.alloc()),
-    );
+    let status = session_of(rt.alloc(), &mut input, &mut out, &mut err);
     if status != 0 {
-        assert_eq!(rt; status, 3);
-        assert_eq!(rt; out.text().len(), 0);
-        assert_eq!(rt; err.text(), b"fault: memory\n".as_slice());
+        assert!(rt; same(&status, &3));
+        assert!(rt; out.text().is_empty());
+        assert!(rt; same(&err.text(), &b"fault: memory\n".as_slice()));
     }
     Ok(())
 }
@@ -89,7 +82,7 @@ fn a_growth_of_a_script_is_refused(rt: HostRuntime) -> Result<(), Fail> {
     let alloc = rt.alloc();
     let script = b"file a 41 1 2\nround hex:00 hex:\nok 3\n";
     if let Err(fault) = read_script(alloc, script) {
-        assert_eq!(rt; fault, PlayFault::Memory);
+        assert!(rt; same(&fault, &PlayFault::Memory));
     }
     Ok(())
 }
@@ -110,7 +103,7 @@ impl Carrier for Full {
 
 #[test]
 fn the_carrier_has_no_memory(rt: HostRuntime) -> Result<(), Fail> {
-    let refused = play_script(rt.alloc(), b"ok 1", &mut Full);
-    assert_eq!(rt; refused.err(), Some(PlayFault::Memory));
+    let refused = played_by(rt.alloc(), b"ok 1", &mut Full).err();
+    assert!(rt; same(&refused, &Some(PlayFault::Memory)));
     Ok(())
 }

@@ -1,8 +1,9 @@
 //! Calls that can meet want of memory, each in a test that succeeds where no growth is refused. Where one of the call is, the test
 //! answers so in these words, and it holds that nothing else came of it. `tests/memory.py` refuses each growth in turn.
 
+use super::calls::{played, same};
 use super::memory::ONE_FILE;
-use crate::{PlayFault, play_script, read_script};
+use crate::{PlayFault, read_script};
 use std::alloc::Global;
 use std::test::Fail;
 use ym_file::{Collector, Shape};
@@ -21,35 +22,34 @@ const RECORD: &str = "want of memory of the record";
 
 #[test]
 fn a_script_is_played(rt: HostRuntime) -> Result<(), Fail> {
-    let alloc = rt.alloc();
-    match play_script(alloc, ONE_FILE, &mut Direct::new(alloc)) {
-        Ok(played) => {
-            assert_eq!(rt; played.status, 0);
-            assert!(rt;
-                played
-                    .text
-                    .as_str()
-                    .ends_with("\nreceiver files 1 finished\n")
-            );
+    match played(rt.alloc(), ONE_FILE) {
+        Ok((text, status)) => {
+            assert!(rt; same(&status, &0));
+            assert!(rt; text.as_str().ends_with("\nreceiver files 1 finished\n"));
             Ok(())
         }
         Err(fault) => {
-            assert_eq!(rt; fault, PlayFault::Memory);
+            assert!(rt; same(&fault, &PlayFault::Memory));
             Err(Fail::from(WANT))
         }
     }
 }
 
+/// How many rounds a script has.
+fn rounds_of(alloc: Global, script: &[u8]) -> Result<usize, PlayFault> {
+    Ok(read_script(alloc, script)?.rounds.len())
+}
+
 #[test]
 fn a_script_is_read(rt: HostRuntime) -> Result<(), Fail> {
     let script = b"file a 41 1 2\nround hex:00 hex:\nok 3\n";
-    match read_script(rt.alloc(), script) {
-        Ok(script) => {
-            assert_eq!(rt; script.rounds.len(), 4);
+    match rounds_of(rt.alloc(), script) {
+        Ok(rounds) => {
+            assert!(rt; same(&rounds, &4));
             Ok(())
         }
         Err(fault) => {
-            assert_eq!(rt; fault, PlayFault::Memory);
+            assert!(rt; same(&fault, &PlayFault::Memory));
             Err(Fail::from(WANT))
         }
     }
@@ -76,68 +76,103 @@ fn whole_rounds(alloc: Global, count: usize) -> Result<Vec<Round>, Fail> {
     Ok(rounds)
 }
 
-/// Where a growth is refused, the committed files are none or the whole one.
-#[test]
-fn rounds_are_run(rt: HostRuntime) -> Result<(), Fail> {
-    let alloc = rt.alloc();
+/// How a run of six whole rounds ended: its fault, how both ends were left, and how many files were committed.
+#[derive(Drop)]
+struct Run {
+    fault: Option<LineFault>,
+    send: SendState,
+    recv: RecvState,
+    files: usize,
+    /// Whether the first file, where one was committed, is the whole one.
+    is_whole: bool,
+}
+
+/// Runs a usual sender and a receiver over six whole rounds.
+fn run_six(alloc: Global) -> Result<Run, Fail> {
     let mut sender = usual_sender(alloc)?;
     let rounds = whole_rounds(alloc, 6)?;
     let mut receiver = Receiver::new(alloc);
-    let answer = run(
-        alloc,
-        &mut sender,
-        &mut receiver,
-        &rounds,
-        &mut Direct::new(alloc),
-    );
-    if let Some(file) = receiver.files().first() {
-        assert_eq!(rt; file.name(), "a.txt");
-        assert_eq!(rt; file.bytes(), [b'A'; 128].as_slice());
+    let mut line = Direct::new(alloc);
+    let answer = run(alloc, &mut sender, &mut receiver, &rounds, &mut line);
+    Ok(Run {
+        fault: answer.err(),
+        send: sender.state(),
+        recv: receiver.state(),
+        files: receiver.files().len(),
+        is_whole: holds_whole(&receiver),
+    })
+}
+
+/// Whether a receiver has committed nothing, or the whole file first.
+fn holds_whole(receiver: &Receiver) -> bool {
+    match receiver.files().first() {
+        Some(file) => file.name() == "a.txt" && file.bytes() == [b'A'; 128].as_slice(),
+        None => true,
     }
-    match answer {
-        Ok(_) => {
-            assert_eq!(rt; sender.state(), SendState::Finished);
-            assert_eq!(rt; receiver.state(), RecvState::Finished);
-            assert_eq!(rt; receiver.files().len(), 1);
-            Ok(())
-        }
-        Err(fault) => {
-            assert_eq!(rt; fault, LineFault::Memory);
-            assert_eq!(rt; sender.state(), SendState::Running);
-            Err(Fail::from(WANT))
-        }
+}
+
+/// Where a growth is refused, the committed files are none or the whole one.
+#[test]
+fn rounds_are_run(rt: HostRuntime) -> Result<(), Fail> {
+    let run = run_six(rt.alloc())?;
+    assert!(rt; run.is_whole);
+    if run.fault.is_none() {
+        assert!(rt; same(&run.send, &SendState::Finished));
+        assert!(rt; same(&run.recv, &RecvState::Finished));
+        assert!(rt; same(&run.files, &1));
+        return Ok(());
+    }
+    assert!(rt; same(&run.fault, &Some(LineFault::Memory)));
+    assert!(rt; same(&run.send, &SendState::Running));
+    Err(Fail::from(WANT))
+}
+
+/// What is read of the block 0 that a usual sender writes.
+fn read_usual(alloc: Global) -> Result<Zero, HeaderFault> {
+    let mut body = [0; 128];
+    let text = b"a.txt\x0012 14 644 0 3 99";
+    body[..text.len()].copy_from_slice(text);
+    read(alloc, &body)
+}
+
+/// Whether this is the file a.txt of 12 bytes.
+fn is_usual(zero: &Zero) -> bool {
+    match zero {
+        Zero::File(header) => header.name() == "a.txt" && header.length() == 12,
+        Zero::End => false,
     }
 }
 
 /// What a usual sender writes is read.
 #[test]
 fn a_header_is_read(rt: HostRuntime) -> Result<(), Fail> {
-    let mut body = [0; 128];
-    let text = b"a.txt\x0012 14 644 0 3 99";
-    body[..text.len()].copy_from_slice(text);
-    match read(rt.alloc(), &body) {
-        Ok(Zero::File(header)) => {
-            assert_eq!(rt; header.name(), "a.txt");
-            assert_eq!(rt; header.length(), 12);
+    match read_usual(rt.alloc()) {
+        Ok(zero) => {
+            assert!(rt; is_usual(&zero));
             Ok(())
         }
-        Ok(Zero::End) => panic!(rt; "the end"),
         Err(fault) => {
-            assert_eq!(rt; fault, HeaderFault::Memory);
+            assert!(rt; same(&fault, &HeaderFault::Memory));
             Err(Fail::from(WANT))
         }
     }
 }
 
+/// Whether a header that is made has its name.
+fn has_its_name(alloc: Global) -> Result<bool, HeaderFault> {
+    let header = Header::new(alloc, "a.txt", 12, Stamp::TimeMode(12, 420))?;
+    Ok(header.name() == "a.txt")
+}
+
 #[test]
 fn a_header_is_made(rt: HostRuntime) -> Result<(), Fail> {
-    match Header::new(rt.alloc(), "a.txt", 12, Stamp::TimeMode(12, 420)) {
-        Ok(header) => {
-            assert_eq!(rt; header.name(), "a.txt");
+    match has_its_name(rt.alloc()) {
+        Ok(has_it) => {
+            assert!(rt; has_it);
             Ok(())
         }
         Err(fault) => {
-            assert_eq!(rt; fault, HeaderFault::Memory);
+            assert!(rt; same(&fault, &HeaderFault::Memory));
             Err(Fail::from(WANT))
         }
     }
@@ -152,7 +187,7 @@ fn bytes_are_collected(rt: HostRuntime) -> Result<(), Fail> {
         match collector.add(&half) {
             Ok(some) => assert!(rt; some),
             Err(_) => {
-                assert_eq!(rt; collector.bytes().len(), kept);
+                assert!(rt; same(&collector.bytes().len(), &kept));
                 return Err(Fail::from(WANT));
             }
         }
@@ -162,12 +197,32 @@ fn bytes_are_collected(rt: HostRuntime) -> Result<(), Fail> {
     Ok(())
 }
 
+/// How a receiver was left, and its port.
+#[derive(Drop)]
+struct Left {
+    answer: Result<(), EndFault>,
+    state: RecvState,
+    port: ScriptPort,
+}
+
+impl Left {
+    /// Whether it was left so, with these bytes written and so many failures of its port.
+    fn is(
+        &self,
+        answer: Result<(), EndFault>,
+        state: RecvState,
+        written: &[u8],
+        failures: u64,
+    ) -> bool {
+        self.answer == answer
+            && self.state == state
+            && self.port.written() == written
+            && self.port.failures() == failures
+    }
+}
+
 /// What is received of one piece behind a quiet line, or of the piece alone.
-fn received(
-    alloc: Global,
-    begins_quiet: bool,
-    piece: &[u8],
-) -> Result<(Result<(), EndFault>, RecvState, ScriptPort), Fail> {
+fn received(alloc: Global, begins_quiet: bool, piece: &[u8]) -> Result<Left, Fail> {
     let mut events = Vec::new(alloc);
     if begins_quiet {
         events.push(Event::Quiet)?;
@@ -176,51 +231,51 @@ fn received(
     let mut port = ScriptPort::new(alloc, events, None);
     let mut receiver = Receiver::new(alloc);
     let answer = receive_over(&mut port, &mut receiver);
-    Ok((answer, receiver.state(), port))
+    Ok(Left {
+        answer,
+        state: receiver.state(),
+        port,
+    })
+}
+
+/// The block 0 of a usual sender, received.
+fn received_header(alloc: Global) -> Result<Left, Fail> {
+    let header = Header::new(alloc, "a.txt", 12, Stamp::TimeMode(12, 420))?;
+    let frame = encode(&Item::Block(write(&header)));
+    received(alloc, false, frame.as_bytes())
 }
 
 /// Of the header nothing is written, and the receiver still runs. A port whose record does not grow has failed.
 #[test]
 fn a_header_is_received(rt: HostRuntime) -> Result<(), Fail> {
-    let alloc = rt.alloc();
-    let header = Header::new(alloc, "a.txt", 12, Stamp::TimeMode(12, 420))?;
-    let frame = encode(&Item::Block(write(&header)));
-    let (answer, state, port) = received(alloc, false, frame.as_bytes())?;
-    assert_eq!(rt; state, RecvState::Running);
-    match answer {
-        Err(EndFault::Closed) => {
-            assert_eq!(rt; port.written(), [0x06, 0x43].as_slice());
-            assert_eq!(rt; port.failures(), 0);
-            Ok(())
-        }
-        Err(EndFault::Memory) => {
-            assert!(rt; port.written().is_empty());
-            assert_eq!(rt; port.failures(), 0);
-            Err(Fail::from(WANT))
-        }
-        answer => {
-            assert_eq!(rt; answer, Err(EndFault::Device));
-            assert!(rt; port.written().is_empty());
-            assert_eq!(rt; port.failures(), 1);
-            Err(Fail::from(RECORD))
-        }
+    let left = received_header(rt.alloc())?;
+    let running = RecvState::Running;
+    if left.answer == Err(EndFault::Closed) {
+        assert!(rt; left.is(Err(EndFault::Closed), running, &[0x06, 0x43], 0));
+        return Ok(());
     }
+    if left.answer == Err(EndFault::Memory) {
+        assert!(rt; left.is(Err(EndFault::Memory), running, &[], 0));
+        return Err(Fail::from(WANT));
+    }
+    assert!(rt; left.is(Err(EndFault::Device), running, &[], 1));
+    Err(Fail::from(RECORD))
+}
+
+/// The end block behind a quiet line, received.
+fn received_end(alloc: Global) -> Result<Left, Fail> {
+    let frame = encode(&Item::Block(write_end()));
+    received(alloc, true, frame.as_bytes())
 }
 
 /// The first reply that is written makes the record grow.
 #[test]
 fn an_end_block_is_received(rt: HostRuntime) -> Result<(), Fail> {
-    let frame = encode(&Item::Block(write_end()));
-    let (answer, state, port) = received(rt.alloc(), true, frame.as_bytes())?;
-    if answer.is_ok() {
-        assert_eq!(rt; state, RecvState::Finished);
-        assert_eq!(rt; port.written(), [0x43, 0x06].as_slice());
-        assert_eq!(rt; port.failures(), 0);
+    let left = received_end(rt.alloc())?;
+    if left.answer.is_ok() {
+        assert!(rt; left.is(Ok(()), RecvState::Finished, &[0x43, 0x06], 0));
         return Ok(());
     }
-    assert_eq!(rt; answer, Err(EndFault::Device));
-    assert_eq!(rt; state, RecvState::Running);
-    assert!(rt; port.written().is_empty());
-    assert_eq!(rt; port.failures(), 1);
+    assert!(rt; left.is(Err(EndFault::Device), RecvState::Running, &[], 1));
     Err(Fail::from(RECORD))
 }

@@ -1,7 +1,9 @@
 ghost use Rattle.std.specs.Prelude.{None};
 
+use super::calls::{ends, same, session_of};
 use super::fixtures::with_file;
-use crate::{Input, StreamFault, session, session_over};
+use crate::{Input, Output, StreamFault, session_over};
+use std::alloc::Global;
 use std::io;
 use std::io::{ErrorKind, Read, Write};
 use std::test::Fail;
@@ -112,16 +114,10 @@ fn one_byte_at_a_time(rt: HostRuntime) -> Result<(), Fail> {
         writes: 1000,
     };
     let mut err = Vec::new(alloc);
-    let status = session(
-        alloc,
-        &mut input,
-        &mut out,
-        &mut err,
-        &mut Direct::new(alloc),
-    );
-    assert_eq!(rt; status, 0);
-    assert_eq!(rt; out.kept.as_slice(), ONE_FILE.as_bytes());
-    assert_eq!(rt; err.len(), 0);
+    let status = session_of(alloc, &mut input, &mut out, &mut err);
+    assert!(rt; same(&status, &0));
+    assert!(rt; same(&out.kept.as_slice(), &ONE_FILE.as_bytes()));
+    assert!(rt; err.is_empty());
     Ok(())
 }
 
@@ -138,61 +134,44 @@ fn a_read_fails(rt: HostRuntime) -> Result<(), Fail> {
                 reads,
                 kind,
             };
-            let mut out = Vec::new(alloc);
-            let mut err = Vec::new(alloc);
-            let status = session(
-                alloc,
-                &mut input,
-                &mut out,
-                &mut err,
-                &mut Direct::new(alloc),
-            );
-            assert_eq!(rt; status, 3);
-            assert_eq!(rt; out.len(), 0);
-            assert_eq!(rt; err.as_slice(), b"fault: device\n".as_slice());
+            assert!(rt; ends(alloc, &mut input, 3, "", "fault: device\n"));
         }
     }
     Ok(())
 }
 
+/// Whether a session over this input ends in a failed device, and prints nothing.
+fn has_failed<I: Input>(alloc: Global, input: &mut I) -> bool {
+    let mut out = Vec::new(alloc);
+    let mut err = Vec::new(alloc);
+    let status = session_in(alloc, input, &mut out, &mut err);
+    status == 3 && out.is_empty() && err.as_slice() == b"fault: device\n".as_slice()
+}
+
+/// The status of a session over what counts its failures.
+fn session_in<I: Input, O: Output, E: Output>(
+    alloc: Global,
+    input: &mut I,
+    out: &mut O,
+    err: &mut E,
+) -> u8 {
+    session_over(alloc, input, out, err, &mut Direct::new(alloc))
+}
+
 /// Of an input that counts its failures too.
 #[test]
 fn a_counted_read_fails(rt: HostRuntime) -> Result<(), Fail> {
-    let alloc = rt.alloc();
     let mut input = Broken { failed: 0 };
-    let mut out = Vec::new(alloc);
-    let mut err = Vec::new(alloc);
-    let status = session_over(
-        alloc,
-        &mut input,
-        &mut out,
-        &mut err,
-        &mut Direct::new(alloc),
-    );
-    assert_eq!(rt; status, 3);
-    assert_eq!(rt; input.failed, 1);
-    assert_eq!(rt; out.len(), 0);
-    assert_eq!(rt; err.as_slice(), b"fault: device\n".as_slice());
+    assert!(rt; has_failed(rt.alloc(), &mut input));
+    assert!(rt; same(&input.failed, &1));
     Ok(())
 }
 
 #[test]
 fn a_reader_never_ends(rt: HostRuntime) -> Result<(), Fail> {
-    let alloc = rt.alloc();
     let mut input = Endless { bytes: 0 };
-    let mut out = Vec::new(alloc);
-    let mut err = Vec::new(alloc);
-    let status = session(
-        alloc,
-        &mut input,
-        &mut out,
-        &mut err,
-        &mut Direct::new(alloc),
-    );
-    assert_eq!(rt; status, 2);
-    assert_eq!(rt; input.bytes, 1_048_577);
-    assert_eq!(rt; out.len(), 0);
-    assert_eq!(rt; err.as_slice(), b"script: too large\n".as_slice());
+    assert!(rt; ends(rt.alloc(), &mut input, 2, "", "script: too large\n"));
+    assert!(rt; same(&input.bytes, &1_048_577));
     Ok(())
 }
 
@@ -209,15 +188,9 @@ fn a_write_fails(rt: HostRuntime) -> Result<(), Fail> {
             writes,
         };
         let mut err = Vec::new(alloc);
-        let status = session(
-            alloc,
-            &mut input,
-            &mut out,
-            &mut err,
-            &mut Direct::new(alloc),
-        );
-        assert_eq!(rt; status, 3);
-        assert_eq!(rt; err.as_slice(), b"fault: device\n".as_slice());
+        let status = session_of(alloc, &mut input, &mut out, &mut err);
+        assert!(rt; same(&status, &3));
+        assert!(rt; same(&err.as_slice(), &b"fault: device\n".as_slice()));
     }
     Ok(())
 }
@@ -233,14 +206,8 @@ fn the_fault_line_fails(rt: HostRuntime) -> Result<(), Fail> {
         most: 100,
         writes: 0,
     };
-    let status = session(
-        alloc,
-        &mut input,
-        &mut out,
-        &mut err,
-        &mut Direct::new(alloc),
-    );
-    assert_eq!(rt; status, 3);
-    assert_eq!(rt; out.len(), 0);
+    let status = session_of(alloc, &mut input, &mut out, &mut err);
+    assert!(rt; same(&status, &3));
+    assert!(rt; out.is_empty());
     Ok(())
 }

@@ -1,7 +1,6 @@
+use super::calls::{played, same};
 use super::fixtures::{a128, assert_plays, with_file};
-use crate::play_script;
 use std::test::Fail;
-use ym_line::Direct;
 
 const ONE_FILE: &str = "1 > - whole < C whole\n\
     2 > block 0 128 whole < ACK C whole\n\
@@ -29,10 +28,10 @@ fn many_files(rt: HostRuntime) -> Result<(), Fail> {
         script.push_str("file a -\n")?;
     }
     script.push_str("ok 3005\n")?;
-    let played = play_script(alloc, script.as_bytes(), &mut Direct::new(alloc))?;
-    assert_eq!(rt; played.status, 0);
-    let text = played.text.as_str();
-    assert!(rt; text.ends_with("\nsender done 1001 finished\nreceiver files 1001 finished\n"));
+    let (text, status) = played(alloc, script.as_bytes())?;
+    assert!(rt; same(&status, &0));
+    let ends = "\nsender done 1001 finished\nreceiver files 1001 finished\n";
+    assert!(rt; text.as_str().ends_with(ends));
     Ok(())
 }
 
