@@ -28,13 +28,10 @@ use Rattle.ym_line.specs.declared.delivery.Delivery.{Delivery}
 use Rattle.ym_line.specs.declared.delivery.Round.{Round}
 use Rattle.ym_line.specs.declared.trace.Seen.{Seen}
 use Rattle.ym_line.specs.declared.trace.Trace.{Trace}
-use Rattle.ym_line.specs.declared.trace.What.{What}
-use Rattle.ym_line.specs.Carried.{told_more}
-use Rattle.ym_line.specs.declared.delivery.Way.TheVariants.{There, Back}
-use Rattle.ym_line.specs.Damage.{arrives, how_of}
+use Rattle.ym_line.specs.Damage.{arrives}
 use Rattle.ym_line.specs.Rounds.{Pair, sent_by, Goes, GoesThere, GoOn, IsTrace}
-use Rattle.ym_line.specs.Turns.{AreTurns, IsHalfTurn, IsSourceTruth, IsTurn, PairStands, Reports, RunsAsMachine, came_of, is_whole, turn_of, what_said}
-use Rattle.ym_line.proofs.Turns.{FrameFound, WithinReply, said-heard, said-shown, said-bytes, came-within, controls-arrive}
+use Rattle.ym_line.specs.Turns.{AreTurns, IsHalfTurn, IsSourceTruth, IsTurn, PairStands, Reports, RunsAsMachine, came_of, is_whole, turn_of}
+use Rattle.ym_line.proofs.Turns.{FrameFound, WithinReply, said-heard, came-within, controls-arrive}
 
 -- ---- What the laws below say
 
@@ -112,7 +109,7 @@ still-told true old new truth told =
 -- It leads from where a pair stood to where the machine's half leads, and its reply is the machine's.
 pub half-turn : Laws → (confirm : Confirm) (files : Batch) (st : State) (delivery : Delivery) (old : Pair) (reply : Reply) (new : Pair) →
     PairStands confirm files st old → GoesThere delivery old reply new →
-    (half : IsHalfTurn confirm files st delivery old new) × (reply ≡ (there (frames_of files) confirm half.sink_failed (is_whole delivery) st).1)
+    (half : IsHalfTurn confirm files st delivery old reply new) × (reply ≡ (there (frames_of files) confirm half.sink_failed (is_whole delivery) st).1)
 half-turn laws confirm files st delivery old reply new stands goes =
     let whole : Bool = is_whole delivery in
     let says : IsSaid files (said st) (spoken old.sender) = laws.says files st old.sender stands.sender goes.keeps stands.told in
@@ -123,10 +120,10 @@ half-turn laws confirm files st delivery old reply new stands goes =
     let same_sender : new.sender ≡ old.sender = ap (λ (p : Pair). p.sender) goes.others in
     let st_new : State = (there (frames_of files) confirm answers.0 whole st).0 in (
       record {
+        goes = goes;
+        says = says;
         sink_failed = answers.0;
         sink = answers.1;
-        sender = same_sender;
-        handed_on = ap (λ (p : Pair). p.told) goes.others ∙ ap (λ b. told_more There (arrives delivery b) old.told) (said-bytes files (said st) old.sender says);
         stands = record {
           machine = laws.machine_there files confirm answers.0 whole st stands.machine;
           batch = stands.batch;
@@ -140,10 +137,6 @@ half-turn laws confirm files st delivery old reply new stands goes =
 
 -- ---- A round
 
--- what the trace shows of it
-abbrev showing : Round → What → Reply → Seen
-showing round what reply = record { what = what; there = how_of round.there; reply = reply; back = how_of round.back }
-
 pub goes-turn : Laws → (confirm : Confirm) (files : Batch) (st : State) (round : Round) (old new : Pair) (seen : Seen) →
     PairStands confirm files st old → Goes round old seen new → (turn : Turn) × IsTurn confirm files st round turn old seen new
 goes-turn laws confirm files st round old new seen stands goes =
@@ -151,7 +144,7 @@ goes-turn laws confirm files st round old new seen stands goes =
     let frames : List (Frame HeaderParts) = frames_of files in
     let whole : Bool = is_whole round.there in
     let both = half-turn laws confirm files st round.there old seen.reply between stands goes.there in
-    let half : IsHalfTurn confirm files st round.there old between = both.0 in
+    let half : IsHalfTurn confirm files st round.there old seen.reply between = both.0 in
     let sink_failed : Bool = half.sink_failed in
     let answer : Answer = there frames confirm sink_failed whole st in
     let reply_is : seen.reply ≡ answer.1 = both.1 in
@@ -165,16 +158,15 @@ goes-turn laws confirm files st round old new seen stands goes =
     let source_failed : Bool = goes.back.hears.0 in
     let behind : State = back frames source_failed came answer.0 in
     let source : IsSourceTruth source_failed old.sender.files new.sender.files =
-    subst (λ s. IsSourceTruth source_failed s.files new.sender.files) half.sender (source-truth source_failed _ between.sender.files new.sender.files goes.back.hears.1.files) in
-    let says : IsSaid files (said st) (spoken old.sender) = laws.says files st old.sender stands.sender goes.there.keeps stands.told in (
+    subst (λ s. IsSourceTruth source_failed s.files new.sender.files) (ap (λ (p : Pair). p.sender) goes.there.others) (source-truth source_failed _ between.sender.files new.sender.files goes.back.hears.1.files) in (
       turn_of round sink_failed source_failed,
       record {
+        goes = goes;
+        says = half.says;
+        reply_is = reply_is;
         turn_is = refl;
         sink = subst (λ (r : ReceiverParts). Tells sink_failed old.receiver.failures r.failures) (sym same_receiver) half.sink;
         source = source;
-        damage = goes.back.shows;
-        seen_is = goes.seen_is ∙ (ap (λ what. showing round what seen.reply) (said-shown files (said st) old.sender says) ∙ ap (showing round (what_said frames (said st))) reply_is);
-        handed_on = ap (λ (p : Pair). p.told) goes.back.others ∙ ap (told_more Back bytes) half.handed_on;
         stands = record {
           machine = laws.machine_back files confirm sink_failed whole source_failed came st stands.machine within;
           batch = stands.batch;
@@ -215,10 +207,10 @@ turns-damage within whole confirm files [] [] st old new [] went = tt
 turns-damage within whole confirm files (round ∷ rounds) (turn ∷ turns) st old new (seen ∷ all) went =
     let first : IsTurn confirm files st round turn old seen went.0 = went.1 in
     let answer : Answer = there (frames_of files) confirm turn.sink_failed turn.whole_there st in
-    let reply_is : seen.reply ≡ answer.1 = ap (λ (s : Seen). s.reply) first.seen_is in
+    let reply_is : seen.reply ≡ answer.1 = first.reply_is in
     let back_is : turn.back ≡ came_of round.back = ap (λ (t : Turn). t.back) first.turn_is in
     let shown : machine.is_within (came_back (came_of round.back) answer.1) (machine.controls answer.1) ≡ true =
-    subst (λ r. machine.is_within (came_back (came_of round.back) r) (machine.controls r) ≡ true) reply_is (came-within within whole round.back seen.reply first.damage) in (
+    subst (λ r. machine.is_within (came_back (came_of round.back) r) (machine.controls r) ≡ true) reply_is (came-within within whole round.back seen.reply first.goes.back.shows) in (
       subst (λ back. machine.is_within (came_back back answer.1) (machine.controls answer.1) ≡ true) (sym back_is) shown,
       turns-damage within whole confirm files rounds turns (after_turn (frames_of files) confirm turn st) went.0 new all went.2,
     )

@@ -30,8 +30,8 @@ use Rattle.ym_line.specs.declared.trace.Seen.{Seen}
 use Rattle.ym_line.specs.declared.trace.Trace.{Trace}
 use Rattle.ym_line.specs.Promise.{AreNew, CommitsAPrefix, ReportsCommitted, first_place}
 use Rattle.ym_line.specs.Rounds.{Pair, GoOn, StopsIn, IsTrace, RunGives}
-use Rattle.ym_line.specs.Turns.{AreTurns, CommitsFirst, FollowsMachine, PairStands, RunsAsMachine, StopsAsMachine, StopsInTurn, StopsWithMachine, told_there}
-use Rattle.ym_line.proofs.Stops.{Same, failures-stand, half-same}
+use Rattle.ym_line.specs.Turns.{AreTurns, CommitsFirst, FollowsMachine, PairStands, RunsAsMachine, StopsWithMachine}
+use Rattle.ym_line.proofs.Stops.{Same, half-same, stopped-stands}
 
 -- ---- What the laws say
 
@@ -211,22 +211,10 @@ standing-commits : Laws → (old new : Pair) (st : State) → AreNew old → All
 standing-commits laws old new st fresh files stands =
     commits-prefix laws old.sender.shape old.sender.files st new files fresh.tells (laws.first (confirm_of old) (batch_to_send old) st new stands)
 
--- where a fault left it
-stopped-stands : (confirm : Confirm) (files : Batch) (st : State) (round : Round) (old : Pair) (fault : LineFault) (new : Pair) →
-    PairStands confirm files st old → StopsInTurn confirm files st round old fault new → (last : State) × PairStands confirm files last new
-stopped-stands confirm files st round old fault new stands (StopsInTurn.nothing same) = (st, failures-stand confirm files st old new same stands)
-stopped-stands confirm files st round old fault new stands (StopsInTurn.unheard memory handed) =
-    let told : PairStands confirm files st (record old { told = told_there files st round.there old.told }) =
-    record { machine = stands.machine; batch = stands.batch; told = stands.told; sender = stands.sender; receiver = stands.receiver } in
-    (st, subst (PairStands confirm files st) (sym handed) told)
-stopped-stands confirm files st round old fault new stands (StopsInTurn.half half) = (_, half.stands)
-
 fault-commits : Laws → (rounds : List Round) (old new : Pair) (fault : LineFault) → StopsIn 1 rounds old fault new → AreNew old → All IsFile old.sender.files → CommitsAPrefix old.sender.files new
 fault-commits laws rounds old new fault gives fresh files =
     let begins = new-stands laws.new_stand old fresh files in
-    let stops : StopsAsMachine (confirm_of old) (batch_to_send old) start 1 rounds old fault new = laws.stop 1 rounds old new fault gives (confirm_of old) (batch_to_send old) start begins in
-    let between = laws.stand (confirm_of old) (batch_to_send old) start stops.before stops.turns old stops.between stops.all stops.are_turns begins in
-    let last = stopped-stands (confirm_of old) (batch_to_send old) _ stops.round stops.between fault new between stops.stops in
+    let last = stopped-stands (confirm_of old) (batch_to_send old) rounds 1 start old new fault begins (laws.stop 1 rounds old new fault gives (confirm_of old) (batch_to_send old) start begins) in
     standing-commits laws old new last.0 fresh files last.1
 
 pub run-commits : Laws → (rounds : List Round) (old new : Pair) (result : Result Trace LineFault) → RunGives rounds old result new → AreNew old → CommitsAPrefix old.sender.files new

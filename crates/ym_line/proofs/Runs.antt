@@ -1,7 +1,7 @@
 -- What is seen of a round, and runs one round more.
 use Rattle.std.proofs.Common.{◌≡◌, ℕ, ◌+◌, ◌<◌, suc, zero, List, [], ◌∷◌, ◌++◌, length, take, get_or, Result, Ok, Err, IfOk, IfErr, refl, subst, inl, inr, ◌⊎◌, arith}
 use Rattle.ym_frame.specs.declared.control.Reply.{Reply}
-use Rattle.ym_link.specs.Sender.{SenderParts}
+use Rattle.ym_link.specs.Sender.{SenderParts, IsSender}
 use Rattle.ym_line.specs.declared.delivery.Round.{Round}
 use Rattle.ym_line.specs.declared.fault.LineFault.{LineFault}
 use Rattle.ym_line.specs.declared.fault.LineFault.TheVariants.{Memory}
@@ -12,13 +12,14 @@ use Rattle.ym_line.specs.Damage.{how_of}
 use Rattle.ym_line.specs.What.{what_of}
 use Rattle.ym_line.specs.declared.trace.Trace.{Trace}
 use Rattle.ym_line.specs.Rounds.{Pair, Goes, GoOn, IsTrace, RoundGives, RunGives, Stops, StopsIn, sent_by, seen_of}
+use Rattle.ym_line.proofs.Turns.{FrameFound, sent-shown}
 
 -- what is seen, part by part
-pub seen-parts : (round : Round) (sender : SenderParts) (reply : Reply) (what : What) (there back : How) (sent : List ℕ) →
-    what ≡ what_of sent → sent ≡ sent_by sender → there ≡ how_of round.there → back ≡ how_of round.back →
+pub seen-parts : FrameFound → (round : Round) (sender : SenderParts) (reply : Reply) (what : What) (there back : How) (sent : List ℕ) →
+    what ≡ what_of sent → sent ≡ sent_by sender → IsSender sender → there ≡ how_of round.there → back ≡ how_of round.back →
     record { what = what; there = there; reply = reply; back = back } ≡ seen_of round sender reply
-seen-parts round sender reply what there back sent what_is sent_is there_is back_is =
-    rw (what_is, sent_is, there_is, back_is) refl
+seen-parts found round sender reply what there back sent what_is sent_is is there_is back_is =
+    rw (what_is, sent_is, sent-shown found sender is, there_is, back_is) refl
 
 -- a round behind those that went
 pub GoOn-append : (rounds : List Round) (round : Round) (old between new : Pair) (all : List Seen) (seen : Seen) →

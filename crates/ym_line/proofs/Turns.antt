@@ -1,5 +1,5 @@
 -- What is heard of a delivery, and what comes back of a reply, by the machine.
-use Rattle.std.proofs.Common.{◌≡◌, ◌∙◌, inl, inr, is_some, if◌then◌else◌, append-nil, ℕ, true, List, [], ◌∷◌, ◌++◌, length, map, Option, None, Some, Ok, refl, sym, ap, subst}
+use Rattle.std.proofs.Common.{◌≡◌, ◌∙◌, inl, inr, is_some, if◌then◌else◌, append-nil, unwrap_or, ℕ, Bool, true, false, List, [], ◌∷◌, ◌++◌, length, map, Option, None, Some, Ok, refl, sym, ap, subst}
 use Rattle.std.specs.List.{cons_option}
 use Rattle.std.proofs.lemmas.Bool.Decides.{eqb_tells}
 use Rattle.ym_header.specs.Header.{HeaderParts}
@@ -20,13 +20,17 @@ use Rattle.ym_core.specs.declared.delivery.Heard.TheVariants as heard
 use Rattle.ym_core.specs.Reading.{controls_in}
 use Rattle.ym_link.specs.ReceiverStands as receiver
 use Rattle.ym_link.specs.SenderStands.{Batch, IsSaid, item_of}
-use Rattle.ym_link.specs.Sender.{SenderParts, spoken}
+use Rattle.ym_core.specs.declared.place.Mode.{Mode}
+use Rattle.ym_core.specs.declared.place.Mode.TheVariants.{Waiting, Sent}
+use Rattle.ym_core.specs.declared.state.SendState.{SendState}
+use Rattle.ym_core.specs.declared.state.SendState.TheVariants as sender
+use Rattle.ym_link.specs.Sender.{SenderParts, IsSender, spoken, spoken_in}
 use Rattle.ym_line.specs.declared.delivery.Delivery.{Delivery}
 use Rattle.ym_line.specs.declared.delivery.Delivery.TheVariants.{Whole, Lost, Damaged}
 use Rattle.ym_line.specs.Damage.{arrives, ShowsBack, IsHeardBad}
 use Rattle.ym_line.specs.Rounds.{sent_by}
-use Rattle.ym_line.specs.Turns.{is_whole, came_of, what_said, frame_of, bytes_said}
-use Rattle.ym_line.specs.What.{what_is, what_of}
+use Rattle.ym_line.specs.Turns.{is_whole, came_of}
+use Rattle.ym_line.specs.What.{what_heard, what_is, what_of}
 
 -- ---- What comes back
 
@@ -93,9 +97,23 @@ what-frame : (i : Item) (frame : List ℕ) → IsFrame i frame → what_of frame
 what-frame (item.Block block) frame is = elim is [ inl short ↦ rw (short.1, short.0) refl | inr long ↦ rw (long.1, long.0) refl ]
 what-frame _ frame is = rw is refl
 
-frame-bytes : (i : Item) (frame : List ℕ) → IsFrame i frame → frame ≡ frame_of i
-frame-bytes (item.Block block) frame is = elim is [ inl short ↦ rw (short.1, short.0) refl | inr long ↦ rw (long.1, long.0) refl ]
-frame-bytes _ frame is = is
+-- what a sender has to send, by its first bytes
+words-shown : FrameFound → (state : SendState) (mode : Mode) (farewell : Bool) (frame : List ℕ) → (state ≡ sender.Running → mode ≡ Sent → (i : Item) × IsFrame i frame) →
+    what_of (unwrap_or (spoken_in state mode farewell frame) []) ≡ what_heard (heard_of (unwrap_or (spoken_in state mode farewell frame) []))
+unfolding verdict_of
+words-shown found sender.Running Sent farewell frame holds =
+    let held = holds refl refl in
+    what-frame held.0 frame held.1 ∙ sym (ap what_heard (frame-heard found held.0 frame held.1))
+words-shown found sender.NoReply mode true frame holds = refl
+words-shown found sender.SourceFailed mode true frame holds = refl
+words-shown found sender.Running Waiting farewell frame holds = refl
+words-shown found sender.NoReply mode false frame holds = refl
+words-shown found sender.SourceFailed mode false frame holds = refl
+words-shown found sender.Finished mode farewell frame holds = refl
+words-shown found sender.Cancelled mode farewell frame holds = refl
+
+pub sent-shown : FrameFound → (s : SenderParts) → IsSender s → what_of (sent_by s) ≡ what_heard (heard_of (sent_by s))
+sent-shown found s is = words-shown found s.standing.state s.standing.mode s.standing.farewell s.frame (λ runs sent. let held = is.frame runs sent in (held.item, held.frame))
 
 -- both ends have one item of a frame
 same-item : (frame : Frame HeaderParts) → receiver.item_of frame ≡ item_of frame
@@ -111,18 +129,6 @@ said-heard found files speech sender (Damaged bytes) says bad = bad
 said-heard found files Nothing sender Whole says bad = rw says refl
 said-heard found files (FrameAt i) sender Whole says bad = rw (says.1, same-item (frame_at (frames_of files) i)) (frame-heard found (item_of (frame_at (frames_of files) i)) says.0 says.2)
 said-heard found files CanCan sender Whole says bad = rw says refl
-
--- what the trace shows of it
-pub said-shown : (files : Batch) (speech : Speech) (sender : SenderParts) → IsSaid files speech (spoken sender) → what_of (sent_by sender) ≡ what_said (frames_of files) speech
-said-shown files Nothing sender says = rw says refl
-said-shown files (FrameAt i) sender says = rw says.1 (what-frame (item_of (frame_at (frames_of files) i)) says.0 says.2)
-said-shown files CanCan sender says = rw says refl
-
--- the bytes that the sender has to send
-pub said-bytes : (files : Batch) (speech : Speech) (sender : SenderParts) → IsSaid files speech (spoken sender) → sent_by sender ≡ bytes_said (frames_of files) speech
-said-bytes files Nothing sender says = rw says refl
-said-bytes files (FrameAt i) sender says = rw says.1 (frame-bytes (item_of (frame_at (frames_of files) i)) says.0 says.2)
-said-bytes files CanCan sender says = rw says refl
 
 -- ---- What comes back, within the reply
 

@@ -14,7 +14,7 @@ use Rattle.ym_link.specs.Sender.{SenderParts, IsSender, spoken}
 use Rattle.ym_link.specs.Sender as sender
 use Rattle.ym_line.specs.Carried.{told_more}
 use Rattle.ym_line.specs.Damage.{arrives, how_of, ShowsThere, ShowsBack, IsShort, IsHeardBad, IsChecked}
-use Rattle.ym_line.specs.What.{what_of}
+use Rattle.ym_line.specs.What.{what_heard}
 use Rattle.ym_line.specs.declared.delivery.Delivery.{Delivery}
 use Rattle.ym_line.specs.declared.delivery.Handed.{Handed}
 use Rattle.ym_line.specs.declared.delivery.Round.{Round}
@@ -84,7 +84,7 @@ BackGives n delivery reply old (Err fault) new = StopsHalf n (ShowsBack reply de
 
 -- what is seen of a round: what the sender had to send, the reply before loss and damage, and both given forms
 abbrev pub seen_of : Round → SenderParts → Reply → Seen
-seen_of round parts reply = record { what = what_of (sent_by parts); there = how_of round.there; reply = reply; back = how_of round.back }
+seen_of round parts reply = record { what = what_heard (heard_of (sent_by parts)); there = how_of round.there; reply = reply; back = how_of round.back }
 
 -- the two halves, one after the other
 pub record Goes (round : Round) (old : Pair) (seen : Seen) (new : Pair) : Type 0 where

@@ -2,6 +2,8 @@
 use Rattle.std.specs.Prelude.{ℕ, ◌==◌, if◌then◌else◌, List, [], ◌∷◌, length}
 use Rattle.ym_frame.specs.declared.frame.Item.{Item}
 use Rattle.ym_frame.specs.declared.frame.Item.TheVariants as item
+use Rattle.ym_core.specs.declared.delivery.Heard.{Heard}
+use Rattle.ym_core.specs.declared.delivery.Heard.TheVariants as heard
 use Rattle.ym_line.specs.declared.trace.What.{What}
 use Rattle.ym_line.specs.declared.trace.What.TheVariants.{Nothing, Block, Eot, Can}
 
@@ -10,6 +12,13 @@ abbrev pub what_is : Item → What
 what_is (item.Block block) = Block block.number (length block.body)
 what_is item.Eot = Eot
 what_is item.Cancel = Can
+
+-- what was sent, by what a receiver hears of it whole
+abbrev pub what_heard : Heard → What
+what_heard (heard.Item i) = what_is i
+what_heard heard.Bad = Nothing
+
+-- ---- The same by the first bytes, as it is told
 
 -- a block by the first two bytes of its frame
 abbrev pub block_of : List ℕ → ℕ → What

@@ -21,6 +21,7 @@ use crate::trace::{How, Seen, Trace, What};
 use std::alloc::Global;
 use ym_file::{Sink, Source};
 use ym_frame::Reply;
+use ym_frame::laws::frame_found;
 use ym_link::{ReceiverInto, SenderFrom, heard};
 
 /// What a sender has to send: its frame, CAN CAN, or no bytes.
@@ -103,6 +104,7 @@ fn go_round<S: Source, K: Sink, C: Carrier>(
         let new : Pair = record { sender = sender.new; receiver = receiver.new; told = C.told carrier.new; failures = C.failures carrier.new } in
         RoundGives n round.now old result new }
 {
+    frame_found();
     let what = What::of_frame(sent_by(sender));
     let reply = go_there(n, sender, receiver, &round.there, carrier, arrived)?;
     go_back(n, sender, reply, &round.back, carrier, arrived)?;

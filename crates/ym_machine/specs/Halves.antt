@@ -1,7 +1,8 @@
 -- A round, in its two halves: the receiver hears and replies, and the sender hears what comes back.
 --
 -- Of the tables the lines that have a section of the reference beside them come from there, and this profile chose the others.
-use Rattle.std.specs.Prelude.{ℕ, ◌+◌, ◌≡◌, ◌==◌, ◌⊎◌, nat_lt, List, [], ◌∷◌, Bool, true, false, if◌then◌else◌}
+use Rattle.std.specs.Prelude.{ℕ, ◌+◌, ◌≡◌, ◌==◌, ◌⊎◌, nat_lt, List, [], ◌∷◌, filter_map, Bool, true, false, if◌then◌else◌}
+use Rattle.ym_frame.specs.Control.{control_at, reply_bytes}
 use Rattle.ym_frame.specs.declared.control.Control.{Control}
 use Rattle.ym_frame.specs.declared.control.Control.TheVariants as control
 use Rattle.ym_frame.specs.declared.control.Reply.{Reply}
@@ -32,8 +33,7 @@ Answer = State × Reply
 -- (reference, "XMODEM Protocol Overview": errors are retried 10 times)
 abbrev pub nothing_taken : State → Reply → Answer
 nothing_taken st reply =
-    if nat_lt (st.receiver_count + 1) GIVE_UP
-    then (record st { receiver_count = st.receiver_count + 1 }, reply)
+    if nat_lt (st.receiver_count + 1) GIVE_UP then (record st { receiver_count = st.receiver_count + 1 }, reply)
     else (record st { receiver_count = st.receiver_count + 1; receiver = ReceiverEnd.TooManyErrors }, Cancel)
 
 -- a frame is taken, unless the sink failed
@@ -66,8 +66,7 @@ abbrev pub row : {H : Type 0} → Meeting → Confirm → Cue H → Answer
 row at _ (Next (BlockZero header)) = takes at.state AckStart at.sink_failed
 row at _ (Next (Piece number body)) = takes at.state Ack at.sink_failed
 row at Twice (Next Eot) =
-    if at.state.first_eot then takes at.state AckStart at.sink_failed
-    else (record at.state { first_eot = true; receiver_count = 0 }, Nak)
+    if at.state.first_eot then takes at.state AckStart at.sink_failed else (record at.state { first_eot = true; receiver_count = 0 }, Nak)
 row at Once (Next Eot) = takes at.state AckStart at.sink_failed
 row at _ (Next EndBlock) = (record at.state { taken = at.state.taken + 1; receiver = ReceiverEnd.Finished }, Ack)
 row at _ (Last (BlockZero header)) = nothing_taken at.state AckStart
@@ -101,32 +100,23 @@ there frames confirm sink_failed whole st =
 
 -- the control bytes of a reply
 abbrev pub controls : Reply → List Control
-controls Silence = []
-controls Start = control.Start ∷ []
-controls Ack = control.Ack ∷ []
-controls AckStart = control.Ack ∷ control.Start ∷ []
-controls Nak = control.Nak ∷ []
-controls Cancel = control.Can ∷ control.Can ∷ []
+controls reply = filter_map control_at (reply_bytes reply)
 
 -- a delivery that brings the sender no progress: at the last of so many in a row it gives up, with CAN CAN to go
 abbrev pub nothing_gained : State → State
 nothing_gained st =
-    if nat_lt (st.sender_count + 1) GIVE_UP
-    then record st { sender_count = st.sender_count + 1 }
+    if nat_lt (st.sender_count + 1) GIVE_UP then record st { sender_count = st.sender_count + 1 }
     else record st { sender_count = st.sender_count + 1; sender = SenderEnd.NoReply; farewell = true }
 
 -- the frame at a place becomes the sent one; a data block is filled from the source, which may fail
 abbrev pub sends : {H : Type 0} → Bool → Frame H → ℕ → State → State
-sends true (Piece number body) place st =
-    record st { acknowledged = place; sent = true; sender_count = 0; sender = SenderEnd.SourceFailed; farewell = true }
+sends true (Piece number body) place st = record st { acknowledged = place; sent = true; sender_count = 0; sender = SenderEnd.SourceFailed; farewell = true }
 sends _ _ place st = record st { acknowledged = place; sent = true; sender_count = 0 }
 
 -- F[s] is acknowledged: behind a data block the next frame is sent at once, behind a block 0 or an EOT where a C follows
 abbrev pub acknowledged_at : {H : Type 0} → List (Frame H) → Bool → Bool → Frame H → State → State
-acknowledged_at frames source_failed start_follows (Piece number body) st =
-    sends source_failed (frame_at frames (st.acknowledged + 1)) (st.acknowledged + 1) st
-acknowledged_at frames source_failed start_follows EndBlock st =
-    record st { acknowledged = st.acknowledged + 1; sender = SenderEnd.Finished }
+acknowledged_at frames source_failed start_follows (Piece number body) st = sends source_failed (frame_at frames (st.acknowledged + 1)) (st.acknowledged + 1) st
+acknowledged_at frames source_failed start_follows EndBlock st = record st { acknowledged = st.acknowledged + 1; sender = SenderEnd.Finished }
 acknowledged_at frames source_failed start_follows _ st =
     if start_follows then sends source_failed (frame_at frames (st.acknowledged + 1)) (st.acknowledged + 1) st
     else record st { acknowledged = st.acknowledged + 1; sent = false; sender_count = 0 }
@@ -141,12 +131,10 @@ holds_start (_ ∷ came) = holds_start came
 -- (reference, "Graceful Abort": two CAN in a row cancel, one does not; this profile: C never acknowledges)
 abbrev pub running_gets : {H : Type 0} → List (Frame H) → Bool → Bool → List Control → State → State
 running_gets frames source_failed sent (control.Can ∷ control.Can ∷ []) st = record st { sender = SenderEnd.Cancelled }
-running_gets frames source_failed true (control.Ack ∷ came) st =
-    acknowledged_at frames source_failed (holds_start came) (frame_at frames st.acknowledged) st
+running_gets frames source_failed true (control.Ack ∷ came) st = acknowledged_at frames source_failed (holds_start came) (frame_at frames st.acknowledged) st
 running_gets frames source_failed true _ st = nothing_gained st
 running_gets frames source_failed false came st =
-    if holds_start came then sends source_failed (frame_at frames st.acknowledged) st.acknowledged st
-    else nothing_gained st
+    if holds_start came then sends source_failed (frame_at frames st.acknowledged) st.acknowledged st else nothing_gained st
 
 -- CAN CAN goes once, and every other ended sender stays
 abbrev pub gets : {H : Type 0} → List (Frame H) → Bool → List Control → SenderEnd → State → State

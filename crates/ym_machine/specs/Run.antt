@@ -26,8 +26,7 @@ answer_of frames confirm turn st = there frames confirm turn.sink_failed turn.wh
 -- a turn is the half there and then the half back
 abbrev pub after_turn : {H : Type 0} → List (Frame H) → Confirm → Turn → State → State
 after_turn frames confirm turn st =
-    let answer = there frames confirm turn.sink_failed turn.whole_there st in
-    back frames turn.source_failed (came_back turn.back answer.1) answer.0
+    let answer = answer_of frames confirm turn st in back frames turn.source_failed (came_back turn.back answer.1) answer.0
 
 -- the state after all turns
 abbrev pub after_turns : {H : Type 0} → List (Frame H) → Confirm → List Turn → State → State
