@@ -29,7 +29,9 @@ NAMED = re.compile(r"^(?:async function|function|class|const|let) (\w+)", re.M)
 COMMENT = re.compile(r"^[ \t]*(?:/\*.*?\*/|//[^\n]*)[ \t]*\n", re.M | re.S)
 EDGES = re.compile(r"\n\s*")
 # What stands as it is, a text or a pattern, or else a space.
-KEPT_OR_SPACE = re.compile(r"""(`(?:\\.|[^`\\])*`|"(?:\\.|[^"\\])*"|'(?:\\.|[^'\\])*'|/(?![/*\s])(?:\\.|\[(?:\\.|[^\]\\])*\]|[^/\\\n\[])+/)| +""", re.S)
+KEPT = r"""(`(?:\\.|[^`\\])*`|"(?:\\.|[^"\\])*"|'(?:\\.|[^'\\])*'|/(?![/*\s])(?:\\.|\[(?:\\.|[^\]\\])*\]|[^/\\\n\[])+/)"""
+KEPT_OR_SPACE = re.compile(KEPT + "| +", re.S)
+KEPT_OR_PRIVATE = re.compile(KEPT + r"|#([A-Za-z]\w*)", re.S)
 
 
 def read(name):
@@ -48,7 +50,16 @@ def joined(names):
 
 
 def shortened(text):
-    """Without what only a reader needs: comments, the space at the front of lines, and that between signs."""
+    """Without what only a reader needs: comments, the space at the front of lines, and that between signs, and the long names of private fields."""
+    short = {}
+
+    def renamed(found):
+        if found.group(1):
+            if "#" in found.group(1) and found.group(1)[0] == "`":
+                sys.exit("build.py: a private field in a template: " + found.group(1))
+            return found.group(1)
+        return "#" + short.setdefault(found.group(2), letters(len(short)))
+
     text = EDGES.sub("\n", COMMENT.sub("", text)).strip() + "\n"
 
     def squeezed(found):
@@ -57,7 +68,12 @@ def shortened(text):
         around = text[found.start() - 1] + text[found.end()]
         return " " if re.fullmatch(r"[\w$#]{2}|\+\+|--", around) else ""
 
-    return KEPT_OR_SPACE.sub(squeezed, text)
+    return KEPT_OR_PRIVATE.sub(renamed, KEPT_OR_SPACE.sub(squeezed, text))
+
+
+def letters(number):
+    """The names a, b, .., z, aa, ab, .."""
+    return (letters(number // 26 - 1) if number > 25 else "") + chr(97 + number % 26)
 
 
 def styled(names):

@@ -127,7 +127,8 @@ export class Terminal {
 
   /** A line of the page's own. */
   note(text) {
-    this.#screen.write(`${this.#screen.lines.at(-1) ? "\n" : ""}[${text}]\n`);
+    const gap = this.#screen.lines.at(-1) ? "\n" : "";
+    this.#screen.write(`${gap}[${text}]\n`);
     this.print("");
   }
 
