@@ -1,6 +1,6 @@
 //! Files that are stored in a folder.
 
-ghost use Rattle.std.specs.Prelude.{◌≡◌, ◌<◌, None, OnOk, length as list_length};
+ghost use Rattle.std.specs.Prelude.{◌≡◌, None, OnOk};
 ghost use Rattle.ym_file.specs.Kept.{IsCoveredFile};
 ghost use Rattle.ym_host.specs.DirSink.{kept_of};
 
@@ -126,33 +126,21 @@ fn every_name_of_a_file_is_stored(rt: HostRuntime) -> Result<(), Fail> {
     Ok(())
 }
 
-/// Takes bytes in three pieces: the first of them wait, the second has no room beside them, and the third is more than ever waits.
-fn take_in_three(
-    rt: &HostRuntime,
-    sink: &mut DirSink<&HostRuntime>,
-    name: &str,
-    bytes: &[u8],
-) -> Result<(), Fail>
-    requires long { 120000 < list_length bytes.now }
-    requires free { sink.old.opened ≡ None }
-    ensures { OnOk result (IsCoveredFile (kept_of sink.new)) }
-{
-    sink.begin(header(rt, name, bytes.len() as u64)?)?;
-    sink.add(&bytes[..60_000])?;
-    sink.add(&bytes[60_000..120_000])?;
-    sink.add(&bytes[120_000..])?;
-    Ok(())
-}
-
 /// More bytes than wait at a time are there at the end, in order.
 #[test]
 fn a_large_file_is_stored(rt: HostRuntime) -> Result<(), Fail> {
     let dir = folder(&rt, "large")?;
     let all = counted(rt.alloc(), 200_000)?;
     assert_eq!(rt; all.len(), 200_000);
+    // The first bytes wait, the second have no room beside them, and the third are more than ever wait.
+    let (front, rest) = all.as_slice().split_at(60_000);
+    let (middle, back) = rest.split_at(60_000);
     let mut sink = new_sink(&rt, &dir, Leftover::Refused)?;
-    take_in_three(&rt, &mut sink, "a", &all)?;
-    store(&mut sink)?;
+    assert_eq!(rt; sink.begin(header(&rt, "a", 200_000)?), Ok(()));
+    assert_eq!(rt; sink.add(front), Ok(()));
+    assert_eq!(rt; sink.add(middle), Ok(()));
+    assert_eq!(rt; sink.add(back), Ok(()));
+    assert_eq!(rt; sink.commit(), Ok(()));
     assert!(rt; holds(&rt, &dir, "a", Some(all.as_slice()))?);
     fs::remove_dir_all(&rt, &dir)?;
     Ok(())
