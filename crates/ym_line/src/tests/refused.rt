@@ -1,51 +1,45 @@
-use super::fixtures::{
-    Rounds, a128, one_file, round_on, run_on, same, sender_of, text_of_run, usual_sender,
-};
-use crate::{Delivery, Direct, LineFault, Round};
+use super::fixtures::Rounds::{Back, There, Whole};
+use super::fixtures::{Session, a128, same};
+use crate::{Delivery, LineFault, Round};
+use std::alloc::{AllocError, Global};
 use std::test::Fail;
-use ym_file::Shape;
 use ym_frame::Bytes;
-use ym_link::{Receiver, RecvState, SendState};
 
 #[test]
 fn damage_that_does_not_show(rt: HostRuntime) -> Result<(), Fail> {
     let alloc = rt.alloc();
-    let mut sender = usual_sender(alloc)?;
-    let mut receiver = Receiver::new(alloc);
-    let mut line = Direct::new(alloc);
-    let rounds = Rounds::new(alloc).whole(1)?.damaged_there(alloc, &[0x04])?;
-    let refused = run_on(alloc, &mut sender, &mut receiver, &rounds, &mut line);
-    assert!(rt; same(&refused.err(), &Some(LineFault::NotDamage(2))));
-    assert_eq!(rt; line.handed().len(), 2);
+    let mut there = Session::usual(alloc)?;
+    let fault = there.fault(alloc, &[Whole(1), There(&[0x04])])?;
+    assert!(rt; same(&fault, &Some(LineFault::NotDamage(2))));
+    assert!(rt; there.handed() == 2);
 
-    let mut sender = sender_of(one_file(alloc, "a", &[], None)?, Shape::Mixed)?;
-    let mut receiver = Receiver::new(alloc);
-    let mut line = Direct::new(alloc);
-    let rounds = Rounds::new(alloc).whole(2)?.damaged_back(alloc, &[0x06])?;
-    let refused = run_on(alloc, &mut sender, &mut receiver, &rounds, &mut line);
-    assert!(rt; same(&refused.err(), &Some(LineFault::NotDamage(3))));
-    assert_eq!(rt; line.handed().len(), 5);
+    let mut back = Session::of_file(alloc, "a", &[])?;
+    let fault = back.fault(alloc, &[Whole(2), Back(&[0x06])])?;
+    assert!(rt; same(&fault, &Some(LineFault::NotDamage(3))));
+    assert!(rt; back.handed() == 5);
     Ok(())
+}
+
+/// A delivery that is damaged to so many bytes 00.
+fn zeros(alloc: Global, count: usize) -> Result<Delivery, AllocError> {
+    Ok(Delivery::Damaged(Bytes::new(vec![in alloc; 0; count]?)))
 }
 
 #[test]
 fn a_delivery_is_too_long(rt: HostRuntime) -> Result<(), Fail> {
     let alloc = rt.alloc();
-    let mut sender = usual_sender(alloc)?;
-    let mut receiver = Receiver::new(alloc);
-    let mut line = Direct::new(alloc);
+    let mut session = Session::usual(alloc)?;
     let long = Round {
-        there: Delivery::Damaged(Bytes::new(vec![in alloc; 0; 2049]?)),
+        there: zeros(alloc, 2049)?,
         back: Delivery::Whole,
     };
-    let refused = round_on(alloc, &mut sender, &mut receiver, &long, &mut line);
-    assert!(rt; same(&refused, &Err(LineFault::TooLong(1))));
+    assert!(rt; same(&session.round(alloc, &long), &Err(LineFault::TooLong(1))));
     let just_short = Round {
-        there: Delivery::Damaged(Bytes::new(vec![in alloc; 0; 2048]?)),
-        back: Delivery::Damaged(Bytes::new(vec![in alloc; 0; 2048]?)),
+        there: zeros(alloc, 2048)?,
+        back: zeros(alloc, 2048)?,
     };
-    round_on(alloc, &mut sender, &mut receiver, &just_short, &mut line)?;
-    assert_eq!(rt; line.handed().len(), 2);
+    session.round(alloc, &just_short)?;
+    assert!(rt; session.handed() == 2);
     Ok(())
 }
 
@@ -55,21 +49,14 @@ fn a_delivery_is_too_long(rt: HostRuntime) -> Result<(), Fail> {
 fn a_growth_is_refused(rt: HostRuntime) -> Result<(), Fail> {
     let alloc = rt.alloc();
     let bytes = a128(alloc)?;
-    let mut sender = usual_sender(alloc)?;
-    let rounds = Rounds::new(alloc).whole(6)?;
-    let mut receiver = Receiver::new(alloc);
-    let mut line = Direct::new(alloc);
-    if let Err(fault) = run_on(alloc, &mut sender, &mut receiver, &rounds, &mut line) {
+    let mut session = Session::usual(alloc)?;
+    if let Some(fault) = session.fault(alloc, &[Whole(6)])? {
         assert!(rt; same(&fault, &LineFault::Memory));
-        assert!(rt; same(&sender.state(), &SendState::Running));
-        if let Some(file) = receiver.files().first() {
-            assert!(rt; same(&file.bytes(), &bytes.as_slice()));
-        }
-        text_of_run(alloc, &mut sender, &mut receiver, &rounds)?;
+        assert!(rt; session.sender_runs());
+        assert!(rt; session.has_no_file() || session.has_file("a.txt", bytes.as_slice()));
+        session.text(alloc, &[Whole(6)])?;
     }
-    assert!(rt; same(&sender.state(), &SendState::Finished));
-    assert!(rt; same(&receiver.state(), &RecvState::Finished));
-    let file = receiver.files().first().ok_or("no file")?;
-    assert!(rt; same(&file.bytes(), &bytes.as_slice()));
+    assert!(rt; session.has_finished());
+    assert!(rt; session.has_file("a.txt", bytes.as_slice()));
     Ok(())
 }

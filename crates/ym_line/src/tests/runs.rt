@@ -1,85 +1,50 @@
-use super::fixtures::{
-    Rounds, a128, failing_receiver, one_file, run_on, same, sender_of, text_of_run, usual_sender,
-};
+use super::fixtures::Rounds::{Back, Lost, NoReply, There, Whole};
+use super::fixtures::{Session, a128, one_file, same};
 use super::texts;
-use crate::{Direct, LineFault, Way, trace_text, whole_rounds_needed};
+use crate::{LineFault, Way, whole_rounds_needed};
 use std::alloc::{AllocError, Global};
-use std::process::Abort;
 use std::test::Fail;
 use ym_file::{Shape, block_at};
 use ym_frame::{FrameBuf, Item, encode};
-use ym_link::{Confirm, Receiver, RecvState, SendFile, SendState, Sender};
-
-/// The receiver has committed one file of these bytes.
-fn assert_file(rt: &impl Abort, receiver: &Receiver, name: &str, bytes: &[u8]) {
-    assert_eq!(rt; receiver.files().len(), 1);
-    let file = &receiver.files()[0];
-    assert!(rt; same(&file.name(), &name));
-    assert!(rt; same(&file.bytes(), &bytes));
-}
-
-fn assert_finished(rt: &impl Abort, sender: &Sender, receiver: &Receiver) {
-    assert!(rt; same(&sender.state(), &SendState::Finished));
-    assert!(rt; same(&receiver.state(), &RecvState::Finished));
-}
+use ym_link::{Confirm, SendFile};
 
 #[test]
 fn one_file_in_six_rounds(rt: HostRuntime) -> Result<(), Fail> {
     let alloc = rt.alloc();
-    let mut sender = usual_sender(alloc)?;
-    let mut receiver = Receiver::new(alloc);
-    let mut line = Direct::new(alloc);
-    let rounds = Rounds::new(alloc).whole(6)?;
-    let trace = run_on(alloc, &mut sender, &mut receiver, &rounds, &mut line)?;
-    assert!(rt; same(&trace_text(alloc, &trace)?.as_str(), &texts::one_file()));
-    assert_file(&rt, &receiver, "a.txt", a128(alloc)?.as_slice());
-    let handed = line.handed();
-    assert_eq!(rt; handed.len(), 12);
-    assert_eq!(rt; handed[0].bytes.as_slice().len(), 0);
-    assert!(rt; same(&handed[3].way, &Way::Back));
-    assert!(rt; same(&handed[3].bytes.as_slice(), &[0x06, 0x43].as_slice()));
-    assert!(rt; same(&handed[4].way, &Way::There));
-    assert_eq!(rt; handed[4].bytes.as_slice().len(), 133);
+    let mut session = Session::usual(alloc)?;
+    assert!(rt; session.prints(alloc, &[Whole(6)], texts::one_file())?);
+    assert!(rt; session.has_file("a.txt", a128(alloc)?.as_slice()));
+    assert!(rt; session.handed() == 12);
+    assert!(rt; session.handed_at(0, Way::There, &[]));
+    assert!(rt; session.handed_at(3, Way::Back, &[0x06, 0x43]));
+    assert!(rt; session.handed_at(4, Way::There, only_block(alloc)?.as_bytes()));
     Ok(())
+}
+
+/// How many whole rounds a batch needs.
+fn needed(files: &[SendFile], confirm: Confirm) -> u128 {
+    if files.len() > 65_535 {
+        return 0;
+    }
+    whole_rounds_needed(files, Shape::Mixed, confirm)
 }
 
 #[test]
 fn rounds_needed(rt: HostRuntime) -> Result<(), Fail> {
-    let bytes = a128(rt.alloc())?;
-    let batch = one_file(rt.alloc(), "a.txt", &bytes, None)?;
-    assert_eq!(rt; batch.len(), 1);
-    assert!(rt;
-        same(
-            &whole_rounds_needed(&batch, Shape::Mixed, Confirm::Twice),
-            &6
-        )
-    );
-    assert!(rt;
-        same(
-            &whole_rounds_needed(&batch, Shape::Mixed, Confirm::Once),
-            &5
-        )
-    );
-    let none: Vec<SendFile> = Vec::new(rt.alloc());
-    assert!(rt;
-        same(
-            &whole_rounds_needed(&none, Shape::Mixed, Confirm::Twice),
-            &2
-        )
-    );
+    let batch = one_file(rt.alloc(), "a.txt", a128(rt.alloc())?.as_slice(), None)?;
+    assert!(rt; needed(batch.as_slice(), Confirm::Twice) == 6);
+    assert!(rt; needed(batch.as_slice(), Confirm::Once) == 5);
+    assert!(rt; needed(&[], Confirm::Twice) == 2);
     Ok(())
 }
 
 #[test]
 fn one_file_cut_short(rt: HostRuntime) -> Result<(), Fail> {
     let alloc = rt.alloc();
-    for (count, want) in [(5, texts::five_rounds()), (4, texts::four_rounds())] {
-        let mut sender = usual_sender(alloc)?;
-        let mut receiver = Receiver::new(alloc);
-        let rounds = Rounds::new(alloc).whole(count)?;
-        let text = text_of_run(alloc, &mut sender, &mut receiver, &rounds)?;
-        assert!(rt; same(&text.as_str(), &want));
-    }
+    let mut session = Session::usual(alloc)?;
+    assert!(rt; session.prints(alloc, &[Whole(5)], texts::five_rounds())?);
+    let mut session = Session::usual(alloc)?;
+    assert!(rt; session.prints(alloc, &[Whole(4)], texts::four_rounds())?);
     Ok(())
 }
 
@@ -87,14 +52,10 @@ fn one_file_cut_short(rt: HostRuntime) -> Result<(), Fail> {
 fn padding_like_bytes(rt: HostRuntime) -> Result<(), Fail> {
     let alloc = rt.alloc();
     let mut bytes = vec![in alloc; b'A'; 126]?;
-    bytes.push(0x1a)?;
-    bytes.push(0x1a)?;
-    let mut sender = sender_of(one_file(alloc, "a", &bytes, None)?, Shape::Mixed)?;
-    let mut receiver = Receiver::new(alloc);
-    let rounds = Rounds::new(alloc).whole(6)?;
-    let text = text_of_run(alloc, &mut sender, &mut receiver, &rounds)?;
-    assert!(rt; same(&text.as_str(), &texts::one_file()));
-    assert_file(&rt, &receiver, "a", &bytes);
+    bytes.extend_from_slice(&[0x1a, 0x1a])?;
+    let mut session = Session::of_file(alloc, "a", bytes.as_slice())?;
+    assert!(rt; session.prints(alloc, &[Whole(6)], texts::one_file())?);
+    assert!(rt; session.has_file("a", bytes.as_slice()));
     Ok(())
 }
 
@@ -102,61 +63,50 @@ fn padding_like_bytes(rt: HostRuntime) -> Result<(), Fail> {
 fn numbers_wrap_at_256(rt: HostRuntime) -> Result<(), Fail> {
     let alloc = rt.alloc();
     let mut bytes = vec![in alloc; b'A'; 32_768]?;
-    bytes.extend_from_slice(vec![in alloc; b'B'; 128]?.as_slice())?;
-    let mut sender = sender_of(one_file(alloc, "a", &bytes, None)?, Shape::Short)?;
-    let mut receiver = Receiver::new(alloc);
-    let rounds = Rounds::new(alloc).whole(257)?.no_reply()?.whole(5)?;
-    let text = text_of_run(alloc, &mut sender, &mut receiver, &rounds)?;
-    assert!(rt; text.as_str().ends_with(texts::wrapped()));
-    assert_file(&rt, &receiver, "a", &bytes);
+    bytes.extend_from_slice(&[b'B'; 128])?;
+    let batch = one_file(alloc, "a", bytes.as_slice(), None)?;
+    let mut session = Session::new(alloc, batch, Shape::Short)?;
+    let rounds = [Whole(257), NoReply, Whole(5)];
+    assert!(rt; session.prints_at_the_end(alloc, &rounds, texts::wrapped())?);
+    assert!(rt; session.has_file("a", bytes.as_slice()));
     Ok(())
+}
+
+/// Whether a run prints this text where a fill of the source, or a call of the sink, fails.
+fn fails_as(alloc: Global, fill: Option<u64>, call: u64, want: &str) -> Result<bool, Fail> {
+    let mut session = Session::with_failing_fill(alloc, fill)?.with_failing_sink(alloc, call);
+    session.prints(alloc, &[Whole(6)], want)
 }
 
 #[test]
 fn a_source_or_a_sink_fails(rt: HostRuntime) -> Result<(), Fail> {
-    let alloc = rt.alloc();
-    let bytes = a128(alloc)?;
-    for (fill, call, want) in [
-        (Some(1), 0, texts::no_source()),
-        (None, 2, texts::no_block_stored()),
-        (None, 3, texts::no_commit()),
-    ] {
-        let mut sender = sender_of(one_file(alloc, "a", &bytes, fill)?, Shape::Mixed)?;
-        let mut receiver = failing_receiver(alloc, call);
-        let rounds = Rounds::new(alloc).whole(6)?;
-        let text = text_of_run(alloc, &mut sender, &mut receiver, &rounds)?;
-        assert!(rt; same(&text.as_str(), &want));
-    }
+    assert!(rt; fails_as(rt.alloc(), Some(1), 0, texts::no_source())?);
+    assert!(rt; fails_as(rt.alloc(), None, 2, texts::no_block_stored())?);
+    assert!(rt; fails_as(rt.alloc(), None, 3, texts::no_commit())?);
     Ok(())
 }
 
 #[test]
 fn a_repeat_fills_nothing(rt: HostRuntime) -> Result<(), Fail> {
     let alloc = rt.alloc();
-    let bytes = a128(alloc)?;
-    let mut sender = sender_of(one_file(alloc, "a", &bytes, Some(2))?, Shape::Mixed)?;
-    let mut receiver = Receiver::new(alloc);
-    let rounds = Rounds::new(alloc).whole(2)?.no_reply()?.whole(4)?;
-    text_of_run(alloc, &mut sender, &mut receiver, &rounds)?;
-    assert_finished(&rt, &sender, &receiver);
+    let mut session = Session::with_failing_fill(alloc, Some(2))?;
+    session.text(alloc, &[Whole(2), NoReply, Whole(4)])?;
+    assert!(rt; session.has_finished());
     Ok(())
+}
+
+/// Whether a run whose carry number `at` fails hands on so many deliveries, and the ends go on from there.
+fn goes_on_behind(alloc: Global, at: u64, handed: usize) -> Result<bool, Fail> {
+    let mut session = Session::usual(alloc)?.with_failing_line(alloc, at);
+    let fault = session.fault(alloc, &[Whole(6)])?;
+    let stopped = fault == Some(LineFault::Carrier) && session.handed() == handed;
+    Ok(stopped && session.prints(alloc, &[Whole(4)], texts::last_four())?)
 }
 
 #[test]
 fn a_carry_fails(rt: HostRuntime) -> Result<(), Fail> {
-    let alloc = rt.alloc();
-    for (at, handed) in [(6, 5), (5, 4)] {
-        let mut sender = usual_sender(alloc)?;
-        let mut receiver = Receiver::new(alloc);
-        let mut line = Direct::failing(alloc, at);
-        let rounds = Rounds::new(alloc).whole(6)?;
-        let faulty = run_on(alloc, &mut sender, &mut receiver, &rounds, &mut line);
-        assert!(rt; same(&faulty.err(), &Some(LineFault::Carrier)));
-        assert_eq!(rt; line.handed().len(), handed);
-        let rounds = Rounds::new(alloc).whole(4)?;
-        let text = text_of_run(alloc, &mut sender, &mut receiver, &rounds)?;
-        assert!(rt; same(&text.as_str(), &texts::last_four()));
-    }
+    assert!(rt; goes_on_behind(rt.alloc(), 6, 5)?);
+    assert!(rt; goes_on_behind(rt.alloc(), 5, 4)?);
     Ok(())
 }
 
@@ -166,92 +116,84 @@ fn only_block(alloc: Global) -> Result<FrameBuf, AllocError> {
     Ok(encode(&Item::Block(block_at(&bytes, Shape::Mixed, 1))))
 }
 
+/// Whether a run prints what it does where these bytes arrive in place of the data block.
+fn goes_on_without(alloc: Global, arrives: &[u8]) -> Result<bool, Fail> {
+    let rounds = [Whole(2), There(arrives), Whole(4)];
+    Session::usual(alloc)?.prints(alloc, &rounds, texts::damaged_block())
+}
+
 #[test]
 fn a_block_cut_short(rt: HostRuntime) -> Result<(), Fail> {
     let alloc = rt.alloc();
     let frame = only_block(alloc)?;
     let frame = frame.as_bytes();
-    assert_eq!(rt; frame.len(), 133);
+    assert!(rt; frame.len() == 133);
     for k in 0..133 {
-        let mut sender = usual_sender(alloc)?;
-        let mut receiver = Receiver::new(alloc);
-        let rounds = Rounds::new(alloc).whole(2)?;
-        let rounds = rounds.damaged_there(alloc, &frame[..k])?.whole(4)?;
-        let text = text_of_run(alloc, &mut sender, &mut receiver, &rounds)?;
-        assert!(rt; same(&text.as_str(), &texts::damaged_block()));
+        assert!(rt; goes_on_without(alloc, &frame[..k])?);
     }
-    let mut sender = usual_sender(alloc)?;
-    let mut receiver = Receiver::new(alloc);
-    let rounds = Rounds::new(alloc).whole(2)?.damaged_there(alloc, frame)?;
-    let mut line = Direct::new(alloc);
-    let whole = run_on(alloc, &mut sender, &mut receiver, &rounds, &mut line);
-    assert!(rt; same(&whole.err(), &Some(LineFault::NotDamage(3))));
+    let fault = Session::usual(alloc)?.fault(alloc, &[Whole(2), There(frame)])?;
+    assert!(rt; same(&fault, &Some(LineFault::NotDamage(3))));
     Ok(())
+}
+
+/// Whether both ends finish where these bytes arrive of the reply to block 0.
+fn finishes_with(alloc: Global, arrives: &[u8]) -> Result<bool, Fail> {
+    let mut session = Session::usual(alloc)?;
+    session.text(alloc, &[Whole(1), Back(arrives), Whole(5)])?;
+    Ok(session.has_finished())
 }
 
 #[test]
 fn a_reply_cut_short(rt: HostRuntime) -> Result<(), Fail> {
-    let alloc = rt.alloc();
-    for count in 0..2 {
-        let mut sender = usual_sender(alloc)?;
-        let mut receiver = Receiver::new(alloc);
-        let rounds = Rounds::new(alloc).whole(1)?;
-        let rounds = rounds
-            .damaged_back(alloc, &[0x06, 0x43][..count])?
-            .whole(5)?;
-        text_of_run(alloc, &mut sender, &mut receiver, &rounds)?;
-        assert_finished(&rt, &sender, &receiver);
-    }
+    assert!(rt; finishes_with(rt.alloc(), &[])?);
+    assert!(rt; finishes_with(rt.alloc(), &[0x06])?);
     Ok(())
 }
 
 #[test]
 fn a_single_receiver(rt: HostRuntime) -> Result<(), Fail> {
     let alloc = rt.alloc();
-    let mut sender = usual_sender(alloc)?;
-    let mut receiver = Receiver::single(alloc);
-    let rounds = Rounds::new(alloc).whole(5)?;
-    let text = text_of_run(alloc, &mut sender, &mut receiver, &rounds)?;
-    assert!(rt; same(&text.as_str(), &texts::single()));
+    let mut session = Session::usual(alloc)?.with_single(alloc);
+    assert!(rt; session.prints(alloc, &[Whole(5)], texts::single())?);
     Ok(())
 }
 
 #[test]
 fn a_single_receiver_goes_on(rt: HostRuntime) -> Result<(), Fail> {
     let alloc = rt.alloc();
-    let mut sender = sender_of(one_file(alloc, "a", &[], None)?, Shape::Mixed)?;
-    let mut receiver = Receiver::single(alloc);
-    let rounds = Rounds::new(alloc).whole(2)?.no_reply()?;
-    let text = text_of_run(alloc, &mut sender, &mut receiver, &rounds)?;
-    assert!(rt; same(&text.as_str(), &texts::single_reply_lost()));
-    let rounds = Rounds::new(alloc).whole(2)?;
-    let text = text_of_run(alloc, &mut sender, &mut receiver, &rounds)?;
-    assert!(rt; same(&text.as_str(), &texts::single_goes_on()));
+    let mut session = Session::of_file(alloc, "a", &[])?.with_single(alloc);
+    assert!(rt; session.prints(alloc, &[Whole(2), NoReply], texts::single_reply_lost())?);
+    assert!(rt; session.prints(alloc, &[Whole(2)], texts::single_goes_on())?);
     Ok(())
 }
 
 #[test]
 fn bursts_of_four(rt: HostRuntime) -> Result<(), Fail> {
     let alloc = rt.alloc();
-    let mut sender = usual_sender(alloc)?;
-    let mut receiver = Receiver::new(alloc);
-    let mut rounds = Rounds::new(alloc);
-    for _ in 0..6 {
-        rounds = rounds.lost(4)?.whole(1)?;
-    }
-    let text = text_of_run(alloc, &mut sender, &mut receiver, &rounds)?;
-    assert!(rt; text.as_str().ends_with(texts::bursts_of_four()));
+    let mut session = Session::usual(alloc)?;
+    let rounds = [
+        Lost(4),
+        Whole(1),
+        Lost(4),
+        Whole(1),
+        Lost(4),
+        Whole(1),
+        Lost(4),
+        Whole(1),
+        Lost(4),
+        Whole(1),
+        Lost(4),
+        Whole(1),
+    ];
+    assert!(rt; session.prints_at_the_end(alloc, &rounds, texts::bursts_of_four())?);
     Ok(())
 }
 
 #[test]
 fn bursts_of_five(rt: HostRuntime) -> Result<(), Fail> {
     let alloc = rt.alloc();
-    let mut sender = sender_of(Vec::new(alloc), Shape::Mixed)?;
-    let mut receiver = Receiver::new(alloc);
-    let rounds = Rounds::new(alloc).lost(5)?.whole(1)?;
-    let rounds = rounds.lost(5)?.whole(1)?;
-    let text = text_of_run(alloc, &mut sender, &mut receiver, &rounds)?;
-    assert!(rt; same(&text.as_str(), &texts::bursts_of_five()));
+    let mut session = Session::new(alloc, Vec::new(alloc), Shape::Mixed)?;
+    let rounds = [Lost(5), Whole(1), Lost(5), Whole(1)];
+    assert!(rt; session.prints(alloc, &rounds, texts::bursts_of_five())?);
     Ok(())
 }

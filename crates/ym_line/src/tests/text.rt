@@ -23,6 +23,26 @@ fn ends_text(
     trace_text(alloc, &trace)
 }
 
+/// Whether the line of the sender is this one, of a trace that reports one file.
+fn tells_sender(alloc: Global, state: SendState, want: &str) -> Result<bool, AllocError> {
+    let text = ends_text(alloc, 1, state, 0, RecvState::Running)?;
+    Ok(text.as_str() == want)
+}
+
+/// Whether the line of the receiver ends so, of a trace of seven files.
+fn tells_receiver(alloc: Global, state: RecvState, want: &str) -> Result<bool, AllocError> {
+    let text = ends_text(alloc, 0, SendState::Running, 7, state)?;
+    let line = text
+        .as_str()
+        .strip_prefix("sender done 0 running\nreceiver files 7 ");
+    Ok(line == Some(want))
+}
+
+/// Whether the text of a trace is this one.
+fn tells(alloc: Global, trace: &Trace, want: &str) -> Result<bool, AllocError> {
+    Ok(trace_text(alloc, trace)?.as_str() == want)
+}
+
 #[test]
 fn each_form_of_a_round(rt: HostRuntime) -> Result<(), Fail> {
     let seen = |what: What, there: How, reply: Reply, back: How| Seen {
@@ -54,18 +74,15 @@ fn each_form_of_a_round(rt: HostRuntime) -> Result<(), Fail> {
         files: 13,
         recv: RecvState::Running,
     };
-    let text = trace_text(rt.alloc(), &trace)?;
-    assert_eq!(rt;
-        text.as_str(),
-        "1 > - whole < C whole\n\
-         2 > block 0 128 whole < ACK C damaged\n\
-         3 > block 255 1024 lost < ACK lost\n\
-         4 > eot damaged < NAK whole\n\
-         5 > can whole < - whole\n\
-         6 > - whole < CAN whole\n\
-         sender done 12 running\n\
-         receiver files 13 running\n"
-    );
+    let want = "1 > - whole < C whole\n\
+        2 > block 0 128 whole < ACK C damaged\n\
+        3 > block 255 1024 lost < ACK lost\n\
+        4 > eot damaged < NAK whole\n\
+        5 > can whole < - whole\n\
+        6 > - whole < CAN whole\n\
+        sender done 12 running\n\
+        receiver files 13 running\n";
+    assert!(rt; tells(rt.alloc(), &trace, want)?);
     Ok(())
 }
 
@@ -93,8 +110,7 @@ fn each_end_of_a_sender(rt: HostRuntime) -> Result<(), Fail> {
             "sender done 1 source-failed\nreceiver files 0 running\n",
         ),
     ] {
-        let text = ends_text(rt.alloc(), 1, state, 0, RecvState::Running)?;
-        assert_eq!(rt; text.as_str(), word);
+        assert!(rt; tells_sender(rt.alloc(), state, word)?);
     }
     Ok(())
 }
@@ -134,11 +150,7 @@ fn each_end_of_a_receiver(rt: HostRuntime) -> Result<(), Fail> {
         (RecvState::TooManyFiles, "too-many-files\n"),
         (RecvState::SinkFailed, "sink-failed\n"),
     ] {
-        let text = ends_text(rt.alloc(), 0, SendState::Running, 7, state)?;
-        let line = text
-            .as_str()
-            .strip_prefix("sender done 0 running\nreceiver files 7 ");
-        assert_eq!(rt; line, Some(word));
+        assert!(rt; tells_receiver(rt.alloc(), state, word)?);
     }
     Ok(())
 }
