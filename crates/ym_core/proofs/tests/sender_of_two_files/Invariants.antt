@@ -1,11 +1,10 @@
 use Rattle.std.proofs.Common.{◌≡◌, ◌<◌, [], ◌∷◌}
 use Rattle.ym_core.specs.Place.{IsPlace}
 use Rattle.ym_core.specs.declared.state.SendState.TheVariants.{Running}
-use Rattle.ym_machine.specs.declared.limits.TheConstants.{GIVE_UP}
 use Rattle.ym_core.proofs.tests.sender_of_two_files.Given as goal
 
 abbrev pub invariant-loop-bytes : goal.invariant-loop-bytes
 invariant-loop-bytes g l = record {
   place : IsPlace (2 ∷ 0 ∷ []) l.standing.place;
-  misses : l.standing.state ≡ Running → l.standing.misses < GIVE_UP;
+  misses : l.standing.state ≡ Running → l.standing.misses < 10;
 }
