@@ -66,8 +66,8 @@ typedef struct ym_ask {
     uint32_t at;
     uint32_t stamp;     /* YM_BEGIN: 0 none, 1 a time, 2 a time and a mode */
     uint32_t mode;      /* YM_BEGIN, where stamp is 2 */
-    uint32_t bad;       /* 1: no frame was heard. Where bytes came (len is not 0), and this is 1 or stand.count is not 0, more may be coming:
-                           read on until the line has been quiet for a second, and then answer */
+    uint32_t bad;       /* 1: no frame was heard. Where bytes came (len is not 0), and bad or the receiver's stand.count is not 0, read on until the line
+                           has been quiet for a second, and then answer */
 } ym_ask;
 
 /* Makes a receiver that awaits its first file, whatever stood there. confirm 0: the first EOT of a file is questioned. */
