@@ -4,6 +4,7 @@
 mod eager;
 mod end_message;
 mod file_message;
+mod folder;
 mod line_message;
 mod meter;
 mod progress;
@@ -19,6 +20,7 @@ mod watched_port;
 pub use eager::Eager;
 pub use end_message::EndMessage;
 pub use file_message::FileMessage;
+pub use folder::{check_folder, tell_not_stored};
 pub use line_message::LineMessage;
 pub use meter::Meter;
 pub use progress::{Progress, Took, Whole, progress_line};

@@ -72,6 +72,11 @@ impl<'t, E: Write + Drop, C: Clock + Drop> Meter<'t, E, C> {
         }
     }
 
+    /// Whether somebody looks.
+    pub fn is_looked_at(&self) -> bool {
+        self.teller.is_loud
+    }
+
     /// A file begins. Where there is no clock or no memory, it is not shown.
     pub fn begin(&mut self, name: &str, length: u64) {
         self.course = None;

@@ -22,7 +22,7 @@ enum Stage {
     In { number: u8, count: u64 },
 }
 
-/// Watches the port of a sender, and shows how far its files are: a block is done when the next one is written.
+/// Watches the port of a sender where somebody looks, and shows how far its files are: a block is done when the next one is written.
 #[derive(Drop)]
 pub struct SendWatch<'t, E: Write + Drop, C: Clock + Drop> {
     meter: Meter<'t, E, C>,
@@ -81,14 +81,22 @@ impl<'t, E: Write + Drop, C: Clock + Drop> SendWatch<'t, E, C> {
         }
         self.meter.advance(self.done, self.repeats);
     }
-}
 
-impl<'t, E: Write + Drop, C: Clock + Drop> PortWatch for SendWatch<'t, E, C> {
-    fn wrote(&mut self, bytes: &[u8]) {
+    /// A frame was written.
+    fn look_at(&mut self, bytes: &[u8]) {
         match bytes {
             [SHORT | LONG, number, _, body @ .., _, _] => self.block(*number, body),
             [EOT] => self.stage = Stage::Between,
             _ => {}
+        }
+    }
+}
+
+impl<'t, E: Write + Drop, C: Clock + Drop> PortWatch for SendWatch<'t, E, C> {
+    #[inline(always)]
+    fn wrote(&mut self, bytes: &[u8]) {
+        if self.meter.is_looked_at() {
+            self.look_at(bytes);
         }
     }
 }

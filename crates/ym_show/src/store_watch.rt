@@ -9,16 +9,21 @@ use std::io::Write;
 use std::time::Clock;
 use ym_header::Header;
 
-/// Counts what a receiver writes.
+/// Counts what a receiver writes, where somebody looks.
 #[derive(Drop)]
 pub struct Replies<'c> {
     /// How often it has written.
     pub count: &'c Cell<u64>,
+    /// Whether it is counted.
+    pub is_counted: bool,
 }
 
 impl PortWatch for Replies<'_> {
+    #[inline(always)]
     fn wrote(&mut self, _bytes: &[u8]) {
-        self.count.set(self.count.get().saturating_add(1));
+        if self.is_counted {
+            self.count.set(self.count.get().saturating_add(1));
+        }
     }
 }
 
@@ -31,7 +36,7 @@ pub struct LastFile {
     pub is_open: bool,
 }
 
-/// Watches the sink of a receiver, and shows how far its files are.
+/// Watches the sink of a receiver where somebody looks, and shows how far its files are.
 #[derive(Drop)]
 pub struct StoreWatch<'t, 'c, E: Write + Drop, C: Clock + Drop> {
     alloc: Global,
@@ -76,6 +81,14 @@ impl<'t, 'c, E: Write + Drop, C: Clock + Drop> StoreWatch<'t, 'c, E, C> {
         self.last
     }
 
+    /// A block of so many bytes was stored.
+    fn block(&mut self, count: usize) {
+        self.blocks = self.blocks.saturating_add(1);
+        self.done = self.done.saturating_add(count as u64);
+        let repeats = self.repeats(self.blocks);
+        self.meter.advance(self.done, repeats);
+    }
+
     /// How many replies were written since the file was begun, besides this many.
     fn repeats(&self, replies: u64) -> u64 {
         let written = self.replies.get().saturating_sub(self.before);
@@ -85,6 +98,9 @@ impl<'t, 'c, E: Write + Drop, C: Clock + Drop> StoreWatch<'t, 'c, E, C> {
 
 impl<'t, 'c, E: Write + Drop, C: Clock + Drop> SinkWatch for StoreWatch<'t, 'c, E, C> {
     fn begins(&mut self, header: &Header) {
+        if !self.meter.is_looked_at() {
+            return;
+        }
         self.last = LastFile {
             name: String::from_str(self.alloc, header.name()).ok(),
             is_open: false,
@@ -99,11 +115,11 @@ impl<'t, 'c, E: Write + Drop, C: Clock + Drop> SinkWatch for StoreWatch<'t, 'c, 
         self.last.is_open = true;
     }
 
+    #[inline(always)]
     fn added(&mut self, count: usize) {
-        self.blocks = self.blocks.saturating_add(1);
-        self.done = self.done.saturating_add(count as u64);
-        let repeats = self.repeats(self.blocks);
-        self.meter.advance(self.done, repeats);
+        if self.meter.is_looked_at() {
+            self.block(count);
+        }
     }
 
     fn committed(&mut self) {
@@ -111,6 +127,4 @@ impl<'t, 'c, E: Write + Drop, C: Clock + Drop> SinkWatch for StoreWatch<'t, 'c, 
         let repeats = self.repeats(replies);
         self.meter.finish(repeats);
     }
-
-    fn refused(&mut self) {}
 }

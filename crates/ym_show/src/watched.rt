@@ -18,9 +18,6 @@ pub trait SinkWatch {
 
     /// The open file was committed.
     fn committed(&mut self);
-
-    /// A call was refused.
-    fn refused(&mut self);
 }
 
 /// A sink, and who watches it. It holds what the sink holds, and fails where that fails.
@@ -40,27 +37,24 @@ impl<K: Sink + Drop, V: SinkWatch + Drop> Sink for Watched<K, V> {
     fn begin(&mut self, header: Header) -> Result<(), SinkFault> {
         self.watch.begins(&header);
         let done = self.sink.begin(header);
-        match done {
-            Ok(()) => self.watch.begun(),
-            Err(_) => self.watch.refused(),
+        if done.is_ok() {
+            self.watch.begun();
         }
         done
     }
 
     fn add(&mut self, bytes: &[u8]) -> Result<(), SinkFault> {
         let done = self.sink.add(bytes);
-        match done {
-            Ok(()) => self.watch.added(bytes.len()),
-            Err(_) => self.watch.refused(),
+        if done.is_ok() {
+            self.watch.added(bytes.len());
         }
         done
     }
 
     fn commit(&mut self) -> Result<(), SinkFault> {
         let done = self.sink.commit();
-        match done {
-            Ok(()) => self.watch.committed(),
-            Err(_) => self.watch.refused(),
+        if done.is_ok() {
+            self.watch.committed();
         }
         done
     }

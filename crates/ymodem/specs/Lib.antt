@@ -1,3 +1,4 @@
+pub mod Keeping
 pub mod Lines
 pub mod Page
 pub mod Program

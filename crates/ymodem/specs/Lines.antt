@@ -4,15 +4,9 @@ use Rattle.ym_header.specs.Header.{HeaderParts}
 use Rattle.ym_header.specs.Text.{octal}
 use Rattle.ym_header.specs.declared.stamp.Stamp.{Stamp}
 use Rattle.ym_header.specs.declared.stamp.Stamp.TheVariants as stamp
-use Rattle.ym_line.specs.Text.{send_text, recv_text}
+use Rattle.ym_line.specs.Text.{sender_words, receiver_words}
 use Rattle.ym_core.specs.declared.state.RecvState.{RecvState}
 use Rattle.ym_core.specs.declared.state.SendState.{SendState}
-
-abbrev pub sender_words : ℕ → SendState → List ℕ
-sender_words done state = codes "sender done " ++ (decimal done ++ (codes " " ++ send_text state))
-
-abbrev pub receiver_words : ℕ → RecvState → List ℕ
-receiver_words files state = codes "receiver files " ++ (decimal files ++ (codes " " ++ recv_text state))
 
 -- a number in octal, or `-` where it was not given
 abbrev pub octal_words : Option ℕ → List ℕ

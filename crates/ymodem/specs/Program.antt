@@ -13,7 +13,7 @@ use Rattle.ym_words.specs.Command.{the_app}
 use Rattle.ym_words.specs.Job.{Asked, asked}
 use Rattle.ym_words.specs.Job as job
 use Rattle.ymodem.specs.Page.{Page, TellsFault}
-use Rattle.ymodem.specs.Receiving.{ReceivesSo}
+use Rattle.ymodem.specs.Keeping.{ReceivesSo}
 use Rattle.ymodem.specs.Sending.{SendGives}
 use Rattle.ymodem.specs.Status.{IsHostFault}
 use Rattle.ymodem.specs.declared.command_fault.CommandFault.{CommandFault}

@@ -16,6 +16,8 @@ use Rattle.ym_link.specs.ReceiverInto.{ReceiverParts}
 use Rattle.ym_link.specs.declared.end_fault.EndFault.{EndFault}
 use Rattle.ym_link.specs.declared.end_fault.EndFault.TheVariants as end
 use Rattle.ym_play.specs.declared.streams.StreamFault.{StreamFault}
+use Rattle.ym_pair.specs.AnyPeer.{CommitsTheHeard}
+use Rattle.ym_pair.specs.Logs.{heard_in}
 use Rattle.ymodem.specs.Lines.{receiver_lines}
 use Rattle.ymodem.specs.Page.{Page, Prints}
 use Rattle.ymodem.specs.Status.{IsHostFault, end_fault, sink_fault, receive_answer}
@@ -24,11 +26,17 @@ use Rattle.ymodem.specs.declared.command_fault.CommandFault.TheVariants as fault
 
 -- ---- The transfer
 
+-- a receiver that has heard nothing, into a sink that holds nothing
+pub record IsNewReceiver (r : ReceiverParts) : Type 0 where
+  pub begins : r.receiver ≡ new_receiver r.receiver.confirm
+  pub into_new : IsNew r.kept
+
 -- What an engine does with a receiver: it hears one delivery after another, and stops where it has ended or at a fault. Where the port tells its
--- events, these are the deliveries that they bring.
+-- events, these are the deliveries that they bring. What a new receiver has committed then was spelled by them, whatever the peer is.
 pub record ReceiverRuns (before after : Tape → Type 0) (old : ReceiverParts) (failed new_failed : ℕ) (ended : Result Unit EndFault) (new : ReceiverParts) : Type 0 where
-  pub told : (u : Tape) → after u → (t : Tape) × before t × Receives old t (record { receiver = new; tape = u; answer = ended })
-  pub course : (deliveries : List Heard) × ReceiverCourse old deliveries new
+  pub told : (u : Tape) → after u → (t : Tape) × before t × (run : Receives old t (record { receiver = new; tape = u; answer = ended }))
+      × (IsNewReceiver old → CommitsTheHeard old.receiver.confirm (heard_in old t (record { receiver = new; tape = u; answer = ended }) run) new.kept)
+  pub course : (deliveries : List Heard) × ReceiverCourse old deliveries new × (IsNewReceiver old → CommitsTheHeard old.receiver.confirm deliveries new.kept)
   pub device : ended ≡ Err end.Device → Rose failed new_failed
   pub over : is_ok ended ≡ true → new.receiver.state ≢ state.Running
 
@@ -61,7 +69,8 @@ pub record ReceivesNothing (out : Page) (answer : Result ℕ CommandFault) (new_
   pub answer_is : answer ≡ Err why
   pub out_stays : new_out ≡ out
 
--- a new receiver into a new sink ran over some port, and its lines are printed
+-- A new receiver into a new sink ran over some port, and its lines are printed: what it has committed, of which each file has a line, was spelled by what it
+-- heard.
 pub record ReceivesBatch (confirm : Confirm) (out : Page) (answer : Result ℕ CommandFault) (new_out : Page) : Type 0 where
   pub old : ReceiverParts
   pub new : ReceiverParts
@@ -69,14 +78,13 @@ pub record ReceivesBatch (confirm : Confirm) (out : Page) (answer : Result ℕ C
   pub closed : Result Unit SinkFault
   pub begins : old.receiver ≡ new_receiver confirm
   pub into_new : IsNew old.kept
-  pub course : (deliveries : List Heard) × ReceiverCourse old deliveries new
+  pub course : (deliveries : List Heard) × ReceiverCourse old deliveries new × CommitsTheHeard confirm deliveries new.kept
   pub over : is_ok ended ≡ true → new.receiver.state ≢ state.Running
   pub tells : TellsReceiver ended closed new out answer new_out
 
+-- the same of a connection that was taken, where nothing but want of memory comes before it
+abbrev pub SessionGives : Confirm → Page → Result ℕ CommandFault → Page → Type 0
+SessionGives confirm out answer new_out = ((answer ≡ Err fault.Memory) × (new_out ≡ out)) ⊎ ReceivesBatch confirm out answer new_out
+
 abbrev pub ReceiveGives : Confirm → Page → Result ℕ CommandFault → Page → Type 0
 ReceiveGives confirm out answer new_out = ReceivesNothing out answer new_out ⊎ ReceivesBatch confirm out answer new_out
-
--- one connection; or, with --keep, one after another, of which only the status is said
-abbrev pub ReceivesSo : Bool → Confirm → Page → Page → Result ℕ CommandFault → Page → Page → Type 0
-ReceivesSo true confirm out err answer new_out new_err = IfOk answer (λ status. status ≤ 1)
-ReceivesSo false confirm out err answer new_out new_err = ReceiveGives confirm out answer new_out × (new_err ≡ err)

@@ -17,6 +17,8 @@ use Rattle.ym_link.specs.SourceFile.{FileParts}
 use Rattle.ym_link.specs.declared.end_fault.EndFault.{EndFault}
 use Rattle.ym_link.specs.declared.end_fault.EndFault.TheVariants as end
 use Rattle.ym_play.specs.declared.streams.StreamFault.{StreamFault}
+use Rattle.ym_pair.specs.AnyPeer.{AreAcknowledged, files_places}
+use Rattle.ym_pair.specs.Logs.{Spoke, spoke_in, spoke_along}
 use Rattle.ymodem.specs.Lines.{sender_line}
 use Rattle.ymodem.specs.Page.{Page, Prints}
 use Rattle.ymodem.specs.Status.{IsHostFault, end_fault, send_answer}
@@ -63,11 +65,17 @@ pub record IsNewSender (shape : Shape) (paths : List (List ℕ)) (s : SenderPart
 
 -- ---- The transfer
 
+-- Each frame of each file that a sender reports as done was acknowledged, in order, while it was what had been written last.
+abbrev pub AcknowledgesFiles : SenderParts → SenderParts → List Spoke → Type 0
+AcknowledgesFiles old new spoke = AreAcknowledged old.shape old.files (files_places (counts old) (done_at (length new.files) new.standing.place)) spoke
+
 -- What an engine does with a sender: it hears one delivery after another, and stops where it has ended or at a fault. Where the port tells its
--- events, these are the deliveries that they bring.
+-- events, these are the deliveries that they bring. They have acknowledged what a new sender then reports as done, whatever the peer is.
 pub record SenderRuns (before after : Tape → Type 0) (old : SenderParts) (failed new_failed : ℕ) (ended : Result Unit EndFault) (new : SenderParts) : Type 0 where
-  pub told : old.standing.state ≡ state.Running → (u : Tape) → after u → (t : Tape) × before t × Sends old t (record { sender = new; tape = u; answer = ended })
-  pub course : (deliveries : List (List ℕ)) × SenderCourse old deliveries new
+  pub told : old.standing.state ≡ state.Running → (u : Tape) → after u → (t : Tape) × before t × (run : Sends old t (record { sender = new; tape = u; answer = ended }))
+      × (old.standing ≡ new_standing (counts old) → AcknowledgesFiles old new (spoke_in old t (record { sender = new; tape = u; answer = ended }) run))
+  pub course : (deliveries : List (List ℕ)) × (heard : SenderCourse old deliveries new)
+      × (old.standing ≡ new_standing (counts old) → AcknowledgesFiles old new (spoke_along old deliveries heard.progress new heard.hears))
   pub device : ended ≡ Err end.Device → Rose failed new_failed
   pub memory : ended ≢ Err end.Memory
   pub over : is_ok ended ≡ true → new.standing.state ≢ state.Running
@@ -84,10 +92,11 @@ pub record TellsSender (ended : Result Unit EndFault) (s : SenderParts) (out : P
   pub prints : Prints out (sender_line (done_at (length s.files) s.standing.place) s.standing.state) printed new_out
   pub answer_is : answer ≡ send_gives ended printed s.standing.state
 
--- a sender ran over some port, and its line is printed
+-- A sender ran over some port, and its line is printed: the frames of the files that the line counts were acknowledged, where the sender was new.
 pub record SendsOn (old new : SenderParts) (out : Page) (answer : Result ℕ CommandFault) (new_out : Page) : Type 0 where
   pub ended : Result Unit EndFault
-  pub course : (deliveries : List (List ℕ)) × SenderCourse old deliveries new
+  pub course : (deliveries : List (List ℕ)) × (heard : SenderCourse old deliveries new)
+      × (old.standing ≡ new_standing (counts old) → AcknowledgesFiles old new (spoke_along old deliveries heard.progress new heard.hears))
   pub memory : ended ≢ Err end.Memory
   pub over : is_ok ended ≡ true → new.standing.state ≢ state.Running
   pub tells : TellsSender ended new out answer new_out

@@ -3,7 +3,8 @@
 #![tactic(auto)]
 
 mod command_fault;
-mod folder;
+mod connections;
+mod keeping;
 mod lines;
 mod looped;
 mod program;

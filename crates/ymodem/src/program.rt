@@ -8,8 +8,9 @@ ghost use Rattle.ymodem.specs.Page.{TellsFault};
 ghost use Rattle.ymodem.specs.Program.{AsksFor, IsPlayed, JobGives, shape_of, OnlyTells, Does, IsNoJob};
 
 use crate::command_fault::CommandFault;
+use crate::keeping::receive_as_asked;
 use crate::looped::looped_session;
-use crate::receiving::{Order, receive_as_asked};
+use crate::receiving::Order;
 use crate::sending::send;
 use clap::error::ErrorKind;
 use std::alloc::Global;

@@ -11,12 +11,12 @@ ghost use Rattle.ym_link.specs.declared.end_fault.EndFault.{EndFault as Why};
 ghost use Rattle.ymodem.specs.Lines.{file_lines, receiver_lines};
 ghost use Rattle.ymodem.specs.Page.{Prints};
 ghost use Rattle.ymodem.specs.Program.{confirm_of};
-ghost use Rattle.ymodem.specs.Receiving.{ReceiverRuns, Closes, TellsReceiver, ReceiveGives, ReceivesSo, receive_gives};
+ghost use Rattle.ymodem.specs.Receiving.{ReceiverRuns, Closes, TellsReceiver, ReceiveGives, SessionGives, receive_gives};
 ghost use Rattle.ymodem.specs.Status.{receive_answer};
 
 use crate::command_fault::CommandFault;
-use crate::folder::{check_folder, tell_not_stored};
-use crate::lines::{FileLine, ReceiverLine};
+use crate::connections::{listen, take_told};
+use crate::lines::FileLine;
 use crate::store::Store;
 use crate::telling::tell_end;
 use std::alloc::{AllocError, Global};
@@ -24,16 +24,18 @@ use std::cell::Cell;
 use std::fs::{File, Files};
 use std::io;
 use std::io::Write;
-use std::net::{Ipv4Addr, Net, SocketAddr, TcpListener, TcpStream};
+use std::net::{Net, TcpListener, TcpStream};
 use std::time::Clock;
 use ym_file::SinkFault;
 use ym_header::Header;
 use ym_host::{DirSink, Durability, Leftover, SocketPort};
+use ym_line::ReceiverLine;
 use ym_link::{Clearing, Confirm, EndFault, Port, ReceiverInto, RecvState, Role, receive_over};
+use ym_pair::laws::a_receiver_commits_what_it_heard;
 use ym_play::{Output, StreamFault};
 use ym_show::{
-    Eager, EndMessage, FileMessage, LastFile, LineMessage, Meter, Reason, Replies, StoreWatch,
-    Teller, Watched, WatchedPort,
+    Eager, EndMessage, FileMessage, LastFile, Meter, Reason, Replies, StoreWatch, Teller, Watched,
+    WatchedPort, check_folder, tell_not_stored,
 };
 use ym_words::ReceiveFlags;
 
@@ -42,30 +44,6 @@ const REPLY_MS: u32 = 3000;
 
 /// How many milliseconds it waits for more of a frame that has begun.
 const WITHIN_MS: u32 = 1000;
-
-/// Listens on 127.0.0.1 at this port.
-fn listen<R: Net<Listener = TcpListener, Stream = TcpStream>, E: Write + Drop>(
-    rt: &R,
-    port: u16,
-    teller: &mut Teller<E>,
-) -> io::Result<TcpListener> {
-    let bound = TcpListener::bind(rt, SocketAddr::from((Ipv4Addr::LOCALHOST, port)));
-    match &bound {
-        Ok(_) => teller.tell(LineMessage::Listening(port)),
-        Err(error) => teller.tell(LineMessage::of_error(port, error)),
-    }
-    bound
-}
-
-/// The next connection. It waits for it as long as it takes.
-fn accept<E: Write + Drop>(
-    listener: &TcpListener,
-    teller: &mut Teller<E>,
-) -> io::Result<TcpStream> {
-    let (stream, _) = listener.accept()?;
-    teller.tell(LineMessage::Connected);
-    Ok(stream)
-}
 
 /// Prints a line for each file.
 fn print_files<O: Output>(out: &mut O, headers: &[Header]) -> Result<(), StreamFault>
@@ -158,6 +136,7 @@ pub fn receive_batch<P: Port, K: Store + Drop, O: Output>(
         × (result.1 ≡ r.receiver.state)
         × TellsReceiver ended closed r (record { holds = O.contents out.old; failed = O.failures out.old }) result.2 (record { holds = O.contents out.new; failed = O.failures out.new }) }
 {
+    a_receiver_commits_what_it_heard();
     let ended = receive_over(port, &mut receiver);
     let state = receiver.state();
     let mut sink = receiver.into_sink();
@@ -167,7 +146,7 @@ pub fn receive_batch<P: Port, K: Store + Drop, O: Output>(
 }
 
 /// Sees that files can be stored in the folder at this path, or tells why not.
-fn look_at<R: Files<File = File>, E: Write + Drop>(
+pub fn look_at<R: Files<File = File>, E: Write + Drop>(
     rt: &R,
     alloc: Global,
     dir: &str,
@@ -187,39 +166,6 @@ pub struct Order<'a> {
     pub flags: ReceiveFlags,
     /// The folder that it stores in.
     pub dir: &'a str,
-}
-
-/// Receives files over a port into a new sink, with how far each file is shown, and why one was not stored and why the receiver has ended told.
-fn receive_shown<'a, P, R, O, E>(
-    rt: &'a R,
-    alloc: Global,
-    port: P,
-    sink: DirSink<&'a R>,
-    order: Order<'_>,
-    out: &mut O,
-    teller: &mut Teller<E>,
-) -> Result<u8, CommandFault>
-where
-    P: Port + Drop,
-    R: Files<File = File> + Clock,
-    O: Output,
-    E: Write + Drop,
-    requires { IsNew (kept_of sink) }
-    ensures { ReceiveGives (confirm_of order.entry.flags.single) (record { holds = O.contents out.old; failed = O.failures out.old }) result (record { holds = O.contents out.new; failed = O.failures out.new }) }
-{
-    let replies = Cell::new(0);
-    let besides = if order.flags.single { 1 } else { 2 };
-    let meter = Meter::new(alloc, rt, teller);
-    let watch = StoreWatch::new(alloc, meter, &replies, besides);
-    let watched = Watched { sink, watch };
-    let receiver = ReceiverInto::with_sink(alloc, watched, confirm_of(order.flags.single));
-    let watch = Replies { count: &replies };
-    let mut port = WatchedPort { port, watch };
-    let (watched, state, answer) = receive_batch(&mut port, receiver, out);
-    let Watched { sink: _sink, watch } = watched;
-    let last = watch.into_last();
-    tell_outcome(rt, alloc, order, &last, state, &answer, teller);
-    answer
 }
 
 /// Tells why a receiver has ended, and why the last file was not stored.
@@ -246,8 +192,9 @@ fn tell_outcome<R: Files<File = File>, E: Write + Drop>(
     }
 }
 
-/// Receives the files of one connection, and prints them and how the receiver has ended.
-fn receive_from<R, O, E>(
+/// Receives the files of one connection, and prints them and how the receiver has ended. Where somebody looks, how far each file is is shown, and why
+/// one was not stored and why the receiver has ended told.
+pub fn receive_from<R, O, E>(
     rt: &R,
     alloc: Global,
     stream: TcpStream,
@@ -259,16 +206,29 @@ where
     R: Files<File = File> + Clock,
     O: Output,
     E: Write + Drop,
-    ensures { ReceiveGives (confirm_of order.entry.flags.single) (record { holds = O.contents out.old; failed = O.failures out.old }) result (record { holds = O.contents out.new; failed = O.failures out.new }) }
+    ensures { SessionGives (confirm_of order.entry.flags.single) (record { holds = O.contents out.old; failed = O.failures out.old }) result (record { holds = O.contents out.new; failed = O.failures out.new }) }
 {
     let sink = open_sink(rt, alloc, order.flags, order.dir)?;
+    let is_loud = teller.is_loud;
+    let replies = Cell::new(0);
+    let besides = if order.flags.single { 1 } else { 2 };
+    let meter = Meter::new(alloc, rt, teller);
+    let watch = StoreWatch::new(alloc, meter, &replies, besides);
+    let watched = Watched { sink, watch };
+    let receiver = ReceiverInto::with_sink(alloc, watched, confirm_of(order.flags.single));
     let port = SocketPort::new(rt, stream, REPLY_MS - WITHIN_MS, WITHIN_MS);
-    let mut port = Eager::new(Clearing::new(port, Role::Receiver), order.flags.eager);
-    if teller.is_loud {
-        return receive_shown(rt, alloc, port, sink, order, out, teller);
+    let port = Eager::new(Clearing::new(port, Role::Receiver), order.flags.eager);
+    let watch = Replies {
+        count: &replies,
+        is_counted: is_loud,
+    };
+    let mut port = WatchedPort { port, watch };
+    let (watched, state, answer) = receive_batch(&mut port, receiver, out);
+    let Watched { sink: _sink, watch } = watched;
+    let last = watch.into_last();
+    if is_loud {
+        tell_outcome(rt, alloc, order, &last, state, &answer, teller);
     }
-    let receiver = ReceiverInto::with_sink(alloc, sink, confirm_of(order.flags.single));
-    let (_sink, _state, answer) = receive_batch(&mut port, receiver, out);
     answer
 }
 
@@ -288,60 +248,7 @@ where
     ensures { ReceiveGives (confirm_of order.entry.flags.single) (record { holds = O.contents out.old; failed = O.failures out.old }) result (record { holds = O.contents out.new; failed = O.failures out.new }) }
 {
     look_at(rt, alloc, order.dir, teller)?;
-    let listener = listen(rt, port, teller)?;
-    let stream = accept(&listener, teller)?;
+    let mut connections = listen(rt, port, teller)?;
+    let stream = take_told(&mut connections, teller)?;
     receive_from(rt, alloc, stream, order, out, teller)
-}
-
-/// Receives files into a folder from one connection after another, and prints them and how each receiver has ended, also where it ended in a fault,
-/// whose line goes to `err`. It ends where no connection can be taken any more.
-pub fn receive_on<R, O, F, E>(
-    rt: &R,
-    alloc: Global,
-    port: u16,
-    order: Order<'_>,
-    out: &mut O,
-    err: &mut F,
-    teller: &mut Teller<E>,
-) -> Result<u8, CommandFault>
-where
-    R: Files<File = File> + Net<Listener = TcpListener, Stream = TcpStream> + Clock,
-    O: Output,
-    F: Output,
-    E: Write + Drop,
-    ensures { IfOk result (λ status. status ≤ 1) }
-{
-    look_at(rt, alloc, order.dir, teller)?;
-    let listener = listen(rt, port, teller)?;
-    for _session in 0..u64::MAX {
-        let stream = accept(&listener, teller)?;
-        if let Err(fault) = receive_from(rt, alloc, stream, order, out, teller) {
-            err.put_line(fault)?;
-        }
-    }
-    Ok(0)
-}
-
-/// Receives as the flag `--keep` says: from one connection, or from one after another.
-pub fn receive_as_asked<R, O, F, E>(
-    rt: &R,
-    alloc: Global,
-    port: u16,
-    order: Order<'_>,
-    out: &mut O,
-    err: &mut F,
-    teller: &mut Teller<E>,
-) -> Result<u8, CommandFault>
-where
-    R: Files<File = File> + Net<Listener = TcpListener, Stream = TcpStream> + Clock,
-    O: Output,
-    F: Output,
-    E: Write + Drop,
-    ensures { ReceivesSo order.entry.flags.keep (confirm_of order.entry.flags.single) (record { holds = O.contents out.old; failed = O.failures out.old }) (record { holds = F.contents err.old; failed = F.failures err.old }) result (record { holds = O.contents out.new; failed = O.failures out.new }) (record { holds = F.contents err.new; failed = F.failures err.new }) }
-{
-    if order.flags.keep {
-        receive_on(rt, alloc, port, order, out, err, teller)
-    } else {
-        receive(rt, alloc, port, order, out, teller)
-    }
 }

@@ -9,7 +9,6 @@ ghost use Rattle.ymodem.specs.Sending.{last_part, IsBatch, MayRefuse, RefusesFil
 ghost use Rattle.ymodem.specs.Status.{send_answer};
 
 use crate::command_fault::CommandFault;
-use crate::lines::SenderLine;
 use crate::telling::tell_end;
 use std::alloc::Global;
 use std::fs::{File, Files};
@@ -21,9 +20,11 @@ use std::{io, thread};
 use ym_file::{Shape, Source};
 use ym_header::{HeaderFault, Stamp};
 use ym_host::{FileSource, SocketPort};
+use ym_line::SenderLine;
 use ym_link::{
     BatchFault, Clearing, EndFault, Port, Role, SendState, SenderFrom, SourceFile, send_over,
 };
+use ym_pair::laws::a_sender_was_acknowledged;
 use ym_play::{Output, StreamFault};
 use ym_show::{
     EndMessage, FileMessage, LineMessage, Meter, Reason, SendWatch, Teller, WatchedPort,
@@ -216,12 +217,13 @@ pub fn send_batch<P: Port, S: Source, O: Output>(
     ensures { (ended : Result Unit Why) × SenderRuns (P.tells port.old) (P.tells port.new) sender.old (P.failures port.old) (P.failures port.new) ended sender.new
         × TellsSender ended sender.new (record { holds = O.contents out.old; failed = O.failures out.old }) result (record { holds = O.contents out.new; failed = O.failures out.new }) }
 {
+    a_sender_was_acknowledged();
     let ended = send_over(port, sender);
     tell_sender(ended, sender, out)
 }
 
-/// The same over a port of the program's own, with how far each file is shown, and why it has ended told.
-fn send_shown<P: Port + Drop, S: Source, O: Output, C: Clock, E: Write + Drop>(
+/// The same over a port of the program's own. Where somebody looks, how far each file is is shown, and why the sender has ended told.
+fn send_on<P: Port + Drop, S: Source, O: Output, C: Clock, E: Write + Drop>(
     rt: &C,
     alloc: Global,
     port: P,
@@ -242,23 +244,6 @@ fn send_shown<P: Port + Drop, S: Source, O: Output, C: Clock, E: Write + Drop>(
     let is_running = state == SendState::Running;
     tell_end(teller, &answer, is_running, EndMessage::of_sender(state));
     answer
-}
-
-/// Runs a sender over a port, shown where somebody looks.
-fn send_on<P: Port + Drop, S: Source, O: Output, C: Clock, E: Write + Drop>(
-    rt: &C,
-    alloc: Global,
-    mut port: P,
-    sender: &mut SenderFrom<S>,
-    out: &mut O,
-    teller: &mut Teller<E>,
-) -> Result<u8, CommandFault>
-    ensures { SendsOn sender.old sender.new (record { holds = O.contents out.old; failed = O.failures out.old }) result (record { holds = O.contents out.new; failed = O.failures out.new }) }
-{
-    if teller.is_loud {
-        return send_shown(rt, alloc, port, sender, out, teller);
-    }
-    send_batch(&mut port, sender, out)
 }
 
 /// Sends the files at these paths, in order, to whoever listens on 127.0.0.1 at this port, and prints how the sender has ended.

@@ -1,5 +1,6 @@
 //! What is told, in words.
 
+use super::{same, shows};
 use crate::{EndMessage, FileMessage, LineMessage, Look, Reason, Shown, Teller};
 use std::io;
 use std::io::ErrorKind;
@@ -22,13 +23,11 @@ fn of_connections(rt: HostRuntime) -> Result<(), Fail> {
             "127.0.0.1:4000 refused the connection",
         ),
     ] {
-        assert_eq!(rt; format!(in rt.alloc(); "{message}")?.as_str(), want);
+        assert!(rt; shows(&rt, &message, want)?, "{want}");
     }
     let error = io::Error::from(ErrorKind::ConnectionRefused);
-    assert_eq!(rt;
-        LineMessage::of_error(4000, &error),
-        LineMessage::Refused(4000)
-    );
+    let told = LineMessage::of_error(4000, &error);
+    assert!(rt; same(&told, &LineMessage::Refused(4000)));
     Ok(())
 }
 
@@ -52,10 +51,10 @@ fn of_files(rt: HostRuntime) -> Result<(), Fail> {
             "cannot store 'a': no space left on device",
         ),
     ] {
-        assert_eq!(rt; format!(in rt.alloc(); "{message}")?.as_str(), want);
+        assert!(rt; shows(&rt, &message, want)?, "{want}");
     }
     let error = io::Error::from(ErrorKind::NotFound);
-    assert_eq!(rt; Reason::of(&error), Reason::Absent);
+    assert!(rt; same(&Reason::of(&error), &Reason::Absent));
     Ok(())
 }
 
@@ -76,10 +75,10 @@ fn of_ends(rt: HostRuntime) -> Result<(), Fail> {
         ),
     ] {
         let message = message.ok_or("nothing is told")?;
-        assert_eq!(rt; format!(in rt.alloc(); "{message}")?.as_str(), want);
+        assert!(rt; shows(&rt, &message, want)?, "{want}");
     }
-    assert_eq!(rt; EndMessage::of_sender(SendState::Finished), None);
-    assert_eq!(rt; EndMessage::of_receiver(RecvState::Finished), None);
+    assert!(rt; same(&EndMessage::of_sender(SendState::Finished), &None));
+    assert!(rt; same(&EndMessage::of_receiver(RecvState::Finished), &None));
     Ok(())
 }
 
@@ -97,7 +96,7 @@ fn names_on_a_terminal(rt: HostRuntime) -> Result<(), Fail> {
         ),
     ] {
         let shown = Shown(name);
-        assert_eq!(rt; format!(in rt.alloc(); "{shown}")?.as_str(), want);
+        assert!(rt; shows(&rt, &shown, want)?, "{want}");
     }
     Ok(())
 }
@@ -111,7 +110,7 @@ fn told_or_not(rt: HostRuntime) -> Result<(), Fail> {
         };
         let mut teller = Teller::new(Vec::new(rt.alloc()), look);
         teller.tell(LineMessage::Connected);
-        assert_eq!(rt; teller.err.as_slice(), want);
+        assert!(rt; same(&teller.err.as_slice(), &want));
     }
     Ok(())
 }

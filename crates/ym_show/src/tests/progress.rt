@@ -1,5 +1,6 @@
 //! How far a file is.
 
+use super::{same, shows};
 use crate::{Look, Progress, Teller, Took, Whole, progress_line};
 use std::test::Fail;
 
@@ -35,7 +36,7 @@ fn lines(rt: HostRuntime) -> Result<(), Fail> {
         (empty, "a: 100%, 0 of 0 bytes, 0 B/s"),
     ] {
         let line = progress_line(rt.alloc(), "a", progress, 80)?;
-        assert_eq!(rt; line.as_str(), want);
+        assert!(rt; same(&line.as_str(), &want), "{want}");
     }
     Ok(())
 }
@@ -49,7 +50,7 @@ fn narrow_lines(rt: HostRuntime) -> Result<(), Fail> {
         (0, ""),
     ] {
         let line = progress_line(rt.alloc(), "firmware.bin", HALF, columns)?;
-        assert_eq!(rt; line.as_str(), want);
+        assert!(rt; same(&line.as_str(), &want), "{want}");
     }
     Ok(())
 }
@@ -69,7 +70,7 @@ fn whole_files(rt: HostRuntime) -> Result<(), Fail> {
                 repeats,
             },
         };
-        assert_eq!(rt; format!(in rt.alloc(); "{whole}")?.as_str(), want);
+        assert!(rt; shows(&rt, &whole, want)?, "{want}");
     }
     Ok(())
 }
@@ -85,6 +86,7 @@ fn in_place(rt: HostRuntime) -> Result<(), Fail> {
     teller.show("abc");
     teller.show("d");
     teller.tell("whole");
-    assert_eq!(rt; teller.err.as_slice(), b"\rabc\rd  \r \rwhole\n".as_slice());
+    let want = b"\rabc\rd  \r \rwhole\n".as_slice();
+    assert!(rt; same(&teller.err.as_slice(), &want));
     Ok(())
 }

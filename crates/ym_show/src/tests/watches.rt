@@ -46,7 +46,10 @@ fn a_receiver(rt: HostRuntime) -> Result<(), Fail> {
     let mut teller = teller(&rt);
     let header = Header::new(rt.alloc(), "a.txt", 130, Stamp::Nothing)?;
     let count = Cell::new(0);
-    let mut replies = Replies { count: &count };
+    let mut replies = Replies {
+        count: &count,
+        is_counted: true,
+    };
     let meter = Meter::new(rt.alloc(), &rt, &mut teller);
     let mut watch = StoreWatch::new(rt.alloc(), meter, &count, 2);
     replies.wrote(b"C");

@@ -2,11 +2,12 @@
 
 use super::fixtures::{ends, ran, with_file};
 use crate::command_fault::CommandFault;
-use crate::lines::{FileLine, ReceiverLine, SenderLine};
+use crate::lines::FileLine;
 use std::net::TcpListener;
 use std::test::Fail;
 use std::{env, fs};
 use ym_header::{Header, HeaderFault, Stamp};
+use ym_line::{ReceiverLine, SenderLine};
 use ym_link::{RecvState, SendState};
 
 const ONE_FILE: &str = "1 > - whole < C whole\n\

@@ -1,11 +1,14 @@
 //! The folder that files are stored in, as it is looked at beside a sink.
 
+use crate::file_message::FileMessage;
+use crate::reason::Reason;
+use crate::store_watch::LastFile;
+use crate::teller::Teller;
 use std::alloc::{AllocError, Global};
 use std::fs::{File, Files};
 use std::io::{ErrorKind, Write};
 use std::path::Path;
 use std::{fs, io};
-use ym_show::{FileMessage, LastFile, Reason, Teller};
 
 /// The name of an empty file that is made and removed again, to see that files can be made.
 const PROBE: &str = ".ymodem.part";
