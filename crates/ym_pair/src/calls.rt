@@ -73,11 +73,12 @@ pub fn send_and_receive<P: Port, S: Source, Q: Port, K: Sink>(
     far: &mut Q,
     receiver: &mut ReceiverInto<K>,
 ) -> (Result<(), EndFault>, Result<(), EndFault>)
-    ensures prefix { AreNew (ends sender.old receiver.old) → (calls : AreCalls sender.old sender.new receiver.old receiver.new)
-        × ((rounds : List Round) → CallsPairUp sender.old sender.new receiver.old receiver.new calls rounds → CommitsAPrefix sender.old.files (ends sender.new receiver.new)) }
+    ensures course { AreNew (ends sender.old receiver.old) → AreCalls sender.old sender.new receiver.old receiver.new }
+    ensures prefix { AreNew (ends sender.old receiver.old) → (calls : AreCalls sender.old sender.new receiver.old receiver.new) (rounds : List Round) →
+        CallsPairUp sender.old sender.new receiver.old receiver.new calls rounds → CommitsAPrefix sender.old.files (ends sender.new receiver.new) }
     ensures complete { AreNew (ends sender.old receiver.old) → is_ok result.0 ≡ true → is_ok result.1 ≡ true → NoneRose (ends sender.old receiver.old) (ends sender.new receiver.new) →
-        (calls : AreCalls sender.old sender.new receiver.old receiver.new)
-        × ((rounds : List Round) → CallsPairUp sender.old sender.new receiver.old receiver.new calls rounds → longest_bad_run 0 rounds ≤ BURST → HaveBothFinished sender.old.files (ends sender.new receiver.new)) }
+        (calls : AreCalls sender.old sender.new receiver.old receiver.new) (rounds : List Round) →
+        CallsPairUp sender.old sender.new receiver.old receiver.new calls rounds → longest_bad_run 0 rounds ≤ BURST → HaveBothFinished sender.old.files (ends sender.new receiver.new) }
 {
     two_engines_commit_a_prefix();
     two_engines_complete();
