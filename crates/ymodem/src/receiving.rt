@@ -168,7 +168,7 @@ pub struct Order<'a> {
     pub dir: &'a str,
 }
 
-/// Tells why a receiver has ended, and why the last file was not stored.
+/// Tells why a receiver has ended, and why the last file was not stored. The folder is looked at only where somebody is told.
 fn tell_outcome<R: Files<File = File>, E: Write + Drop>(
     rt: &R,
     alloc: Global,
@@ -180,7 +180,7 @@ fn tell_outcome<R: Files<File = File>, E: Write + Drop>(
 ) {
     let is_running = state == RecvState::Running;
     tell_end(teller, answer, is_running, EndMessage::of_receiver(state));
-    if state == RecvState::SinkFailed {
+    if teller.is_loud && state == RecvState::SinkFailed {
         tell_not_stored(
             rt,
             alloc,
@@ -209,7 +209,7 @@ where
     ensures { SessionGives (confirm_of order.entry.flags.single) (record { holds = O.contents out.old; failed = O.failures out.old }) result (record { holds = O.contents out.new; failed = O.failures out.new }) }
 {
     let sink = open_sink(rt, alloc, order.flags, order.dir)?;
-    let is_loud = teller.is_loud;
+    let is_counted = teller.is_loud;
     let replies = Cell::new(0);
     let besides = if order.flags.single { 1 } else { 2 };
     let meter = Meter::new(alloc, rt, teller);
@@ -220,15 +220,13 @@ where
     let port = Eager::new(Clearing::new(port, Role::Receiver), order.flags.eager);
     let watch = Replies {
         count: &replies,
-        is_counted: is_loud,
+        is_counted,
     };
     let mut port = WatchedPort { port, watch };
     let (watched, state, answer) = receive_batch(&mut port, receiver, out);
     let Watched { sink: _sink, watch } = watched;
     let last = watch.into_last();
-    if is_loud {
-        tell_outcome(rt, alloc, order, &last, state, &answer, teller);
-    }
+    tell_outcome(rt, alloc, order, &last, state, &answer, teller);
     answer
 }
 

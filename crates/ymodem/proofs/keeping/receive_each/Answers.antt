@@ -1,8 +1,11 @@
 -- One more session, or why there is none.
-use Rattle.std.proofs.Common.{◌≡◌, ◌∙◌, ◌+◌, ap}
-use Rattle.ymodem.specs.Keeping.{one_more}
+use Rattle.std.proofs.Common.{◌≡◌, ◌∙◌, ◌+◌, ap, refl, rules}
+use Rattle.ymodem.specs.Keeping.{no_session, one_more}
 use Rattle.ymodem.proofs.KeepLemmas.{none_comes, cannot_tell, are_all}
 use Rattle.ymodem.proofs.keeping.receive_each.Goals as goal
+
+pub loop-session-init : goal.loop-session-init
+loop-session-init g c = record { taken = search rules; failed = refl; sessions = no_session _ _ _ }
 
 pub returns-in_err-stream : goal.returns-in_err-stream
 returns-in_err-stream g c =

@@ -4,4 +4,4 @@ use Rattle.ymodem.proofs.SessionLemmas.{batch}
 use Rattle.ymodem.proofs.receiving.receive_from.Goals as goal
 
 pub returns : goal.returns
-returns g c = let ran = c.receive_batch.ensures in inr (batch _ _ _ _ _ _ _ _ _ _ _ _ ran.3 ran.6 (search rules) (search rules))
+returns g c = let ran = c.receive_batch-watched.ensures in inr (batch _ _ _ _ _ _ _ _ _ _ _ _ ran.3 ran.6 (search rules) (search rules))
