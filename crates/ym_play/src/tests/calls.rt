@@ -58,9 +58,7 @@ pub(super) fn ends_by<R: Read, C: Carrier>(
     let mut printed = Vec::new(alloc);
     let mut told = Vec::new(alloc);
     let ended = session_by(alloc, input, &mut printed, &mut told, carrier);
-    told.as_slice() == err.as_bytes()
-        && printed.as_slice() == out.as_bytes()
-        && ended == status
+    told.as_slice() == err.as_bytes() && printed.as_slice() == out.as_bytes() && ended == status
 }
 
 /// The same, by a carrier in memory.
@@ -75,7 +73,12 @@ pub(super) fn ends<R: Read>(
 }
 
 /// Whether a script that is played gives this text and status.
-pub(super) fn gives(alloc: Global, script: &str, status: u8, text: &str) -> Result<bool, PlayFault> {
+pub(super) fn gives(
+    alloc: Global,
+    script: &str,
+    status: u8,
+    text: &str,
+) -> Result<bool, PlayFault> {
     let (told, ended) = played(alloc, script.as_bytes())?;
     Ok(told.as_str() == text && ended == status)
 }

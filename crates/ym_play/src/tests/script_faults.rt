@@ -91,7 +91,10 @@ fn words_that_are_no_command(rt: HostRuntime) -> Result<(), Fail> {
         " ",
     ] {
         let script = format!(in rt.alloc(); "\n\nok 1\n{line}\n")?;
-        assert!(rt; has_fault(rt.alloc(), &script, 4, ScriptWhy::NotCommand), "{line}");
+        assert!(rt;
+            has_fault(rt.alloc(), &script, 4, ScriptWhy::NotCommand),
+            "{line}"
+        );
     }
     Ok(())
 }

@@ -182,12 +182,7 @@ struct End<'a> {
 }
 
 /// Whether a receiver into a new folder ends so, and leaves no part.
-fn receives(
-    rt: &HostRuntime,
-    name: &str,
-    scene: Scene<'_>,
-    want: End<'_>,
-) -> Result<bool, Fail> {
+fn receives(rt: &HostRuntime, name: &str, scene: Scene<'_>, want: End<'_>) -> Result<bool, Fail> {
     let dir = folder(rt, name)?;
     let (answer, files, is_printed) = received(rt, &dir, scene, want.text)?;
     let part = dir.join(rt.alloc(), "a.part")?;
