@@ -51,7 +51,11 @@ pub(super) fn refuses(
 }
 
 /// Begins a file of no bytes.
-pub(super) fn take_none(rt: &HostRuntime, sink: &mut DirSink<&HostRuntime>, name: &str) -> Result<(), Fail>
+pub(super) fn take_none(
+    rt: &HostRuntime,
+    sink: &mut DirSink<&HostRuntime>,
+    name: &str,
+) -> Result<(), Fail>
     requires { sink.old.opened ≡ None }
     ensures { OnOk result (IsCoveredFile (kept_of sink.new)) }
 {
@@ -135,7 +139,12 @@ pub(super) fn is_told(sink: &DirSink<&HostRuntime>, place: usize, name: &str) ->
 }
 
 /// Writes this text to the file of this name in the folder.
-pub(super) fn write_text(rt: &HostRuntime, dir: &PathBuf, name: &str, text: &str) -> Result<(), Fail> {
+pub(super) fn write_text(
+    rt: &HostRuntime,
+    dir: &PathBuf,
+    name: &str,
+    text: &str,
+) -> Result<(), Fail> {
     let path = dir.join(rt.alloc(), name)?;
     fs::write(rt, &path, text)?;
     Ok(())

@@ -17,11 +17,7 @@ use std::test::Fail;
 use ym_file::Sink;
 
 /// Takes a file of three bytes in two pieces.
-fn take_in_two(
-    rt: &HostRuntime,
-    sink: &mut DirSink<&HostRuntime>,
-    name: &str,
-) -> Result<(), Fail>
+fn take_in_two(rt: &HostRuntime, sink: &mut DirSink<&HostRuntime>, name: &str) -> Result<(), Fail>
     requires { sink.old.opened ≡ None }
     ensures { OnOk result (IsCoveredFile (kept_of sink.new)) }
 {

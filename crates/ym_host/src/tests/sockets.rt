@@ -36,11 +36,7 @@ fn port<'r>(
 }
 
 /// What a read of a port gets.
-fn read(
-    port: &mut SocketPort<&HostRuntime>,
-    wait: Wait,
-    buf: &mut [u8],
-) -> Result<Got, PortFault> {
+fn read(port: &mut SocketPort<&HostRuntime>, wait: Wait, buf: &mut [u8]) -> Result<Got, PortFault> {
     if buf.is_empty() {
         return Err(PortFault);
     }
