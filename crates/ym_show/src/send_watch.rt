@@ -83,6 +83,9 @@ impl<'t, E: Write + Drop, C: Clock + Drop> SendWatch<'t, E, C> {
     }
 
     /// A frame was written.
+    // kept out of the way of a write that nobody looks at
+    #[cold]
+    #[inline(never)]
     fn look_at(&mut self, bytes: &[u8]) {
         match bytes {
             [SHORT | LONG, number, _, body @ .., _, _] => self.block(*number, body),

@@ -82,6 +82,9 @@ impl<'t, 'c, E: Write + Drop, C: Clock + Drop> StoreWatch<'t, 'c, E, C> {
     }
 
     /// A block of so many bytes was stored.
+    // kept out of the way of a block that nobody looks at
+    #[cold]
+    #[inline(never)]
     fn block(&mut self, count: usize) {
         self.blocks = self.blocks.saturating_add(1);
         self.done = self.done.saturating_add(count as u64);

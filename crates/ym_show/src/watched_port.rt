@@ -30,6 +30,7 @@ impl<P: Port + Drop, V: PortWatch + Drop> Port for WatchedPort<P, V> {
         self.port.read(wait, buf)
     }
 
+    #[inline(always)]
     fn write(&mut self, bytes: &[u8]) -> Result<(), PortFault> {
         let done = self.port.write(bytes);
         if done.is_ok() {
