@@ -78,10 +78,10 @@ TARGET = x86_64-unknown-linux-gnu
 .PHONY: lib test-lib install-lib
 
 lib:
-	@for target in $(TARGETS); do \
-	    (cd crates/ym_c && rt lib --target $$target) > out-lib.log 2>&1 || { cat out-lib.log; rm -f out-lib.log; exit 1; }; \
+	@mkdir -p out; for target in $(TARGETS); do \
+	    (cd crates/ym_c && rt lib --target $$target) > out/lib.log 2>&1 || { cat out/lib.log; exit 1; }; \
 	    install -D -m 644 crates/ym_c/out/libym_c.a out/lib/$$target/libymodem.a || exit 1; \
-	done; rm -f out-lib.log
+	done
 
 test: test-lib
 

@@ -162,7 +162,9 @@ def is_current():
         return False
     built = os.stat(PROGRAM).st_mtime
     files = [os.path.join(ROOT, "crates.txt"), *(it for name in of_program() for it in sources(name))]
-    return all(os.stat(it).st_mtime <= built for it in files)
+    # a folder is as new as the last file that came to it or went
+    folders = {os.path.dirname(it) for it in files[1:]} - {os.path.join(CRATES, name) for name in of_program()}
+    return all(os.stat(it).st_mtime <= built for it in (*files, *folders))
 
 
 def play():
