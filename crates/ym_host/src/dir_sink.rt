@@ -44,6 +44,8 @@ pub enum StoreFault {
     IsThere,
     /// The name of its part has been taken already. Where such parts are to be removed, somebody has this one locked, or it is none.
     PartIsThere,
+    /// What stands at the path of its part is no longer the file that was written.
+    PartIsGone,
     /// The system refused a call.
     System(io::Error),
 }
@@ -119,6 +121,17 @@ fn part_fault(error: io::Error) -> StoreFault {
         ErrorKind::ResourceBusy | ErrorKind::InvalidInput if error.raw_os_error().is_none() => {
             StoreFault::PartIsThere
         }
+        _ => StoreFault::System(error),
+    }
+}
+
+/// Why a part did not get its name.
+fn name_fault(error: io::Error) -> StoreFault {
+    match error.kind() {
+        // It came meanwhile.
+        ErrorKind::AlreadyExists => StoreFault::IsThere,
+        // No error of the system: `OpenPart::name` has looked.
+        ErrorKind::NotFound if error.raw_os_error().is_none() => StoreFault::PartIsGone,
         _ => StoreFault::System(error),
     }
 }
@@ -357,7 +370,7 @@ impl<R: Files<File = File> + Drop> Sink for DirSink<R> {
             None => unreachable!(),
         };
         if let Err(error) = stored {
-            return Err(self.fail(StoreFault::System(error)));
+            return Err(self.fail(name_fault(error)));
         }
         match self.taking.take() {
             Some(OpenPart { header, .. }) => self.committed.push_reserved(header),

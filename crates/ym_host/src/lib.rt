@@ -12,6 +12,7 @@ mod write_behind;
 
 pub use dir_sink::{DirSink, Durability, Leftover, StoreFault};
 pub use file_source::FileSource;
+pub use part::part_name;
 pub use socket_carrier::SocketCarrier;
 pub use socket_port::SocketPort;
 

@@ -1,5 +1,8 @@
 //! The part that a file is written as, on the disk: how it is made, how it gets its name, and how one of an earlier run is removed.
 
+ghost use Rattle.std.specs.Prelude.{IfOk};
+ghost use Rattle.ym_host.specs.Part.{IsPartName};
+
 use crate::file_id::{check_regular, stands_at};
 use std::alloc::{AllocError, Global};
 use std::fs::{File, Files};
@@ -17,7 +20,9 @@ const PART_ENDING: &str = ".part";
 const NO_LINKS: [i32; 4] = [1, 31, 38, 95];
 
 /// The name of the part of a file of this name: with `.part` behind it, and cut before that, at a character, where it would be longer than names may be.
-pub(crate) fn part_name(alloc: Global, name: &str) -> Result<String, AllocError> {
+pub fn part_name(alloc: Global, name: &str) -> Result<String, AllocError>
+    ensures { IfOk result (λ part. IsPartName name.now part.bytes.items) }
+{
     let kept = name.floor_char_boundary(NAME_LIMIT - PART_ENDING.len());
     let mut part = String::from_str(alloc, &name[..kept])?;
     part.push_str(PART_ENDING)?;

@@ -20,6 +20,8 @@ pub enum FileMessage<'a> {
     PartIsLeft(&'a str, &'a str),
     /// This name has a part, the second text, that may not be removed.
     PartIsInUse(&'a str, &'a str),
+    /// The part of this name, the second text, was moved away or replaced while it was written.
+    PartIsGone(&'a str, &'a str),
     /// The file of this name could not be stored.
     CannotStore(&'a str, Reason),
 }
@@ -64,6 +66,14 @@ impl fmt::Display for FileMessage<'_> {
                 write!(
                     f,
                     "cannot store '{name}': '{part}' is in use, or is no part"
+                )
+            }
+            FileMessage::PartIsGone(name, part) => {
+                let name = Shown(name);
+                let part = Shown(part);
+                write!(
+                    f,
+                    "cannot store '{name}': '{part}' is no longer what was written"
                 )
             }
             FileMessage::CannotStore(name, why) => {

@@ -27,15 +27,6 @@ impl PortWatch for Replies<'_> {
     }
 }
 
-/// The file that a sink was last given.
-#[derive(Drop)]
-pub struct LastFile {
-    /// Its name, where there was memory for it.
-    pub name: Option<String>,
-    /// Whether the sink opened it.
-    pub is_open: bool,
-}
-
 /// Watches the sink of a receiver where somebody looks, and shows how far its files are.
 #[derive(Drop)]
 pub struct StoreWatch<'t, 'c, E: Write + Drop, C: Clock + Drop> {
@@ -44,8 +35,8 @@ pub struct StoreWatch<'t, 'c, E: Write + Drop, C: Clock + Drop> {
     replies: &'c Cell<u64>,
     /// How many replies a file takes besides those to its blocks.
     besides: u64,
-    /// The file that the sink was last given.
-    last: LastFile,
+    /// The name of the file that the sink was last given, where there was memory for it.
+    last: Option<String>,
     /// How many replies were written before that file, its blocks, and its bytes.
     before: u64,
     blocks: u64,
@@ -65,18 +56,15 @@ impl<'t, 'c, E: Write + Drop, C: Clock + Drop> StoreWatch<'t, 'c, E, C> {
             meter,
             replies,
             besides,
-            last: LastFile {
-                name: None,
-                is_open: false,
-            },
+            last: None,
             before: 0,
             blocks: 0,
             done: 0,
         }
     }
 
-    /// The file that the sink was last given. The showing of it ends.
-    pub fn into_last(mut self) -> LastFile {
+    /// The name of the file that the sink was last given, where there was memory for it. The showing of the file ends.
+    pub fn into_last(mut self) -> Option<String> {
         self.meter.end();
         self.last
     }
@@ -104,18 +92,11 @@ impl<'t, 'c, E: Write + Drop, C: Clock + Drop> SinkWatch for StoreWatch<'t, 'c, 
         if !self.meter.is_looked_at() {
             return;
         }
-        self.last = LastFile {
-            name: String::from_str(self.alloc, header.name()).ok(),
-            is_open: false,
-        };
+        self.last = String::from_str(self.alloc, header.name()).ok();
         self.before = self.replies.get();
         self.blocks = 0;
         self.done = 0;
         self.meter.begin(header.name(), header.length());
-    }
-
-    fn begun(&mut self) {
-        self.last.is_open = true;
     }
 
     #[inline(always)]

@@ -10,9 +10,6 @@ pub trait SinkWatch {
     /// A file of this header is about to be opened.
     fn begins(&mut self, header: &Header);
 
-    /// It was opened.
-    fn begun(&mut self);
-
     /// So many bytes were put behind those that the open file took.
     fn added(&mut self, count: usize);
 
@@ -36,11 +33,7 @@ impl<K: Sink + Drop, V: SinkWatch + Drop> Sink for Watched<K, V> {
 
     fn begin(&mut self, header: Header) -> Result<(), SinkFault> {
         self.watch.begins(&header);
-        let done = self.sink.begin(header);
-        if done.is_ok() {
-            self.watch.begun();
-        }
-        done
+        self.sink.begin(header)
     }
 
     fn add(&mut self, bytes: &[u8]) -> Result<(), SinkFault> {

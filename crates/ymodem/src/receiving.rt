@@ -18,7 +18,7 @@ use crate::command_fault::CommandFault;
 use crate::connections::{listen, take_told};
 use crate::lines::FileLine;
 use crate::store::Store;
-use crate::telling::tell_end;
+use crate::telling::{tell_end, tell_not_stored};
 use std::alloc::{AllocError, Global};
 use std::cell::Cell;
 use std::fs::{File, Files};
@@ -28,14 +28,14 @@ use std::net::{Net, TcpListener, TcpStream};
 use std::time::Clock;
 use ym_file::SinkFault;
 use ym_header::Header;
-use ym_host::{DirSink, Durability, Leftover, SocketPort};
+use ym_host::{DirSink, Durability, Leftover, SocketPort, StoreFault};
 use ym_line::ReceiverLine;
 use ym_link::{Clearing, Confirm, EndFault, Port, ReceiverInto, RecvState, Role, receive_over};
 use ym_pair::laws::a_receiver_commits_what_it_heard;
 use ym_play::{Output, StreamFault};
 use ym_show::{
-    Eager, EndMessage, FileMessage, LastFile, Meter, Reason, Replies, StoreWatch, Teller, Watched,
-    WatchedPort, check_folder, tell_not_stored,
+    Eager, EndMessage, FileMessage, Meter, Reason, Replies, StoreWatch, Teller, Watched,
+    WatchedPort, check_folder,
 };
 use ym_words::ReceiveFlags;
 
@@ -90,6 +90,15 @@ fn answer_of(
     status_of(state)
 }
 
+/// What becomes of the part of an earlier run, by the flag `--discard-parts`.
+fn leftover_of(discards: bool) -> Leftover {
+    if discards {
+        Leftover::Discarded
+    } else {
+        Leftover::Refused
+    }
+}
+
 /// The sink that the flags ask for, which stores files in a folder.
 fn open_sink<'a, R: Files<File = File>>(
     rt: &'a R,
@@ -104,12 +113,7 @@ fn open_sink<'a, R: Files<File = File>>(
     } else {
         Durability::Disk
     };
-    let leftover = if flags.discard_parts {
-        Leftover::Discarded
-    } else {
-        Leftover::Refused
-    };
-    DirSink::new(rt, alloc, dir, durability, leftover)
+    DirSink::new(rt, alloc, dir, durability, leftover_of(flags.discard_parts))
 }
 
 /// When a receiver acknowledges an EOT, by the flag `--single`.
@@ -168,27 +172,23 @@ pub struct Order<'a> {
     pub dir: &'a str,
 }
 
-/// Tells why a receiver has ended, and why the last file was not stored. The folder is looked at only where somebody is told.
-fn tell_outcome<R: Files<File = File>, E: Write + Drop>(
-    rt: &R,
+/// Tells why a receiver has ended, and, where its sink failed, why the last file was not stored.
+fn tell_outcome<E: Write + Drop>(
+    teller: &mut Teller<E>,
     alloc: Global,
-    order: Order<'_>,
-    last: &LastFile,
     state: RecvState,
     answer: &Result<u8, CommandFault>,
-    teller: &mut Teller<E>,
+    last: Option<String>,
+    why: Option<StoreFault>,
+    leftover: Leftover,
 ) {
     let is_running = state == RecvState::Running;
     tell_end(teller, answer, is_running, EndMessage::of_receiver(state));
-    if teller.is_loud && state == RecvState::SinkFailed {
-        tell_not_stored(
-            rt,
-            alloc,
-            order.dir,
-            order.flags.discard_parts,
-            last,
-            teller,
-        );
+    match last {
+        Some(name) if state == RecvState::SinkFailed => {
+            tell_not_stored(teller, alloc, name.as_str(), why, leftover);
+        }
+        _ => (),
     }
 }
 
@@ -224,9 +224,18 @@ where
     };
     let mut port = WatchedPort { port, watch };
     let (watched, state, answer) = receive_batch(&mut port, receiver, out);
-    let Watched { sink: _sink, watch } = watched;
+    let Watched { sink, watch } = watched;
     let last = watch.into_last();
-    tell_outcome(rt, alloc, order, &last, state, &answer, teller);
+    let leftover = leftover_of(order.flags.discard_parts);
+    tell_outcome(
+        teller,
+        alloc,
+        state,
+        &answer,
+        last,
+        sink.first_fault(),
+        leftover,
+    );
     answer
 }
 

@@ -7,7 +7,7 @@ use super::sink_calls::{
     header, is_closed, is_left, is_not_stored, new_sink, refuses, remove, store, take, take_none,
     told, was_there, write_text,
 };
-use crate::{DirSink, Leftover};
+use crate::{DirSink, Leftover, part_name};
 use std::fs;
 use std::fs::File;
 use std::os::unix::fs::symlink;
@@ -132,5 +132,17 @@ fn two_sinks_do_not_take_each_others_part(rt: HostRuntime) -> Result<(), Fail> {
     assert!(rt; holds(&rt, &dir, "a", Some(b"1"))?);
     assert!(rt; holds(&rt, &dir, "b", Some(b""))?);
     fs::remove_dir_all(&rt, &dir)?;
+    Ok(())
+}
+
+/// Whether this is the name of the part of a file of that name.
+fn is_part_of(rt: &HostRuntime, part: &str, name: &str) -> Result<bool, Fail> {
+    Ok(part_name(rt.alloc(), name)?.as_str() == part)
+}
+
+#[test]
+fn a_part_is_named_after_its_file(rt: HostRuntime) -> Result<(), Fail> {
+    assert!(rt; is_part_of(&rt, "a.txt.part", "a.txt")?);
+    assert!(rt; is_part_of(&rt, ".part", "")?);
     Ok(())
 }

@@ -54,7 +54,6 @@ fn a_receiver(rt: HostRuntime) -> Result<(), Fail> {
     let mut watch = StoreWatch::new(rt.alloc(), meter, &count, 2);
     replies.wrote(b"C");
     watch.begins(&header);
-    watch.begun();
     replies.wrote(b"\x06C");
     watch.added(128);
     replies.wrote(b"\x06");
@@ -64,7 +63,7 @@ fn a_receiver(rt: HostRuntime) -> Result<(), Fail> {
     replies.wrote(b"\x15");
     watch.committed();
     let last = watch.into_last();
-    assert!(rt; last.is_open);
+    assert!(rt; last.is_some());
     assert!(rt; told(&teller, b"a.txt: 130 bytes in ", b"B/s, 1 repeated\n"));
     Ok(())
 }
