@@ -1,7 +1,8 @@
+mod acts;
 mod folders;
 mod parts;
 mod receivers;
-mod sink_calls;
 mod sinks;
 mod sockets;
 mod sources;
+mod steps;

@@ -1,7 +1,7 @@
 //! A receiver over a folder.
 
 use super::folders::{folder, holds, same};
-use super::sink_calls::new_sink;
+use super::steps::new_sink;
 use crate::Leftover;
 use std::alloc::Global;
 use std::fs;

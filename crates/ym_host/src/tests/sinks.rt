@@ -1,50 +1,28 @@
 //! Files that are stored in a folder.
 
-ghost use Rattle.std.specs.Prelude.{◌≡◌, None, OnOk};
-ghost use Rattle.ym_file.specs.Kept.{IsCoveredFile};
-ghost use Rattle.ym_host.specs.DirSink.{kept_of};
-
+use super::acts::{Act, path_of};
 use super::folders::{counted, folder, holds, same};
-use super::sink_calls::{
-    first_error, header, is_closed, is_not_stored, is_told, new_sink, refuses, remove, store, take,
-    take_none, told, was_there, write_text,
-};
-use crate::{DirSink, Leftover};
+use super::steps::{Step, Why, first_wrong, other_stores, stores_in_three};
+use crate::Leftover;
 use std::fs;
 use std::io::ErrorKind;
 use std::path::PathBuf;
 use std::test::Fail;
-use ym_file::Sink;
-
-/// Takes a file of three bytes in two pieces.
-fn take_in_two(rt: &HostRuntime, sink: &mut DirSink<&HostRuntime>, name: &str) -> Result<(), Fail>
-    requires { sink.old.opened ≡ None }
-    ensures { OnOk result (IsCoveredFile (kept_of sink.new)) }
-{
-    sink.begin(header(rt, name, 3)?)?;
-    sink.add(b"xy")?;
-    sink.add(b"z")?;
-    Ok(())
-}
 
 #[test]
 fn a_file_gets_its_name_when_it_is_whole(rt: HostRuntime) -> Result<(), Fail> {
     let dir = folder(&rt, "store")?;
-    let mut sink = new_sink(&rt, &dir, Leftover::Refused)?;
-    take_in_two(&rt, &mut sink, "b")?;
-    assert!(rt; holds(&rt, &dir, "b", None)?);
     // the bytes wait to be written
-    assert!(rt; holds(&rt, &dir, "b.part", Some(b""))?);
-    store(&mut sink)?;
-    assert!(rt; holds(&rt, &dir, "b", Some(b"xyz"))?);
-    assert!(rt; holds(&rt, &dir, "b.part", None)?);
-    take_none(&rt, &mut sink, "empty")?;
-    store(&mut sink)?;
-    assert!(rt; holds(&rt, &dir, "empty", Some(b""))?);
-    assert!(rt; told(&sink) == 2);
-    assert!(rt; is_told(&sink, 0, "b"));
-    assert!(rt; is_told(&sink, 1, "empty"));
-    assert!(rt; is_closed(&mut sink));
+    let waiting = [Act::Lacks("b"), Act::Holds("b.part", b"")];
+    let steps = [
+        Step::Stores("b", b"xyz", &waiting),
+        Step::Acts(&[Act::Holds("b", b"xyz"), Act::Lacks("b.part")]),
+        Step::Stores("empty", b"", &[]),
+        Step::Acts(&[Act::Holds("empty", b"")]),
+        Step::Told(&["b", "empty"]),
+        Step::Closes(true),
+    ];
+    assert!(rt; same(&first_wrong(&rt, &dir, Leftover::Refused, &steps)?, &None));
     fs::remove_dir_all(&rt, &dir)?;
     Ok(())
 }
@@ -52,18 +30,17 @@ fn a_file_gets_its_name_when_it_is_whole(rt: HostRuntime) -> Result<(), Fail> {
 #[test]
 fn what_is_there_stays(rt: HostRuntime) -> Result<(), Fail> {
     let dir = folder(&rt, "stays")?;
-    write_text(&rt, &dir, "a", "old")?;
-    write_text(&rt, &dir, "b.part", "old")?;
-    let mut sink = new_sink(&rt, &dir, Leftover::Refused)?;
-    assert!(rt; refuses(&rt, &mut sink, "a", 3)?);
-    assert!(rt; was_there(&sink, false));
-    // the first failure is told, and not the next
-    assert!(rt; refuses(&rt, &mut sink, "b", 3)?);
-    assert!(rt; was_there(&sink, false));
-    assert!(rt; holds(&rt, &dir, "a", Some(b"old"))?);
-    assert!(rt; holds(&rt, &dir, "a.part", None)?);
-    assert!(rt; holds(&rt, &dir, "b.part", Some(b"old"))?);
-    assert!(rt; holds(&rt, &dir, "b", None)?);
+    let steps = [
+        Step::Acts(&[Act::Writes("a", "old"), Act::Writes("b.part", "old")]),
+        Step::Refuses("a"),
+        Step::First(Why::IsThere),
+        // the first failure is told, and not the next
+        Step::Refuses("b"),
+        Step::First(Why::IsThere),
+        Step::Acts(&[Act::Holds("a", b"old"), Act::Lacks("a.part")]),
+        Step::Acts(&[Act::Holds("b.part", b"old"), Act::Lacks("b")]),
+    ];
+    assert!(rt; same(&first_wrong(&rt, &dir, Leftover::Refused, &steps)?, &None));
     fs::remove_dir_all(&rt, &dir)?;
     Ok(())
 }
@@ -72,33 +49,25 @@ fn what_is_there_stays(rt: HostRuntime) -> Result<(), Fail> {
 #[test]
 fn what_comes_meanwhile_stays(rt: HostRuntime) -> Result<(), Fail> {
     let dir = folder(&rt, "meanwhile")?;
-    write_text(&rt, &dir, "a", "old")?;
-    let mut sink = new_sink(&rt, &dir, Leftover::Refused)?;
-    assert!(rt; refuses(&rt, &mut sink, "a", 3)?);
-    take_none(&rt, &mut sink, "c")?;
-    write_text(&rt, &dir, "c", "new")?;
-    assert!(rt; is_not_stored(&mut sink));
-    assert!(rt; holds(&rt, &dir, "c", Some(b"new"))?);
-    assert!(rt; told(&sink) == 0);
-    assert!(rt; is_closed(&mut sink));
-    assert!(rt; holds(&rt, &dir, "c.part", None)?);
+    let steps = [
+        Step::Fails("c", b"", &[Act::Writes("c", "new")]),
+        Step::First(Why::IsThere),
+        Step::Acts(&[Act::Holds("c", b"new")]),
+        Step::Told(&[]),
+        Step::Closes(true),
+        Step::Acts(&[Act::Lacks("c.part")]),
+    ];
+    assert!(rt; same(&first_wrong(&rt, &dir, Leftover::Refused, &steps)?, &None));
     fs::remove_dir_all(&rt, &dir)?;
     Ok(())
 }
 
 /// Whether a file of one byte is stored in the folder under this name, which has at most 255 bytes. It is removed again.
-fn is_stored(
-    rt: &HostRuntime,
-    dir: &PathBuf,
-    leftover: Leftover,
-    name: &str,
-) -> Result<bool, Fail> {
-    let mut sink = new_sink(rt, dir, leftover)?;
-    take(rt, &mut sink, name, b"1")?;
-    store(&mut sink)?;
+fn is_stored(rt: &HostRuntime, dir: &PathBuf, name: &str) -> Result<bool, Fail> {
+    let is_told = other_stores(rt, dir, name, b"1")?;
     let is_there = holds(rt, dir, name, Some(b"1"))?;
-    remove(rt, dir, name)?;
-    Ok(is_there)
+    fs::remove_file(rt, &path_of(rt, dir, name, "")?)?;
+    Ok(is_told && is_there)
 }
 
 #[test]
@@ -106,19 +75,23 @@ fn every_name_of_a_file_is_stored(rt: HostRuntime) -> Result<(), Fail> {
     let dir = folder(&rt, "names")?;
     let long = "n".repeat(rt.alloc(), 255)?;
     // the 250th byte is in the middle of a character
-    let mut wide = "n".repeat(rt.alloc(), 249)?;
-    wide.push_str("\u{e9}1234")?;
-    assert_eq!(rt; wide.len(), 255);
-    for leftover in [Leftover::Refused, Leftover::Discarded] {
-        assert!(rt; is_stored(&rt, &dir, leftover, long.as_str())?);
-        assert!(rt; is_stored(&rt, &dir, leftover, wide.as_str())?);
-        assert!(rt; is_stored(&rt, &dir, leftover, "n")?);
-    }
-    let missing = dir.join(rt.alloc(), "missing")?;
-    let mut lost = new_sink(&rt, &missing, Leftover::Discarded)?;
-    assert!(rt; refuses(&rt, &mut lost, "a", 0)?);
-    assert!(rt; same(&first_error(&lost), &Some(ErrorKind::NotFound)));
+    let wide = format!(in rt.alloc(); "{}\u{e9}1234", &long.as_str()[..249])?;
+    assert!(rt; is_stored(&rt, &dir, "n")?);
+    assert!(rt; is_stored(&rt, &dir, long.as_str())?);
+    assert!(rt; is_stored(&rt, &dir, wide.as_str())?);
     fs::remove_dir_all(&rt, &dir)?;
+    Ok(())
+}
+
+#[test]
+fn a_folder_that_is_missing_is_told(rt: HostRuntime) -> Result<(), Fail> {
+    let dir = folder(&rt, "missing")?;
+    fs::remove_dir_all(&rt, &dir)?;
+    let steps = [
+        Step::Refuses("a"),
+        Step::First(Why::System(ErrorKind::NotFound)),
+    ];
+    assert!(rt; same(&first_wrong(&rt, &dir, Leftover::Discarded, &steps)?, &None));
     Ok(())
 }
 
@@ -127,16 +100,7 @@ fn every_name_of_a_file_is_stored(rt: HostRuntime) -> Result<(), Fail> {
 fn a_large_file_is_stored(rt: HostRuntime) -> Result<(), Fail> {
     let dir = folder(&rt, "large")?;
     let all = counted(rt.alloc(), 200_000)?;
-    assert_eq!(rt; all.len(), 200_000);
-    // The first bytes wait, the second have no room beside them, and the third are more than ever wait.
-    let (front, rest) = all.as_slice().split_at(60_000);
-    let (middle, back) = rest.split_at(60_000);
-    let mut sink = new_sink(&rt, &dir, Leftover::Refused)?;
-    assert_eq!(rt; sink.begin(header(&rt, "a", 200_000)?), Ok(()));
-    assert_eq!(rt; sink.add(front), Ok(()));
-    assert_eq!(rt; sink.add(middle), Ok(()));
-    assert_eq!(rt; sink.add(back), Ok(()));
-    assert_eq!(rt; sink.commit(), Ok(()));
+    assert!(rt; stores_in_three(&rt, &dir, all.as_slice())?);
     assert!(rt; holds(&rt, &dir, "a", Some(all.as_slice()))?);
     fs::remove_dir_all(&rt, &dir)?;
     Ok(())
