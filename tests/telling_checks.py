@@ -6,7 +6,7 @@ import os
 import socket
 import subprocess
 
-from frames import CANCEL, START, header
+from frames import ACK_START, CANCEL, EOT, NAK, START, header
 from peers import receive_from, send_to
 from program import PROGRAM, folders, free_port, run, running, wants_stored, write_files
 from skipping import Skipped, needs
@@ -132,6 +132,50 @@ def received_from(peer, status, state, told, fault=""):
     return check
 
 
+def reads(end, wanted):
+    """Reads a reply, which is this one."""
+    got = b""
+    while len(got) < len(wanted):
+        got += end.recv(1)
+    wants("the reply", got, wanted)
+
+
+def meanwhile(change, told, kept):
+    """An empty file that is not stored, since its folder is changed while its part is open: what is told, and what the folder has then."""
+
+    def check():
+        for flags in ((), LOUD):
+            with folders() as (_, there):
+
+                def peer(end):
+                    end.recv(1)
+                    end.sendall(header(b"a"))
+                    reads(end, ACK_START)
+                    change(there)
+                    end.sendall(bytes((EOT,)))
+                    reads(end, bytes((NAK,)))
+                    end.sendall(bytes((EOT,)))
+                    reads(end, CANCEL)
+
+                ended = receive_from(peer, there, ("--eager", *flags))
+                if flags:
+                    wants("what it told", ended.err.split("\n", 2)[2], told + FAULT)
+                else:
+                    ended.wants(3, "receiver files 0 sink-failed\n", FAULT)
+                wants("what the folder has", sorted(os.listdir(there)), kept)
+
+    return check
+
+
+def takes_the_name(there):
+    write_files(there, [("a", b"new")])
+
+
+def replaces_the_part(there):
+    os.rename(os.path.join(there, "a.part"), os.path.join(there, "other"))
+    os.symlink("other", os.path.join(there, "a.part"))
+
+
 def cancels(end):
     end.sendall(CANCEL)
     while end.recv(4096):
@@ -175,6 +219,11 @@ CHECKS = [
         unstored(
             ("--discard-parts",), [("first.bin.part", b"held")], "cannot store 'first.bin': 'first.bin.part' is in use, or is no part\n", lock=True
         ),
+    ),
+    ("tells why a file is not stored: its name came meanwhile", meanwhile(takes_the_name, "cannot store 'a': it is there already\n", ["a"])),
+    (
+        "tells why a file is not stored: its part was replaced",
+        meanwhile(replaces_the_part, "cannot store 'a': 'a.part' is no longer what was written\n", ["a.part", "other"]),
     ),
     ("tells that the folder is missing, before it listens", no_folder(missing, "no such file or directory")),
     ("tells that the folder is none, before it listens", no_folder(a_file, "not a directory")),
