@@ -11,6 +11,7 @@ use Rattle.ym_header.specs.declared.stamp.Stamp.{Stamp}
 use Rattle.ym_header.specs.declared.stamp.Stamp.TheVariants.{Nothing, Time, TimeMode}
 use Rattle.ym_header.specs.declared.fault.HeaderFault.{HeaderFault}
 use Rattle.ym_header.specs.declared.fault.HeaderFault.TheVariants.{NameEmpty, NameLong, NameUnsafe, NoLength, LengthLarge, Memory}
+use Rattle.ym_header.specs.declared.limits.TheConstants.{MOST_NAME_BYTES}
 use Rattle.ym_header.specs.declared.reading.Zero.{Zero}
 use Rattle.ym_header.specs.declared.reading.Zero.TheVariants.{File, End}
 use Rattle.ym_header.specs.Header.{HeaderParts, IsName, IsSafe, IsStamp, IsHeader}
@@ -100,7 +101,7 @@ some_of_name limit body name = elim (cases_lt 0 (length (length_in body))) [
 pub some_meaning : (limit : ℕ) (body : List ℕ) → ((z : Zero) × Reads limit body z) ⊎ ((f : HeaderFault) × IsFault limit body f)
 some_meaning limit body = elim (cases_lt 0 (length (name_in body))) [
   | inr none ↦ inl (End, nil_from_length (name_in body) (omega (arith, none)))
-  | inl some ↦ elim (cases_lt 255 (length (name_in body))) [
+  | inl some ↦ elim (cases_lt MOST_NAME_BYTES (length (name_in body))) [
     | inl long ↦ inr (NameLong, long)
     | inr short ↦ elim (safe_or_not (name_in body)) [
       | inl safe ↦ some_of_name limit body (record { some = some; short = short; safe = safe })

@@ -1,12 +1,13 @@
 -- What a header says, and which headers there are. The fields are those of the reference (C. Forsberg, XMODEM/YMODEM Protocol
 -- Reference, 1988), "YMODEM Batch File Transmission": "Pathname", "Length", "Modification Date" and "Mode". The limits on
 -- them, and the order of the faults, are this profile's choice.
-use Rattle.std.specs.Prelude.{◌≡◌, ◌≢◌, ◌<◌, ◌≤◌, ◌^◌, ◌-◌, ℕ, List, [], length, codes, All, IsTrue}
+use Rattle.std.specs.Prelude.{◌≡◌, ◌≢◌, ◌<◌, ◌≤◌, ◌^◌, ℕ, List, [], length, codes, All, IsTrue}
 use Rattle.std.specs.Str.{is_utf8}
 use Rattle.ym_header.specs.declared.stamp.Stamp.{Stamp}
 use Rattle.ym_header.specs.declared.stamp.Stamp.TheVariants.{Nothing, Time, TimeMode}
 use Rattle.ym_header.specs.declared.fault.HeaderFault.{HeaderFault}
 use Rattle.ym_header.specs.declared.fault.HeaderFault.TheVariants.{NameEmpty, NameLong, NameUnsafe, NoLength, LengthLarge, Memory}
+use Rattle.ym_header.specs.declared.limits.TheConstants.{MOST_LENGTH, MOST_NAME_BYTES}
 
 -- a header as contracts see it
 pub record HeaderParts : Type 0 where
@@ -16,7 +17,7 @@ pub record HeaderParts : Type 0 where
 
 -- the largest length that a header may tell
 abbrev pub length_limit : ℕ
-length_limit = 2 ^ 63 - 1
+length_limit = MOST_LENGTH
 
 -- UTF-8 without control characters and slashes, and no name of a directory
 pub record IsSafe (name : List ℕ) : Type 0 where
@@ -25,10 +26,10 @@ pub record IsSafe (name : List ℕ) : Type 0 where
   pub not_here : name ≢ codes "."
   pub not_above : name ≢ codes ".."
 
--- a safe name of 1 to 255 bytes
+-- a safe name of some bytes, within their limit
 pub record IsName (name : List ℕ) : Type 0 where
   pub some : 0 < length name
-  pub short : length name ≤ 255
+  pub short : length name ≤ MOST_NAME_BYTES
   pub safe : IsSafe name
 
 -- the numbers fit the fields' types
@@ -45,8 +46,8 @@ pub record IsHeader (limit : ℕ) (h : HeaderParts) : Type 0 where
 
 -- the first fault of a name that has some bytes
 abbrev pub IsNameFault : List ℕ → HeaderFault → Type 0
-IsNameFault name NameLong = 255 < length name
-IsNameFault name NameUnsafe = (0 < length name) × (length name ≤ 255) × ¬ IsSafe name
+IsNameFault name NameLong = MOST_NAME_BYTES < length name
+IsNameFault name NameUnsafe = (0 < length name) × (length name ≤ MOST_NAME_BYTES) × ¬ IsSafe name
 IsNameFault name _ = ⊥
 
 -- why there is no header of this name and length, the first that applies; want of memory where nothing else does

@@ -9,13 +9,10 @@ use crate::stamp::Stamp;
 use std::alloc::{AllocError, Global};
 use std::marker::Model;
 
-/// The largest length that a header may tell: 2^63 - 1.
-pub(crate) const LENGTH_LIMIT: u64 = 0x7fff_ffff_ffff_ffff;
-
 /// A file's name, its length in bytes, and its stamp.
 ///
-/// The name has 1 to 255 bytes, without control characters and slashes, and is neither `.` nor
-/// `..`; the length is at most 2^63 - 1.
+/// The name has 1 to [`MOST_NAME_BYTES`](crate::MOST_NAME_BYTES) bytes, without control characters
+/// and slashes, and is neither `.` nor `..`; the length is at most [`MOST_LENGTH`](crate::MOST_LENGTH).
 #[derive(Drop)]
 pub struct Header {
     name: String,

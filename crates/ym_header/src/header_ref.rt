@@ -2,7 +2,8 @@
 //! memory.
 
 use crate::fault::HeaderFault;
-use crate::header::{Header, LENGTH_LIMIT, is_safe};
+use crate::header::{Header, is_safe};
+use crate::limits::{MOST_LENGTH, MOST_NAME_BYTES};
 use crate::stamp::Stamp;
 use std::alloc::{AllocError, Global};
 use std::marker::Model;
@@ -42,13 +43,13 @@ impl<'a> HeaderRef<'a> {
         if name.is_empty() {
             return Err(HeaderFault::NameEmpty);
         }
-        if name.len() > 255 {
+        if name.len() > MOST_NAME_BYTES {
             return Err(HeaderFault::NameLong);
         }
         if !is_safe(name) {
             return Err(HeaderFault::NameUnsafe);
         }
-        if length > LENGTH_LIMIT {
+        if length > MOST_LENGTH {
             return Err(HeaderFault::LengthLarge);
         }
         Ok(HeaderRef {

@@ -10,6 +10,7 @@ use Rattle.std.proofs.lemmas.Slice.Eq.{bytes_eq-Decides}
 use Rattle.ym_header.specs.Header.{IsHeader, IsName, IsRefused, length_limit}
 use Rattle.ym_header.specs.declared.fault.HeaderFault.{HeaderFault}
 use Rattle.ym_header.specs.declared.fault.HeaderFault.TheVariants as header
+use Rattle.ym_header.specs.declared.limits.TheConstants.{MOST_NAME_BYTES}
 use Rattle.ym_header.specs.declared.stamp.Stamp.{Stamp}
 use Rattle.ym_link.specs.SourceFile.{FileParts}
 use Rattle.ym_play.specs.Command.{StampWords}
@@ -44,7 +45,7 @@ test_differs a b h = grind (arith, common_steps, bytes_eq-Decides a b)
 pub name_passes : (name : List ℕ) → IsName name → is_name name ≡ true
 name_passes name h = rw (
   lt-ltb 0 (length name) h.some,
-  le-leb (length name) 255 h.short,
+  le-leb (length name) MOST_NAME_BYTES h.short,
   h.safe.utf8,
   bytes_pass name h.safe.bytes,
   test_differs name (codes ".") h.safe.not_here,
@@ -54,7 +55,7 @@ name_passes name h = rw (
 pub name_is : (name : List ℕ) → is_name name ≡ true → IsName name
 name_is name h =
     let some = and_true (nat_lt 0 (length name)) _ h in
-    let short = and_true (nat_le (length name) 255) _ some.1 in
+    let short = and_true (nat_le (length name) MOST_NAME_BYTES) _ some.1 in
     let utf8 = and_true (is_utf8 name) _ short.1 in
     let bytes = and_true (list_all (λ b. nat_le 0x20 b && not (b == 0x2f)) name) _ utf8.1 in
     let dots = and_true (not (bytes_eq name (codes "."))) (not (bytes_eq name (codes ".."))) bytes.1 in

@@ -1,5 +1,5 @@
 -- What a session takes from its reader, and how it ends.
-use Rattle.std.proofs.Common.{◌≡◌, ◌≢◌, ◌⊎◌, inl, inr, ◌≤◌, ℕ, List, Option, Some, Result, Ok, Err, length, take, nat_le, false, refl, sym, ◌∙◌, ap, arith, string_bytes, ◌++◌, []}
+use Rattle.std.proofs.Common.{◌≡◌, ◌≢◌, ◌⊎◌, inl, inr, ◌≤◌, ◌+◌, ℕ, List, Option, Some, Result, Ok, Err, length, take, nat_le, false, refl, sym, ◌∙◌, ap, arith, string_bytes, ◌++◌, []}
 use Rattle.std.proofs.lemmas.Bool.{cases_lt, lt-leb}
 use Rattle.std.proofs.lemmas.List.{take_all, length-take-le}
 use Rattle.ym_line.specs.declared.delivery.Handed.{Handed}
@@ -14,19 +14,20 @@ use Rattle.ym_play.specs.Session.{SessionGives, fault_status, line_status}
 use Rattle.ym_play.specs.SessionOver.{Scene, IsTaken, ScriptGives, TellsFault, IsUnwritten, AnswerIsTold, HasFailed, session_line}
 use Rattle.ym_play.specs.declared.fault.PlayFault.{PlayFault}
 use Rattle.ym_play.specs.declared.fault.PlayFault.TheVariants as play
+use Rattle.ym_play.specs.declared.limits.TheConstants.{MOST_SCRIPT_BYTES}
 use Rattle.ym_play.specs.declared.play.Played.{Played}
 use Rattle.ym_play.specs.declared.sessions.SessionFault.{SessionFault}
 use Rattle.ym_play.specs.declared.sessions.SessionFault.TheVariants as session
 
 -- the first bytes of a script that is too large show that it is
-pub script_of-take : (text : List ℕ) → script_of (take 1048577 text) ≡ script_of text
-script_of-take text = elim (cases_lt 1048577 (length text)) [
+pub script_of-take : (text : List ℕ) → script_of (take (MOST_SCRIPT_BYTES + 1) text) ≡ script_of text
+script_of-take text = elim (cases_lt (MOST_SCRIPT_BYTES + 1) (length text)) [
   | inl more ↦
-      let cut : length (take 1048577 text) ≡ 1048577 = length-take-le 1048577 text (omega arith) in
-      let large : nat_le (length text) 1048576 ≡ false = lt-leb (length text) 1048576 (omega arith) in
-      let cut_large : nat_le (length (take 1048577 text)) 1048576 ≡ false = lt-leb (length (take 1048577 text)) 1048576 (omega arith) in
+      let cut : length (take (MOST_SCRIPT_BYTES + 1) text) ≡ MOST_SCRIPT_BYTES + 1 = length-take-le (MOST_SCRIPT_BYTES + 1) text (omega arith) in
+      let large : nat_le (length text) MOST_SCRIPT_BYTES ≡ false = lt-leb (length text) MOST_SCRIPT_BYTES (omega arith) in
+      let cut_large : nat_le (length (take (MOST_SCRIPT_BYTES + 1) text)) MOST_SCRIPT_BYTES ≡ false = lt-leb (length (take (MOST_SCRIPT_BYTES + 1) text)) MOST_SCRIPT_BYTES (omega arith) in
       rw (large, cut_large) refl
-  | inr fits ↦ ap script_of (take_all 1048577 text fits)
+  | inr fits ↦ ap script_of (take_all (MOST_SCRIPT_BYTES + 1) text fits)
 ]
 
 -- what is played is what the script says

@@ -2,11 +2,13 @@
 use Rattle.std.specs.Prelude.{ℕ, ◌+◌, ◌==◌, ◌&&◌, not, nat_lt, nat_le, Bool, List, [], ◌∷◌, ◌++◌, length, Option, Some, None, Result, Ok, Err, codes, replicate, if◌then◌else◌}
 use Rattle.std.specs.List.{slice_split, list_all}
 use Rattle.std.specs.Str.{bytes_eq, is_utf8}
+use Rattle.ym_header.specs.declared.limits.TheConstants.{MOST_NAME_BYTES}
 use Rattle.ym_header.specs.declared.stamp.Stamp.{Stamp}
 use Rattle.ym_file.specs.declared.plan.Shape.{Shape}
 use Rattle.ym_file.specs.declared.plan.Shape.TheVariants as shape
 use Rattle.ym_machine.specs.declared.confirm.Confirm.{Confirm}
 use Rattle.ym_machine.specs.declared.confirm.Confirm.TheVariants as confirm
+use Rattle.ym_machine.specs.declared.limits.TheConstants.{MOST_FILES}
 use Rattle.ym_link.specs.SourceFile.{FileParts}
 use Rattle.ym_line.specs.declared.delivery.Delivery.TheVariants as line
 use Rattle.ym_line.specs.declared.delivery.Round.{Round}
@@ -14,6 +16,7 @@ use Rattle.ym_play.specs.Command.{StampWords, DeliveryWords, CommandWords, Short
 use Rattle.ym_play.specs.Value.{count_at, stamp_at, bytes_at, delivery_at}
 use Rattle.ym_play.specs.declared.fault.ScriptWhy.{ScriptWhy}
 use Rattle.ym_play.specs.declared.fault.ScriptWhy.TheVariants as why
+use Rattle.ym_play.specs.declared.limits.TheConstants.{MOST_ROUNDS, MOST_SCRIPT_BYTES}
 
 pub record ScriptParts : Type 0 where
   pub batch : List FileParts
@@ -31,9 +34,9 @@ abbrev pub ◌>>=◌ : {A B : Type 0} → Result A ScriptWhy → (A → Result B
 Ok x >>= f = f x
 Err why >>= f = Err why
 
--- some bytes of UTF-8, at most 255, without control characters and slashes, and no name of a directory
+-- some bytes of UTF-8, within the limit on a name, without control characters and slashes, and no name of a directory
 abbrev pub is_name : List ℕ → Bool
-is_name name = nat_lt 0 (length name) && (nat_le (length name) 255 && (is_utf8 name && (list_all (λ b. nat_le 0x20 b && not (b == 0x2f)) name
+is_name name = nat_lt 0 (length name) && (nat_le (length name) MOST_NAME_BYTES && (is_utf8 name && (list_all (λ b. nat_le 0x20 b && not (b == 0x2f)) name
     && (not (bytes_eq name (codes ".")) && not (bytes_eq name (codes ".."))))))
 
 abbrev pub named_file : List ℕ → List ℕ → Stamp → Result FileParts ScriptWhy
@@ -50,7 +53,7 @@ abbrev pub early : {A : Type 0} → ScriptParts → Result A ScriptWhy → Resul
 early s next = if length s.rounds == 0 then next else Err why.Late
 
 abbrev pub with_file : ScriptParts → FileParts → Result ScriptParts ScriptWhy
-with_file s file = if nat_lt (length s.batch) 65535 then Ok (record s { batch = s.batch ++ file ∷ [] }) else Err why.TooMany
+with_file s file = if nat_lt (length s.batch) MOST_FILES then Ok (record s { batch = s.batch ++ file ∷ [] }) else Err why.TooMany
 
 abbrev pub with_written_file : ScriptParts → List ℕ → List ℕ → StampWords → Result ScriptParts ScriptWhy
 with_written_file s name bytes stamp = file_at name bytes stamp >>= (λ file. with_file s file)
@@ -59,10 +62,10 @@ abbrev pub whole_round : Round
 whole_round = record { there = line.Whole; back = line.Whole }
 
 abbrev pub with_whole : ScriptParts → ℕ → Result ScriptParts ScriptWhy
-with_whole s count = if nat_le (length s.rounds + count) 65535 then Ok (record s { rounds = s.rounds ++ replicate count whole_round }) else Err why.Number
+with_whole s count = if nat_le (length s.rounds + count) MOST_ROUNDS then Ok (record s { rounds = s.rounds ++ replicate count whole_round }) else Err why.Number
 
 abbrev pub with_round : ScriptParts → DeliveryWords → DeliveryWords → Result ScriptParts ScriptWhy
-with_round s there back = if nat_lt (length s.rounds) 65535
+with_round s there back = if nat_lt (length s.rounds) MOST_ROUNDS
     then (delivery_at there >>= (λ t. delivery_at back >>= (λ b. Ok (record s { rounds = s.rounds ++ record { there = t; back = b } ∷ [] }))))
     else Err why.Number
 
@@ -104,5 +107,5 @@ lines_of text = slice_split (λ c. c == 10) text
 -- the script of some bytes, or its first fault with its line; line 0 is the whole
 abbrev pub script_of : List ℕ → Result ScriptParts (ℕ × ScriptWhy)
 script_of bytes =
-    if nat_le (length bytes) 1048576 then (if is_utf8 bytes then lines_read 1 empty (lines_of bytes) else Err (0, why.NotText))
+    if nat_le (length bytes) MOST_SCRIPT_BYTES then (if is_utf8 bytes then lines_read 1 empty (lines_of bytes) else Err (0, why.NotText))
     else Err (0, why.Large)

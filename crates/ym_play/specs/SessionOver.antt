@@ -1,5 +1,5 @@
 -- How a session ends, at success and at each fault, over streams and a carrier that count their failures.
-use Rattle.std.specs.Prelude.{◌≡◌, ◌≤◌, ◌++◌, ◌⊎◌, ℕ, [], ◌∷◌, List, Option, Some, Result, Ok, Err, codes, length, take, string_bytes}
+use Rattle.std.specs.Prelude.{◌≡◌, ◌≤◌, ◌+◌, ◌++◌, ◌⊎◌, ℕ, [], ◌∷◌, List, Option, Some, Result, Ok, Err, codes, length, take, string_bytes}
 use Rattle.std.specs.Io.KnownBytes.{Appends}
 use Rattle.ym_file.specs.Counts.{Rose}
 use Rattle.ym_line.specs.declared.delivery.Handed.{Handed}
@@ -11,6 +11,7 @@ use Rattle.ym_play.specs.declared.fault.PlayFault.{PlayFault}
 use Rattle.ym_play.specs.declared.fault.PlayFault.TheVariants as play
 use Rattle.ym_play.specs.declared.input.InputFault.{InputFault}
 use Rattle.ym_play.specs.declared.input.InputFault.TheVariants as input
+use Rattle.ym_play.specs.declared.limits.TheConstants.{MOST_SCRIPT_BYTES}
 use Rattle.ym_play.specs.declared.play.Played.{Played}
 use Rattle.ym_play.specs.declared.sessions.SessionFault.{SessionFault}
 use Rattle.ym_play.specs.declared.sessions.SessionFault.TheVariants as session
@@ -35,7 +36,7 @@ session_line fault = session_text fault ++ 10 ∷ []
 
 -- the script: all the bytes of the reader, or the first of them that show it to be too large
 abbrev pub IsTaken : Option (List ℕ) → List ℕ → Type 0
-IsTaken remaining bytes = (length bytes ≤ 1048577) × ((text : List ℕ) → remaining ≡ Some text → bytes ≡ take 1048577 text)
+IsTaken remaining bytes = (length bytes ≤ MOST_SCRIPT_BYTES + 1) × ((text : List ℕ) → remaining ≡ Some text → bytes ≡ take (MOST_SCRIPT_BYTES + 1) text)
 
 -- at most so many bytes were read, whatever came of it
 abbrev pub IsReadWithin : ℕ → Option (List ℕ) → Option (List ℕ) → Type 0

@@ -1,10 +1,11 @@
 //! How a script is taken from a reader.
 
-ghost use Rattle.std.specs.Prelude.{◌≡◌, ◌≢◌, Err, IfOk};
+ghost use Rattle.std.specs.Prelude.{◌≡◌, ◌≢◌, ◌+◌, Err, IfOk};
 ghost use Rattle.ym_file.specs.Counts.{Rose};
 ghost use Rattle.ym_play.specs.SessionOver.{IsTaken, IsReadWithin};
+ghost use Rattle.ym_play.specs.declared.limits.TheConstants.{MOST_SCRIPT_BYTES};
 
-use crate::script::SCRIPT_LIMIT;
+use crate::limits::MOST_SCRIPT_BYTES;
 use crate::streams::{Input, StreamFault};
 use std::alloc::Global;
 
@@ -18,7 +19,7 @@ pub(crate) enum InputFault {
 }
 
 /// One byte more than a script may have: enough to see that it is too large.
-const MOST: usize = SCRIPT_LIMIT + 1;
+const MOST: usize = MOST_SCRIPT_BYTES + 1;
 
 /// How many bytes a read asks for.
 const PIECE: usize = 8192;
@@ -26,7 +27,7 @@ const PIECE: usize = 8192;
 /// The reader's bytes, or the first of them that show a script to be too large. A read that fails is not tried again.
 pub(crate) fn take_script<I: Input>(alloc: Global, input: &mut I) -> Result<Vec<u8>, InputFault>
     ensures taken { IfOk result (λ bytes. IsTaken (I.remaining input.old) bytes.items) }
-    ensures within { IsReadWithin 1048577 (I.remaining input.old) (I.remaining input.new) }
+    ensures within { IsReadWithin (MOST_SCRIPT_BYTES + 1) (I.remaining input.old) (I.remaining input.new) }
     ensures device { result ≡ Err InputFault.Device → Rose (I.failures input.old) (I.failures input.new) }
     ensures calm { result ≢ Err InputFault.Device → I.failures input.new ≡ I.failures input.old }
 {

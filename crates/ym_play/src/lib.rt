@@ -4,6 +4,7 @@
 mod command;
 mod fault;
 mod input;
+mod limits;
 mod play;
 mod script;
 mod sessions;
@@ -12,6 +13,7 @@ mod value;
 mod words;
 
 pub use fault::{PlayFault, ScriptWhy};
+pub use limits::{MOST_ROUNDS, MOST_SCRIPT_BYTES};
 pub use play::{Played, play_script};
 pub use script::{Script, read_script};
 pub use sessions::{session, session_over};

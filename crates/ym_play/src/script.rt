@@ -4,9 +4,11 @@ ghost use Rattle.std.specs.Prelude.{◌≡◌, ◌≤◌, ◌+◌, ◌++◌, len
 ghost use Rattle.ym_play.specs.Command.{command_in, delivery_in, stamp_in};
 ghost use Rattle.ym_play.specs.Fault.{Gives, Reads};
 ghost use Rattle.ym_play.specs.Script.{empty, early, file_at, followed, line_read, lines_of, lines_read, script_of, whole_round, with_round, with_whole, with_written_file};
+ghost use Rattle.ym_play.specs.declared.limits.TheConstants.{MOST_SCRIPT_BYTES};
 
 use crate::command::{Command, DeliveryText, StampText, command_of};
 use crate::fault::{PlayFault, Refusal, ScriptWhy};
+use crate::limits::{MOST_ROUNDS, MOST_SCRIPT_BYTES};
 use crate::value::{bytes_of, count_of, delivery_of, stamp_of};
 use std::alloc::{AllocError, Global};
 use std::marker::Model;
@@ -14,12 +16,7 @@ use std::str;
 use ym_file::Shape;
 use ym_line::{Delivery, Round};
 use ym_link::{Confirm, SendFile};
-
-/// The most bytes of a script.
-pub(crate) const SCRIPT_LIMIT: usize = 1_048_576;
-
-/// The most rounds of a script, and the most files.
-const LIMIT: usize = 65_535;
+use ym_machine::MOST_FILES;
 
 /// A batch of files, how it is sent and received, and the rounds of the line.
 #[derive(Drop)]
@@ -32,13 +29,15 @@ pub struct Script {
 
 impl Model for Script {
     ghost use Rattle.std.specs.Prelude.{◌≤◌, length};
+    ghost use Rattle.ym_machine.specs.declared.limits.TheConstants.{MOST_FILES};
     ghost use Rattle.ym_play.specs.Script.{ScriptParts};
+    ghost use Rattle.ym_play.specs.declared.limits.TheConstants.{MOST_ROUNDS};
 
     ghost Value = { ScriptParts };
 
     ghost view = { λ s. record { batch = s.batch.items; shape = s.shape; confirm = s.confirm; rounds = s.rounds.items } };
 
-    ghost invariant = { λ s. (length s.batch.items ≤ 65535) × (length s.rounds.items ≤ 65535) };
+    ghost invariant = { λ s. (length s.batch.items ≤ MOST_FILES) × (length s.rounds.items ≤ MOST_ROUNDS) };
 }
 
 /// The file that a name, bytes and a stamp write.
@@ -99,7 +98,7 @@ impl Script {
         ensures { Gives (λ _. self.new) result (with_written_file self.old name.now bytes.now (stamp_in stamp.entry)) }
     {
         let file = file_of(alloc, name, bytes, stamp)?;
-        if self.batch.len() >= LIMIT {
+        if self.batch.len() >= MOST_FILES {
             return Err(Refusal::Why(ScriptWhy::TooMany));
         }
         self.batch.push(file)?;
@@ -110,7 +109,7 @@ impl Script {
     fn add_whole_rounds(&mut self, count: u16) -> Result<(), Refusal>
         ensures { Gives (λ _. self.new) result (with_whole self.old count) }
     {
-        if self.rounds.len() + usize::from(count) > LIMIT {
+        if self.rounds.len() + usize::from(count) > MOST_ROUNDS {
             return Err(Refusal::Why(ScriptWhy::Number));
         }
         push_whole_rounds(&mut self.rounds, count)?;
@@ -126,7 +125,7 @@ impl Script {
     ) -> Result<(), Refusal>
         ensures { Gives (λ _. self.new) result (with_round self.old (delivery_in there.entry) (delivery_in back.entry)) }
     {
-        if self.rounds.len() >= LIMIT {
+        if self.rounds.len() >= MOST_ROUNDS {
             return Err(Refusal::Why(ScriptWhy::Number));
         }
         let there = delivery_of(alloc, there)?;
@@ -175,7 +174,7 @@ impl Script {
 
 /// The script of some lines.
 fn read_lines(alloc: Global, text: &str) -> Result<Script, PlayFault>
-    requires { length text.now ≤ 1048576 }
+    requires { length text.now ≤ MOST_SCRIPT_BYTES }
     ensures { Reads result (lines_read 1 empty (lines_of text.now)) }
 {
     let mut script = Script::new(alloc);
@@ -193,7 +192,7 @@ fn read_lines(alloc: Global, text: &str) -> Result<Script, PlayFault>
 pub fn read_script(alloc: Global, bytes: &[u8]) -> Result<Script, PlayFault>
     ensures { Reads result (script_of bytes.now) }
 {
-    if bytes.len() > SCRIPT_LIMIT {
+    if bytes.len() > MOST_SCRIPT_BYTES {
         return Err(Refusal::Why(ScriptWhy::Large).at(0));
     }
     match str::from_utf8(bytes) {

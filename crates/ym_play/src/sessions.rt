@@ -1,10 +1,11 @@
 //! A session: a script in, the text of its run out, and a status back.
 
-ghost use Rattle.std.specs.Prelude.{◌≡◌, ◌≢◌, ◌≤◌, ◌⊎◌, ℕ, List, Some, IfOk};
+ghost use Rattle.std.specs.Prelude.{◌≡◌, ◌≢◌, ◌≤◌, ◌⊎◌, ◌+◌, ℕ, List, Some, IfOk};
 ghost use Rattle.std.specs.Io.KnownBytes.{Appends};
 ghost use Rattle.ym_file.specs.Counts.{Rose};
 ghost use Rattle.ym_play.specs.Session.{fault_status, SessionGives};
 ghost use Rattle.ym_play.specs.SessionOver.{Scene, ScriptGives, SessionEnds, HasFailed, IsReadWithin, session_text, session_line};
+ghost use Rattle.ym_play.specs.declared.limits.TheConstants.{MOST_SCRIPT_BYTES};
 
 use crate::fault::PlayFault;
 use crate::input::{InputFault, take_script};
@@ -83,7 +84,7 @@ fn play_input<I: Input, C: Carrier>(
     ensures plays { (old new : Scene) → old.told ≡ C.told carrier.old → old.carries_failed ≡ C.failures carrier.old → old.reads_failed ≡ I.failures input.old
         → new.told ≡ C.told carrier.new → new.carries_failed ≡ C.failures carrier.new → new.reads_failed ≡ I.failures input.new
         → ScriptGives (I.remaining input.old) old result new }
-    ensures within { IsReadWithin 1048577 (I.remaining input.old) (I.remaining input.new) }
+    ensures within { IsReadWithin (MOST_SCRIPT_BYTES + 1) (I.remaining input.old) (I.remaining input.new) }
     ensures status { IfOk result (λ played. played.status ≤ 1) }
 {
     let script = take_script(alloc, input)?;
@@ -155,7 +156,7 @@ pub fn session_over<I: Input, O: Output, E: Output, C: Carrier>(
           err_failed = E.failures err.new;
           carries_failed = C.failures carrier.new;
         }) }
-    ensures within { IsReadWithin 1048577 (I.remaining input.old) (I.remaining input.new) }
+    ensures within { IsReadWithin (MOST_SCRIPT_BYTES + 1) (I.remaining input.old) (I.remaining input.new) }
     ensures refused { result ≡ 2 → O.contents out.new ≡ O.contents out.old }
     ensures status { result ≤ 3 }
 {
@@ -181,7 +182,7 @@ pub fn session<R: Read, W: Write, E: Write, C: Carrier>(
     ensures gives { (text before wrong : List ℕ) → R.remaining input.old ≡ Some text → W.contents out.old ≡ Some before
         → E.contents err.old ≡ Some wrong → result ≢ 3
         → SessionGives text before wrong (C.told carrier.old) (C.failures carrier.old) result (W.contents out.new) (E.contents err.new) (C.told carrier.new) (C.failures carrier.new) }
-    ensures within { IsReadWithin 1048577 (R.remaining input.old) (R.remaining input.new) }
+    ensures within { IsReadWithin (MOST_SCRIPT_BYTES + 1) (R.remaining input.old) (R.remaining input.new) }
     ensures refused { result ≡ 2 → W.contents out.new ≡ W.contents out.old }
     ensures status { result ≤ 3 }
 {

@@ -8,6 +8,7 @@ use Rattle.std.proofs.lemmas.List.Elements.{All-nil, All-cons, All-append}
 use Rattle.ym_header.specs.Header.{IsName}
 use Rattle.ym_header.specs.declared.stamp.Stamp.TheVariants.{Nothing}
 use Rattle.ym_link.specs.SourceFile.{FileParts}
+use Rattle.ym_machine.specs.declared.limits.TheConstants.{MOST_FILES}
 use Rattle.ymodem.specs.Sending.{last_part, IsBatch, MayRefuse, RefusesFile, SendGives}
 use Rattle.ymodem.specs.Page.{Page}
 use Rattle.ymodem.specs.Status.{IsHostFault}
@@ -58,7 +59,7 @@ counted paths files h =
     sym (length-map files (λ (f : FileParts). f.header.name)) ∙ ap length h.names ∙ length-map paths last_part
 
 pub too_many : (shape : Shape) (paths : List (List ℕ)) (files : List FileParts) (out : Page) (answer : Result ℕ CommandFault) → IsBatch paths files
-    → IsErrAnd answer (λ why. (why ≡ fault.TooManyFiles) × (65535 < length files)) → SendGives shape paths out answer out
+    → IsErrAnd answer (λ why. (why ≡ fault.TooManyFiles) × (MOST_FILES < length files)) → SendGives shape paths out answer out
 too_many shape paths files out (Ok status) h many = absurd many
 too_many shape paths files out (Err why) h many =
     let same = counted paths files h in

@@ -1,8 +1,9 @@
 -- Sessions and commands at a desk.
-use Rattle.std.proofs.Common.{◌≡◌, ◌≢◌, ◌≤◌, ◌⊎◌, ◌∙◌, inl, inr, sym, subst, ℕ, List, [], Option, Some, Result}
+use Rattle.std.proofs.Common.{◌≡◌, ◌≢◌, ◌≤◌, ◌⊎◌, ◌+◌, ◌∙◌, inl, inr, sym, subst, ℕ, List, [], Option, Some, Result}
 use Rattle.ym_line.specs.declared.delivery.Handed.{Handed}
 use Rattle.ym_play.specs.SessionOver.{SessionEnds, HasFailed, IsReadWithin}
 use Rattle.ym_play.proofs.SessionLemmas.{known_ends}
+use Rattle.ym_play.specs.declared.limits.TheConstants.{MOST_SCRIPT_BYTES}
 use Rattle.ym_words.specs.Job.{Play}
 use Rattle.ymodem.specs.Program.{Desk, scene_of, IsSession, IsPlayed, Answers, OnlyTells, Does}
 use Rattle.ymodem.specs.declared.command_fault.CommandFault.{CommandFault}
@@ -12,7 +13,7 @@ use Rattle.ymodem.specs.declared.command_fault.CommandFault.TheVariants as fault
 pub session_of : (told new_told : Option (List Handed)) (before after : ℕ) (old new : Desk) (status : ℕ) → before ≡ 0
     → SessionEnds old.text (scene_of old told before) status (scene_of new new_told after)
     → (status ≡ 3 → HasFailed old.text (scene_of old told before) (scene_of new new_told after))
-    → IsReadWithin 1048577 old.text new.text → status ≤ 3 → IsSession told old status new
+    → IsReadWithin (MOST_SCRIPT_BYTES + 1) old.text new.text → status ≤ 3 → IsSession told old status new
 session_of told new_told before after old new status e ends failed within small = record {
   new_told = new_told;
   carries_failed = after;

@@ -1,5 +1,5 @@
 -- What the program does for its words.
-use Rattle.std.specs.Prelude.{◌≡◌, ◌≤◌, ◌⊎◌, ℕ, Bool, true, false, List, [], Option, Some, None, Result, Ok, Err}
+use Rattle.std.specs.Prelude.{◌≡◌, ◌≤◌, ◌⊎◌, ◌+◌, ℕ, Bool, true, false, List, [], Option, Some, None, Result, Ok, Err}
 use Rattle.clap.specs.Words.{Text, Kinds, IsAmong, takes, subcommand_of}
 use Rattle.clap.specs.declared.error.kind.ErrorKind.TheVariants.{DisplayVersion}
 use Rattle.ym_file.specs.declared.plan.Shape.{Shape}
@@ -9,6 +9,7 @@ use Rattle.ym_machine.specs.declared.confirm.Confirm.TheVariants.{Twice, Once}
 use Rattle.ym_line.specs.declared.delivery.Handed.{Handed}
 use Rattle.ym_play.specs.Session.{SessionGives}
 use Rattle.ym_play.specs.SessionOver.{Scene, SessionEnds, HasFailed, IsReadWithin}
+use Rattle.ym_play.specs.declared.limits.TheConstants.{MOST_SCRIPT_BYTES}
 use Rattle.ym_words.specs.Command.{the_app}
 use Rattle.ym_words.specs.Job.{Asked, asked}
 use Rattle.ym_words.specs.Job as job
@@ -52,7 +53,7 @@ pub record IsSession (told : Option (List Handed)) (old : Desk) (status : ℕ) (
   pub carries_failed : ℕ
   pub ends : SessionEnds old.text (scene_of old told 0) status (scene_of new new_told carries_failed)
   pub failed : status ≡ 3 → HasFailed old.text (scene_of old told 0) (scene_of new new_told carries_failed)
-  pub within : IsReadWithin 1048577 old.text new.text
+  pub within : IsReadWithin (MOST_SCRIPT_BYTES + 1) old.text new.text
   pub small : status ≤ 3
 
 -- no connection was made, and nothing was read or printed

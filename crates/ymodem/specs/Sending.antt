@@ -16,6 +16,7 @@ use Rattle.ym_link.specs.SendOver.{Sends}
 use Rattle.ym_link.specs.SourceFile.{FileParts}
 use Rattle.ym_link.specs.declared.end_fault.EndFault.{EndFault}
 use Rattle.ym_link.specs.declared.end_fault.EndFault.TheVariants as end
+use Rattle.ym_machine.specs.declared.limits.TheConstants.{MOST_FILES}
 use Rattle.ym_play.specs.declared.streams.StreamFault.{StreamFault}
 use Rattle.ym_pair.specs.AnyPeer.{AreAcknowledged, files_places}
 use Rattle.ym_pair.specs.Logs.{Spoke, spoke_in, spoke_along}
@@ -55,7 +56,7 @@ pub record RefusesFile (paths : List (List ℕ)) (why : CommandFault) : Type 0 w
 
 -- why nothing was sent, the first that applies: a file of the batch, the number of files, or the connection
 abbrev pub RefusesBatch : List (List ℕ) → CommandFault → Type 0
-RefusesBatch paths why = RefusesFile paths why ⊎ ((why ≡ fault.TooManyFiles) × (65535 < length paths))
+RefusesBatch paths why = RefusesFile paths why ⊎ ((why ≡ fault.TooManyFiles) × (MOST_FILES < length paths))
 
 -- a sender of these files that has heard nothing
 pub record IsNewSender (shape : Shape) (paths : List (List ℕ)) (s : SenderParts) : Type 0 where

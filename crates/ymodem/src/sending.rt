@@ -5,6 +5,7 @@ ghost use Rattle.ym_header.specs.Header.{IsName, IsRefused, length_limit};
 ghost use Rattle.ym_link.specs.declared.end_fault.EndFault.{EndFault as Why};
 ghost use Rattle.ym_core.specs.Standing.{new_standing};
 ghost use Rattle.ym_link.specs.Sender.{counts};
+ghost use Rattle.ym_machine.specs.declared.limits.TheConstants.{MOST_FILES};
 ghost use Rattle.ymodem.specs.Sending.{last_part, IsBatch, MayRefuse, RefusesFile, SenderRuns, TellsSender, SendsOn, SendGives, send_gives};
 ghost use Rattle.ymodem.specs.Status.{send_answer};
 
@@ -123,7 +124,7 @@ fn sender_of<S: Source + Drop>(
     shape: Shape,
 ) -> Result<SenderFrom<S>, CommandFault>
     ensures new { IfOk result (λ sender. (sender.shape ≡ shape) × (sender.files ≡ batch.items) × (sender.standing ≡ new_standing (counts sender))) }
-    ensures refused { IfErr result (λ why. (why ≡ CommandFault.TooManyFiles) × (65535 < length batch.items)) }
+    ensures refused { IfErr result (λ why. (why ≡ CommandFault.TooManyFiles) × (MOST_FILES < length batch.items)) }
 {
     match SenderFrom::new(batch, shape) {
         Ok(sender) => Ok(sender),

@@ -2,6 +2,7 @@
 use Rattle.std.proofs.Common.{◌≡◌, ◌≤◌, ◌<◌, ◌+◌, ◌++◌, [], length, take, arith, refl}
 use Rattle.std.proofs.lemmas.Grind.{common_steps}
 use Rattle.ym_play.proofs.BytesLemmas.{one_read, all_read, cut_off, within-read, within-failed}
+use Rattle.ym_play.specs.declared.limits.TheConstants.{MOST_SCRIPT_BYTES}
 use Rattle.ym_play.proofs.input.take_script.Goals as goal
 
 pub returns-in-Ok-eq0-clause-taken : goal.returns-in-Ok-eq0-clause-taken
@@ -11,7 +12,7 @@ returns-in-Ok-eq0-clause-taken g c = (
       let inv = c.loop-buffer.invariant.told text e in
       let read = rw (c.in-Ok-eq0.is, c.in-Ok-eq0.field-0-test) at c.read_some.ensures.bytes in
       let room : 0 < length c.read_some.new.buf = grind (arith, common_steps) in
-      let short : length c.loop-buffer.bytes.items ≤ 1048577 = grind (arith, common_steps) in
+      let short : length c.loop-buffer.bytes.items ≤ MOST_SCRIPT_BYTES + 1 = grind (arith, common_steps) in
       all_read (g.I.Input.remaining c.loop-buffer.input) (g.I.Input.remaining c.read_some.new.self) text c.loop-buffer.bytes.items inv.0 _ short inv.1 inv.2 read.0 (read.1 refl room),
 )
 
@@ -19,29 +20,29 @@ pub returns-in-Ok-eq0-clause-within : goal.returns-in-Ok-eq0-clause-within
 returns-in-Ok-eq0-clause-within g c text e =
     let inv = c.loop-buffer.invariant.told text e in
     let read = rw (c.in-Ok-eq0.is, c.in-Ok-eq0.field-0-test) at c.read_some.ensures.bytes in
-    let short : length c.loop-buffer.bytes.items + 0 ≤ 1048577 = grind (arith, common_steps) in
-    within-read 1048577 (g.I.Input.remaining c.loop-buffer.input) (g.I.Input.remaining c.read_some.new.self) text c.loop-buffer.bytes.items inv.0 [] inv.1 inv.2 read.0 short
+    let short : length c.loop-buffer.bytes.items + 0 ≤ MOST_SCRIPT_BYTES + 1 = grind (arith, common_steps) in
+    within-read (MOST_SCRIPT_BYTES + 1) (g.I.Input.remaining c.loop-buffer.input) (g.I.Input.remaining c.read_some.new.self) text c.loop-buffer.bytes.items inv.0 [] inv.1 inv.2 read.0 short
 
 pub returns-in-Err-clause-within : goal.returns-in-Err-clause-within
 returns-in-Err-clause-within g c text e =
     let inv = c.loop-buffer.invariant.told text e in
     let read = rw c.in-Err.is at c.read_some.ensures.bytes in
-    let short : length c.loop-buffer.bytes.items ≤ 1048577 = grind (arith, common_steps) in
-    within-failed 1048577 (g.I.Input.remaining c.loop-buffer.input) (g.I.Input.remaining c.read_some.new.self) text c.loop-buffer.bytes.items inv.0 inv.1 inv.2 read short
+    let short : length c.loop-buffer.bytes.items ≤ MOST_SCRIPT_BYTES + 1 = grind (arith, common_steps) in
+    within-failed (MOST_SCRIPT_BYTES + 1) (g.I.Input.remaining c.loop-buffer.input) (g.I.Input.remaining c.read_some.new.self) text c.loop-buffer.bytes.items inv.0 inv.1 inv.2 read short
 
 pub returns-clause-taken : goal.returns-clause-taken
 returns-clause-taken g c = (
   grind (arith, common_steps),
   λ text e.
       let inv = c.loop-buffer.invariant.told text e in
-      let full : length c.loop-buffer.bytes.items ≡ 1048577 = grind (arith, common_steps) in
+      let full : length c.loop-buffer.bytes.items ≡ MOST_SCRIPT_BYTES + 1 = grind (arith, common_steps) in
       cut_off text c.loop-buffer.bytes.items inv.0 _ full inv.2,
 )
 
 pub returns-clause-within : goal.returns-clause-within
 returns-clause-within g c text e =
     let inv = c.loop-buffer.invariant.told text e in
-    let short : length c.loop-buffer.bytes.items ≤ 1048577 = grind (arith, common_steps) in
+    let short : length c.loop-buffer.bytes.items ≤ MOST_SCRIPT_BYTES + 1 = grind (arith, common_steps) in
     (c.loop-buffer.bytes.items, inv.0, inv.2, inv.1, short)
 
 pub loop-buffer-preserved : goal.loop-buffer-preserved
