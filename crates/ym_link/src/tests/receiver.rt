@@ -4,7 +4,7 @@ use super::scripted::same;
 use crate::{Confirm, Heard, Receiver, ReceiverInto, RecvState, laws};
 use std::alloc::{AllocError, Global};
 use std::test::Fail;
-use ym_file::{MemSink, Sink};
+use ym_file::MemSink;
 use ym_frame::{Block, Item, Reply};
 use ym_header::{Header, HeaderFault, Stamp, write, write_end};
 
@@ -30,34 +30,55 @@ fn eot() -> Heard {
     Heard::Item(Item::Eot)
 }
 
-/// The reply to a delivery. It tells a proof nothing of it, and so costs it little.
-fn reply_to<K: Sink>(receiver: &mut ReceiverInto<K>, heard: &Heard) -> Result<Reply, AllocError> {
+/// A receiver that commits a file at its second EOT. It tells a proof nothing of it, and so costs it little, as do the helpers below.
+fn new_receiver(alloc: Global) -> Receiver {
+    Receiver::new(alloc)
+}
+
+/// The reply to a delivery.
+fn reply_to(receiver: &mut Receiver, heard: &Heard) -> Result<Reply, AllocError> {
     receiver.hear(heard)
 }
 
-/// Whether a delivery is answered by this reply.
-fn replies(receiver: &mut Receiver, heard: &Heard, reply: Reply) -> Result<bool, AllocError> {
-    Ok(reply_to(receiver, heard)? == reply)
+/// Whether a receiver is in this state, with so many files committed.
+fn stands(receiver: &Receiver, state: RecvState, committed: usize) -> bool {
+    same(&receiver.state(), &state)
+        && same(&receiver.committed(), &committed)
+        && same(&receiver.files().len(), &committed)
+}
+
+/// Whether each delivery is answered by the reply beside it.
+fn replies(receiver: &mut Receiver, turns: &[(&Heard, Reply)]) -> Result<bool, AllocError> {
+    for (heard, reply) in turns {
+        if !same(&reply_to(receiver, heard)?, reply) {
+            return Ok(false);
+        }
+    }
+    Ok(true)
 }
 
 #[test]
 fn steps_and_repeats(rt: HostRuntime) -> Result<(), Fail> {
-    let alloc = rt.alloc();
-    let mut receiver = Receiver::new(alloc);
-    assert!(rt; replies(&mut receiver, &eot(), Reply::Start)?);
-    let opening = header(alloc, "a", 200)?;
-    assert!(rt; replies(&mut receiver, &opening, Reply::AckStart)?);
-    assert!(rt; replies(&mut receiver, &opening, Reply::AckStart)?);
-    assert!(rt; replies(&mut receiver, &filled(1, b'A'), Reply::Ack)?);
-    assert!(rt; replies(&mut receiver, &filled(1, b'A'), Reply::Ack)?);
-    assert!(rt; replies(&mut receiver, &eot(), Reply::Nak)?);
-    assert!(rt; same(&receiver.state(), &RecvState::Running));
-    assert!(rt; receiver.files().is_empty());
-    assert!(rt; replies(&mut receiver, &filled(5, b'A'), Reply::Cancel)?);
-    assert!(rt; same(&receiver.state(), &RecvState::OutOfStep));
-    assert!(rt; replies(&mut receiver, &opening, Reply::Silence)?);
-    assert!(rt; replies(&mut receiver, &Heard::Bad, Reply::Silence)?);
-    assert!(rt; replies(&mut receiver, &end(), Reply::Silence)?);
+    let opening = header(rt.alloc(), "a", 200)?;
+    let taken = [
+        (&eot(), Reply::Start),
+        (&opening, Reply::AckStart),
+        (&opening, Reply::AckStart),
+        (&filled(1, b'A'), Reply::Ack),
+        (&filled(1, b'A'), Reply::Ack),
+        (&eot(), Reply::Nak),
+    ];
+    let ignored = [
+        (&opening, Reply::Silence),
+        (&Heard::Bad, Reply::Silence),
+        (&end(), Reply::Silence),
+    ];
+    let mut receiver = new_receiver(rt.alloc());
+    assert!(rt; replies(&mut receiver, &taken)?);
+    assert!(rt; stands(&receiver, RecvState::Running, 0));
+    assert!(rt; replies(&mut receiver, &[(&filled(5, b'A'), Reply::Cancel)])?);
+    assert!(rt; stands(&receiver, RecvState::OutOfStep, 0));
+    assert!(rt; replies(&mut receiver, &ignored)?);
     Ok(())
 }
 
@@ -66,143 +87,142 @@ fn refused_header(rt: HostRuntime) -> Result<(), Fail> {
     let mut body = [0; 128];
     body[0] = b'a';
     let block = Block::new(0, &body).ok().ok_or("no block")?;
-    let mut receiver = Receiver::new(rt.alloc());
-    let reply = reply_to(&mut receiver, &Heard::Item(Item::Block(block)))?;
-    assert!(rt; same(&reply, &Reply::Cancel));
-    assert!(rt;
-        same(
-            &receiver.state(),
-            &RecvState::BadHeader(HeaderFault::NoLength)
-        )
-    );
+    let heard = Heard::Item(Item::Block(block));
+    let mut receiver = new_receiver(rt.alloc());
+    assert!(rt; replies(&mut receiver, &[(&heard, Reply::Cancel)])?);
+    let state = RecvState::BadHeader(HeaderFault::NoLength);
+    assert!(rt; stands(&receiver, state, 0));
     Ok(())
+}
+
+/// Whether the first of the committed files has this name, these bytes and no stamp.
+fn keeps(receiver: &Receiver, name: &str, bytes: &[u8]) -> bool {
+    match receiver.files().first() {
+        Some(file) => {
+            same(&file.name(), &name)
+                && same(&file.length(), &(bytes.len() as u64))
+                && same(&file.stamp(), &Stamp::Nothing)
+                && same(&file.bytes(), &bytes)
+        }
+        None => false,
+    }
 }
 
 #[test]
 fn bytes_past_the_length(rt: HostRuntime) -> Result<(), Fail> {
-    let alloc = rt.alloc();
-    let mut receiver = Receiver::new(alloc);
-    assert!(rt; replies(&mut receiver, &header(alloc, "a", 100)?, Reply::AckStart)?);
-    assert!(rt; replies(&mut receiver, &filled(1, b'A'), Reply::Ack)?);
-    assert!(rt; replies(&mut receiver, &filled(2, b'B'), Reply::Ack)?);
-    assert!(rt; replies(&mut receiver, &eot(), Reply::Nak)?);
-    assert!(rt; same(&receiver.committed(), &0));
-    assert!(rt; replies(&mut receiver, &eot(), Reply::AckStart)?);
-    assert!(rt; same(&receiver.committed(), &1));
-    let file = receiver.files().first().ok_or("no file")?;
-    assert!(rt; same(&file.name(), &"a"));
-    assert!(rt; same(&file.length(), &100));
-    assert!(rt; same(&file.stamp(), &Stamp::Nothing));
-    assert!(rt; same(&file.bytes(), &[b'A'; 100].as_slice()));
-    assert!(rt; replies(&mut receiver, &end(), Reply::Ack)?);
-    assert!(rt; same(&receiver.state(), &RecvState::Finished));
-    assert!(rt; replies(&mut receiver, &end(), Reply::Ack)?);
-    assert!(rt; replies(&mut receiver, &header(alloc, "b", 100)?, Reply::Silence)?);
-    assert!(rt; replies(&mut receiver, &Heard::Item(Item::Cancel), Reply::Silence)?);
-    assert!(rt; same(&receiver.state(), &RecvState::Finished));
+    let taken = [
+        (&header(rt.alloc(), "a", 100)?, Reply::AckStart),
+        (&filled(1, b'A'), Reply::Ack),
+        (&filled(2, b'B'), Reply::Ack),
+        (&eot(), Reply::Nak),
+    ];
+    let ignored = [
+        (&end(), Reply::Ack),
+        (&header(rt.alloc(), "b", 100)?, Reply::Silence),
+        (&Heard::Item(Item::Cancel), Reply::Silence),
+    ];
+    let mut receiver = new_receiver(rt.alloc());
+    assert!(rt; replies(&mut receiver, &taken)?);
+    assert!(rt; stands(&receiver, RecvState::Running, 0));
+    assert!(rt; replies(&mut receiver, &[(&eot(), Reply::AckStart)])?);
+    assert!(rt; stands(&receiver, RecvState::Running, 1));
+    assert!(rt; keeps(&receiver, "a", &[b'A'; 100]));
+    assert!(rt; replies(&mut receiver, &[(&end(), Reply::Ack)])?);
+    assert!(rt; stands(&receiver, RecvState::Finished, 1));
+    assert!(rt; replies(&mut receiver, &ignored)?);
+    assert!(rt; stands(&receiver, RecvState::Finished, 1));
     Ok(())
 }
 
 #[test]
 fn tenth_without_progress(rt: HostRuntime) -> Result<(), Fail> {
-    let mut receiver = Receiver::new(rt.alloc());
-    for _ in 0..9 {
-        assert!(rt; replies(&mut receiver, &Heard::Bad, Reply::Start)?);
-    }
-    assert!(rt; replies(&mut receiver, &Heard::Bad, Reply::Cancel)?);
-    assert!(rt; same(&receiver.state(), &RecvState::TooManyErrors));
+    let mut receiver = new_receiver(rt.alloc());
+    assert!(rt; replies(&mut receiver, &[(&Heard::Bad, Reply::Start); 9])?);
+    assert!(rt; replies(&mut receiver, &[(&Heard::Bad, Reply::Cancel)])?);
+    assert!(rt; stands(&receiver, RecvState::TooManyErrors, 0));
     Ok(())
 }
 
 #[test]
 fn progress_sets_the_count_back(rt: HostRuntime) -> Result<(), Fail> {
-    let alloc = rt.alloc();
-    let mut receiver = Receiver::new(alloc);
-    for _ in 0..9 {
-        assert!(rt; replies(&mut receiver, &Heard::Bad, Reply::Start)?);
-    }
-    assert!(rt; replies(&mut receiver, &header(alloc, "a", 100)?, Reply::AckStart)?);
-    for _ in 0..9 {
-        assert!(rt; replies(&mut receiver, &Heard::Bad, Reply::Start)?);
-    }
-    assert!(rt; same(&receiver.state(), &RecvState::Running));
-    assert!(rt; replies(&mut receiver, &Heard::Bad, Reply::Cancel)?);
+    let opening = header(rt.alloc(), "a", 100)?;
+    let mut receiver = new_receiver(rt.alloc());
+    assert!(rt; replies(&mut receiver, &[(&Heard::Bad, Reply::Start); 9])?);
+    assert!(rt; replies(&mut receiver, &[(&opening, Reply::AckStart)])?);
+    assert!(rt; replies(&mut receiver, &[(&Heard::Bad, Reply::Start); 9])?);
+    assert!(rt; stands(&receiver, RecvState::Running, 0));
+    assert!(rt; replies(&mut receiver, &[(&Heard::Bad, Reply::Cancel)])?);
     Ok(())
 }
 
 #[test]
 fn single_receiver(rt: HostRuntime) -> Result<(), Fail> {
-    let alloc = rt.alloc();
-    let mut receiver = Receiver::single(alloc);
-    assert!(rt; replies(&mut receiver, &header(alloc, "a", 0)?, Reply::AckStart)?);
-    assert!(rt; replies(&mut receiver, &eot(), Reply::AckStart)?);
-    assert!(rt; replies(&mut receiver, &eot(), Reply::AckStart)?);
-    assert!(rt; same(&receiver.committed(), &1));
+    let turns = [
+        (&header(rt.alloc(), "a", 0)?, Reply::AckStart),
+        (&eot(), Reply::AckStart),
+        (&eot(), Reply::AckStart),
+    ];
+    let mut receiver = Receiver::single(rt.alloc());
+    assert!(rt; replies(&mut receiver, &turns)?);
+    assert!(rt; stands(&receiver, RecvState::Running, 1));
     Ok(())
 }
 
-/// A receiver that has taken so many empty files, and that heard one more header.
-fn after_empty_files(alloc: Global, count: usize) -> Result<(Receiver, Reply), Fail> {
+/// A receiver that has taken so many empty files.
+fn after_empty_files(alloc: Global, count: usize) -> Result<Receiver, Fail> {
     let opening = header(alloc, "a", 0)?;
-    let mut receiver = Receiver::new(alloc);
+    let mut receiver = new_receiver(alloc);
     for _ in 0..count {
         let _ = reply_to(&mut receiver, &opening)?;
         let _ = reply_to(&mut receiver, &eot())?;
         let _ = reply_to(&mut receiver, &eot())?;
     }
-    let reply = reply_to(&mut receiver, &opening)?;
-    Ok((receiver, reply))
+    Ok(receiver)
 }
 
 #[test]
 fn too_many_files(rt: HostRuntime) -> Result<(), Fail> {
-    let (receiver, reply) = after_empty_files(rt.alloc(), 65_534)?;
-    assert!(rt; same(&reply, &Reply::AckStart));
-    assert!(rt; same(&receiver.state(), &RecvState::Running));
-    let (receiver, reply) = after_empty_files(rt.alloc(), 65_535)?;
-    assert!(rt; same(&reply, &Reply::Cancel));
-    assert!(rt; same(&receiver.state(), &RecvState::TooManyFiles));
-    assert!(rt; same(&receiver.files().len(), &65_535));
+    let opening = header(rt.alloc(), "a", 0)?;
+    let mut receiver = after_empty_files(rt.alloc(), 65_534)?;
+    assert!(rt; replies(&mut receiver, &[(&opening, Reply::AckStart)])?);
+    assert!(rt; stands(&receiver, RecvState::Running, 65_534));
+    let mut receiver = after_empty_files(rt.alloc(), 65_535)?;
+    assert!(rt; replies(&mut receiver, &[(&opening, Reply::Cancel)])?);
+    assert!(rt; stands(&receiver, RecvState::TooManyFiles, 65_535));
     Ok(())
 }
 
-/// The replies to a header, a block and an EOT, where a call of the sink fails.
-fn replies_of_failing(alloc: Global, failing: u64) -> Result<[Reply; 3], Fail> {
+/// A receiver whose sink fails at this call.
+fn failing_receiver(alloc: Global, failing: u64) -> Receiver {
     let sink = MemSink::new(alloc, Some(failing));
-    let mut receiver = ReceiverInto::with_sink(alloc, sink, Confirm::Once);
-    let replies = [
-        reply_to(&mut receiver, &header(alloc, "a", 1)?)?,
-        reply_to(&mut receiver, &filled(1, b'A'))?,
-        reply_to(&mut receiver, &eot())?,
+    ReceiverInto::with_sink(alloc, sink, Confirm::Once)
+}
+
+/// Whether a header, a block and an EOT have these replies where this call of the sink fails, and no file is kept.
+fn fails_with(alloc: Global, failing: u64, told: [Reply; 3]) -> Result<bool, Fail> {
+    let [opened, added, closed] = told;
+    let turns = [
+        (&header(alloc, "a", 1)?, opened),
+        (&filled(1, b'A'), added),
+        (&eot(), closed),
     ];
-    let ended = receiver.state() == RecvState::SinkFailed && receiver.committed() == 0;
-    if ended && receiver.sink().files().is_empty() && receiver.into_sink().files().is_empty() {
-        return Ok(replies);
-    }
-    Err("no sink failed".into())
+    let mut receiver = failing_receiver(alloc, failing);
+    Ok(
+        replies(&mut receiver, &turns)?
+            && stands(&receiver, RecvState::SinkFailed, 0)
+            && receiver.sink().files().is_empty()
+            && receiver.into_sink().files().is_empty(),
+    )
 }
 
 #[test]
 fn failing_sink(rt: HostRuntime) -> Result<(), Fail> {
-    let alloc = rt.alloc();
-    assert!(rt;
-        same(
-            &replies_of_failing(alloc, 1)?,
-            &[Reply::Cancel, Reply::Silence, Reply::Silence]
-        )
-    );
-    assert!(rt;
-        same(
-            &replies_of_failing(alloc, 2)?,
-            &[Reply::AckStart, Reply::Cancel, Reply::Silence]
-        )
-    );
-    assert!(rt;
-        same(
-            &replies_of_failing(alloc, 3)?,
-            &[Reply::AckStart, Reply::Ack, Reply::Cancel]
-        )
-    );
+    let first = [Reply::Cancel, Reply::Silence, Reply::Silence];
+    assert!(rt; fails_with(rt.alloc(), 1, first)?);
+    let second = [Reply::AckStart, Reply::Cancel, Reply::Silence];
+    assert!(rt; fails_with(rt.alloc(), 2, second)?);
+    let third = [Reply::AckStart, Reply::Ack, Reply::Cancel];
+    assert!(rt; fails_with(rt.alloc(), 3, third)?);
     Ok(())
 }
 
