@@ -2,116 +2,140 @@
 
 use super::scripted::{
     ACK, ACK_START, CANCEL, Coming, EOT, Failing, START, end_block, header_of, port_of, repeated,
-    same,
 };
 use crate::{
-    Clearing, EndFault, Receiver, RecvState, Role, SendFile, SendState, Sender, receive_over,
-    send_over,
+    Clearing, EndFault, Receiver, RecvState, Role, ScriptPort, SendFile, SendState, Sender,
+    receive_over, send_over,
 };
-use std::alloc::Global;
+use std::alloc::{AllocError, Global};
 use std::test::Fail;
 use ym_file::Shape;
 use ym_header::Stamp;
 
 const NAK: &[u8] = &[0x15];
 
-/// Sends one file `a` of no bytes, and tells how it ended: what the engine answered, the state, the files done, and whether these bytes
-/// were written.
-fn send(
+/// A port that lets the line clear. It tells a proof nothing of it, and so costs it little, as do the helpers below.
+fn clearing(
     alloc: Global,
     coming: &[Coming],
-    written: &[u8],
-) -> Result<(Result<(), EndFault>, SendState, usize, bool), Fail> {
-    let mut port = Clearing::new(port_of(alloc, coming, Failing::Never)?, Role::Sender);
-    let mut batch = Vec::new(alloc);
-    batch.push(SendFile::new(alloc, "a", Vec::new(alloc), Stamp::Nothing)?)?;
-    let mut sender = Sender::new(batch, Shape::Mixed).map_err(|_| "batch")?;
-    let answer = send_over(&mut port, &mut sender);
-    let is_written = port.port().written() == written;
-    Ok((answer, sender.state(), sender.done(), is_written))
+    role: Role,
+) -> Result<Clearing<ScriptPort>, AllocError> {
+    Ok(Clearing::new(port_of(alloc, coming, Failing::Never)?, role))
 }
 
-/// Receives, and tells how it ended: what the engine answered, the state, and whether these bytes were written.
-fn receive(
-    alloc: Global,
-    coming: &[Coming],
-    written: &[u8],
-) -> Result<(Result<(), EndFault>, RecvState, bool), Fail> {
-    let mut port = Clearing::new(port_of(alloc, coming, Failing::Never)?, Role::Receiver);
-    let mut receiver = Receiver::new(alloc);
-    let answer = receive_over(&mut port, &mut receiver);
-    let is_written = port.port().written() == written;
-    Ok((answer, receiver.state(), is_written))
+/// Whether these bytes were written.
+fn has_written(port: &Clearing<ScriptPort>, written: &[u8]) -> bool {
+    port.port().written() == written
 }
+
+/// A sender of one file `a` of no bytes.
+fn new_sender(alloc: Global) -> Result<Sender, Fail> {
+    let mut batch = Vec::new(alloc);
+    batch.push(SendFile::new(alloc, "a", Vec::new(alloc), Stamp::Nothing)?)?;
+    Ok(Sender::new(batch, Shape::Mixed).map_err(|_| "batch")?)
+}
+
+fn run_sender(port: &mut Clearing<ScriptPort>, sender: &mut Sender) -> Result<(), EndFault> {
+    send_over(port, sender)
+}
+
+fn run_receiver(port: &mut Clearing<ScriptPort>, receiver: &mut Receiver) -> Result<(), EndFault> {
+    receive_over(port, receiver)
+}
+
+/// The header of the file and an EOT, each so many times, and other bytes behind them.
+fn frames(alloc: Global, headers: usize, eots: usize, last: &[u8]) -> Result<Vec<u8>, Fail> {
+    let ended = repeated(alloc, EOT, eots, last)?;
+    let header = header_of(alloc, "a", 0)?;
+    Ok(repeated(alloc, header.as_bytes(), headers, ended.as_slice())?)
+}
+
+/// How a sender has ended: what the engine answered, the state, and the files done.
+type SendEnd = (Result<(), EndFault>, SendState, usize);
+
+/// Whether the file is sent to this end, with these bytes written.
+fn sends(alloc: Global, coming: &[Coming], end: SendEnd, written: &[u8]) -> Result<bool, Fail> {
+    let (answer, state, done) = end;
+    let mut port = clearing(alloc, coming, Role::Sender)?;
+    let mut sender = new_sender(alloc)?;
+    Ok(
+        run_sender(&mut port, &mut sender) == answer
+            && sender.state() == state
+            && sender.done() == done
+            && has_written(&port, written),
+    )
+}
+
+/// Whether a batch is received to its end, with these bytes written.
+fn receives(alloc: Global, coming: &[Coming], written: &[u8]) -> Result<bool, Fail> {
+    let mut port = clearing(alloc, coming, Role::Receiver)?;
+    let mut receiver = Receiver::new(alloc);
+    Ok(
+        run_receiver(&mut port, &mut receiver) == Ok(())
+            && receiver.state() == RecvState::Finished
+            && has_written(&port, written),
+    )
+}
+
+/// The answers to both copies of the EOT come late: NAK, for which it is written a third time, and ACK C. The answer to the third is dropped.
+const STALLS: [Coming; 10] = [
+    Coming::Piece(START),
+    Coming::Piece(ACK_START),
+    Coming::Quiet,
+    Coming::Quiet,
+    Coming::Piece(NAK),
+    Coming::Piece(ACK_START),
+    Coming::Piece(ACK_START),
+    Coming::Quiet,
+    Coming::Quiet,
+    Coming::Piece(ACK),
+];
 
 #[test]
 fn a_peer_that_stalls_before_an_eot(rt: HostRuntime) -> Result<(), Fail> {
-    // The answers to both copies of the EOT come late: NAK, for which it is written a third time, and ACK C. The answer to the third is dropped.
-    let coming = [
-        Coming::Piece(START),
-        Coming::Piece(ACK_START),
-        Coming::Quiet,
-        Coming::Quiet,
-        Coming::Piece(NAK),
-        Coming::Piece(ACK_START),
-        Coming::Piece(ACK_START),
-        Coming::Quiet,
-        Coming::Quiet,
-        Coming::Piece(ACK),
-    ];
-    let alloc = rt.alloc();
-    let mut written = repeated(alloc, header_of(alloc, "a", 0)?.as_bytes(), 1, &[])?;
-    written.extend_from_slice(repeated(alloc, EOT, 3, end_block().as_bytes())?.as_slice())?;
-    let ended = send(alloc, &coming, written.as_slice())?;
-    assert!(rt; same(&ended, &(Ok(()), SendState::Finished, 1, true)));
+    let written = frames(rt.alloc(), 1, 3, end_block().as_bytes())?;
+    let end = (Ok(()), SendState::Finished, 1);
+    assert!(rt; sends(rt.alloc(), &STALLS, end, &written)?);
     Ok(())
 }
+
+const CANCELS: [Coming; 7] = [
+    Coming::Piece(START),
+    Coming::Quiet,
+    Coming::Quiet,
+    Coming::Piece(ACK_START),
+    Coming::Piece(ACK_START),
+    Coming::Piece(CANCEL),
+    Coming::Piece(ACK),
+];
 
 #[test]
 fn a_cancel_while_the_line_clears(rt: HostRuntime) -> Result<(), Fail> {
-    let coming = [
-        Coming::Piece(START),
-        Coming::Quiet,
-        Coming::Quiet,
-        Coming::Piece(ACK_START),
-        Coming::Piece(ACK_START),
-        Coming::Piece(CANCEL),
-        Coming::Piece(ACK),
-    ];
-    let alloc = rt.alloc();
-    let header = header_of(alloc, "a", 0)?;
-    let written = repeated(alloc, header.as_bytes(), 2, EOT)?;
-    let ended = send(alloc, &coming, written.as_slice())?;
-    assert!(rt; same(&ended, &(Ok(()), SendState::Cancelled, 0, true)));
+    let written = frames(rt.alloc(), 2, 1, &[])?;
+    let end = (Ok(()), SendState::Cancelled, 0);
+    assert!(rt; sends(rt.alloc(), &CANCELS, end, &written)?);
     Ok(())
 }
 
+const FAILS: [Coming; 5] = [
+    Coming::Piece(START),
+    Coming::Quiet,
+    Coming::Quiet,
+    Coming::Piece(ACK_START),
+    Coming::Fault,
+];
+
 #[test]
 fn a_port_that_fails_while_the_line_clears(rt: HostRuntime) -> Result<(), Fail> {
-    let coming = [
-        Coming::Piece(START),
-        Coming::Quiet,
-        Coming::Quiet,
-        Coming::Piece(ACK_START),
-        Coming::Fault,
-    ];
-    let alloc = rt.alloc();
-    let header = header_of(alloc, "a", 0)?;
-    let written = repeated(alloc, header.as_bytes(), 2, &[])?;
-    let ended = send(alloc, &coming, written.as_slice())?;
-    assert!(rt;
-        same(
-            &ended,
-            &(Err(EndFault::Device), SendState::Running, 0, true)
-        )
-    );
+    let written = frames(rt.alloc(), 2, 0, &[])?;
+    let end = (Err(EndFault::Device), SendState::Running, 0);
+    assert!(rt; sends(rt.alloc(), &FAILS, end, &written)?);
     Ok(())
 }
 
 #[test]
 fn a_peer_that_starts_late(rt: HostRuntime) -> Result<(), Fail> {
     // It answers each of three C by the end block.
-    let alloc = rt.alloc();
     let end = end_block();
     let coming = [
         Coming::Quiet,
@@ -125,8 +149,7 @@ fn a_peer_that_starts_late(rt: HostRuntime) -> Result<(), Fail> {
         Coming::Piece(end.as_bytes()),
         Coming::Quiet,
     ];
-    let written = repeated(alloc, START, 3, ACK)?;
-    let ended = receive(alloc, &coming, written.as_slice())?;
-    assert!(rt; same(&ended, &(Ok(()), RecvState::Finished, true)));
+    let written = repeated(rt.alloc(), START, 3, ACK)?;
+    assert!(rt; receives(rt.alloc(), &coming, &written)?);
     Ok(())
 }

@@ -2,7 +2,7 @@
 
 use super::scripted::{
     ACK, ACK_START, CANCEL, Coming, EOT, Failing, START, end_block, header_of, port_of, push_event,
-    repeated, same, times,
+    repeated, times,
 };
 use crate::{
     EndFault, Receiver, RecvState, ScriptPort, SendFile, SendState, Sender, receive_over, send_over,
@@ -35,32 +35,75 @@ fn receive(alloc: Global, coming: &[Coming], failing: Failing) -> Result<Receive
     Ok(receive_from(alloc, port_of(alloc, coming, failing)?))
 }
 
-/// Whether a device fault left the receiver in this state, with these bytes written.
-fn failed_receive(received: &Received, state: RecvState, written: &[u8]) -> bool {
-    received.answer == Err(EndFault::Device)
-        && received.state == state
-        && received.port.written() == written
-        && received.port.failures() == 1
+/// Whether the receiver ended by this answer in this state, with these bytes written. It tells a proof nothing of it, and so costs it
+/// little, as do the helpers below.
+fn ends(
+    received: &Received,
+    answer: Result<(), EndFault>,
+    state: RecvState,
+    written: &[u8],
+) -> bool {
+    received.answer == answer && received.state == state && received.port.written() == written
+}
+
+/// Whether a receiver ends in this state, with these bytes written.
+fn receives(
+    alloc: Global,
+    coming: &[Coming],
+    state: RecvState,
+    written: &[u8],
+) -> Result<bool, AllocError> {
+    let received = receive(alloc, coming, Failing::Never)?;
+    Ok(ends(&received, Ok(()), state, written))
+}
+
+/// Whether a receiver gives up, with this reply written so many times and CAN CAN behind it.
+fn gives_up(
+    alloc: Global,
+    coming: &[Coming],
+    reply: &[u8],
+    count: usize,
+) -> Result<bool, AllocError> {
+    let written = repeated(alloc, reply, count, CANCEL)?;
+    receives(alloc, coming, RecvState::TooManyErrors, written.as_slice())
+}
+
+/// How a port fails, and then the state and what was written.
+type FailedReceive<'a> = (Failing, RecvState, &'a [u8]);
+
+/// Whether a device fault leaves the receiver in this state, with these bytes written.
+fn stops(alloc: Global, coming: &[Coming], failed: FailedReceive) -> Result<bool, AllocError> {
+    let (failing, state, written) = failed;
+    let received = receive(alloc, coming, failing)?;
+    Ok(ends(&received, Err(EndFault::Device), state, written) && received.port.failures() == 1)
+}
+
+/// Whether each device fault of a table leaves the receiver as it says.
+fn stops_at_each(
+    alloc: Global,
+    coming: &[Coming],
+    table: &[FailedReceive],
+) -> Result<bool, AllocError> {
+    for failed in table {
+        if !stops(alloc, coming, *failed)? {
+            return Ok(false);
+        }
+    }
+    Ok(true)
 }
 
 #[test]
 fn receives_the_end_of_a_batch(rt: HostRuntime) -> Result<(), Fail> {
     let end = end_block();
-    let end = end.as_bytes();
-    let coming = [Coming::Quiet, Coming::Piece(end)];
-    let received = receive(rt.alloc(), &coming, Failing::Never)?;
-    assert!(rt; same(&received.answer, &Ok(())));
-    assert!(rt; same(&received.state, &RecvState::Finished));
-    assert!(rt; same(&received.port.written(), &[0x43, 0x06].as_slice()));
-    let faults: [&[u8]; 2] = [&[], START];
-    for (i, written) in faults.iter().enumerate() {
-        let received = receive(rt.alloc(), &coming, Failing::Before(i))?;
-        assert!(rt; failed_receive(&received, RecvState::Running, written));
-    }
-    let received = receive(rt.alloc(), &coming, Failing::Write(1))?;
-    assert!(rt; failed_receive(&received, RecvState::Running, &[]));
-    let received = receive(rt.alloc(), &coming, Failing::Write(2))?;
-    assert!(rt; failed_receive(&received, RecvState::Finished, START));
+    let coming = [Coming::Quiet, Coming::Piece(end.as_bytes())];
+    let faults: [FailedReceive; 4] = [
+        (Failing::Before(0), RecvState::Running, &[]),
+        (Failing::Before(1), RecvState::Running, START),
+        (Failing::Write(1), RecvState::Running, &[]),
+        (Failing::Write(2), RecvState::Finished, START),
+    ];
+    assert!(rt; receives(rt.alloc(), &coming, RecvState::Finished, &[0x43, 0x06])?);
+    assert!(rt; stops_at_each(rt.alloc(), &coming, &faults)?);
     Ok(())
 }
 
@@ -68,14 +111,12 @@ fn receives_the_end_of_a_batch(rt: HostRuntime) -> Result<(), Fail> {
 fn drops_what_is_left_of_a_read(rt: HostRuntime) -> Result<(), Fail> {
     let both = repeated(rt.alloc(), end_block().as_bytes(), 1, EOT)?;
     let coming = [Coming::Piece(both.as_slice())];
-    let received = receive(rt.alloc(), &coming, Failing::Never)?;
-    assert!(rt; same(&received.answer, &Ok(())));
-    assert!(rt; same(&received.state, &RecvState::Finished));
-    assert!(rt; same(&received.port.written(), &ACK));
-    let received = receive(rt.alloc(), &coming, Failing::Before(0))?;
-    assert!(rt; failed_receive(&received, RecvState::Running, &[]));
-    let received = receive(rt.alloc(), &coming, Failing::Write(1))?;
-    assert!(rt; failed_receive(&received, RecvState::Finished, &[]));
+    let faults: [FailedReceive; 2] = [
+        (Failing::Before(0), RecvState::Running, &[]),
+        (Failing::Write(1), RecvState::Finished, &[]),
+    ];
+    assert!(rt; receives(rt.alloc(), &coming, RecvState::Finished, ACK)?);
+    assert!(rt; stops_at_each(rt.alloc(), &coming, &faults)?);
     Ok(())
 }
 
@@ -84,70 +125,54 @@ fn hears_no_unfinished_delivery(rt: HostRuntime) -> Result<(), Fail> {
     let end = end_block();
     let part = end.as_bytes().get(..60).ok_or("no block")?;
     let coming = [Coming::Piece(part), Coming::Closed];
+    let faults: [FailedReceive; 2] = [
+        (Failing::Before(0), RecvState::Running, &[]),
+        (Failing::Before(1), RecvState::Running, &[]),
+    ];
     let received = receive(rt.alloc(), &coming, Failing::Never)?;
-    assert!(rt; same(&received.answer, &Err(EndFault::Closed)));
-    assert!(rt; same(&received.state, &RecvState::Running));
-    assert!(rt; received.port.written().is_empty());
-    for i in 0..2 {
-        let received = receive(rt.alloc(), &coming, Failing::Before(i))?;
-        assert!(rt; failed_receive(&received, RecvState::Running, &[]));
-    }
+    assert!(rt; ends(&received, Err(EndFault::Closed), RecvState::Running, &[]));
+    assert!(rt; stops_at_each(rt.alloc(), &coming, &faults)?);
     Ok(())
+}
+
+/// Whether a fault before junk number `i`, counted from 0, or at the reply to it leaves so many replies written.
+fn stops_at_junk(alloc: Global, junk: &[Coming], i: u8) -> Result<bool, AllocError> {
+    let written = repeated(alloc, START, usize::from(i), &[])?;
+    let state = if i < 9 {
+        RecvState::Running
+    } else {
+        RecvState::TooManyErrors
+    };
+    let faults: [FailedReceive; 2] = [
+        (
+            Failing::Before(usize::from(i)),
+            RecvState::Running,
+            written.as_slice(),
+        ),
+        (Failing::Write(u64::from(i) + 1), state, written.as_slice()),
+    ];
+    stops_at_each(alloc, junk, &faults)
 }
 
 #[test]
 fn receiver_gives_up_at_junk(rt: HostRuntime) -> Result<(), Fail> {
-    let alloc = rt.alloc();
-    let junk = times(alloc, Coming::Piece(&[0; 2048]), 10)?;
-    let received = receive(alloc, &junk, Failing::Never)?;
-    assert!(rt; same(&received.answer, &Ok(())));
-    assert!(rt; same(&received.state, &RecvState::TooManyErrors));
-    assert!(rt;
-        same(
-            &received.port.written(),
-            &repeated(alloc, START, 9, CANCEL)?.as_slice()
-        )
-    );
+    let junk = times(rt.alloc(), Coming::Piece(&[0; 2048]), 10)?;
+    assert!(rt; gives_up(rt.alloc(), &junk, START, 9)?);
     for i in 0..10 {
-        let written = repeated(alloc, START, i, &[])?;
-        let received = receive(alloc, &junk, Failing::Before(i))?;
-        assert!(rt; failed_receive(&received, RecvState::Running, written.as_slice()));
-        let received = receive(alloc, &junk, Failing::Write(i as u64 + 1))?;
-        let state = if i < 9 {
-            RecvState::Running
-        } else {
-            RecvState::TooManyErrors
-        };
-        assert!(rt; failed_receive(&received, state, written.as_slice()));
+        assert!(rt; stops_at_junk(rt.alloc(), &junk, i)?);
     }
-    let received = receive(alloc, &[Coming::Quiet], Failing::Write(1))?;
-    assert!(rt; failed_receive(&received, RecvState::Running, &[]));
+    let failed = (Failing::Write(1), RecvState::Running, [].as_slice());
+    assert!(rt; stops(rt.alloc(), &[Coming::Quiet], failed)?);
     Ok(())
 }
 
 #[test]
 fn receiver_ends_at_endless_peers(rt: HostRuntime) -> Result<(), Fail> {
-    let alloc = rt.alloc();
-    let header = header_of(alloc, "a", 128)?;
-    let headers = times(alloc, Coming::Piece(header.as_bytes()), 11)?;
-    let received = receive(alloc, &headers, Failing::Never)?;
-    assert!(rt; same(&received.state, &RecvState::TooManyErrors));
-    assert!(rt;
-        same(
-            &received.port.written(),
-            &repeated(alloc, ACK_START, 10, CANCEL)?.as_slice()
-        )
-    );
-
-    let bytes = times(alloc, Coming::Piece(&[0]), 20_480)?;
-    let received = receive(alloc, &bytes, Failing::Never)?;
-    assert!(rt; same(&received.state, &RecvState::TooManyErrors));
-    assert!(rt;
-        same(
-            &received.port.written(),
-            &repeated(alloc, START, 9, CANCEL)?.as_slice()
-        )
-    );
+    let header = header_of(rt.alloc(), "a", 128)?;
+    let headers = times(rt.alloc(), Coming::Piece(header.as_bytes()), 11)?;
+    assert!(rt; gives_up(rt.alloc(), &headers, ACK_START, 10)?);
+    let bytes = times(rt.alloc(), Coming::Piece(&[0]), 20_480)?;
+    assert!(rt; gives_up(rt.alloc(), &bytes, START, 9)?);
     Ok(())
 }
 
@@ -156,9 +181,8 @@ fn block_frame(number: u8) -> Option<FrameBuf> {
     Some(encode(&Item::Block(block)))
 }
 
-#[test]
-fn receiver_ends_at_endless_blocks(rt: HostRuntime) -> Result<(), Fail> {
-    let alloc = rt.alloc();
+/// A port to which a header and eleven blocks come.
+fn endless_blocks(alloc: Global) -> Result<ScriptPort, Fail> {
     let header = header_of(alloc, "a", 100)?;
     let mut events = Vec::new(alloc);
     push_event(alloc, &mut events, Coming::Piece(header.as_bytes()))?;
@@ -166,12 +190,22 @@ fn receiver_ends_at_endless_blocks(rt: HostRuntime) -> Result<(), Fail> {
         let frame = block_frame(number).ok_or("no block")?;
         push_event(alloc, &mut events, Coming::Piece(frame.as_bytes()))?;
     }
-    let received = receive_from(alloc, ScriptPort::new(alloc, events, None));
-    assert!(rt; same(&received.answer, &Ok(())));
-    assert!(rt; same(&received.state, &RecvState::TooManyErrors));
-    let mut written = repeated(alloc, ACK_START, 1, &[])?;
-    written.extend_from_slice(repeated(alloc, ACK, 10, CANCEL)?.as_slice())?;
-    assert!(rt; same(&received.port.written(), &written.as_slice()));
+    Ok(ScriptPort::new(alloc, events, None))
+}
+
+#[test]
+fn receiver_ends_at_endless_blocks(rt: HostRuntime) -> Result<(), Fail> {
+    let answers = repeated(rt.alloc(), ACK, 10, CANCEL)?;
+    let written = repeated(rt.alloc(), ACK_START, 1, answers.as_slice())?;
+    let received = receive_from(rt.alloc(), endless_blocks(rt.alloc())?);
+    assert!(rt;
+        ends(
+            &received,
+            Ok(()),
+            RecvState::TooManyErrors,
+            written.as_slice()
+        )
+    );
     Ok(())
 }
 
@@ -199,92 +233,129 @@ fn send(alloc: Global, files: usize, coming: &[Coming], failing: Failing) -> Res
     })
 }
 
-/// Whether a device fault left the sender running, with these bytes written.
-fn failed_send(sent: &Sent, written: &[u8]) -> bool {
-    sent.answer == Err(EndFault::Device)
-        && sent.state == SendState::Running
-        && sent.port.written() == written
-        && sent.port.failures() == 1
+/// Whether a sender of so many files ends in this state, with these bytes written.
+fn sends(
+    alloc: Global,
+    files: usize,
+    coming: &[Coming],
+    state: SendState,
+    written: &[u8],
+) -> Result<bool, Fail> {
+    let sent = send(alloc, files, coming, Failing::Never)?;
+    Ok(sent.answer == Ok(()) && sent.state == state && sent.port.written() == written)
+}
+
+/// How a port fails, and then what was written.
+type FailedSend<'a> = (Failing, &'a [u8]);
+
+/// Whether a device fault leaves the sender running, with these bytes written.
+fn is_cut_off(
+    alloc: Global,
+    files: usize,
+    coming: &[Coming],
+    failed: FailedSend,
+) -> Result<bool, Fail> {
+    let (failing, written) = failed;
+    let sent = send(alloc, files, coming, failing)?;
+    Ok(
+        sent.answer == Err(EndFault::Device)
+            && sent.state == SendState::Running
+            && sent.port.written() == written
+            && sent.port.failures() == 1,
+    )
+}
+
+/// Whether each device fault of a table leaves the sender as it says.
+fn is_cut_off_at_each(
+    alloc: Global,
+    files: usize,
+    coming: &[Coming],
+    table: &[FailedSend],
+) -> Result<bool, Fail> {
+    for failed in table {
+        if !is_cut_off(alloc, files, coming, *failed)? {
+            return Ok(false);
+        }
+    }
+    Ok(true)
 }
 
 #[test]
 fn sends_an_empty_batch(rt: HostRuntime) -> Result<(), Fail> {
     let end = end_block();
     let coming = [Coming::Piece(START), Coming::Piece(ACK)];
-    let sent = send(rt.alloc(), 0, &coming, Failing::Never)?;
-    assert!(rt; same(&sent.answer, &Ok(())));
-    assert!(rt; same(&sent.state, &SendState::Finished));
-    assert!(rt; same(&sent.port.written(), &end.as_bytes()));
-    assert!(rt; failed_send(&send(rt.alloc(), 0, &coming, Failing::Before(0))?, &[]));
-    assert!(rt;
-        failed_send(
-            &send(rt.alloc(), 0, &coming, Failing::Before(1))?,
-            end.as_bytes()
-        )
-    );
-    assert!(rt; failed_send(&send(rt.alloc(), 0, &coming, Failing::Write(1))?, &[]));
+    let faults: [FailedSend; 3] = [
+        (Failing::Before(0), &[]),
+        (Failing::Before(1), end.as_bytes()),
+        (Failing::Write(1), &[]),
+    ];
+    assert!(rt; sends(rt.alloc(), 0, &coming, SendState::Finished, end.as_bytes())?);
+    assert!(rt; is_cut_off_at_each(rt.alloc(), 0, &coming, &faults)?);
     Ok(())
+}
+
+/// What comes to a sender of one empty file.
+const ONE_FILE: [Coming; 5] = [
+    Coming::Piece(START),
+    Coming::Piece(ACK),
+    Coming::Piece(START),
+    Coming::Piece(ACK_START),
+    Coming::Piece(ACK),
+];
+
+/// Whether a device fault before each of the events, or at each of the first writes, leaves as much written as had been: nothing, the header,
+/// the EOT behind it, or all.
+fn empty_file_is_cut_off<'a>(
+    alloc: Global,
+    opening: &'a [u8],
+    closing: &'a [u8],
+    whole: &'a [u8],
+) -> Result<bool, Fail> {
+    let faults: [FailedSend; 8] = [
+        (Failing::Before(0), &[]),
+        (Failing::Before(1), opening),
+        (Failing::Before(2), opening),
+        (Failing::Before(3), closing),
+        (Failing::Before(4), whole),
+        (Failing::Write(1), &[]),
+        (Failing::Write(2), opening),
+        (Failing::Write(3), closing),
+    ];
+    is_cut_off_at_each(alloc, 1, &ONE_FILE, &faults)
 }
 
 #[test]
 fn sends_an_empty_file(rt: HostRuntime) -> Result<(), Fail> {
     let alloc = rt.alloc();
-    let opening = repeated(alloc, header_of(alloc, "a", 0)?.as_bytes(), 1, &[])?;
-    let closing = repeated(alloc, opening.as_slice(), 1, EOT)?;
+    let opening = header_of(alloc, "a", 0)?;
+    let closing = repeated(alloc, opening.as_bytes(), 1, EOT)?;
     let whole = repeated(alloc, closing.as_slice(), 1, end_block().as_bytes())?;
-    let coming = [
-        Coming::Piece(START),
-        Coming::Piece(ACK),
-        Coming::Piece(START),
-        Coming::Piece(ACK_START),
-        Coming::Piece(ACK),
-    ];
-    let sent = send(alloc, 1, &coming, Failing::Never)?;
-    assert!(rt; same(&sent.answer, &Ok(())));
-    assert!(rt; same(&sent.state, &SendState::Finished));
-    assert!(rt; same(&sent.port.written(), &whole.as_slice()));
-    let faults = [
-        &[],
-        opening.as_slice(),
-        opening.as_slice(),
-        closing.as_slice(),
-        whole.as_slice(),
-    ];
-    for (i, written) in faults.iter().enumerate() {
-        assert!(rt; failed_send(&send(alloc, 1, &coming, Failing::Before(i))?, written));
-    }
-    assert!(rt; failed_send(&send(alloc, 1, &coming, Failing::Write(1))?, &[]));
-    assert!(rt;
-        failed_send(
-            &send(alloc, 1, &coming, Failing::Write(2))?,
-            opening.as_slice()
-        )
-    );
-    assert!(rt;
-        failed_send(
-            &send(alloc, 1, &coming, Failing::Write(3))?,
-            closing.as_slice()
-        )
-    );
+    assert!(rt; sends(alloc, 1, &ONE_FILE, SendState::Finished, &whole)?);
+    assert!(rt; empty_file_is_cut_off(alloc, opening.as_bytes(), &closing, &whole)?);
     Ok(())
 }
 
 #[test]
 fn sender_ends_at_endless_peers(rt: HostRuntime) -> Result<(), Fail> {
-    let alloc = rt.alloc();
-    let junk = times(alloc, Coming::Piece(&[0; 2048]), 10)?;
-    let sent = send(alloc, 0, &junk, Failing::Never)?;
-    assert!(rt; same(&sent.answer, &Ok(())));
-    assert!(rt; same(&sent.state, &SendState::NoReply));
-    assert!(rt; same(&sent.port.written(), &CANCEL));
-
-    let again = times(alloc, Coming::Piece(START), 11)?;
-    let sent = send(alloc, 0, &again, Failing::Never)?;
-    assert!(rt; same(&sent.answer, &Ok(())));
-    assert!(rt; same(&sent.state, &SendState::NoReply));
-    let written = repeated(alloc, end_block().as_bytes(), 10, CANCEL)?;
-    assert!(rt; same(&sent.port.written(), &written.as_slice()));
+    let junk = times(rt.alloc(), Coming::Piece(&[0; 2048]), 10)?;
+    assert!(rt; sends(rt.alloc(), 0, &junk, SendState::NoReply, CANCEL)?);
+    let again = times(rt.alloc(), Coming::Piece(START), 11)?;
+    let written = repeated(rt.alloc(), end_block().as_bytes(), 10, CANCEL)?;
+    assert!(rt; sends(rt.alloc(), 0, &again, SendState::NoReply, &written)?);
     Ok(())
+}
+
+/// Whether a receiver that ran into the end of what comes, or found no memory, says so and has written what goes with it.
+fn tells_of_refusal(received: &Received) -> bool {
+    let written = received.port.written();
+    let failures = received.port.failures();
+    let is_told = match received.answer {
+        Err(EndFault::Closed) => written == ACK_START && failures == 0,
+        Err(EndFault::Memory) => written.is_empty() && failures == 0,
+        Err(EndFault::Device) => written.is_empty() && failures == 1,
+        Ok(()) => false,
+    };
+    is_told && received.state == RecvState::Running
 }
 
 /// Each growth may be refused, as `rt try --test --fail-alloc N` does for the Nth: of the port's record, which is a
@@ -302,23 +373,6 @@ fn refused_growths(rt: HostRuntime) -> Result<(), Fail> {
         Ok(received) => received,
         Err(_) => receive(alloc, &coming, Failing::Never)?,
     };
-    assert!(rt; same(&received.state, &RecvState::Running));
-    let answer = received.answer;
-    let written = received.port.written();
-    match answer {
-        Err(EndFault::Closed) => {
-            assert!(rt; same(&written, &ACK_START));
-            assert!(rt; same(&received.port.failures(), &0));
-        }
-        Err(EndFault::Memory) => {
-            assert!(rt; written.is_empty());
-            assert!(rt; same(&received.port.failures(), &0));
-        }
-        answer => {
-            assert!(rt; same(&answer, &Err(EndFault::Device)));
-            assert!(rt; written.is_empty());
-            assert!(rt; same(&received.port.failures(), &1));
-        }
-    }
+    assert!(rt; tells_of_refusal(&received));
     Ok(())
 }

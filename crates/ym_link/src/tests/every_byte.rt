@@ -208,6 +208,37 @@ fn keeps_files(alloc: Global, receiver: &Receiver) -> Result<bool, Fail> {
     Ok(alike)
 }
 
+/// A receiver into a sink that does not fail.
+fn new_receiver(alloc: Global, confirm: Confirm) -> Receiver {
+    ReceiverInto::with_sink(alloc, MemSink::new(alloc, None), confirm)
+}
+
+/// Whether some steps and so many bad deliveries do to a receiver what the table says.
+fn steps_alike(
+    alloc: Global,
+    receiver: &mut Receiver,
+    steps: usize,
+    misses: usize,
+) -> Result<bool, Fail> {
+    let mut alike = true;
+    for at in 0..steps {
+        alike = alike && answers_alike(alloc, receiver, &step(alloc, at)?)?;
+    }
+    for _ in 0..misses {
+        alike = alike && answers_alike(alloc, receiver, &Heard::Bad)?;
+    }
+    Ok(alike)
+}
+
+/// Whether a delivery, and an end block behind it, do to a receiver what the table says, and leave it the files that it says.
+fn ends_alike(alloc: Global, receiver: &mut Receiver, index: usize) -> Result<bool, Fail> {
+    Ok(
+        answers_alike(alloc, receiver, &probe(alloc, index)?)?
+            && answers_alike(alloc, receiver, &step(alloc, 10)?)?
+            && keeps_files(alloc, receiver)?,
+    )
+}
+
 /// Compares each delivery, and an end block behind it, after some steps and so many bad deliveries.
 fn compare_receiver(
     alloc: Global,
@@ -216,18 +247,10 @@ fn compare_receiver(
     misses: usize,
 ) -> Result<bool, Fail> {
     for index in 0..284 {
-        let sink = MemSink::new(alloc, None);
-        let mut receiver = ReceiverInto::with_sink(alloc, sink, confirm);
-        let mut alike = true;
-        for at in 0..steps {
-            alike = alike && answers_alike(alloc, &mut receiver, &step(alloc, at)?)?;
-        }
-        for _ in 0..misses {
-            alike = alike && answers_alike(alloc, &mut receiver, &Heard::Bad)?;
-        }
-        alike = alike && answers_alike(alloc, &mut receiver, &probe(alloc, index)?)?;
-        alike = alike && answers_alike(alloc, &mut receiver, &step(alloc, 10)?)?;
-        if !alike || !keeps_files(alloc, &receiver)? {
+        let mut receiver = new_receiver(alloc, confirm);
+        if !steps_alike(alloc, &mut receiver, steps, misses)?
+            || !ends_alike(alloc, &mut receiver, index)?
+        {
             return Ok(false);
         }
     }
@@ -248,26 +271,36 @@ fn every_state_of_a_receiver(rt: HostRuntime) -> Result<(), Fail> {
 }
 
 /// The replies to the whole batch, step by step.
+const REPLIES: [Reply; 11] = [
+    Reply::AckStart,
+    Reply::Ack,
+    Reply::Ack,
+    Reply::Ack,
+    Reply::Ack,
+    Reply::Nak,
+    Reply::AckStart,
+    Reply::AckStart,
+    Reply::Nak,
+    Reply::AckStart,
+    Reply::Ack,
+];
+
+/// Whether a step of the batch is answered by this reply.
+fn replies(
+    alloc: Global,
+    receiver: &mut Receiver,
+    index: usize,
+    reply: Reply,
+) -> Result<bool, Fail> {
+    Ok(reply_to(receiver, &step(alloc, index)?)? == reply)
+}
+
 #[test]
 fn replies_to_the_batch(rt: HostRuntime) -> Result<(), Fail> {
-    let alloc = rt.alloc();
-    let mut receiver = Receiver::new(alloc);
-    let replies = [
-        Reply::AckStart,
-        Reply::Ack,
-        Reply::Ack,
-        Reply::Ack,
-        Reply::Ack,
-        Reply::Nak,
-        Reply::AckStart,
-        Reply::AckStart,
-        Reply::Nak,
-        Reply::AckStart,
-        Reply::Ack,
-    ];
-    for (index, reply) in replies.iter().enumerate() {
-        let told = reply_to(&mut receiver, &step(alloc, index)?)?;
-        assert!(rt; told == *reply, "at step {index}");
+    let mut receiver = new_receiver(rt.alloc(), Confirm::Twice);
+    for (index, reply) in REPLIES.iter().enumerate() {
+        let is_told = replies(rt.alloc(), &mut receiver, index, *reply)?;
+        assert!(rt; is_told, "at step {index}");
     }
     Ok(())
 }

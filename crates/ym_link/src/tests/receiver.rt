@@ -8,26 +8,56 @@ use ym_file::MemSink;
 use ym_frame::{Block, Item, Reply};
 use ym_header::{Header, HeaderFault, Stamp, write, write_end};
 
-/// A delivery of a short block whose bytes are all the same.
-fn filled(number: u8, byte: u8) -> Heard {
-    match Block::new(number, &[byte; 128]) {
+/// A delivery, as a table names it. What a table tells is proved once, in the loop over it, and so a long table costs a proof little.
+#[derive(Clone, Copy)]
+enum Told {
+    Bad,
+    Eot,
+    Cancel,
+    /// The block 0 of a file of this name and length.
+    Header(&'static str, u64),
+    /// A short block of this number whose bytes are all the same.
+    Block(u8, u8),
+    End,
+    /// A block 0 with a name and no length.
+    NoLength,
+}
+
+/// A delivery, the reply to it, and then the receiver's state and how many files are committed.
+type Turn = (Told, Reply, RecvState, usize);
+
+/// The delivery of a block with these 128 bytes.
+fn block(number: u8, body: &[u8; 128]) -> Heard {
+    match Block::new(number, body) {
         Ok(block) => Heard::Item(Item::Block(block)),
         Err(_) => Heard::Bad,
     }
 }
 
-/// A delivery of the block 0 of a file.
+/// The block 0 of a file.
 fn header(alloc: Global, name: &str, length: u64) -> Result<Heard, HeaderFault> {
     let header = Header::new(alloc, name, length, Stamp::Nothing)?;
     Ok(Heard::Item(Item::Block(write(&header))))
 }
 
-fn end() -> Heard {
-    Heard::Item(Item::Block(write_end()))
+/// A block 0 with a name and no length.
+fn no_length() -> Heard {
+    let mut body = [0; 128];
+    body[0] = b'a';
+    block(0, &body)
 }
 
-fn eot() -> Heard {
-    Heard::Item(Item::Eot)
+/// The delivery that a table names.
+fn heard(alloc: Global, told: Told) -> Result<Heard, HeaderFault> {
+    Ok(match told {
+        Told::Bad => Heard::Bad,
+        Told::Eot => Heard::Item(Item::Eot),
+        Told::Cancel => Heard::Item(Item::Cancel),
+        Told::Header(name, length) => header(alloc, name, length)?,
+        Told::Block(number, byte) => block(number, &[byte; 128]),
+        Told::End => Heard::Item(Item::Block(write_end())),
+        Told::NoLength => no_length(),
+    })
 }
 
 /// A receiver that commits a file at its second EOT. It tells a proof nothing of it, and so costs it little, as do the helpers below.
@@ -42,58 +72,99 @@ fn reply_to(receiver: &mut Receiver, heard: &Heard) -> Result<Reply, AllocError>
 
 /// Whether a receiver is in this state, with so many files committed.
 fn stands(receiver: &Receiver, state: RecvState, committed: usize) -> bool {
-    same(&receiver.state(), &state)
-        && same(&receiver.committed(), &committed)
-        && same(&receiver.files().len(), &committed)
+    receiver.state() == state
+        && receiver.committed() == committed
+        && receiver.files().len() == committed
 }
 
-/// Whether each delivery is answered by the reply beside it.
-fn replies(receiver: &mut Receiver, turns: &[(&Heard, Reply)]) -> Result<bool, AllocError> {
-    for (heard, reply) in turns {
-        if !same(&reply_to(receiver, heard)?, reply) {
+/// Whether a delivery is answered by this reply, and leaves the receiver like this.
+fn answers(alloc: Global, receiver: &mut Receiver, turn: Turn) -> Result<bool, Fail> {
+    let (told, reply, state, committed) = turn;
+    let answer = reply_to(receiver, &heard(alloc, told)?)?;
+    Ok(same(&answer, &reply) && stands(receiver, state, committed))
+}
+
+/// Whether each delivery of a table is answered as it says.
+fn answers_all(alloc: Global, receiver: &mut Receiver, turns: &[Turn]) -> Result<bool, Fail> {
+    for turn in turns {
+        if !answers(alloc, receiver, *turn)? {
             return Ok(false);
         }
     }
     Ok(true)
 }
 
+/// Whether a new receiver answers each delivery of a table as it says.
+fn plays(alloc: Global, turns: &[Turn]) -> Result<bool, Fail> {
+    let mut receiver = new_receiver(alloc);
+    answers_all(alloc, &mut receiver, turns)
+}
+
+const STEPS_AND_REPEATS: [Turn; 10] = [
+    (Told::Eot, Reply::Start, RecvState::Running, 0),
+    (
+        Told::Header("a", 200),
+        Reply::AckStart,
+        RecvState::Running,
+        0,
+    ),
+    (
+        Told::Header("a", 200),
+        Reply::AckStart,
+        RecvState::Running,
+        0,
+    ),
+    (Told::Block(1, b'A'), Reply::Ack, RecvState::Running, 0),
+    (Told::Block(1, b'A'), Reply::Ack, RecvState::Running, 0),
+    (Told::Eot, Reply::Nak, RecvState::Running, 0),
+    (Told::Block(5, b'A'), Reply::Cancel, RecvState::OutOfStep, 0),
+    (
+        Told::Header("a", 200),
+        Reply::Silence,
+        RecvState::OutOfStep,
+        0,
+    ),
+    (Told::Bad, Reply::Silence, RecvState::OutOfStep, 0),
+    (Told::End, Reply::Silence, RecvState::OutOfStep, 0),
+];
+
 #[test]
 fn steps_and_repeats(rt: HostRuntime) -> Result<(), Fail> {
-    let opening = header(rt.alloc(), "a", 200)?;
-    let taken = [
-        (&eot(), Reply::Start),
-        (&opening, Reply::AckStart),
-        (&opening, Reply::AckStart),
-        (&filled(1, b'A'), Reply::Ack),
-        (&filled(1, b'A'), Reply::Ack),
-        (&eot(), Reply::Nak),
-    ];
-    let ignored = [
-        (&opening, Reply::Silence),
-        (&Heard::Bad, Reply::Silence),
-        (&end(), Reply::Silence),
-    ];
-    let mut receiver = new_receiver(rt.alloc());
-    assert!(rt; replies(&mut receiver, &taken)?);
-    assert!(rt; stands(&receiver, RecvState::Running, 0));
-    assert!(rt; replies(&mut receiver, &[(&filled(5, b'A'), Reply::Cancel)])?);
-    assert!(rt; stands(&receiver, RecvState::OutOfStep, 0));
-    assert!(rt; replies(&mut receiver, &ignored)?);
+    assert!(rt; plays(rt.alloc(), &STEPS_AND_REPEATS)?);
     Ok(())
 }
 
 #[test]
 fn refused_header(rt: HostRuntime) -> Result<(), Fail> {
-    let mut body = [0; 128];
-    body[0] = b'a';
-    let block = Block::new(0, &body).ok().ok_or("no block")?;
-    let heard = Heard::Item(Item::Block(block));
-    let mut receiver = new_receiver(rt.alloc());
-    assert!(rt; replies(&mut receiver, &[(&heard, Reply::Cancel)])?);
-    let state = RecvState::BadHeader(HeaderFault::NoLength);
-    assert!(rt; stands(&receiver, state, 0));
+    let refused = RecvState::BadHeader(HeaderFault::NoLength);
+    assert!(rt; plays(rt.alloc(), &[(Told::NoLength, Reply::Cancel, refused, 0)])?);
     Ok(())
 }
+
+const PAST_THE_LENGTH: [Turn; 5] = [
+    (
+        Told::Header("a", 100),
+        Reply::AckStart,
+        RecvState::Running,
+        0,
+    ),
+    (Told::Block(1, b'A'), Reply::Ack, RecvState::Running, 0),
+    (Told::Block(2, b'B'), Reply::Ack, RecvState::Running, 0),
+    (Told::Eot, Reply::Nak, RecvState::Running, 0),
+    (Told::Eot, Reply::AckStart, RecvState::Running, 1),
+];
+
+const PAST_THE_END: [Turn; 4] = [
+    (Told::End, Reply::Ack, RecvState::Finished, 1),
+    (Told::End, Reply::Ack, RecvState::Finished, 1),
+    (
+        Told::Header("b", 100),
+        Reply::Silence,
+        RecvState::Finished,
+        1,
+    ),
+    (Told::Cancel, Reply::Silence, RecvState::Finished, 1),
+];
 
 /// Whether the first of the committed files has this name, these bytes and no stamp.
 fn keeps(receiver: &Receiver, name: &str, bytes: &[u8]) -> bool {
@@ -110,85 +181,86 @@ fn keeps(receiver: &Receiver, name: &str, bytes: &[u8]) -> bool {
 
 #[test]
 fn bytes_past_the_length(rt: HostRuntime) -> Result<(), Fail> {
-    let taken = [
-        (&header(rt.alloc(), "a", 100)?, Reply::AckStart),
-        (&filled(1, b'A'), Reply::Ack),
-        (&filled(2, b'B'), Reply::Ack),
-        (&eot(), Reply::Nak),
-    ];
-    let ignored = [
-        (&end(), Reply::Ack),
-        (&header(rt.alloc(), "b", 100)?, Reply::Silence),
-        (&Heard::Item(Item::Cancel), Reply::Silence),
-    ];
     let mut receiver = new_receiver(rt.alloc());
-    assert!(rt; replies(&mut receiver, &taken)?);
-    assert!(rt; stands(&receiver, RecvState::Running, 0));
-    assert!(rt; replies(&mut receiver, &[(&eot(), Reply::AckStart)])?);
-    assert!(rt; stands(&receiver, RecvState::Running, 1));
+    assert!(rt; answers_all(rt.alloc(), &mut receiver, &PAST_THE_LENGTH)?);
     assert!(rt; keeps(&receiver, "a", &[b'A'; 100]));
-    assert!(rt; replies(&mut receiver, &[(&end(), Reply::Ack)])?);
-    assert!(rt; stands(&receiver, RecvState::Finished, 1));
-    assert!(rt; replies(&mut receiver, &ignored)?);
-    assert!(rt; stands(&receiver, RecvState::Finished, 1));
+    assert!(rt; answers_all(rt.alloc(), &mut receiver, &PAST_THE_END)?);
     Ok(())
 }
 
+/// A bad delivery where a header is awaited.
+const BAD: Turn = (Told::Bad, Reply::Start, RecvState::Running, 0);
+
+/// The tenth without progress.
+const TENTH: Turn = (Told::Bad, Reply::Cancel, RecvState::TooManyErrors, 0);
+
 #[test]
 fn tenth_without_progress(rt: HostRuntime) -> Result<(), Fail> {
-    let mut receiver = new_receiver(rt.alloc());
-    assert!(rt; replies(&mut receiver, &[(&Heard::Bad, Reply::Start); 9])?);
-    assert!(rt; replies(&mut receiver, &[(&Heard::Bad, Reply::Cancel)])?);
-    assert!(rt; stands(&receiver, RecvState::TooManyErrors, 0));
+    let turns = [BAD, BAD, BAD, BAD, BAD, BAD, BAD, BAD, BAD, TENTH];
+    assert!(rt; plays(rt.alloc(), &turns)?);
     Ok(())
 }
 
 #[test]
 fn progress_sets_the_count_back(rt: HostRuntime) -> Result<(), Fail> {
-    let opening = header(rt.alloc(), "a", 100)?;
+    let opened = (
+        Told::Header("a", 100),
+        Reply::AckStart,
+        RecvState::Running,
+        0,
+    );
+    let parts: [&[Turn]; 4] = [&[BAD; 9], &[opened], &[BAD; 9], &[TENTH]];
     let mut receiver = new_receiver(rt.alloc());
-    assert!(rt; replies(&mut receiver, &[(&Heard::Bad, Reply::Start); 9])?);
-    assert!(rt; replies(&mut receiver, &[(&opening, Reply::AckStart)])?);
-    assert!(rt; replies(&mut receiver, &[(&Heard::Bad, Reply::Start); 9])?);
-    assert!(rt; stands(&receiver, RecvState::Running, 0));
-    assert!(rt; replies(&mut receiver, &[(&Heard::Bad, Reply::Cancel)])?);
+    for part in parts {
+        assert!(rt; answers_all(rt.alloc(), &mut receiver, part)?);
+    }
     Ok(())
+}
+
+const SINGLE: [Turn; 3] = [
+    (Told::Header("a", 0), Reply::AckStart, RecvState::Running, 0),
+    (Told::Eot, Reply::AckStart, RecvState::Running, 1),
+    (Told::Eot, Reply::AckStart, RecvState::Running, 1),
+];
+
+/// A receiver that commits a file at its first EOT.
+fn new_single(alloc: Global) -> Receiver {
+    Receiver::single(alloc)
 }
 
 #[test]
 fn single_receiver(rt: HostRuntime) -> Result<(), Fail> {
-    let turns = [
-        (&header(rt.alloc(), "a", 0)?, Reply::AckStart),
-        (&eot(), Reply::AckStart),
-        (&eot(), Reply::AckStart),
-    ];
-    let mut receiver = Receiver::single(rt.alloc());
-    assert!(rt; replies(&mut receiver, &turns)?);
-    assert!(rt; stands(&receiver, RecvState::Running, 1));
+    let mut receiver = new_single(rt.alloc());
+    assert!(rt; answers_all(rt.alloc(), &mut receiver, &SINGLE)?);
     Ok(())
 }
 
-/// A receiver that has taken so many empty files.
-fn after_empty_files(alloc: Global, count: usize) -> Result<Receiver, Fail> {
+/// Whether a receiver that has taken so many empty files answers one more header like this.
+fn after_empty_files(
+    alloc: Global,
+    count: usize,
+    reply: Reply,
+    state: RecvState,
+) -> Result<bool, Fail> {
     let opening = header(alloc, "a", 0)?;
+    let eot = Heard::Item(Item::Eot);
     let mut receiver = new_receiver(alloc);
     for _ in 0..count {
         let _ = reply_to(&mut receiver, &opening)?;
-        let _ = reply_to(&mut receiver, &eot())?;
-        let _ = reply_to(&mut receiver, &eot())?;
+        let _ = reply_to(&mut receiver, &eot)?;
+        let _ = reply_to(&mut receiver, &eot)?;
     }
-    Ok(receiver)
+    answers(
+        alloc,
+        &mut receiver,
+        (Told::Header("a", 0), reply, state, count),
+    )
 }
 
 #[test]
 fn too_many_files(rt: HostRuntime) -> Result<(), Fail> {
-    let opening = header(rt.alloc(), "a", 0)?;
-    let mut receiver = after_empty_files(rt.alloc(), 65_534)?;
-    assert!(rt; replies(&mut receiver, &[(&opening, Reply::AckStart)])?);
-    assert!(rt; stands(&receiver, RecvState::Running, 65_534));
-    let mut receiver = after_empty_files(rt.alloc(), 65_535)?;
-    assert!(rt; replies(&mut receiver, &[(&opening, Reply::Cancel)])?);
-    assert!(rt; stands(&receiver, RecvState::TooManyFiles, 65_535));
+    assert!(rt; after_empty_files(rt.alloc(), 65_534, Reply::AckStart, RecvState::Running)?);
+    assert!(rt; after_empty_files(rt.alloc(), 65_535, Reply::Cancel, RecvState::TooManyFiles)?);
     Ok(())
 }
 
@@ -198,31 +270,56 @@ fn failing_receiver(alloc: Global, failing: u64) -> Receiver {
     ReceiverInto::with_sink(alloc, sink, Confirm::Once)
 }
 
-/// Whether a header, a block and an EOT have these replies where this call of the sink fails, and no file is kept.
-fn fails_with(alloc: Global, failing: u64, told: [Reply; 3]) -> Result<bool, Fail> {
-    let [opened, added, closed] = told;
-    let turns = [
-        (&header(alloc, "a", 1)?, opened),
-        (&filled(1, b'A'), added),
-        (&eot(), closed),
-    ];
-    let mut receiver = failing_receiver(alloc, failing);
-    Ok(
-        replies(&mut receiver, &turns)?
-            && stands(&receiver, RecvState::SinkFailed, 0)
-            && receiver.sink().files().is_empty()
-            && receiver.into_sink().files().is_empty(),
-    )
+/// Whether the sink of a receiver has no file, also after the receiver.
+fn has_no_file(receiver: Receiver) -> bool {
+    receiver.sink().files().is_empty() && receiver.into_sink().files().is_empty()
 }
+
+/// Whether a receiver whose sink fails at this call answers as a table says, and has no file in the end.
+fn fails_with(alloc: Global, failing: u64, turns: &[Turn]) -> Result<bool, Fail> {
+    let mut receiver = failing_receiver(alloc, failing);
+    Ok(answers_all(alloc, &mut receiver, turns)? && has_no_file(receiver))
+}
+
+/// A header, a block and an EOT, where each of the three calls of the sink fails.
+const FAILURES: [[Turn; 3]; 3] = [
+    [
+        (
+            Told::Header("a", 1),
+            Reply::Cancel,
+            RecvState::SinkFailed,
+            0,
+        ),
+        (
+            Told::Block(1, b'A'),
+            Reply::Silence,
+            RecvState::SinkFailed,
+            0,
+        ),
+        (Told::Eot, Reply::Silence, RecvState::SinkFailed, 0),
+    ],
+    [
+        (Told::Header("a", 1), Reply::AckStart, RecvState::Running, 0),
+        (
+            Told::Block(1, b'A'),
+            Reply::Cancel,
+            RecvState::SinkFailed,
+            0,
+        ),
+        (Told::Eot, Reply::Silence, RecvState::SinkFailed, 0),
+    ],
+    [
+        (Told::Header("a", 1), Reply::AckStart, RecvState::Running, 0),
+        (Told::Block(1, b'A'), Reply::Ack, RecvState::Running, 0),
+        (Told::Eot, Reply::Cancel, RecvState::SinkFailed, 0),
+    ],
+];
 
 #[test]
 fn failing_sink(rt: HostRuntime) -> Result<(), Fail> {
-    let first = [Reply::Cancel, Reply::Silence, Reply::Silence];
-    assert!(rt; fails_with(rt.alloc(), 1, first)?);
-    let second = [Reply::AckStart, Reply::Cancel, Reply::Silence];
-    assert!(rt; fails_with(rt.alloc(), 2, second)?);
-    let third = [Reply::AckStart, Reply::Ack, Reply::Cancel];
-    assert!(rt; fails_with(rt.alloc(), 3, third)?);
+    for (call, turns) in (1..).zip(FAILURES.iter()) {
+        assert!(rt; fails_with(rt.alloc(), call, turns)?);
+    }
     Ok(())
 }
 

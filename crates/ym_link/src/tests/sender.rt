@@ -57,12 +57,21 @@ impl Source for Zeros {
     }
 }
 
-/// Whether the frame to be sent begins with these bytes.
-fn begins_with<S: Source>(sender: &SenderFrom<S>, bytes: &[u8]) -> bool {
+/// A delivery, and then the sender's state, how many files are done, how long the frame to be sent is (0: there is none), and how it
+/// begins. What a table tells is proved once, in the loop over it, and so a long table costs a proof little.
+type Turn<'a> = (&'a [u8], SendState, usize, usize, &'a [u8]);
+
+/// Whether the frame to be sent has this length, and begins with these bytes.
+fn speaks<S: Source>(sender: &SenderFrom<S>, length: usize, start: &[u8]) -> bool {
     match sender.frame() {
-        Some(frame) => frame.starts_with(bytes),
-        None => false,
+        Some(frame) => frame.len() == length && frame.starts_with(start),
+        None => length == 0,
     }
+}
+
+/// Whether a sender is in this state, with so many files done.
+fn stands<S: Source>(sender: &SenderFrom<S>, state: SendState, done: usize) -> bool {
+    sender.state() == state && sender.done() == done
 }
 
 /// The sender hears a delivery. It tells a proof nothing of it, and so costs it little.
@@ -70,85 +79,130 @@ fn hear<S: Source>(sender: &mut SenderFrom<S>, bytes: &[u8]) {
     sender.hear(bytes);
 }
 
+/// Whether each delivery of a table does what it says.
+fn follows<S: Source>(sender: &mut SenderFrom<S>, turns: &[Turn]) -> bool {
+    for turn in turns {
+        let (bytes, state, done, length, start) = *turn;
+        hear(sender, bytes);
+        if !stands(sender, state, done) || !speaks(sender, length, start) {
+            return false;
+        }
+    }
+    true
+}
+
+/// Whether a new sender of one file follows a table.
+fn one_file_follows(
+    alloc: Global,
+    length: usize,
+    failing: Option<u64>,
+    turns: &[Turn],
+) -> Result<bool, Fail> {
+    let mut sender = one_file(alloc, length, failing)?;
+    Ok(speaks(&sender, 0, &[]) && follows(&mut sender, turns))
+}
+
+/// Whether more bytes cannot change what these do.
+fn settles(sender: &Sender, bytes: &[u8]) -> bool {
+    sender.settled(bytes)
+}
+
+const HEADER: [Turn; 1] = [(
+    &[C],
+    SendState::Running,
+    0,
+    133,
+    b"\x01\x00\xffa\x00130\x00",
+)];
+
+const BEHIND_THE_HEADER: [Turn; 8] = [
+    (&[ACK, C], SendState::Running, 0, 133, b"\x01\x01\xfeAAA"),
+    (&[NAK], SendState::Running, 0, 133, b"\x01\x01\xfeAAA"),
+    (
+        &[ACK],
+        SendState::Running,
+        0,
+        133,
+        b"\x01\x02\xfdAA\x1a\x1a",
+    ),
+    (&[ACK], SendState::Running, 0, 1, &[0x04]),
+    (&[NAK], SendState::Running, 0, 1, &[0x04]),
+    (&[ACK], SendState::Running, 1, 0, &[]),
+    (&[C], SendState::Running, 1, 133, b"\x01\x00\xff\x00"),
+    (&[ACK], SendState::Finished, 1, 0, &[]),
+];
+
 #[test]
 fn all_frames_of_a_batch(rt: HostRuntime) -> Result<(), Fail> {
-    let alloc = rt.alloc();
-    let mut sender = one_file(alloc, 130, None)?;
-    assert!(rt; sender.frame().is_none());
-    hear(&mut sender, &[C]);
-    assert!(rt; same(&sender.frame().ok_or("block 0")?.len(), &133));
-    assert!(rt; begins_with(&sender, b"\x01\x00\xffa\x00130\x00"));
-    assert!(rt; !sender.settled(&[ACK]));
-    assert!(rt; sender.settled(&[ACK, C]));
-    hear(&mut sender, &[ACK, C]);
-    assert!(rt; begins_with(&sender, b"\x01\x01\xfeAAA"));
-    hear(&mut sender, &[NAK]);
-    assert!(rt; begins_with(&sender, b"\x01\x01\xfeAAA"));
-    hear(&mut sender, &[ACK]);
-    assert!(rt; begins_with(&sender, b"\x01\x02\xfdAA\x1a\x1a"));
-    hear(&mut sender, &[ACK]);
-    assert!(rt; same(&sender.frame().ok_or("EOT")?, &[0x04].as_slice()));
-    hear(&mut sender, &[NAK]);
-    assert!(rt; same(&sender.done(), &0));
-    hear(&mut sender, &[ACK]);
-    assert!(rt; same(&sender.done(), &1));
-    assert!(rt; sender.frame().is_none());
-    hear(&mut sender, &[C]);
-    assert!(rt; same(&sender.frame().ok_or("the end block")?.len(), &133));
-    assert!(rt; begins_with(&sender, b"\x01\x00\xff\x00"));
-    hear(&mut sender, &[ACK]);
-    assert!(rt; same(&sender.state(), &SendState::Finished));
-    assert!(rt; sender.frame().is_none());
-    assert!(rt; sender.settled(&[]));
+    let mut sender = one_file(rt.alloc(), 130, None)?;
+    assert!(rt; speaks(&sender, 0, &[]));
+    assert!(rt; follows(&mut sender, &HEADER));
+    assert!(rt; !settles(&sender, &[ACK]) && settles(&sender, &[ACK, C]));
+    assert!(rt; follows(&mut sender, &BEHIND_THE_HEADER));
+    assert!(rt; settles(&sender, &[]));
     Ok(())
 }
+
+const FAILED_SOURCE: [Turn; 5] = [
+    (
+        &[C],
+        SendState::Running,
+        0,
+        133,
+        b"\x01\x00\xffa\x00300\x00",
+    ),
+    (&[ACK, C], SendState::Running, 0, 133, b"\x01\x01\xfe"),
+    (&[NAK], SendState::Running, 0, 133, b"\x01\x01\xfe"),
+    (&[ACK], SendState::SourceFailed, 0, 2, &[CAN, CAN]),
+    (&[], SendState::SourceFailed, 0, 0, &[]),
+];
 
 #[test]
 fn a_source_that_fails(rt: HostRuntime) -> Result<(), Fail> {
-    let mut sender = one_file(rt.alloc(), 300, Some(2))?;
-    hear(&mut sender, &[C]);
-    hear(&mut sender, &[ACK, C]);
-    hear(&mut sender, &[NAK]);
-    assert!(rt; same(&sender.state(), &SendState::Running));
-    assert!(rt; begins_with(&sender, b"\x01\x01\xfe"));
-    hear(&mut sender, &[ACK]);
-    assert!(rt; same(&sender.state(), &SendState::SourceFailed));
-    assert!(rt; same(&sender.frame().ok_or("CAN CAN")?, &[CAN, CAN].as_slice()));
-    hear(&mut sender, &[]);
-    assert!(rt; sender.frame().is_none());
-    assert!(rt; same(&sender.done(), &0));
+    assert!(rt; one_file_follows(rt.alloc(), 300, Some(2), &FAILED_SOURCE)?);
     Ok(())
 }
+
+/// A NAK before the first frame.
+const MISSED: Turn = (&[NAK], SendState::Running, 0, 0, &[]);
+
+const WITHOUT_PROGRESS: [Turn; 11] = [
+    MISSED,
+    MISSED,
+    MISSED,
+    MISSED,
+    MISSED,
+    MISSED,
+    MISSED,
+    MISSED,
+    MISSED,
+    (&[], SendState::NoReply, 0, 2, &[CAN, CAN]),
+    (&[C], SendState::NoReply, 0, 0, &[]),
+];
 
 #[test]
 fn ten_deliveries_without_progress(rt: HostRuntime) -> Result<(), Fail> {
-    let mut sender = one_file(rt.alloc(), 0, None)?;
-    for _ in 0..9 {
-        hear(&mut sender, &[NAK]);
-    }
-    assert!(rt; same(&sender.state(), &SendState::Running));
-    hear(&mut sender, &[]);
-    assert!(rt; same(&sender.state(), &SendState::NoReply));
-    assert!(rt; same(&sender.frame().ok_or("CAN CAN")?, &[CAN, CAN].as_slice()));
-    hear(&mut sender, &[C]);
-    assert!(rt; sender.frame().is_none());
-    assert!(rt; same(&sender.state(), &SendState::NoReply));
+    assert!(rt; one_file_follows(rt.alloc(), 0, None, &WITHOUT_PROGRESS)?);
     Ok(())
 }
 
+const CANCELLED: [Turn; 5] = [
+    (&[CAN, 0x00], SendState::Running, 0, 0, &[]),
+    (
+        &[CAN, C],
+        SendState::Running,
+        0,
+        133,
+        b"\x01\x00\xffa\x000\x00",
+    ),
+    (&[ACK], SendState::Running, 0, 0, &[]),
+    (&[C], SendState::Running, 0, 1, &[0x04]),
+    (&[ACK, CAN, 0x00, CAN], SendState::Cancelled, 1, 0, &[]),
+];
+
 #[test]
 fn two_can_in_a_row_cancel(rt: HostRuntime) -> Result<(), Fail> {
-    let mut sender = one_file(rt.alloc(), 0, None)?;
-    hear(&mut sender, &[CAN, 0x00]);
-    hear(&mut sender, &[CAN, C]);
-    assert!(rt; same(&sender.state(), &SendState::Running));
-    hear(&mut sender, &[ACK]);
-    hear(&mut sender, &[C]);
-    assert!(rt; same(&sender.frame().ok_or("EOT")?, &[0x04].as_slice()));
-    hear(&mut sender, &[ACK, CAN, 0x00, CAN]);
-    assert!(rt; same(&sender.state(), &SendState::Cancelled));
-    assert!(rt; same(&sender.done(), &1));
-    assert!(rt; sender.frame().is_none());
+    assert!(rt; one_file_follows(rt.alloc(), 0, None, &CANCELLED)?);
     Ok(())
 }
 
@@ -169,33 +223,50 @@ fn too_many_files_are_handed_back(rt: HostRuntime) -> Result<(), Fail> {
     }
 }
 
-#[test]
-fn a_source_of_any_kind(rt: HostRuntime) -> Result<(), Fail> {
-    let alloc = rt.alloc();
-    let stamp = Stamp::TimeMode(12, 0o644);
-    let file = SourceFile::from_source(
-        alloc,
-        "zeros",
-        Zeros {
-            length: 1025,
-            fills: 0,
-        },
-        stamp,
-    )
-    .map_err(|_| "file")?;
-    assert!(rt; same(&file.header().name(), &"zeros"));
-    assert!(rt; same(&file.header().length(), &1025));
-    assert!(rt; same(&file.header().stamp(), &stamp));
-    assert!(rt; same(&file.blocks(Shape::Mixed), &2));
-    assert!(rt; same(&file.blocks(Shape::Short), &9));
+/// A file `zeros` of so many bytes 00.
+fn file_of_zeros(alloc: Global, length: u64, stamp: Stamp) -> Result<SourceFile<Zeros>, Fail> {
+    let source = Zeros { length, fills: 0 };
+    Ok(SourceFile::from_source(alloc, "zeros", source, stamp).map_err(|_| "file")?)
+}
+
+/// Whether the header of a file says this.
+fn is_headed<S: Source>(file: &SourceFile<S>, name: &str, length: u64, stamp: Stamp) -> bool {
+    let header = file.header();
+    header.name() == name && header.length() == length && header.stamp() == stamp
+}
+
+/// Whether a file has so many data blocks.
+fn has_blocks(file: &SourceFile<Zeros>, mixed: u64, short: u64) -> bool {
+    file.blocks(Shape::Mixed) == mixed && file.blocks(Shape::Short) == short
+}
+
+/// A sender of this file.
+fn sender_of<S: Source + Drop>(alloc: Global, file: SourceFile<S>) -> Result<SenderFrom<S>, Fail> {
     let mut batch = Vec::new(alloc);
     batch.push(file)?;
-    let mut sender = SenderFrom::new(batch, Shape::Mixed).map_err(|_| "batch")?;
-    hear(&mut sender, &[C]);
-    hear(&mut sender, &[ACK, C]);
-    assert!(rt; same(&sender.frame().ok_or("block 1")?.len(), &1029));
-    hear(&mut sender, &[ACK]);
-    assert!(rt; begins_with(&sender, b"\x01\x02\xfd\x00\x1a"));
+    Ok(SenderFrom::new(batch, Shape::Mixed).map_err(|_| "batch")?)
+}
+
+const ZEROS: [Turn; 3] = [
+    (
+        &[C],
+        SendState::Running,
+        0,
+        133,
+        b"\x01\x00\xffzeros\x001025 ",
+    ),
+    (&[ACK, C], SendState::Running, 0, 1029, b"\x02\x01\xfe\x00"),
+    (&[ACK], SendState::Running, 0, 133, b"\x01\x02\xfd\x00\x1a"),
+];
+
+#[test]
+fn a_source_of_any_kind(rt: HostRuntime) -> Result<(), Fail> {
+    let stamp = Stamp::TimeMode(12, 0o644);
+    let file = file_of_zeros(rt.alloc(), 1025, stamp)?;
+    assert!(rt; is_headed(&file, "zeros", 1025, stamp));
+    assert!(rt; has_blocks(&file, 2, 9));
+    let mut sender = sender_of(rt.alloc(), file)?;
+    assert!(rt; follows(&mut sender, &ZEROS));
     Ok(())
 }
 
@@ -210,20 +281,36 @@ fn a_source_that_is_too_long(rt: HostRuntime) -> Result<(), Fail> {
     Ok(())
 }
 
+const IN_MEMORY: [Turn; 2] = [
+    (&[C], SendState::Running, 0, 133, b"\x01\x00\xffa.txt\x003 "),
+    (
+        &[ACK, C],
+        SendState::Running,
+        0,
+        133,
+        b"\x01\x01\xfeone\x1a",
+    ),
+];
+
+/// Whether a file that is in memory has these bytes.
+fn has_bytes(file: &SendFile, bytes: &[u8]) -> bool {
+    file.bytes() == bytes
+}
+
 #[test]
 fn a_file_in_memory(rt: HostRuntime) -> Result<(), Fail> {
     let alloc = rt.alloc();
     let bytes = b"one".as_slice().to_vec(alloc)?;
     let file = SendFile::new(alloc, "a.txt", bytes, Stamp::Time(0)).map_err(|_| "file")?;
-    assert!(rt; same(&file.bytes(), &b"one".as_slice()));
-    assert!(rt; same(&file.header().length(), &3));
-    let mut batch = Vec::new(alloc);
-    batch.push(file)?;
-    let mut sender = Sender::new(batch, Shape::Mixed).map_err(|_| "batch")?;
-    hear(&mut sender, &[C]);
-    hear(&mut sender, &[ACK, C]);
-    assert!(rt; same(&sender.state(), &SendState::Running));
-    assert!(rt; begins_with(&sender, b"\x01\x01\xfeone\x1a"));
+    assert!(rt; has_bytes(&file, b"one") && is_headed(&file, "a.txt", 3, Stamp::Time(0)));
+    let mut sender = sender_of(alloc, file)?;
+    assert!(rt; follows(&mut sender, &IN_MEMORY));
+    Ok(())
+}
+
+#[test]
+fn a_file_without_a_name(rt: HostRuntime) -> Result<(), Fail> {
+    let alloc = rt.alloc();
     let nameless = SendFile::new(alloc, "", Vec::new(alloc), Stamp::Nothing);
     assert!(rt; matches!(nameless, Err(HeaderFault::NameEmpty)));
     Ok(())
