@@ -11,7 +11,9 @@ ghost use Rattle.ym_c.specs.Fronts.{stamp_of};
 ghost use Rattle.ym_c.specs.Headers.{IsTold, IsRefusal};
 
 use crate::codes::code_of_fault;
-use ym_header::{HeaderFault, HeaderRef, Stamp, ZeroRef, read_borrowed, write_body};
+use ym_header::{
+    HeaderFault, HeaderRef, MOST_NAME_BYTES, Stamp, ZeroRef, read_borrowed, write_body,
+};
 
 /// What the body of a block 0 stands for.
 #[repr(C)]
@@ -96,7 +98,7 @@ pub fn header_of(name: &[u8], length: u64, stamp: Stamp) -> Result<HeaderRef<'_>
     if name.is_empty() {
         return Err(HeaderFault::NameEmpty);
     }
-    if name.len() > 255 {
+    if name.len() > MOST_NAME_BYTES {
         return Err(HeaderFault::NameLong);
     }
     match str::from_utf8(name) {

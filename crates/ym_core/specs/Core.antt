@@ -1,5 +1,6 @@
 -- What always holds of a receiver, whatever it has heard.
-use Rattle.std.specs.Prelude.{ℕ, ◌+◌, ◌*◌, ◌≡◌, ◌≤◌, ◌<◌, ◌^◌, true, if◌then◌else◌}
+use Rattle.std.specs.Prelude.{ℕ, ◌+◌, ◌*◌, ◌≡◌, ◌≤◌, ◌<◌, true, if◌then◌else◌}
+use Rattle.ym_header.specs.declared.limits.TheConstants.{MOST_LENGTH}
 use Rattle.ym_machine.specs.declared.limits.TheConstants.{GIVE_UP, MOST_FILES}
 use Rattle.ym_core.specs.declared.stage.Stage.{Stage}
 use Rattle.ym_core.specs.declared.stage.Stage.TheVariants.{AwaitHeader, InFile}
@@ -9,7 +10,7 @@ use Rattle.ym_core.specs.Receiver.{Receiver}
 -- no more bytes were taken than the header states
 abbrev pub LengthFits : Stage → Type 0
 LengthFits AwaitHeader = Unit {0}
-LengthFits (InFile file) = (file.taken ≤ file.length) × (file.length < 2 ^ 63)
+LengthFits (InFile file) = (file.taken ≤ file.length) × (file.length ≤ MOST_LENGTH)
 
 -- a block adds a byte, or is dropped and counted
 abbrev pub BlocksFit : Stage → ℕ → Type 0

@@ -15,6 +15,7 @@ use crate::stage::{OpenFile, Stage};
 use crate::stand::Stand;
 use crate::state::RecvState;
 use std::marker::Model;
+use ym_header::MOST_LENGTH;
 use ym_machine::{Confirm, GIVE_UP, MOST_FILES};
 
 /// A receiver apart from its files. Contracts see it as the table's.
@@ -50,10 +51,10 @@ fn file_fits(file: OpenFile, count: u8) -> bool
         blocks,
         first_eot,
     } = file;
-    // no sum here is above 2^63 + 265
+    // no sum here is above MOST_LENGTH + 265
     let drops = u64::from(count) + u64::from(if first_eot { GIVE_UP } else { 0 });
     taken <= length
-        && length < 0x8000_0000_0000_0000
+        && length <= MOST_LENGTH
         && (taken == length || blocks <= taken)
         && (!first_eot || taken == length)
         && blocks <= taken + drops

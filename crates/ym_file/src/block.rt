@@ -2,6 +2,7 @@
 
 ghost use Rattle.std.specs.Prelude.{◌≡◌, ◌⊎◌, ◌<◌, ◌≤◌, ◌+◌, ◌%◌, ◌^◌, List, ℕ, length as list_length, take, drop, OnOk, OnErr, IfOk, IfSome};
 ghost use Rattle.ym_frame.specs.Seal.{IsBlockFrame};
+ghost use Rattle.ym_header.specs.declared.limits.TheConstants.{MOST_LENGTH};
 ghost use Rattle.ym_file.specs.Plan.{count_of, padded, piece_at, size_at};
 ghost use Rattle.ym_file.specs.Counts.{Rose, raised};
 
@@ -14,7 +15,7 @@ const PADDING: u8 = 0x1a;
 
 /// Block k, counted from 1, of a file of these bytes. Its number is k modulo 256.
 pub fn block_at(bytes: &[u8], shape: Shape, k: u64) -> Block
-    requires small { list_length bytes.now < 2 ^ 63 }
+    requires small { list_length bytes.now ≤ MOST_LENGTH }
     requires from_one { 1 ≤ k }
     requires within { k ≤ count_of shape (list_length bytes.now) }
     ensures number { result.number ≡ k % 256 }
@@ -33,7 +34,7 @@ pub fn block_at(bytes: &[u8], shape: Shape, k: u64) -> Block
 /// Block k, counted from 1, of the file that a source has: what [`block_at`] gives on its bytes. After a failure of the
 /// source there is no block.
 pub fn block_from<S: Source>(source: &mut S, shape: Shape, k: u64) -> Result<Block, SourceFault>
-    requires small { S.size source.old < 2 ^ 63 }
+    requires small { S.size source.old ≤ MOST_LENGTH }
     requires from_one { 1 ≤ k }
     requires within { k ≤ count_of shape (S.size source.old) }
     ensures number { IfOk result (λ block. block.number ≡ k % 256) }
@@ -61,7 +62,7 @@ pub fn frame_from<S: Source>(
     k: u64,
     buffer: &mut [u8; 1029],
 ) -> Result<usize, SourceFault>
-    requires small { S.size source.old < 2 ^ 63 }
+    requires small { S.size source.old ≤ MOST_LENGTH }
     requires from_one { 1 ≤ k }
     requires within { k ≤ count_of shape (S.size source.old) }
     ensures length { IfOk result (λ len. len ≡ size_at shape (S.size source.old) k + 5) }
@@ -86,7 +87,7 @@ fn write_frame<S: Source>(
     k: u64,
     frame: &mut [u8],
 ) -> Result<(), SourceFault>
-    requires small { S.size source.old < 2 ^ 63 }
+    requires small { S.size source.old ≤ MOST_LENGTH }
     requires from_one { 1 ≤ k }
     requires within { k ≤ count_of shape (S.size source.old) }
     requires size { list_length frame.old ≡ size_at shape (S.size source.old) k + 5 }
@@ -112,7 +113,7 @@ fn read_body<S: Source>(
     k: u64,
     body: &mut [u8],
 ) -> Result<(), SourceFault>
-    requires small { S.size source.old < 2 ^ 63 }
+    requires small { S.size source.old ≤ MOST_LENGTH }
     requires from_one { 1 ≤ k }
     requires within { k ≤ count_of shape (S.size source.old) }
     requires size { list_length body.old ≡ size_at shape (S.size source.old) k }

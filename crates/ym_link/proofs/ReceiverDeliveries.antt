@@ -9,6 +9,7 @@ use Rattle.ym_frame.specs.declared.frame.Item.TheVariants as item
 use Rattle.ym_header.specs.Header.{HeaderParts}
 use Rattle.ym_file.specs.Kept.{Kept}
 use Rattle.ym_header.specs.declared.fault.HeaderFault.{HeaderFault}
+use Rattle.ym_header.specs.declared.limits.TheConstants.{MOST_LENGTH}
 use Rattle.ym_header.specs.declared.reading.Zero.{Zero}
 use Rattle.ym_header.specs.declared.reading.Zero.TheVariants.{File, End}
 use Rattle.ym_machine.specs.declared.confirm.Confirm.{Confirm}
@@ -50,7 +51,7 @@ goes-fewer confirm stage next files more count reply call few less = omega arith
 
 -- ---- A header is awaited
 
-zero-fewer : (confirm : Confirm) (files count : ℕ) (zero : Result Zero HeaderFault) → count < GIVE_UP → ((header : HeaderParts) → zero ≡ Ok (File header) → header.length < 2 ^ 63)
+zero-fewer : (confirm : Confirm) (files count : ℕ) (zero : Result Zero HeaderFault) → count < GIVE_UP → ((header : HeaderParts) → zero ≡ Ok (File header) → header.length ≤ MOST_LENGTH)
     → Fewer (runs confirm AwaitHeader files count) (zero_heard (runs confirm AwaitHeader files count) zero)
 zero-fewer confirm files count (Ok (File header)) few fits =
     either (runs confirm AwaitHeader files count) (nat_lt files MOST_FILES) _ _
@@ -61,7 +62,7 @@ zero-fewer confirm files count (Ok End) few fits = omega arith
 zero-fewer confirm files count (Err fault) few fits = omega arith
 
 pub awaiting-fewer : (confirm : Confirm) (files count : ℕ) (zero : Result Zero HeaderFault) (h : Heard) → count < GIVE_UP
-    → ((block : BlockParts) → h ≡ heard.Item (item.Block block) → block.number ≡ 0 → (header : HeaderParts) → zero ≡ Ok (File header) → header.length < 2 ^ 63)
+    → ((block : BlockParts) → h ≡ heard.Item (item.Block block) → block.number ≡ 0 → (header : HeaderParts) → zero ≡ Ok (File header) → header.length ≤ MOST_LENGTH)
     → Fewer (runs confirm AwaitHeader files count) (awaiting_hears (runs confirm AwaitHeader files count) zero h)
 awaiting-fewer confirm files count zero (heard.Item (item.Block block)) few fits =
     either (runs confirm AwaitHeader files count) (block.number == 0) _ _
@@ -107,7 +108,7 @@ commits-fewer : (confirm : Confirm) (file : OpenFile) (files count : ℕ) → co
 commits-fewer confirm file files count few room less = goes-fewer confirm (InFile file) AwaitHeader files (files + 1) count AckStart Commits few less
 
 commit-steps : (file : OpenFile) (files : ℕ) (eot : Bool) → files < MOST_FILES
-    → receiver_steps AwaitHeader (files + 1) < (MOST_FILES - (files + 1)) * (2 ^ 63 + 3) + (file.length - file.taken) + (if eot then 1 else 2)
+    → receiver_steps AwaitHeader (files + 1) < (MOST_FILES - (files + 1)) * (MOST_LENGTH + 4) + (file.length - file.taken) + (if eot then 1 else 2)
 commit-steps file files true room = omega arith
 commit-steps file files false room = omega arith
 

@@ -1,5 +1,6 @@
 -- How many deliveries an end hears at most: ten for each step of progress, and ten more (this profile).
-use Rattle.std.specs.Prelude.{ℕ, ◌+◌, ◌-◌, ◌*◌, ◌^◌, if◌then◌else◌, List, [], ◌∷◌, drop}
+use Rattle.std.specs.Prelude.{ℕ, ◌+◌, ◌-◌, ◌*◌, if◌then◌else◌, List, [], ◌∷◌, drop}
+use Rattle.ym_header.specs.declared.limits.TheConstants.{MOST_LENGTH}
 use Rattle.ym_core.specs.declared.stage.Stage.{Stage}
 use Rattle.ym_core.specs.declared.stage.Stage.TheVariants.{AwaitHeader, InFile}
 use Rattle.ym_core.specs.declared.state.RecvState.{RecvState}
@@ -20,7 +21,7 @@ use Rattle.ym_machine.specs.declared.limits.TheConstants.{GIVE_UP, MOST_FILES}
 
 -- how many steps of progress a file of any length takes at most: each adds a byte, but for the header and two EOTs
 abbrev pub file_steps : ℕ
-file_steps = 2 ^ 63 + 3
+file_steps = MOST_LENGTH + 4
 
 -- how many steps of progress a receiver has left at most, with so many files committed
 abbrev pub receiver_steps : Stage → ℕ → ℕ

@@ -5,6 +5,7 @@ use Rattle.ym_frame.specs.declared.control.Reply.{Reply}
 use Rattle.ym_frame.specs.declared.control.Reply.TheVariants.{Cancel}
 use Rattle.ym_header.specs.Header.{HeaderParts}
 use Rattle.ym_header.specs.declared.fault.HeaderFault.{HeaderFault}
+use Rattle.ym_header.specs.declared.limits.TheConstants.{MOST_LENGTH}
 use Rattle.ym_header.specs.declared.reading.Zero.{Zero}
 use Rattle.ym_file.specs.Counts.{Rose}
 use Rattle.ym_file.specs.Kept.{Kept, begun, added, committed}
@@ -85,7 +86,7 @@ IsWithin (InFile file) kept = (header : HeaderParts) × (kept.opened ≡ Some he
 -- the sink's file is the receiver's
 abbrev pub IsOpenFile : Stage → Kept → Type 0
 IsOpenFile AwaitHeader kept = kept.opened ≡ None
-IsOpenFile (InFile file) kept = (header : HeaderParts) × (kept.opened ≡ Some header) × (header.length ≡ file.length) × (kept.taken ≡ file.taken) × (file.taken ≤ file.length) × (file.length < 2 ^ 63)
+IsOpenFile (InFile file) kept = (header : HeaderParts) × (kept.opened ≡ Some header) × (header.length ≡ file.length) × (kept.taken ≡ file.taken) × (file.taken ≤ file.length) × (file.length ≤ MOST_LENGTH)
 
 pub record IsReceiver (parts : ReceiverParts) : Type 0 where
   pub open_file : IsOpenFile parts.receiver.stage parts.kept
