@@ -136,7 +136,10 @@ def reads(end, wanted):
     """Reads a reply, which is this one."""
     got = b""
     while len(got) < len(wanted):
-        got += end.recv(1)
+        piece = end.recv(1)
+        if not piece:
+            break
+        got += piece
     wants("the reply", got, wanted)
 
 
