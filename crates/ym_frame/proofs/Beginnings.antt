@@ -8,7 +8,7 @@ use Rattle.std.proofs.lemmas.List.{take-take, drop-take}
 use Rattle.ym_frame.specs.Block.{length_of}
 use Rattle.ym_frame.specs.declared.block.Size.{Size}
 use Rattle.ym_frame.specs.declared.block.Size.TheVariants.{Short, Long}
-use Rattle.ym_frame.specs.Check.{check_of}
+use Rattle.ym_check.specs.Check.{check_of}
 use Rattle.ym_frame.specs.Frame.{IsOpen, verdict_of, block_verdict, cancel_verdict, body_of, check_field, fault_at}
 use Rattle.ym_frame.specs.declared.frame.Item.{Item}
 use Rattle.ym_frame.specs.declared.frame.Item.TheVariants.{Block, Cancel}

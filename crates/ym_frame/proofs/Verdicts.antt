@@ -2,10 +2,9 @@
 use Rattle.std.specs.Prelude.{◌≡◌, ℕ, ◌+◌, ◌-◌, ◌*◌, ◌<◌, ◌≤◌, Bool, true, false, not, ◌&&◌, nat_lt, ◌==◌, cond, List, [], ◌∷◌, ◌++◌, length, take, drop, slice_index, Result, Ok, Err, refl}
 use Rattle.std.proofs.Common.{sym, ◌∙◌, ap, arith, subst, length-append, length-drop}
 use Rattle.std.proofs.Math.ListN.{get_or-append}
-use Rattle.std.proofs.lemmas.Bool.{ltb-true, ltb-false, le-ltb, lt-ltb, eqb-true}
+use Rattle.std.proofs.lemmas.Bool.{and_parts, ltb-true, ltb-false, le-ltb, lt-ltb, eqb-true}
 use Rattle.std.proofs.lemmas.List.{take-append-le, drop-append-le}
-use Rattle.ym_frame.proofs.TableWords.{and_first}
-use Rattle.ym_frame.specs.Check.{check_of}
+use Rattle.ym_check.specs.Check.{check_of}
 use Rattle.ym_frame.specs.Frame.{IsOpen, verdict_of, block_verdict, cancel_verdict, body_of, check_field, has_byte_where, fault_at}
 use Rattle.ym_frame.specs.declared.frame.Item.{Item}
 use Rattle.ym_frame.specs.declared.frame.Item.TheVariants.{Block}
@@ -27,7 +26,7 @@ unfolding wrong_by
 wrong_is bytes = refl
 
 wrong_longer : (bytes : List ℕ) → wrong_at bytes ≡ true → 2 < length bytes
-wrong_longer bytes h = ltb-true 2 (length bytes) (and_first (nat_lt 2 (length bytes)) _ h)
+wrong_longer bytes h = ltb-true 2 (length bytes) (and_parts (nat_lt 2 (length bytes)) _ h).0
 
 unfoldable pub judged : Bool → Bool → ℕ → ℕ → ℕ → List ℕ → ℕ → Result (Item × ℕ) Broken
 judged wrong short size len number body check_field =

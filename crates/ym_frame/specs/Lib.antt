@@ -1,5 +1,4 @@
-pub mod Check
-pub mod Fold
+pub use Rattle.ym_check.specs.Check
 pub mod Block
 pub mod Frame
 pub mod WholeFrame

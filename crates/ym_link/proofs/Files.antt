@@ -7,7 +7,7 @@ use Rattle.std.proofs.lemmas.List.Elements.{All-set, All-get_or}
 use Rattle.ym_header.specs.Header.{HeaderParts}
 use Rattle.ym_file.specs.Counts.{Rose, raised}
 use Rattle.ym_file.specs.declared.plan.Shape.{Shape}
-use Rattle.ym_link.specs.SourceFile.{FileParts, IsFile, file_at, filled, no_file, blocks_of, counts_of}
+use Rattle.ym_file.specs.SourceFile.{FileParts, IsFile, file_at, filled, no_file, blocks_of, counts_of}
 use Rattle.ym_core.specs.declared.place.Place.{Place}
 use Rattle.ym_core.specs.declared.place.Place.TheVariants.{Header, Block, Eot, End}
 use Rattle.ym_link.specs.Sender.{FilledAt, FailedAt, IsFilled}

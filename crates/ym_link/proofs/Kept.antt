@@ -3,7 +3,7 @@ use Rattle.std.proofs.Common.{ℕ, ◌≡◌, List, true, false, refl, ap, sym, 
 use Rattle.std.specs.Prelude.{All}
 use Rattle.ym_file.specs.declared.plan.Shape.{Shape}
 use Rattle.ym_frame.specs.declared.control.Control.{Control}
-use Rattle.ym_link.specs.SourceFile.{FileParts, IsFile, counts_of}
+use Rattle.ym_file.specs.SourceFile.{FileParts, IsFile, counts_of}
 use Rattle.ym_core.specs.Place.{IsPlace}
 use Rattle.ym_link.specs.FrameAt.{IsFrameAt}
 use Rattle.ym_core.specs.declared.place.Place.{Place}

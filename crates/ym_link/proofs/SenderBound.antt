@@ -4,7 +4,7 @@ use Rattle.std.proofs.lemmas.Bool.Decides.{nat_tests}
 use Rattle.std.specs.Prelude.{◌==◌}
 use Rattle.std.proofs.lemmas.List.{length-append}
 use Rattle.ym_frame.specs.declared.control.Control.{Control}
-use Rattle.ym_link.specs.SourceFile.{counts_of}
+use Rattle.ym_file.specs.SourceFile.{counts_of}
 use Rattle.ym_link.specs.Port.{Tape}
 use Rattle.ym_core.specs.Place.{IsPlace, next_of, first_of}
 use Rattle.ym_core.specs.declared.place.Place.{Place}

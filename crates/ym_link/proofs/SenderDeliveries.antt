@@ -3,7 +3,7 @@ use Rattle.std.proofs.Common.{ℕ, ◌+◌, ◌<◌, ◌≤◌, ◌≡◌, Bool,
 use Rattle.std.proofs.lemmas.Bool.{cond_both, ltb-true, ltb-false}
 use Rattle.std.proofs.lemmas.List.{drop_all, drop_more}
 use Rattle.ym_frame.specs.declared.control.Control.{Control}
-use Rattle.ym_link.specs.SourceFile.{counts_of}
+use Rattle.ym_file.specs.SourceFile.{counts_of}
 use Rattle.ym_core.specs.Place.{IsPlace, next_of, count_at}
 use Rattle.ym_core.specs.declared.place.Place.{Place}
 use Rattle.ym_core.specs.declared.place.Place.TheVariants.{Header, Block, Eot, End}

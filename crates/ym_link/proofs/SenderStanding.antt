@@ -22,7 +22,7 @@ use Rattle.ym_core.specs.declared.place.Mode.{Mode}
 use Rattle.ym_core.specs.declared.standing.Standing.{Standing}
 use Rattle.ym_core.specs.declared.state.SendState.{SendState}
 use Rattle.ym_core.specs.declared.state.SendState.TheVariants as state
-use Rattle.ym_link.specs.SourceFile.{FileParts, IsFile, IsBlockOf, file_at, blocks_of, counts_of}
+use Rattle.ym_file.specs.SourceFile.{FileParts, IsFile, IsBlockOf, file_at, blocks_of, counts_of}
 use Rattle.ym_core.specs.Place.{first_of, done_at}
 use Rattle.ym_link.specs.FrameAt.{IsItemAt, IsFrameAt}
 use Rattle.ym_core.specs.Reading.{controls_in}

@@ -8,7 +8,7 @@ use Rattle.ym_header.specs.Text.{text, end_text}
 use Rattle.ym_file.specs.declared.plan.Shape.{Shape}
 use Rattle.ym_core.specs.declared.place.Place.{Place}
 use Rattle.ym_core.specs.declared.place.Place.TheVariants.{Header, Block, Eot, End}
-use Rattle.ym_link.specs.SourceFile.{FileParts, IsBlockOf, file_at}
+use Rattle.ym_file.specs.SourceFile.{FileParts, IsBlockOf, file_at}
 
 -- the item of this place of the batch; block 0 and the end block have number 0
 abbrev pub IsItemAt : Shape → List FileParts → Place → Item → Type 0

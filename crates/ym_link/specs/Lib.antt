@@ -1,6 +1,6 @@
 pub mod ReceiverInto
 pub mod Calls
-pub mod SourceFile
+pub use Rattle.ym_file.specs.SourceFile
 pub mod FrameAt
 pub mod Port
 pub mod ScriptPort

@@ -2,7 +2,7 @@
 use Rattle.std.specs.Prelude.{◌≡◌, ℕ, ◌<◌, length, Bool, true, false, List, [], ◌∷◌, slice_set, All, Option, None, Some}
 use Rattle.ym_file.specs.Counts.{Rose}
 use Rattle.ym_file.specs.declared.plan.Shape.{Shape}
-use Rattle.ym_link.specs.SourceFile.{FileParts, IsFile, file_at, filled, counts_of}
+use Rattle.ym_file.specs.SourceFile.{FileParts, IsFile, file_at, filled, counts_of}
 use Rattle.ym_core.specs.Place.{IsPlace}
 use Rattle.ym_link.specs.FrameAt.{IsFrameAt}
 use Rattle.ym_core.specs.Reading.{controls_in, reads}

@@ -10,7 +10,7 @@ use Rattle.ym_file.specs.declared.plan.Shape.{Shape}
 use Rattle.ym_file.specs.Plan.{pieces_of}
 use Rattle.ym_machine.specs.Frames.{File, Frame, BlockZero, Piece, Eot as EotFrame, EndBlock, frames_of, frame_at}
 use Rattle.ym_machine.specs.State.{State, SenderEnd, Speech, Nothing, FrameAt, CanCan}
-use Rattle.ym_link.specs.SourceFile.{FileParts, blocks_of}
+use Rattle.ym_file.specs.SourceFile.{FileParts, blocks_of}
 use Rattle.ym_link.specs.Sender.{SenderParts}
 use Rattle.ym_core.specs.declared.place.Place.{Place}
 use Rattle.ym_core.specs.declared.place.Place.TheVariants.{Header, Block, Eot, End}

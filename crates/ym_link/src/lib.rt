@@ -14,7 +14,6 @@ mod script_port;
 mod send_engine;
 mod sender;
 mod shaped_batch;
-mod source_file;
 mod sweep;
 
 pub use clearing::Clearing;
@@ -27,9 +26,8 @@ pub use receiver::{Receiver, ReceiverInto};
 pub use script_port::ScriptPort;
 pub use send_engine::send_over;
 pub use sender::{BatchFault, Sender, SenderFrom};
-pub use source_file::{SendFile, SourceFile};
 pub use ym_core::{Confirm, Heard, RecvState, SendState, heard};
-pub use ym_file::Received;
+pub use ym_file::{Received, SendFile, SourceFile};
 
 #[cfg(test)]
 mod tests;

@@ -4,7 +4,7 @@ ghost use Rattle.std.specs.Prelude.{◌≡◌, ◌↔◌, ◌≤◌, length, Mat
 ghost use Rattle.ym_frame.specs.Frame.{IsFrame};
 ghost use Rattle.ym_frame.specs.declared.frame.Item.TheVariants as FrameItem;
 ghost use Rattle.ym_header.specs.Text.{text, end_text};
-ghost use Rattle.ym_link.specs.SourceFile.{IsFile, counts_of};
+ghost use Rattle.ym_file.specs.SourceFile.{IsFile, counts_of};
 ghost use Rattle.ym_core.specs.Place.{IsPlace, done_at};
 ghost use Rattle.ym_link.specs.FrameAt.{IsFrameAt};
 ghost use Rattle.ym_link.specs.Sender.{IsFilled};
@@ -15,10 +15,9 @@ mod stand;
 
 use crate::delivery::Listener;
 use crate::shaped_batch::ShapedBatch;
-use crate::source_file::SourceFile;
 use std::marker::Model;
 use ym_core::{Mode, Place, Reading, SendState, SendStep, Standing, first_place, read_delivery};
-use ym_file::{MemSource, Shape, Source, SourceFault};
+use ym_file::{MemSource, Shape, Source, SourceFault, SourceFile};
 use ym_frame::{Item, Reply, encode};
 use ym_header::{Header, write, write_end};
 use ym_machine::MOST_FILES;

@@ -1,8 +1,7 @@
 //! A batch of files, as its sender counts it.
 
-use crate::source_file::SourceFile;
 use ym_core::Batch;
-use ym_file::{Shape, Source};
+use ym_file::{Shape, Source, SourceFile};
 
 /// The files of a batch, with the shape of the blocks that they are sent in.
 #[derive(Drop)]
@@ -14,7 +13,7 @@ pub(crate) struct ShapedBatch<'a, S: Source> {
 }
 
 impl<'a, S: Source> Batch for ShapedBatch<'a, S> {
-    ghost use Rattle.ym_link.specs.SourceFile.{counts_of};
+    ghost use Rattle.ym_file.specs.SourceFile.{counts_of};
 
     ghost counts = { λ batch. counts_of batch.shape batch.files.now };
 

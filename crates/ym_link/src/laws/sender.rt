@@ -9,7 +9,7 @@ ghost use Rattle.ym_frame.specs.declared.control.Control.{Control};
 ghost use Rattle.ym_frame.specs.declared.control.Reply.{Reply};
 ghost use Rattle.ym_machine.specs.Halves.{back, is_within, IsRemnant, controls as reply_controls};
 ghost use Rattle.ym_machine.specs.State.{State, start, said};
-ghost use Rattle.ym_link.specs.SourceFile.{FileParts, IsFile, counts_of};
+ghost use Rattle.ym_file.specs.SourceFile.{FileParts, IsFile, counts_of};
 ghost use Rattle.ym_core.specs.Place.{done_at};
 ghost use Rattle.ym_link.specs.Sender.{SenderParts, IsSender, IsStep, counts, spoken};
 ghost use Rattle.ym_core.specs.Standing.{new_standing};

@@ -6,7 +6,7 @@ use Rattle.ym_file.specs.Counts.{Rose, raised}
 use Rattle.ym_frame.specs.declared.frame.Item.TheVariants as item
 use Rattle.ym_header.specs.Header.{HeaderParts}
 use Rattle.ym_header.specs.Text.{text, end_text}
-use Rattle.ym_link.specs.SourceFile.{FileParts, no_file, filled, counts_of, blocks_of}
+use Rattle.ym_file.specs.SourceFile.{FileParts, no_file, filled, counts_of, blocks_of}
 use Rattle.ym_core.specs.Place.{IsPlace}
 use Rattle.ym_link.specs.Sender.{IsFilled}
 use Rattle.ym_core.specs.declared.place.Place.{Place}

@@ -1,0 +1,105 @@
+-- Bytes as words that are folded, and the check of the bytes before them.
+use Rattle.std.specs.Prelude.{◌≡◌, ℕ, ◌+◌, ◌*◌, ◌^◌, ◌<◌, ◌≤◌, suc, Bool, false, List, [], ◌∷◌, ◌++◌, length, get_or, replicate, bit_xor, refl}
+use Rattle.std.specs.Int.{from_be_bytes, w64}
+use Rattle.std.proofs.Common.{sym, ◌∙◌, ap, subst, arith}
+use Rattle.std.proofs.lemmas.Grind.{flat_map-append}
+use Rattle.std.proofs.lemmas.Nat.{pow-add, mul-add-lt, div-mul-add}
+use Rattle.ym_check.specs.Check.{bits, number_of, minus, subtract, divided, remainder, body_bits}
+use Rattle.ym_check.proofs.Division.{run, start, run-append, length-run, length-subtract, divided-run, subtract-zeros, zeros-subtract, remainder_is_run}
+use Rattle.ym_check.proofs.CheckNumbers.{bits-split, bits-above, bits-number_of}
+use Rattle.ym_check.proofs.Folding.{folded_in}
+
+-- ---- bytes that come
+
+remainder-append : (xs ys bs : List Bool) → remainder xs ≡ remainder ys → remainder (xs ++ bs) ≡ remainder (ys ++ bs)
+remainder-append xs ys bs e =
+    remainder_is_run (xs ++ bs) ∙ run-append start xs bs ∙
+    ap (λ v. run v bs) (sym (remainder_is_run xs) ∙ e ∙ remainder_is_run ys) ∙
+    sym (run-append start ys bs) ∙ sym (remainder_is_run (ys ++ bs))
+
+-- a word for the bytes so far, what it becomes, and the word of the next bytes
+pub next_word : (word m next : ℕ) (bytes more : List ℕ) → remainder (bits 64 word) ≡ remainder (body_bits bytes) →
+    remainder (bits 64 word ++ replicate 64 false) ≡ remainder (bits 64 m) → bits 64 next ≡ body_bits more →
+    remainder (bits 64 (bit_xor m next)) ≡ remainder (body_bits (bytes ++ more))
+next_word word m next bytes more is folds reads =
+    sym (folded_in 64 word m next folds) ∙
+    remainder-append (bits 64 word) (body_bits bytes) (bits 64 next) is ∙
+    ap (λ t. remainder (body_bits bytes ++ t)) reads ∙
+    ap remainder (sym (flat_map-append (bits 8) bytes more))
+
+subtract_front : (bs v rest : List Bool) → length v ≤ length bs → subtract (bs ++ rest) v ≡ subtract bs v ++ rest
+subtract_front bs [] rest h = refl
+subtract_front [] (v ∷ vs) rest h = absurd (omega arith)
+subtract_front (b ∷ bs) (v ∷ vs) rest h =
+    let k : length vs ≤ length bs = omega arith in
+    ap (λ t. minus b v ∷ t) (subtract_front bs vs rest k)
+
+pub zeros_behind : (n : ℕ) (xs vs : List Bool) → subtract xs (vs ++ replicate n false) ≡ subtract xs vs
+zeros_behind n xs [] = subtract-zeros n xs
+zeros_behind n [] (v ∷ vs) = refl
+zeros_behind n (x ∷ xs) (v ∷ vs) = ap (λ t. minus x v ∷ t) (zeros_behind n xs vs)
+
+-- a register that is not at the start goes into the bits that come
+pub entered : (v bs : List Bool) → length v ≡ 16 → 16 ≤ length bs → run v bs ≡ run start (subtract bs v)
+entered v bs h l =
+    let less = subtract bs v in
+    sym (zeros-subtract 16 (run v bs) (length-run v bs ∙ h)) ∙
+    sym (divided-run bs v start h) ∙
+    ap (divided (length bs)) (subtract_front bs v start (omega arith)) ∙
+    ap (λ k. divided k (less ++ start)) (sym (length-subtract bs v)) ∙
+    ap (divided (length less)) (sym (subtract-zeros 16 (less ++ start))) ∙
+    divided-run less start start refl ∙
+    zeros-subtract 16 (run start less) (length-run start less)
+
+-- ---- eight bytes as a number, the first byte highest
+
+abbrev high_first : List ℕ → ℕ
+high_first [] = 0
+high_first (b ∷ bs) = b * 2 ^ (8 * length bs) + high_first bs
+
+high_first-lt : (bs : List ℕ) → ((i : ℕ) → get_or bs i 0 < 256) → high_first bs < 2 ^ (8 * length bs)
+high_first-lt [] h = omega arith
+high_first-lt (b ∷ bs) h =
+    let rest : high_first bs < 2 ^ (8 * length bs) = high_first-lt bs (λ i. h (suc i)) in
+    let small : b < 2 ^ 8 = omega (arith, h 0) in
+    let more : 2 ^ (8 + 8 * length bs) ≡ 2 ^ 8 * 2 ^ (8 * length bs) = pow-add 2 8 (8 * length bs) in
+    let same : 8 * suc (length bs) ≡ 8 + 8 * length bs = omega arith in
+    let P : ℕ → Type 0 = λ k. b * 2 ^ (8 * length bs) + high_first bs < 2 ^ k in
+    subst P (sym same) (omega (arith, more, mul-add-lt b (2 ^ (8 * length bs)) (high_first bs) (2 ^ 8) small rest))
+
+bits-high_first : (bs : List ℕ) → ((i : ℕ) → get_or bs i 0 < 256) → bits (8 * length bs) (high_first bs) ≡ body_bits bs
+bits-high_first [] h = refl
+bits-high_first (b ∷ bs) h =
+    let k = 8 * length bs in
+    let n = b * 2 ^ k + high_first bs in
+    let same : 8 * suc (length bs) ≡ 8 + k = omega arith in
+    let rest : high_first bs < 2 ^ k = high_first-lt bs (λ i. h (suc i)) in
+    ap (λ j. bits j n) same ∙
+    bits-split 8 k n ∙
+    ap (λ q. bits 8 q ++ bits k n) (div-mul-add b (2 ^ k) (high_first bs) rest) ∙
+    ap (λ t. bits 8 b ++ t) (bits-above k k b (high_first bs) (omega arith) ∙ bits-high_first bs (λ i. h (suc i)))
+
+pub word_bits : (bs : List ℕ) (n : ℕ) → length bs ≡ 8 → ((i : ℕ) → get_or bs i 0 < 256) → n ≡ from_be_bytes w64 bs → bits 64 n ≡ body_bits bs
+word_bits (a ∷ b ∷ c ∷ d ∷ e ∷ f ∷ g ∷ h ∷ []) number long small is =
+    let bytes = a ∷ b ∷ c ∷ d ∷ e ∷ f ∷ g ∷ h ∷ [] in
+    let same : number ≡ high_first bytes = omega arith in
+    ap (bits 64) same ∙ bits-high_first bytes small
+word_bits bs number long small is = absurd (omega arith)
+
+-- ---- what the functions cite
+
+-- two bytes in front of two
+pub two_more : (n m : ℕ) → m ≡ number_of (remainder (bits 16 n)) → remainder (bits 16 n ++ replicate 16 false) ≡ remainder (bits 16 m)
+two_more n m is =
+    let zeros = replicate 16 false in
+    let register = run start (bits 16 n) in
+    let long : length register ≡ 16 = length-run start (bits 16 n) in
+    let held : bits 16 m ≡ register =
+    ap (bits 16) (is ∙ ap number_of (remainder_is_run (bits 16 n))) ∙
+    ap (λ k. bits k (number_of register)) (sym long) ∙
+    bits-number_of register in
+    remainder_is_run (bits 16 n ++ zeros) ∙
+    run-append start (bits 16 n) zeros ∙
+    entered register zeros long (omega arith) ∙
+    ap (run start) (zeros-subtract 16 register long ∙ sym held) ∙
+    sym (remainder_is_run (bits 16 m))

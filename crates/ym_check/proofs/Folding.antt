@@ -1,0 +1,211 @@
+-- Bytes in front of others, folded into them: modulo the divisor, x^16 is x^12 + x^5 + 1, and so x^16n is x^12n + x^5n + 1 for n = 2, 4.
+use Rattle.std.specs.Prelude.{◌≡◌, ℕ, ◌+◌, ◌*◌, ◌/◌, ◌%◌, ◌^◌, ◌<◌, zero, suc, Bool, true, false, eqb, cond, List, [], ◌∷◌, ◌++◌, length, replicate, bit_xor, refl}
+use Rattle.std.proofs.Common.{sym, ◌∙◌, ap, arith, length-append}
+use Rattle.std.proofs.lemmas.Nat.{xor_lt, xor_comm, mod_below, shr_le, shl-shr, shr_split}
+use Rattle.std.proofs.Math.ListN.{length-replicate}
+use Rattle.std.proofs.Math.Nat.{div-one}
+use Rattle.ym_check.specs.Check.{bits, number_of, minus, subtract, remainder}
+use Rattle.ym_check.proofs.Division.{moved, below_divisor, run, start, subtract-append, subtract-zeros, zeros-subtract, remainder_is_run}
+use Rattle.ym_check.proofs.CheckNumbers.{length-bits, bits-xor, bits-split, bits-above, number_of-bits}
+use Rattle.ym_check.proofs.Linear.{IsLinear, IsLinearInBits, added, right, left, at_powers, AgreeBelow, agree_nowhere, agree_further, same_below}
+use Rattle.ym_check.proofs.Register.{start-subtract, zeros_in_front}
+
+-- ---- the number that a word in front becomes
+
+abbrev first_of : (a n : ℕ) → ℕ
+first_of a n = bit_xor n (n / 2 ^ a)
+
+abbrev above_of : (a b c n : ℕ) → ℕ
+above_of a b c n = bit_xor (bit_xor (first_of a n) (first_of a n / 2 ^ b)) (n / 2 ^ c)
+
+abbrev pub folded_of : (a b c d e w n : ℕ) → ℕ
+folded_of a b c d e w n = bit_xor (bit_xor (above_of a b c n) (above_of a b c n * 2 ^ d % 2 ^ w)) (above_of a b c n * 2 ^ e % 2 ^ w)
+
+first_of-linear : (a : ℕ) → IsLinear (first_of a)
+first_of-linear a = added (λ n. n) (λ n. n / 2 ^ a) (λ x y. refl) (right a)
+
+above_of-linear : (a b c : ℕ) → IsLinear (above_of a b c)
+above_of-linear a b c =
+    let spread : IsLinear (λ n. bit_xor n (n / 2 ^ b)) = added (λ n. n) (λ n. n / 2 ^ b) (λ x y. refl) (right b) in
+    let twice : IsLinear (λ n. bit_xor (first_of a n) (first_of a n / 2 ^ b)) =
+    λ x y. ap (λ n. bit_xor n (n / 2 ^ b)) (first_of-linear a x y) ∙ spread (first_of a x) (first_of a y) in
+    added (λ n. bit_xor (first_of a n) (first_of a n / 2 ^ b)) (λ n. n / 2 ^ c) twice (right c)
+
+folded_of-linear : (a b c d e w : ℕ) → IsLinear (folded_of a b c d e w)
+folded_of-linear a b c d e w x y =
+    let spread : IsLinear (λ n. bit_xor (bit_xor n (n * 2 ^ d % 2 ^ w)) (n * 2 ^ e % 2 ^ w)) =
+    added (λ n. bit_xor n (n * 2 ^ d % 2 ^ w)) (λ n. n * 2 ^ e % 2 ^ w) (added (λ n. n) (λ n. n * 2 ^ d % 2 ^ w) (λ u v. refl) (left d w)) (left e w) in
+    ap (λ n. bit_xor (bit_xor n (n * 2 ^ d % 2 ^ w)) (n * 2 ^ e % 2 ^ w)) (above_of-linear a b c x y) ∙
+    spread (above_of a b c x) (above_of a b c y)
+
+-- ---- the check of a word in front of as many zero bits, and of what it becomes
+
+abbrev pub in_front : ℕ → ℕ → List Bool
+in_front w n = run start (bits w n ++ replicate w false)
+
+abbrev pub alone : ℕ → (ℕ → ℕ) → ℕ → List Bool
+alone w f n = run start (bits w (f n))
+
+in_front-linear : (w : ℕ) → IsLinearInBits (in_front w)
+in_front-linear w a b =
+    let zeros = replicate w false in
+    let same : length (bits w a) ≡ length (bits w b) = length-bits w a ∙ sym (length-bits w b) in
+    let long : length (bits w a ++ zeros) ≡ length (bits w b ++ zeros) = omega (arith, length-append (bits w a) zeros, length-append (bits w b) zeros) in
+    ap (λ t. run start (t ++ zeros)) (bits-xor w a b) ∙
+    ap (λ t. run start (subtract (bits w a) (bits w b) ++ t)) (sym (subtract-zeros w zeros)) ∙
+    ap (run start) (sym (subtract-append (bits w a) zeros (bits w b) zeros same)) ∙
+    start-subtract (bits w a ++ zeros) (bits w b ++ zeros) long
+
+alone-linear : (w : ℕ) (f : ℕ → ℕ) → IsLinear f → IsLinearInBits (alone w f)
+alone-linear w f lf a b =
+    ap (λ n. run start (bits w n)) (lf a b) ∙
+    ap (run start) (bits-xor w (f a) (f b)) ∙
+    start-subtract (bits w (f a)) (bits w (f b)) (length-bits w (f a) ∙ sym (length-bits w (f b)))
+
+fold_at : (w : ℕ) (f : ℕ → ℕ) → IsLinear f → in_front w 0 ≡ alone w f 0 → AgreeBelow (in_front w) (alone w f) w →
+    (n : ℕ) → n < 2 ^ w → remainder (bits w n ++ replicate w false) ≡ remainder (bits w (f n))
+fold_at w f lf none same n l =
+    remainder_is_run (bits w n ++ replicate w false) ∙
+    same_below (in_front w) (alone w f) (in_front-linear w) (alone-linear w f lf) none w same n l ∙
+    sym (remainder_is_run (bits w (f n)))
+
+-- ---- the three widths
+
+abbrev pub folded_64 : ℕ → ℕ
+folded_64 n = folded_of 16 32 44 20 48 64 n
+
+abbrev pub folded_32 : ℕ → ℕ
+folded_32 n = folded_of 8 16 22 10 24 32 n
+
+abbrev pub folded_16 : ℕ → ℕ
+folded_16 n = folded_of 4 8 11 5 12 16 n
+
+-- ---- the register as a number, with which the checker computes: its low sixteen bits count
+
+abbrev pub number_next : ℕ → Bool → ℕ
+number_next n b = elim (minus b (eqb (n / 2 ^ 15 % 2) 1)) [ true ↦ bit_xor (n * 2) 0x1021 | false ↦ n * 2 ]
+
+abbrev pub number_run : ℕ → List Bool → ℕ
+number_run n [] = n
+number_run n (b ∷ more) = number_run (number_next n b) more
+
+moved_bits : (n : ℕ) → bits 16 (n * 2) ≡ moved (bits 15 n)
+moved_bits n =
+    let even : n * 2 % 2 ≡ 0 = omega arith in
+    let same : n * 2 ≡ n * 2 ^ 1 = refl in
+    bits-split 15 1 (n * 2) ∙
+    ap (λ m. bits 15 m ++ bits 1 (n * 2)) (shl-shr n 1) ∙
+    ap (λ m. bits 15 n ++ eqb m 1 ∷ []) (ap (λ m. m % 2) (div-one (n * 2)) ∙ even)
+
+next_bits : (n : ℕ) (c : Bool) → bits 16 (elim c [ true ↦ bit_xor (n * 2) 0x1021 | false ↦ n * 2 ]) ≡ cond c (subtract (moved (bits 15 n)) below_divisor) (moved (bits 15 n))
+next_bits n true = bits-xor 16 (n * 2) 0x1021 ∙ ap (λ t. subtract t below_divisor) (moved_bits n)
+next_bits n false = moved_bits n
+
+number_run-run : (n : ℕ) (bs : List Bool) → bits 16 (number_run n bs) ≡ run (bits 16 n) bs
+number_run-run n [] = refl
+number_run-run n (b ∷ bs) =
+    number_run-run (number_next n b) bs ∙
+    ap (λ v. run v bs) (next_bits n (minus b (eqb (n / 2 ^ 15 % 2) 1)))
+
+abbrev pub quick : (ℕ → List Bool) → ℕ → List Bool
+quick F n = bits 16 (number_run 0 (F n))
+
+at_powers-quick : (F : ℕ → List Bool) (low n : ℕ) → at_powers (quick F) low n ≡ at_powers (λ k. run start (F k)) low n
+at_powers-quick F low zero = refl
+at_powers-quick F low (suc n) =
+    ap (λ t. t ∷ at_powers (quick F) low n) (number_run-run 0 (F (2 ^ (low + n)))) ∙
+    ap (λ t. run start (F (2 ^ (low + n))) ∷ t) (at_powers-quick F low n)
+
+-- two rows of bits have the same check at so many powers of two, where their registers as numbers are the same at each of them
+pub agree_quickly : (F G : ℕ → List Bool) (n : ℕ) → at_powers (quick F) 0 n ≡ at_powers (quick G) 0 n →
+    AgreeBelow (λ k. run start (F k)) (λ k. run start (G k)) (0 + n)
+agree_quickly F G n e =
+    let f : ℕ → List Bool = λ k. run start (F k) in
+    let g : ℕ → List Bool = λ k. run start (G k) in
+    agree_further f g 0 n (agree_nowhere f g) (sym (at_powers-quick F 0 n) ∙ e ∙ at_powers-quick G 0 n)
+
+agree_32 : AgreeBelow (in_front 32) (alone 32 folded_32) 32
+agree_32 = agree_quickly (λ n. bits 32 n ++ replicate 32 false) (λ n. bits 32 (folded_32 n)) 32 refl
+
+agree_64 : AgreeBelow (in_front 64) (alone 64 folded_64) 64
+agree_64 = agree_quickly (λ n. bits 64 n ++ replicate 64 false) (λ n. bits 64 (folded_64 n)) 64 refl
+
+pub fold_64 : (n : ℕ) → n < 2 ^ 64 → remainder (bits 64 n ++ replicate 64 false) ≡ remainder (bits 64 (folded_64 n))
+fold_64 n l = fold_at 64 folded_64 (folded_of-linear 16 32 44 20 48 64) refl agree_64 n l
+
+pub fold_32 : (n : ℕ) → n < 2 ^ 32 → remainder (bits 32 n ++ replicate 32 false) ≡ remainder (bits 32 (folded_32 n))
+fold_32 n l = fold_at 32 folded_32 (folded_of-linear 8 16 22 10 24 32) refl agree_32 n l
+
+-- two bytes become their check
+abbrev check_16 : ℕ → List Bool
+check_16 n = run start (bits 16 n)
+
+abbrev folded_bits : ℕ → List Bool
+folded_bits n = bits 16 (folded_16 n)
+
+check_16-linear : IsLinearInBits check_16
+check_16-linear a b = ap (run start) (bits-xor 16 a b) ∙ start-subtract (bits 16 a) (bits 16 b) refl
+
+folded_bits-linear : IsLinearInBits folded_bits
+folded_bits-linear a b = ap (bits 16) (folded_of-linear 4 8 11 5 12 16 a b) ∙ bits-xor 16 (folded_16 a) (folded_16 b)
+
+agree_16 : AgreeBelow check_16 folded_bits 16
+agree_16 = agree_further check_16 folded_bits 0 16 (agree_nowhere check_16 folded_bits) refl
+
+folded_16-lt : (n : ℕ) → n < 2 ^ 16 → folded_16 n < 2 ^ 16
+folded_16-lt n l =
+    let less : (k : ℕ) → n / 2 ^ k < 2 ^ 16 = λ k. omega (arith, shr_le n k) in
+    let first = first_of 4 n in
+    let first_lt : first < 2 ^ 16 = xor_lt 16 n (n / 2 ^ 4) l (less 4) in
+    let spread_lt : bit_xor first (first / 2 ^ 8) < 2 ^ 16 = xor_lt 16 first (first / 2 ^ 8) first_lt (omega (arith, shr_le first 8)) in
+    let above = above_of 4 8 11 n in
+    let above_lt : above < 2 ^ 16 = xor_lt 16 (bit_xor first (first / 2 ^ 8)) (n / 2 ^ 11) spread_lt (less 11) in
+    xor_lt 16 (bit_xor above (above * 2 ^ 5 % 2 ^ 16)) (above * 2 ^ 12 % 2 ^ 16)
+    (xor_lt 16 above (above * 2 ^ 5 % 2 ^ 16) above_lt (mod_below (above * 2 ^ 5) (2 ^ 16) (omega arith)))
+    (mod_below (above * 2 ^ 12) (2 ^ 16) (omega arith))
+
+pub fold_16 : (n : ℕ) → n < 2 ^ 16 → folded_16 n ≡ number_of (remainder (bits 16 n))
+fold_16 n l =
+    sym (number_of-bits 16 (folded_16 n) (folded_16-lt n l)) ∙
+    ap number_of (sym (same_below check_16 folded_bits check_16-linear folded_bits-linear refl 16 agree_16 n l)) ∙
+    ap number_of (sym (remainder_is_run (bits 16 n)))
+
+-- ---- a word and the next one
+
+-- bits in front of others are added to these as what they become
+pub added_behind : (w k : ℕ) (front rest becomes : List Bool) → length front ≡ w → length rest ≡ k → length becomes ≡ k →
+    run start (front ++ replicate k false) ≡ run start becomes → run start (front ++ rest) ≡ run start (subtract rest becomes)
+added_behind w k front rest becomes high low same e =
+    let before = replicate w false in
+    let behind = replicate k false in
+    let zeros_long : length before ≡ length front = length-replicate w false ∙ sym high in
+    let apart : subtract (before ++ rest) (front ++ behind) ≡ front ++ rest =
+    subtract-append before rest front behind zeros_long ∙
+    ap (λ t. t ++ subtract rest behind) (zeros-subtract w front high) ∙
+    ap (λ t. front ++ t) (subtract-zeros k rest) in
+    let long : length (before ++ rest) ≡ length (front ++ behind) =
+    omega (arith, length-append before rest, length-append front behind, length-replicate k false) in
+    ap (run start) (sym apart) ∙
+    start-subtract (before ++ rest) (front ++ behind) long ∙
+    ap (λ t. subtract t (run start (front ++ behind))) (zeros_in_front w rest) ∙
+    ap (subtract (run start rest)) e ∙
+    sym (start-subtract rest becomes (low ∙ sym same))
+
+-- the next word is added to what the word in front becomes
+pub folded_in : (w n m next : ℕ) → remainder (bits w n ++ replicate w false) ≡ remainder (bits w m) →
+    remainder (bits w n ++ bits w next) ≡ remainder (bits w (bit_xor m next))
+folded_in w n m next e =
+    remainder_is_run (bits w n ++ bits w next) ∙
+    added_behind w w (bits w n) (bits w next) (bits w m) (length-bits w n) (length-bits w next) (length-bits w m)
+    (sym (remainder_is_run (bits w n ++ replicate w false)) ∙ e ∙ remainder_is_run (bits w m)) ∙
+    ap (run start) (sym (bits-xor w next m) ∙ ap (bits w) (xor_comm next m)) ∙
+    sym (remainder_is_run (bits w (bit_xor m next)))
+
+-- both halves of a word
+pub halves : (w n m : ℕ) → remainder (bits w (n / 2 ^ w) ++ replicate w false) ≡ remainder (bits w m) →
+    remainder (bits (w + w) n) ≡ remainder (bits w (bit_xor m (n % 2 ^ w)))
+halves w n m e =
+    let low : bits w n ≡ bits w (n % 2 ^ w) =
+    ap (bits w) (sym (shr_split n w)) ∙ bits-above w w (n / 2 ^ w) (n % 2 ^ w) (omega arith) in
+    ap remainder (bits-split w w n ∙ ap (λ t. bits w (n / 2 ^ w) ++ t) low) ∙
+    folded_in w (n / 2 ^ w) m (n % 2 ^ w) e

@@ -1,0 +1,9 @@
+pub mod Examples
+pub mod Division
+pub mod CheckNumbers
+pub mod Register
+pub mod Linear
+pub mod Folding
+pub mod FoldedBytes
+pub mod Windows
+pub mod TableWords
