@@ -1,10 +1,8 @@
 -- The frame of a data block.
-use Rattle.std.proofs.Common.{ℕ, ◌+◌, ◌/◌, ◌%◌, ◌≡◌, inl, inr, List, [], ◌∷◌, length, take, Option, None, Some, Result, Ok, Err, refl, ap, sym, ◌∙◌, arith, subst}
+use Rattle.std.proofs.Common.{ℕ, ◌≡◌, List, take, Option, Result, Ok, Err, refl, ap, sym, ◌∙◌, subst}
 use Rattle.std.specs.Prelude.{IfSome, IfOk}
-use Rattle.std.proofs.lemmas.List.{length-append}
 use Rattle.ym_frame.specs.Block.{BlockParts}
-use Rattle.ym_frame.specs.Frame.{IsFrame, block_frame}
-use Rattle.ym_frame.specs.Check.{check_of}
+use Rattle.ym_frame.specs.Frame.{IsFrame}
 use Rattle.ym_frame.specs.declared.frame.Item.TheVariants.{Block}
 use Rattle.ym_file.specs.declared.plan.Shape.{Shape}
 use Rattle.ym_file.specs.Plan.{piece_at, size_at}

@@ -1,5 +1,5 @@
 -- A receiver with its sink: what hearing one delivery answers and leaves.
-use Rattle.std.specs.Prelude.{ℕ, ◌*◌, ◌≡◌, ◌≤◌, ◌<◌, ◌^◌, ◌⊎◌, [], length, None, Some, Bool, true, false, Result, Ok, Err, min}
+use Rattle.std.specs.Prelude.{ℕ, ◌*◌, ◌≡◌, ◌≤◌, ◌<◌, ◌⊎◌, [], length, None, Some, Bool, true, false, Result, Ok, Err, min}
 use Rattle.std.specs.declared.alloc.AllocError.{AllocError}
 use Rattle.ym_frame.specs.declared.control.Reply.{Reply}
 use Rattle.ym_frame.specs.declared.control.Reply.TheVariants.{Cancel}
