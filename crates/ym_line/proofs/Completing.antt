@@ -22,7 +22,7 @@ use Rattle.ym_link.specs.Sender.{SenderParts}
 use Rattle.ym_core.specs.declared.standing.Standing.{Standing}
 use Rattle.ym_link.specs.SenderStands.{Batch, AllTold, batch_of, file_of, told_pieces}
 use Rattle.ym_link.specs.SenderStands as sender
-use Rattle.ym_link.specs.SourceFile.{FileParts, IsFile, blocks_of}
+use Rattle.ym_file.specs.SourceFile.{FileParts, IsFile, blocks_of}
 use Rattle.ym_core.specs.declared.state.SendState.{SendState}
 use Rattle.ym_core.specs.declared.state.SendState.TheVariants as send_state
 use Rattle.ym_core.specs.declared.state.RecvState.{RecvState}

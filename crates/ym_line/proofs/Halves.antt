@@ -19,7 +19,7 @@ use Rattle.ym_link.specs.ReceiverStands.{IsBatch, ReceiverStands, heard_there, o
 use Rattle.ym_link.specs.ReceiverStands as receiver
 use Rattle.ym_link.specs.SenderStands.{Batch, SenderStands, IsSaid, AllTold}
 use Rattle.ym_link.specs.Sender.{SenderParts, IsSender, IsStep, IsFilled, counts, spoken}
-use Rattle.ym_link.specs.SourceFile.{FileParts, file_at, filled, no_file}
+use Rattle.ym_file.specs.SourceFile.{FileParts, file_at, filled, no_file}
 use Rattle.ym_core.specs.Standing.{hears}
 use Rattle.ym_file.specs.Kept.{Kept}
 use Rattle.ym_core.specs.declared.place.Place.{Place}

@@ -21,7 +21,7 @@ use Rattle.ym_core.specs.declared.standing.Standing.{Standing}
 use Rattle.ym_core.specs.declared.state.SendState.TheVariants.{Running}
 use Rattle.ym_link.specs.ReceiverStands.{bytes_of}
 use Rattle.ym_link.specs.SenderStands.{Batch, AllTold, batch_of, file_of, told_pieces}
-use Rattle.ym_link.specs.SourceFile.{FileParts, IsFile, counts_of}
+use Rattle.ym_file.specs.SourceFile.{FileParts, IsFile, counts_of}
 use Rattle.ym_core.specs.Standing.{new_standing}
 use Rattle.ym_line.specs.declared.delivery.Handed.{Handed}
 use Rattle.ym_line.specs.declared.delivery.Round.{Round}

@@ -8,7 +8,7 @@ use Rattle.ym_file.specs.Plan.{IsPieces, pieces_of}
 use Rattle.ym_file.specs.declared.plan.Shape.{Shape}
 use Rattle.ym_link.specs.ReceiverStands.{IsSent, IsBatch}
 use Rattle.ym_link.specs.SenderStands.{AllTold, batch_of, file_of, told_pieces}
-use Rattle.ym_link.specs.SourceFile.{FileParts, IsFile}
+use Rattle.ym_file.specs.SourceFile.{FileParts, IsFile}
 
 -- a file that is cut by a plan is sent whole
 abbrev pub PlannedIsSent : Type 0

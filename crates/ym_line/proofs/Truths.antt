@@ -13,7 +13,7 @@ use Rattle.ym_machine.specs.Run as machine
 use Rattle.ym_link.specs.ReceiverInto.{Tells}
 use Rattle.ym_link.specs.Sender.{FilledAt, FailedAt}
 use Rattle.ym_link.specs.SenderStands.{Batch}
-use Rattle.ym_link.specs.SourceFile.{FileParts, file_at, filled, no_file}
+use Rattle.ym_file.specs.SourceFile.{FileParts, file_at, filled, no_file}
 use Rattle.ym_line.specs.declared.delivery.Delivery.{Delivery}
 use Rattle.ym_line.specs.declared.delivery.Delivery.TheVariants.{Whole, Lost, Damaged}
 use Rattle.ym_line.specs.declared.delivery.Round.{Round}

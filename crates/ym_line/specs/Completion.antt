@@ -4,7 +4,7 @@
 use Rattle.std.specs.Prelude.{◌≡◌, ◌≤◌, ◌<◌, ◌⊎◌, ℕ, ◌+◌, ◌&&◌, max, Bool, true, if◌then◌else◌, List, [], ◌∷◌, length, map, Some}
 use Rattle.ym_file.specs.Counts.{Rose}
 use Rattle.ym_file.specs.Kept.{Told}
-use Rattle.ym_link.specs.SourceFile.{FileParts, file_at}
+use Rattle.ym_file.specs.SourceFile.{FileParts, file_at}
 use Rattle.ym_core.specs.declared.state.SendState.TheVariants as sender
 use Rattle.ym_core.specs.declared.state.RecvState.TheVariants as receiver
 use Rattle.ym_machine.specs.declared.limits.TheConstants.{BURST}

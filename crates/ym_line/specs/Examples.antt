@@ -5,7 +5,7 @@ use Rattle.ym_frame.specs.declared.control.Reply.TheVariants.{Start, AckStart, N
 use Rattle.ym_header.specs.declared.fault.HeaderFault.TheVariants.{NoLength}
 use Rattle.ym_header.specs.declared.stamp.Stamp.TheVariants as stamp
 use Rattle.ym_file.specs.declared.plan.Shape.TheVariants.{Mixed, Short}
-use Rattle.ym_link.specs.SourceFile.{FileParts}
+use Rattle.ym_file.specs.SourceFile.{FileParts}
 use Rattle.ym_core.specs.declared.state.RecvState.TheVariants.{BadHeader}
 use Rattle.ym_core.specs.declared.state.SendState.TheVariants.{NoReply}
 use Rattle.ym_machine.specs.declared.confirm.Confirm.TheVariants.{Twice, Once}

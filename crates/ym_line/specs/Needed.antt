@@ -1,7 +1,7 @@
 -- How many rounds a batch needs where all of them are whole.
 use Rattle.std.specs.Prelude.{ℕ, ◌+◌, List, sum_by}
 use Rattle.ym_file.specs.declared.plan.Shape.{Shape}
-use Rattle.ym_link.specs.SourceFile.{FileParts, blocks_of}
+use Rattle.ym_file.specs.SourceFile.{FileParts, blocks_of}
 use Rattle.ym_machine.specs.declared.confirm.Confirm.{Confirm}
 use Rattle.ym_machine.specs.declared.confirm.Confirm.TheVariants.{Twice, Once}
 

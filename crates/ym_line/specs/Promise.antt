@@ -5,7 +5,7 @@ use Rattle.std.specs.Prelude.{◌≡◌, ◌≤◌, ℕ, false, List, [], ◌∷
 use Rattle.ym_file.specs.Kept.{Told, IsNew}
 use Rattle.ym_core.specs.Place.{done_at}
 use Rattle.ym_core.specs.Receiver.{new_receiver}
-use Rattle.ym_link.specs.SourceFile.{FileParts}
+use Rattle.ym_file.specs.SourceFile.{FileParts}
 use Rattle.ym_core.specs.declared.place.Place.{Place}
 use Rattle.ym_core.specs.declared.place.Place.TheVariants.{Header, End}
 use Rattle.ym_core.specs.declared.place.Mode.TheVariants.{Waiting}

@@ -15,7 +15,7 @@ use Rattle.ym_link.specs.SenderStands as sender
 use Rattle.ym_core.specs.Place.{done_at}
 use Rattle.ym_file.specs.Kept.{Told}
 use Rattle.ym_link.specs.Sender.{FilledAt, FailedAt, spoken}
-use Rattle.ym_link.specs.SourceFile.{FileParts}
+use Rattle.ym_file.specs.SourceFile.{FileParts}
 use Rattle.ym_link.specs.SenderStands.{Batch, SenderStands, AllTold, IsSaid}
 use Rattle.ym_line.specs.declared.delivery.Delivery.{Delivery}
 use Rattle.ym_line.specs.declared.delivery.Delivery.TheVariants.{Whole, Lost, Damaged}

@@ -10,7 +10,7 @@ ghost use Rattle.ym_file.specs.Kept.{Kept, IsNew};
 ghost use Rattle.ym_file.specs.declared.plan.Shape.{Shape};
 ghost use Rattle.ym_core.specs.Receiver.{new_receiver};
 ghost use Rattle.ym_core.specs.declared.state.SendState.TheVariants as SendState;
-ghost use Rattle.ym_link.specs.SourceFile.{FileParts, IsFile, counts_of};
+ghost use Rattle.ym_file.specs.SourceFile.{FileParts, IsFile, counts_of};
 ghost use Rattle.ym_core.specs.Standing.{new_standing};
 ghost use Rattle.ym_link.specs.SenderStands.{Batch, AllTold, batch_of};
 ghost use Rattle.ym_line.specs.declared.delivery.Handed.{Handed};

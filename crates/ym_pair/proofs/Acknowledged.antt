@@ -17,7 +17,7 @@ use Rattle.ym_link.specs.Port.{Tape}
 use Rattle.ym_core.specs.Reading.{controls_in}
 use Rattle.ym_link.specs.Sender.{SenderParts, IsSender, IsStep, IsFilled, FilledAt, FailedAt, counts, spoken, spoken_in}
 use Rattle.ym_link.specs.SendOver.{Outcome, Sends, ended, unwritten, unread, heard, written_for}
-use Rattle.ym_link.specs.SourceFile.{FileParts, counts_of, file_at, filled, no_file}
+use Rattle.ym_file.specs.SourceFile.{FileParts, counts_of, file_at, filled, no_file}
 use Rattle.ym_core.specs.Standing.{hears, new_standing}
 use Rattle.ym_core.specs.declared.place.Place.{Place}
 use Rattle.ym_core.specs.declared.place.Place.TheVariants.{Header, Block, Eot, End}

@@ -17,7 +17,7 @@ use Rattle.ym_link.specs.ReceiverStands.{KeepsFirst}
 use Rattle.ym_link.specs.ReceiverStands as receiver
 use Rattle.ym_link.specs.Sender.{SenderParts, IsSender}
 use Rattle.ym_link.specs.SenderStands.{Batch, SenderStands, AllTold}
-use Rattle.ym_link.specs.SourceFile.{IsFile}
+use Rattle.ym_file.specs.SourceFile.{IsFile}
 use Rattle.ym_line.specs.Promise.{AreNew, CommitsAPrefix}
 use Rattle.ym_line.specs.Rounds.{Pair, sent_by, seen_of}
 use Rattle.ym_line.specs.Turns.{PairStands, CommitsFirst}

@@ -25,7 +25,7 @@ use Rattle.ym_link.specs.ReceiverStands.{bytes_of}
 use Rattle.ym_link.specs.ReceiverStands as receiver
 use Rattle.ym_link.specs.Sender.{SenderParts}
 use Rattle.ym_link.specs.SenderStands.{Batch, file_of}
-use Rattle.ym_link.specs.SourceFile.{IsFile}
+use Rattle.ym_file.specs.SourceFile.{IsFile}
 use Rattle.ym_line.specs.Completion.{NoneRose, longest_bad_run}
 use Rattle.ym_line.specs.Promise.{AreNew}
 use Rattle.ym_line.specs.Rounds.{Pair, sent_by, seen_of}

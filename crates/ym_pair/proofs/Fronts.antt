@@ -15,7 +15,7 @@ use Rattle.ym_core.specs.declared.state.SendState.TheVariants as send_state
 use Rattle.ym_link.specs.ReceiverInto.{ReceiverParts, Tells}
 use Rattle.ym_link.specs.Sender.{SenderParts, IsSender}
 use Rattle.ym_link.specs.SenderStands.{Batch}
-use Rattle.ym_link.specs.SourceFile.{FileParts, file_at}
+use Rattle.ym_file.specs.SourceFile.{FileParts, file_at}
 use Rattle.ym_line.specs.Completion.{longest_bad_run}
 use Rattle.ym_line.specs.Rounds.{Pair, Goes}
 use Rattle.ym_line.specs.Turns.{AreTurns, IsTurn, IsSourceTruth, PairStands, TakesATurn, turn_of}

@@ -32,7 +32,7 @@ use Rattle.ym_link.specs.ReceiverInto.{ReceiverParts, HearsGives}
 use Rattle.ym_link.specs.Sender.{SenderParts, IsSender, IsStep, counts, spoken}
 use Rattle.ym_link.specs.SendOver as sending
 use Rattle.ym_link.specs.SendOver.{written_for}
-use Rattle.ym_link.specs.SourceFile.{counts_of}
+use Rattle.ym_file.specs.SourceFile.{counts_of}
 use Rattle.ym_link.proofs.Files.{filled_counts, filled_files}
 use Rattle.ym_line.specs.Damage.{arrives, IsHeardBad, ShowsThere}
 use Rattle.ym_line.specs.Rounds.{Goes, GoesThere, sent_by, seen_of}

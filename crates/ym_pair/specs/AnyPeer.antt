@@ -19,7 +19,7 @@ use Rattle.ym_core.specs.declared.delivery.Heard.TheVariants.{Item as Heard_item
 use Rattle.ym_core.specs.declared.place.Place.{Place}
 use Rattle.ym_core.specs.declared.place.Place.TheVariants as place
 use Rattle.ym_link.specs.FrameAt.{IsFrameAt}
-use Rattle.ym_link.specs.SourceFile.{FileParts}
+use Rattle.ym_file.specs.SourceFile.{FileParts}
 use Rattle.ym_pair.specs.Logs.{Spoke}
 
 -- ---- A receiver

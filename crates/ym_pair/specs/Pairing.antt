@@ -23,7 +23,7 @@ use Rattle.ym_link.specs.ReceiverInto.{ReceiverParts}
 use Rattle.ym_link.specs.Sender.{SenderParts, spoken}
 use Rattle.ym_link.specs.SendOver.{written_for}
 use Rattle.ym_link.specs.SendOver as sending
-use Rattle.ym_link.specs.SourceFile.{FileParts}
+use Rattle.ym_file.specs.SourceFile.{FileParts}
 use Rattle.ym_line.specs.Damage.{arrives, ShowsThere, ShowsBack, IsShort}
 use Rattle.ym_line.specs.Rounds.{Pair}
 use Rattle.ym_line.specs.declared.delivery.Delivery.{Delivery}

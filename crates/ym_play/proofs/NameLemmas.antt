@@ -12,7 +12,7 @@ use Rattle.ym_header.specs.declared.fault.HeaderFault.{HeaderFault}
 use Rattle.ym_header.specs.declared.fault.HeaderFault.TheVariants as header
 use Rattle.ym_header.specs.declared.limits.TheConstants.{MOST_NAME_BYTES}
 use Rattle.ym_header.specs.declared.stamp.Stamp.{Stamp}
-use Rattle.ym_link.specs.SourceFile.{FileParts}
+use Rattle.ym_file.specs.SourceFile.{FileParts}
 use Rattle.ym_play.specs.Command.{StampWords}
 use Rattle.ym_play.specs.Fault.{IsRefusal, refusal_of}
 use Rattle.ym_play.specs.Value.{bytes_at, stamp_at}

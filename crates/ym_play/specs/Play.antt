@@ -4,7 +4,7 @@ use Rattle.ym_file.specs.Counts.{new_tally}
 use Rattle.ym_file.specs.MemSink.{kept_of}
 use Rattle.ym_core.specs.Receiver.{new_receiver}
 use Rattle.ym_core.specs.Standing.{new_standing}
-use Rattle.ym_link.specs.SourceFile.{counts_of}
+use Rattle.ym_file.specs.SourceFile.{counts_of}
 use Rattle.ym_core.specs.declared.state.RecvState.{RecvState}
 use Rattle.ym_core.specs.declared.state.RecvState.TheVariants as recv
 use Rattle.ym_core.specs.declared.state.SendState.{SendState}

@@ -9,7 +9,7 @@ use Rattle.ym_file.specs.declared.plan.Shape.TheVariants as shape
 use Rattle.ym_machine.specs.declared.confirm.Confirm.{Confirm}
 use Rattle.ym_machine.specs.declared.confirm.Confirm.TheVariants as confirm
 use Rattle.ym_machine.specs.declared.limits.TheConstants.{MOST_FILES}
-use Rattle.ym_link.specs.SourceFile.{FileParts}
+use Rattle.ym_file.specs.SourceFile.{FileParts}
 use Rattle.ym_line.specs.declared.delivery.Delivery.TheVariants as line
 use Rattle.ym_line.specs.declared.delivery.Round.{Round}
 use Rattle.ym_play.specs.Command.{StampWords, DeliveryWords, CommandWords, Short, Single, File, Rounds, Round as RoundWords, command_of}

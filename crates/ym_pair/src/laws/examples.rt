@@ -4,7 +4,7 @@ ghost use Rattle.std.specs.Prelude.{◌≡◌, ◌∷◌, [], List, codes};
 ghost use Rattle.ym_file.specs.declared.plan.Shape.{Shape};
 ghost use Rattle.ym_machine.specs.declared.confirm.Confirm.TheVariants.{Twice};
 ghost use Rattle.ym_core.specs.declared.place.Place.TheVariants.{Eot};
-ghost use Rattle.ym_link.specs.SourceFile.{FileParts};
+ghost use Rattle.ym_file.specs.SourceFile.{FileParts};
 ghost use Rattle.ym_line.specs.Completion.{longest_bad_run};
 ghost use Rattle.ym_line.specs.declared.delivery.Delivery.TheVariants.{Whole, Lost};
 ghost use Rattle.ym_pair.specs.AnyPeer.{AreAmong, AreAcknowledged, bytes_heard, spelling};
