@@ -2,8 +2,7 @@ ghost use Rattle.std.specs.Prelude.{None};
 
 use super::calls::{played, played_by, same, session_of};
 use crate::{PlayFault, read_script};
-use std::io;
-use std::io::{ErrorKind, Write};
+use std::io::Cursor;
 use std::test::Fail;
 use ym_line::{Carrier, CarryFault, Way};
 
@@ -16,39 +15,13 @@ pub(super) const ONE_FILE: &[u8] = b"file a.txt \
     \nok 6\n";
 
 /// A writer that takes no memory.
-#[derive(Drop)]
-struct Page {
-    bytes: [u8; 512],
-    length: usize,
+fn page() -> Cursor<[u8; 512]> {
+    Cursor::new([0; 512])
 }
 
-impl Page {
-    fn new() -> Self {
-        Page {
-            bytes: [0; 512],
-            length: 0,
-        }
-    }
-
-    fn text(&self) -> &[u8] {
-        self.bytes.get(..self.length).unwrap_or(&[])
-    }
-}
-
-impl Write for Page {
-    fn write(&mut self, buf: &[u8]) -> io::Result<usize> {
-        let Some(room) = self.bytes.get_mut(self.length..) else {
-            return Err(io::Error::from(ErrorKind::WriteZero));
-        };
-        let count = buf.len().min(room.len());
-        room[..count].copy_from_slice(&buf[..count]);
-        self.length = self.length.saturating_add(count);
-        Ok(count)
-    }
-
-    fn flush(&mut self) -> io::Result<()> {
-        Ok(())
-    }
+/// What was written to it.
+fn text(page: &Cursor<[u8; 512]>) -> &[u8] {
+    page.get_ref().get(..page.position() as usize).unwrap_or(&[])
 }
 
 /// Holds whichever one growth is refused: the fault is want of memory and no other.
@@ -64,14 +37,14 @@ fn a_growth_is_refused(rt: HostRuntime) -> Result<(), Fail> {
 /// Holds whichever one growth is refused: the fault line tells want of memory, and nothing is printed.
 #[test]
 fn a_growth_of_a_session_is_refused(rt: HostRuntime) -> Result<(), Fail> {
-    let mut out = Page::new();
-    let mut err = Page::new();
+    let mut out = page();
+    let mut err = page();
     let mut input = ONE_FILE;
     let status = session_of(rt.alloc(), &mut input, &mut out, &mut err);
     if status != 0 {
         assert!(rt; same(&status, &3));
-        assert!(rt; out.text().is_empty());
-        assert!(rt; same(&err.text(), &b"fault: memory\n".as_slice()));
+        assert!(rt; text(&out).is_empty());
+        assert!(rt; same(&text(&err), &b"fault: memory\n".as_slice()));
     }
     Ok(())
 }
