@@ -14,8 +14,15 @@ NOT_PROVED = "this run is not proved: make build proves it (minutes the first ti
 def crates_of_program():
     """How many crates the program is made of, with its own."""
     with open(os.path.join(ROOT, "crates.txt"), encoding="utf-8") as it:
-        lines = dict(line.partition(":")[::2] for line in it)
-    return 1 + sum(name.split()[0] in lines["ymodem"].split() for name in lines if name.strip())
+        lines = dict(line.partition(":")[::2] for line in it if line.strip())
+    used = {name.split()[0]: line.split() for name, line in lines.items()}
+    found, left = set(), ["ymodem"]
+    while left:
+        name = left.pop()
+        if name in used and name not in found:
+            found.add(name)
+            left += used[name]
+    return len(found)
 
 
 def has(text, *wanted):

@@ -44,8 +44,11 @@ def crates():
 
 def of_program():
     """The names of the program's crates, lowest first."""
-    found = crates()
-    return [name for name in found if name in (*found["ymodem"], "ymodem")]
+    found, used = crates(), {"ymodem"}
+    for name in reversed(found):
+        if name in used:
+            used.update(found[name])
+    return [name for name in found if name in used]
 
 
 class Shown:

@@ -1,27 +1,11 @@
 -- Sessions and commands at a desk.
-use Rattle.std.proofs.Common.{◌≡◌, ◌≢◌, ◌≤◌, ◌⊎◌, ◌+◌, ◌∙◌, inl, inr, sym, subst, ℕ, List, [], Option, Some, Result}
-use Rattle.ym_line.specs.declared.delivery.Handed.{Handed}
-use Rattle.ym_play.specs.SessionOver.{SessionEnds, HasFailed, IsReadWithin}
+use Rattle.std.proofs.Common.{◌≡◌, ◌≢◌, ◌⊎◌, ◌∙◌, inl, inr, sym, subst, ℕ, List, [], Some, Result}
 use Rattle.ym_play.proofs.SessionLemmas.{known_ends}
-use Rattle.ym_play.specs.declared.limits.TheConstants.{MOST_SCRIPT_BYTES}
 use Rattle.ym_words.specs.Job.{Play}
-use Rattle.ymodem.specs.Program.{Desk, scene_of, IsSession, IsPlayed, Answers, OnlyTells, Does}
-use Rattle.ymodem.specs.declared.command_fault.CommandFault.{CommandFault}
-use Rattle.ymodem.specs.declared.command_fault.CommandFault.TheVariants as fault
-
--- over a carrier that has not failed
-pub session_of : (told new_told : Option (List Handed)) (before after : ℕ) (old new : Desk) (status : ℕ) → before ≡ 0
-    → SessionEnds old.text (scene_of old told before) status (scene_of new new_told after)
-    → (status ≡ 3 → HasFailed old.text (scene_of old told before) (scene_of new new_told after))
-    → IsReadWithin (MOST_SCRIPT_BYTES + 1) old.text new.text → status ≤ 3 → IsSession told old status new
-session_of told new_told before after old new status e ends failed within small = record {
-  new_told = new_told;
-  carries_failed = after;
-  ends = rw e at ends;
-  failed = rw e at failed;
-  within = within;
-  small = small;
-}
+use Rattle.ym_jobs.specs.Desk.{Desk, scene_of, IsSession}
+use Rattle.ym_jobs.specs.declared.command_fault.CommandFault.{CommandFault}
+use Rattle.ym_jobs.specs.declared.command_fault.CommandFault.TheVariants as fault
+use Rattle.ymodem.specs.Program.{IsPlayed, Answers, OnlyTells, Does}
 
 -- a session in memory that was played to its end
 pub played : (status : ℕ) (text before wrong : List ℕ) (old new : Desk) → IsSession (Some []) old status new → old.text ≡ Some text

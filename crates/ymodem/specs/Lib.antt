@@ -1,7 +1,4 @@
-pub mod Keeping
-pub mod Lines
-pub mod Page
 pub mod Program
-pub mod Receiving
-pub mod Sending
-pub mod Status
+pub use Rattle.clap.specs.Words
+pub use Rattle.ym_words.specs.Command
+pub use Rattle.ym_words.specs.Job

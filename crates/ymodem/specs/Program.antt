@@ -1,23 +1,26 @@
 -- What the program does for its words.
-use Rattle.std.specs.Prelude.{◌≡◌, ◌≤◌, ◌⊎◌, ◌+◌, ℕ, Bool, true, false, List, [], Option, Some, None, Result, Ok, Err}
+use Rattle.std.specs.Prelude.{◌≡◌, ◌⊎◌, ℕ, Bool, true, false, List, [], Option, Some, Result, Ok, Err}
 use Rattle.clap.specs.Words.{Text, Kinds, IsAmong, takes, subcommand_of}
 use Rattle.clap.specs.declared.error.kind.ErrorKind.TheVariants.{DisplayVersion}
 use Rattle.ym_file.specs.declared.plan.Shape.{Shape}
 use Rattle.ym_file.specs.declared.plan.Shape.TheVariants.{Mixed, Short}
 use Rattle.ym_machine.specs.declared.confirm.Confirm.{Confirm}
 use Rattle.ym_machine.specs.declared.confirm.Confirm.TheVariants.{Twice, Once}
+use Rattle.ym_host.specs.declared.dir_sink.Durability.{Durability}
+use Rattle.ym_host.specs.declared.dir_sink.Durability.TheVariants.{Disk, System}
+use Rattle.ym_host.specs.declared.dir_sink.Leftover.{Leftover}
+use Rattle.ym_host.specs.declared.dir_sink.Leftover.TheVariants.{Refused, Discarded}
 use Rattle.ym_line.specs.declared.delivery.Handed.{Handed}
 use Rattle.ym_play.specs.Session.{SessionGives}
-use Rattle.ym_play.specs.SessionOver.{Scene, SessionEnds, HasFailed, IsReadWithin}
-use Rattle.ym_play.specs.declared.limits.TheConstants.{MOST_SCRIPT_BYTES}
 use Rattle.ym_words.specs.Command.{the_app}
 use Rattle.ym_words.specs.Job.{Asked, asked}
 use Rattle.ym_words.specs.Job as job
-use Rattle.ymodem.specs.Page.{Page, TellsFault}
-use Rattle.ymodem.specs.Keeping.{ReceivesSo}
-use Rattle.ymodem.specs.Sending.{SendGives}
-use Rattle.ymodem.specs.Status.{IsHostFault}
-use Rattle.ymodem.specs.declared.command_fault.CommandFault.{CommandFault}
+use Rattle.ym_jobs.specs.Desk.{Desk, IsSession}
+use Rattle.ym_jobs.specs.Keeping.{ReceivesSo}
+use Rattle.ym_jobs.specs.Looped.{LoopGives}
+use Rattle.ym_jobs.specs.Page.{TellsFault}
+use Rattle.ym_jobs.specs.Sending.{SendGives}
+use Rattle.ym_jobs.specs.declared.command_fault.CommandFault.{CommandFault}
 
 -- the command line takes these words, and they ask for this job, or for none
 abbrev pub AsksFor : List Text → Option Asked → Type 0
@@ -27,41 +30,6 @@ AsksFor words job = (takes the_app words ≡ true) × (asked (subcommand_of the_
 abbrev pub IsPlayed : List ℕ → List ℕ → List ℕ → ℕ → Option (List ℕ) → Option (List ℕ) → Type 0
 IsPlayed text before wrong status out err =
     (handed : Option (List Handed)) × (failures : ℕ) × SessionGives text before wrong (Some []) 0 status out err handed failures
-
--- what a command reads from and writes to: the bytes that reads will give, where they are known, how often they failed, and both outputs
-pub record Desk : Type 0 where
-  pub text : Option (List ℕ)
-  pub reads_failed : ℕ
-  pub out : Page
-  pub err : Page
-
--- the same beside a carrier
-abbrev pub scene_of : Desk → Option (List Handed) → ℕ → Scene
-scene_of desk told carries_failed = record {
-  out = desk.out.holds;
-  err = desk.err.holds;
-  told = told;
-  reads_failed = desk.reads_failed;
-  out_failed = desk.out.failed;
-  err_failed = desk.err.failed;
-  carries_failed = carries_failed;
-}
-
--- a session of the script on the desk, over a carrier that tells this and has not failed
-pub record IsSession (told : Option (List Handed)) (old : Desk) (status : ℕ) (new : Desk) : Type 0 where
-  pub new_told : Option (List Handed)
-  pub carries_failed : ℕ
-  pub ends : SessionEnds old.text (scene_of old told 0) status (scene_of new new_told carries_failed)
-  pub failed : status ≡ 3 → HasFailed old.text (scene_of old told 0) (scene_of new new_told carries_failed)
-  pub within : IsReadWithin (MOST_SCRIPT_BYTES + 1) old.text new.text
-  pub small : status ≤ 3
-
--- no connection was made, and nothing was read or printed
-pub record IsNotLooped (old : Desk) (answer : Result ℕ CommandFault) (new : Desk) : Type 0 where
-  pub why : CommandFault
-  pub refused : IsHostFault why
-  pub answer_is : answer ≡ Err why
-  pub same : new ≡ old
 
 -- no byte of the script was read, and nothing was written to err
 pub record OnlyPrints (old new : Desk) : Type 0 where
@@ -77,13 +45,18 @@ abbrev pub confirm_of : Bool → Confirm
 confirm_of true = Once
 confirm_of false = Twice
 
+abbrev pub durability_of : Bool → Durability
+durability_of true = System
+durability_of false = Disk
+
+abbrev pub leftover_of : Bool → Leftover
+leftover_of true = Discarded
+leftover_of false = Refused
+
 -- no byte of the script was read
 pub record ReadsNothing (old new : Desk) : Type 0 where
   pub text : new.text ≡ old.text
   pub reads : new.reads_failed ≡ old.reads_failed
-
-abbrev pub LoopGives : Desk → Result ℕ CommandFault → Desk → Type 0
-LoopGives old answer new = IsNotLooped old answer new ⊎ ((status : ℕ) × (answer ≡ Ok status) × IsSession None old status new)
 
 -- What a job answers, and what it leaves: a status, or a fault that is still to be told. A session tells its own.
 abbrev pub JobGives : Asked → Desk → Result ℕ CommandFault → Desk → Type 0

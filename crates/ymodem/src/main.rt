@@ -2,16 +2,7 @@
 //! over a connection.
 #![tactic(auto)]
 
-mod command_fault;
-mod connections;
-mod keeping;
-mod lines;
-mod looped;
 mod program;
-mod receiving;
-mod sending;
-mod store;
-mod telling;
 
 use program::command;
 use std::io::{ErrorKind, IsTerminal};

@@ -4,14 +4,9 @@ ghost use Rattle.std.specs.Prelude.{◌≡◌, ◌≢◌, ◌≤◌, ◌⊎◌, 
 ghost use Rattle.clap.specs.Words.{fault_of};
 ghost use Rattle.ym_words.specs.Command.{the_app};
 ghost use Rattle.ym_words.specs.Job.{Asked, Play, asked_of};
-ghost use Rattle.ymodem.specs.Page.{TellsFault};
-ghost use Rattle.ymodem.specs.Program.{AsksFor, IsPlayed, JobGives, shape_of, OnlyTells, Does, IsNoJob};
+ghost use Rattle.ym_jobs.specs.Page.{TellsFault};
+ghost use Rattle.ymodem.specs.Program.{AsksFor, IsPlayed, JobGives, shape_of, confirm_of, durability_of, leftover_of, OnlyTells, Does, IsNoJob};
 
-use crate::command_fault::CommandFault;
-use crate::keeping::receive_as_asked;
-use crate::looped::looped_session;
-use crate::receiving::Order;
-use crate::sending::send;
 use clap::error::ErrorKind;
 use std::alloc::Global;
 use std::fmt::Display;
@@ -20,10 +15,13 @@ use std::io::Write;
 use std::net::{Net, TcpListener, TcpStream};
 use std::time::Clock;
 use ym_file::Shape;
+use ym_host::{Durability, Leftover};
+use ym_jobs::{CommandFault, Order, looped_session, receive_as_asked, send};
 use ym_line::Direct;
+use ym_machine::Confirm;
 use ym_play::{Input, Output, StreamFault, session_over};
 use ym_show::Teller;
-use ym_words::{Job, JobFault, TellFlags, job_of};
+use ym_words::{Job, JobFault, ReceiveFlags, TellFlags, job_of};
 
 /// The status after refused words.
 const REFUSED: u8 = 2;
@@ -81,6 +79,58 @@ fn shape_of(is_short: bool) -> Shape
     if is_short { Shape::Short } else { Shape::Mixed }
 }
 
+/// When a receiver acknowledges an EOT, by the flag `--single`.
+fn confirm_of(is_single: bool) -> Confirm
+    ensures { result ≡ confirm_of is_single }
+{
+    if is_single {
+        Confirm::Once
+    } else {
+        Confirm::Twice
+    }
+}
+
+/// When a file counts as stored, by the flag `--no-sync`.
+fn durability_of(is_unforced: bool) -> Durability
+    ensures { result ≡ durability_of is_unforced }
+{
+    if is_unforced {
+        Durability::System
+    } else {
+        Durability::Disk
+    }
+}
+
+/// What becomes of the part of an earlier run, by the flag `--discard-parts`.
+fn leftover_of(discards: bool) -> Leftover
+    ensures { result ≡ leftover_of discards }
+{
+    if discards {
+        Leftover::Discarded
+    } else {
+        Leftover::Refused
+    }
+}
+
+/// What a receiver is asked for, by the flags of `receive`, and where.
+fn order_of(flags: ReceiveFlags, dir: &str) -> Order<'_>
+    ensures confirm { result.confirm ≡ confirm_of flags.single }
+    ensures durability { result.durability ≡ durability_of flags.no_sync }
+    ensures leftover { result.leftover ≡ leftover_of flags.discard_parts }
+    ensures eager { result.eager ≡ flags.eager }
+    ensures keep { result.keep ≡ flags.keep }
+    ensures dir { result.dir.now ≡ dir.now }
+{
+    Order {
+        confirm: confirm_of(flags.single),
+        durability: durability_of(flags.no_sync),
+        leftover: leftover_of(flags.discard_parts),
+        eager: flags.eager,
+        keep: flags.keep,
+        dir,
+    }
+}
+
 /// How much is told, by the flags of a job.
 fn tell_flags(job: &Job<'_>) -> TellFlags {
     match job {
@@ -132,10 +182,7 @@ where
             flags,
             dir,
             ..
-        } => {
-            let order = Order { flags, dir };
-            receive_as_asked(rt, alloc, port, order, out, err, teller)
-        }
+        } => receive_as_asked(rt, alloc, port, order_of(flags, dir), out, err, teller),
     }
 }
 

@@ -1,6 +1,4 @@
-mod ends;
 mod fixtures;
 mod jobs;
 mod memory;
-mod sockets;
 mod words;

@@ -1,14 +1,9 @@
 //! What the commands print.
 
 use super::fixtures::{ends, ran, with_file};
-use crate::command_fault::CommandFault;
-use crate::lines::FileLine;
 use std::net::TcpListener;
 use std::test::Fail;
 use std::{env, fs};
-use ym_header::{Header, HeaderFault, Stamp};
-use ym_line::{ReceiverLine, SenderLine};
-use ym_link::{RecvState, SendState};
 
 const ONE_FILE: &str = "1 > - whole < C whole\n\
     2 > block 0 128 whole < ACK C whole\n\
@@ -163,60 +158,5 @@ fn nobody_listens(rt: HostRuntime) -> Result<(), Fail> {
     let line = format!(in rt.alloc(); "ymodem send --port 1 {name}")?;
     assert!(rt; ends(&rt, line.as_str(), b"", 3, "", "fault: device\n")?);
     fs::remove_file(&rt, &path)?;
-    Ok(())
-}
-
-#[test]
-fn lines_in_words(rt: HostRuntime) -> Result<(), Fail> {
-    for (state, want) in [
-        (SendState::Running, "sender done 3 running"),
-        (SendState::Finished, "sender done 3 finished"),
-        (SendState::NoReply, "sender done 3 no-reply"),
-        (SendState::Cancelled, "sender done 3 cancelled"),
-        (SendState::SourceFailed, "sender done 3 source-failed"),
-    ] {
-        let line = SenderLine { done: 3, state };
-        assert_eq!(rt; format!(in rt.alloc(); "{line}")?.as_str(), want);
-    }
-    for (state, want) in [
-        (RecvState::Running, "receiver files 2 running"),
-        (RecvState::TooManyErrors, "receiver files 2 too-many-errors"),
-        (RecvState::OutOfStep, "receiver files 2 out-of-step"),
-        (
-            RecvState::BadHeader(HeaderFault::NoLength),
-            "receiver files 2 bad-header no-length",
-        ),
-        (RecvState::TooManyFiles, "receiver files 2 too-many-files"),
-        (RecvState::SinkFailed, "receiver files 2 sink-failed"),
-    ] {
-        let line = ReceiverLine { files: 2, state };
-        assert_eq!(rt; format!(in rt.alloc(); "{line}")?.as_str(), want);
-    }
-    for (stamp, want) in [
-        (Stamp::Nothing, "file a b 12 - -"),
-        (Stamp::Time(12), "file a b 12 14 -"),
-        (Stamp::TimeMode(12, 420), "file a b 12 14 644"),
-        (Stamp::TimeMode(0, 0), "file a b 12 0 0"),
-    ] {
-        let header = Header::new(rt.alloc(), "a b", 12, stamp)?;
-        let line = FileLine(&header);
-        assert_eq!(rt; format!(in rt.alloc(); "{line}")?.as_str(), want);
-    }
-    Ok(())
-}
-
-#[test]
-fn fault_lines(rt: HostRuntime) -> Result<(), Fail> {
-    for (fault, line) in [
-        (CommandFault::Port, "fault: port"),
-        (CommandFault::Name, "fault: name"),
-        (CommandFault::Length, "fault: length"),
-        (CommandFault::TooManyFiles, "fault: too many files"),
-        (CommandFault::Closed, "fault: closed"),
-        (CommandFault::Device, "fault: device"),
-        (CommandFault::Memory, "fault: memory"),
-    ] {
-        assert_eq!(rt; format!(in rt.alloc(); "{fault}")?.as_str(), line);
-    }
     Ok(())
 }

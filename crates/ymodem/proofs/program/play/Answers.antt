@@ -1,6 +1,6 @@
 -- A session over a carrier in memory that is new.
 use Rattle.std.proofs.Common.{refl}
-use Rattle.ymodem.proofs.JobLemmas.{session_of}
+use Rattle.ym_jobs.proofs.DeskLemmas.{session_of}
 use Rattle.ymodem.proofs.program.play.Goals as goal
 
 pub returns : goal.returns

@@ -1,0 +1,72 @@
+-- A batch, file by file.
+use Rattle.std.proofs.Common.{◌≡◌, ◌+◌, ◌<◌, ◌∙◌, ◌++◌, ℕ, List, [], ◌∷◌, length, take, slice_index_or, refl, sym, ap, ap₂, arith}
+use Rattle.ym_file.specs.declared.plan.Shape.{Shape}
+use Rattle.std.proofs.Common.{below_more, inl, inr, Result, Ok, Err}
+use Rattle.std.specs.Result.{IsErrAnd}
+use Rattle.std.proofs.lemmas.List.{take_more, map-append, length-map}
+use Rattle.std.proofs.lemmas.List.Elements.{All-nil, All-cons, All-append}
+use Rattle.ym_header.specs.Header.{IsName}
+use Rattle.ym_header.specs.declared.stamp.Stamp.TheVariants.{Nothing}
+use Rattle.ym_link.specs.SourceFile.{FileParts}
+use Rattle.ym_machine.specs.declared.limits.TheConstants.{MOST_FILES}
+use Rattle.ym_jobs.specs.Sending.{last_part, IsBatch, MayRefuse, RefusesFile, SendGives}
+use Rattle.ym_jobs.specs.Page.{Page}
+use Rattle.ym_jobs.specs.Status.{IsHostFault}
+use Rattle.ym_jobs.specs.declared.command_fault.CommandFault.{CommandFault}
+use Rattle.ym_jobs.specs.declared.command_fault.CommandFault.TheVariants as fault
+
+-- the first so many paths were looked at
+pub record LookedAt (count : ℕ) (paths : List (List ℕ)) (files : List FileParts) : Type 0 where
+  pub batch : IsBatch (take count paths) files
+  pub named : (j : ℕ) → j < count → IsName (last_part (slice_index_or paths j []))
+
+abbrev is_plain : FileParts → Type 0
+is_plain file = file.header.stamp ≡ Nothing
+
+pub looked_at_none : (paths : List (List ℕ)) → LookedAt 0 paths []
+looked_at_none paths = record { batch = record { names = refl; stamps = All-nil is_plain }; named = λ j lt. absurd (omega arith) }
+
+-- one more path
+pub looked_at_more : (count : ℕ) (paths : List (List ℕ)) (files : List FileParts) (path : List ℕ) (file : FileParts) → LookedAt count paths files
+    → count < length paths → path ≡ slice_index_or paths count [] → file.header.name ≡ last_part path → file.header.stamp ≡ Nothing → IsName (last_part path)
+    → LookedAt (count + 1) paths (files ++ file ∷ [])
+looked_at_more count paths files path file h within is name stamp fits =
+    let here : slice_index_or paths count [] ≡ path = sym is in
+    let named : IsName (last_part (slice_index_or paths count [])) = rw here fits in
+    record {
+      batch = record {
+        names = rw (take_more paths count [] within) (map-append (λ (f : FileParts). f.header.name) files (file ∷ [])
+            ∙ ap₂ (λ xs ys. xs ++ ys) h.batch.names (ap (λ n. n ∷ []) (name ∙ ap last_part is))
+            ∙ sym (map-append last_part (take count paths) (slice_index_or paths count [] ∷ [])));
+        stamps = All-append is_plain files (file ∷ []) h.batch.stamps (All-cons is_plain file [] stamp (All-nil is_plain));
+      };
+      named = below_more _ _ h.named named;
+    }
+
+-- a path whose file is not sent
+pub refuses : (count : ℕ) (paths : List (List ℕ)) (files : List FileParts) (path : List ℕ) (why : CommandFault) → LookedAt count paths files
+    → count < length paths → path ≡ slice_index_or paths count [] → MayRefuse (last_part path) why → RefusesFile paths why
+refuses count paths files path why h within is refused = record {
+  place = count;
+  within = within;
+  before = h.named;
+  refused = rw is at refused;
+}
+
+-- there are as many files as paths
+pub counted : (paths : List (List ℕ)) (files : List FileParts) → IsBatch paths files → length files ≡ length paths
+counted paths files h =
+    sym (length-map files (λ (f : FileParts). f.header.name)) ∙ ap length h.names ∙ length-map paths last_part
+
+pub too_many : (shape : Shape) (paths : List (List ℕ)) (files : List FileParts) (out : Page) (answer : Result ℕ CommandFault) → IsBatch paths files
+    → IsErrAnd answer (λ why. (why ≡ fault.TooManyFiles) × (MOST_FILES < length files)) → SendGives shape paths out answer out
+too_many shape paths files out (Ok status) h many = absurd many
+too_many shape paths files out (Err why) h many =
+    let same = counted paths files h in
+    inl (record { why = why; refused = inl (inr (many.0, omega (arith, same, many.1))); answer_is = refl; out_stays = refl })
+
+-- nobody answered
+pub unconnected : (shape : Shape) (paths : List (List ℕ)) (out : Page) (answer : Result ℕ CommandFault) → IsErrAnd answer (λ why. IsHostFault why)
+    → SendGives shape paths out answer out
+unconnected shape paths out (Ok status) h = absurd h
+unconnected shape paths out (Err why) h = inl (record { why = why; refused = inr h; answer_is = refl; out_stays = refl })

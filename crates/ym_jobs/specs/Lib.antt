@@ -1,0 +1,10 @@
+pub mod Desk
+pub mod Keeping
+pub mod Lines
+pub mod Looped
+pub mod Page
+pub mod Receiving
+pub mod Sending
+pub mod Status
+pub use Rattle.ym_file.specs.Counts
+pub use Rattle.ym_link.specs.ReceiverInto

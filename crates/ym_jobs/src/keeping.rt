@@ -1,0 +1,114 @@
+//! `receive`, from one connection or, with `--keep`, from one after another.
+
+ghost use Rattle.std.specs.Prelude.{◌≡◌};
+ghost use Rattle.ym_jobs.specs.Keeping.{HoldsSession, KeepsOn, KeepGives, ReceivesSo};
+
+use crate::command_fault::CommandFault;
+use crate::connections::{Connections, listen, take_told};
+use crate::receiving::{Order, look_at, receive, receive_from};
+use std::alloc::Global;
+use std::fs::{File, Files};
+use std::io::Write;
+use std::net::{Net, TcpListener, TcpStream};
+use std::time::Clock;
+use ym_play::{Output, StreamFault};
+use ym_show::Teller;
+
+/// Receives the files of one connection, and prints them and how the receiver has ended. Where that ends in a fault, its line goes to `err`.
+fn hold_session<R, O, F, E>(
+    rt: &R,
+    alloc: Global,
+    stream: TcpStream,
+    order: Order<'_>,
+    out: &mut O,
+    err: &mut F,
+    teller: &mut Teller<E>,
+) -> Result<(), StreamFault>
+where
+    R: Files<File = File> + Clock,
+    O: Output,
+    F: Output,
+    E: Write + Drop,
+    ensures { HoldsSession order.entry.confirm (record { holds = O.contents out.old; failed = O.failures out.old }) (record { holds = F.contents err.old; failed = F.failures err.old }) result (record { holds = O.contents out.new; failed = O.failures out.new }) (record { holds = F.contents err.new; failed = F.failures err.new }) }
+{
+    match receive_from(rt, alloc, stream, order, out, teller) {
+        Ok(_) => Ok(()),
+        Err(fault) => {
+            err.put_line(fault)?;
+            Ok(())
+        }
+    }
+}
+
+/// Receives files from one connection after another, of which none was taken yet, and prints them and how each receiver has ended, also where it ended in a
+/// fault, whose line goes to `err`. It ends where no connection can be taken any more.
+pub fn receive_each<R, C, O, F, E>(
+    rt: &R,
+    alloc: Global,
+    connections: &mut C,
+    order: Order<'_>,
+    out: &mut O,
+    err: &mut F,
+    teller: &mut Teller<E>,
+) -> Result<u8, CommandFault>
+where
+    R: Files<File = File> + Clock,
+    C: Connections,
+    O: Output,
+    F: Output,
+    E: Write + Drop,
+    requires { C.taken connections.old ≡ 0 }
+    ensures { KeepsOn order.entry.confirm (C.taken connections.new) (C.failures connections.old) (C.failures connections.new) (record { holds = O.contents out.old; failed = O.failures out.old }) (record { holds = F.contents err.old; failed = F.failures err.old }) result (record { holds = O.contents out.new; failed = O.failures out.new }) (record { holds = F.contents err.new; failed = F.failures err.new }) }
+{
+    for _session in 0..u64::MAX {
+        let stream = take_told(connections, teller)?;
+        hold_session(rt, alloc, stream, order, out, err, teller)?;
+    }
+    Ok(0)
+}
+
+/// Receives files into a folder from one connection after another to 127.0.0.1 at this port, as [`receive_each`] does.
+fn receive_on<R, O, F, E>(
+    rt: &R,
+    alloc: Global,
+    port: u16,
+    order: Order<'_>,
+    out: &mut O,
+    err: &mut F,
+    teller: &mut Teller<E>,
+) -> Result<u8, CommandFault>
+where
+    R: Files<File = File> + Net<Listener = TcpListener, Stream = TcpStream> + Clock,
+    O: Output,
+    F: Output,
+    E: Write + Drop,
+    ensures { KeepGives order.entry.confirm (record { holds = O.contents out.old; failed = O.failures out.old }) (record { holds = F.contents err.old; failed = F.failures err.old }) result (record { holds = O.contents out.new; failed = O.failures out.new }) (record { holds = F.contents err.new; failed = F.failures err.new }) }
+{
+    look_at(rt, alloc, order.dir, teller)?;
+    let mut connections = listen(rt, port, teller)?;
+    receive_each(rt, alloc, &mut connections, order, out, err, teller)
+}
+
+/// Receives as it is asked for: from one connection, or from one after another.
+pub fn receive_as_asked<R, O, F, E>(
+    rt: &R,
+    alloc: Global,
+    port: u16,
+    order: Order<'_>,
+    out: &mut O,
+    err: &mut F,
+    teller: &mut Teller<E>,
+) -> Result<u8, CommandFault>
+where
+    R: Files<File = File> + Net<Listener = TcpListener, Stream = TcpStream> + Clock,
+    O: Output,
+    F: Output,
+    E: Write + Drop,
+    ensures { ReceivesSo order.entry.keep order.entry.confirm (record { holds = O.contents out.old; failed = O.failures out.old }) (record { holds = F.contents err.old; failed = F.failures err.old }) result (record { holds = O.contents out.new; failed = O.failures out.new }) (record { holds = F.contents err.new; failed = F.failures err.new }) }
+{
+    if order.keep {
+        receive_on(rt, alloc, port, order, out, err, teller)
+    } else {
+        receive(rt, alloc, port, order, out, teller)
+    }
+}

@@ -1,0 +1,23 @@
+//! What the program does for its words: files sent and received over a connection, and a session over a connection to itself.
+#![tactic(auto)]
+
+mod command_fault;
+mod connections;
+mod keeping;
+mod lines;
+mod looped;
+mod receiving;
+mod sending;
+mod store;
+mod telling;
+
+pub use command_fault::CommandFault;
+pub use connections::Connections;
+pub use keeping::{receive_as_asked, receive_each};
+pub use looped::looped_session;
+pub use receiving::{Order, receive, receive_batch};
+pub use sending::{send, send_batch};
+pub use store::Store;
+
+#[cfg(test)]
+mod tests;

@@ -1,0 +1,243 @@
+//! `receive`: files, from whoever connects first.
+
+ghost use Rattle.std.specs.Prelude.{◌≡◌, ◌≢◌, ◌≤◌, ℕ, Result, OnOk, OnErr, IfOk};
+ghost use Rattle.std.specs.Io.KnownBytes.{Appends};
+ghost use Rattle.ym_file.specs.Counts.{Rose};
+ghost use Rattle.ym_file.specs.Kept.{IsNew};
+ghost use Rattle.ym_file.specs.declared.sink.SinkFault.{SinkFault as Shut};
+ghost use Rattle.ym_host.specs.DirSink.{kept_of};
+ghost use Rattle.ym_link.specs.ReceiverInto.{ReceiverParts};
+ghost use Rattle.ym_link.specs.declared.end_fault.EndFault.{EndFault as Why};
+ghost use Rattle.ym_jobs.specs.Lines.{file_lines, receiver_lines};
+ghost use Rattle.ym_jobs.specs.Page.{Prints};
+ghost use Rattle.ym_jobs.specs.Receiving.{ReceiverRuns, Closes, TellsReceiver, ReceiveGives, SessionGives, receive_gives};
+ghost use Rattle.ym_jobs.specs.Status.{receive_answer};
+
+use crate::command_fault::CommandFault;
+use crate::connections::{listen, take_told};
+use crate::lines::FileLine;
+use crate::store::Store;
+use crate::telling::{tell_end, tell_not_stored};
+use std::alloc::{AllocError, Global};
+use std::cell::Cell;
+use std::fs::{File, Files};
+use std::io;
+use std::io::Write;
+use std::net::{Net, TcpListener, TcpStream};
+use std::time::Clock;
+use ym_file::SinkFault;
+use ym_header::Header;
+use ym_host::{DirSink, Durability, Leftover, SocketPort, StoreFault};
+use ym_line::ReceiverLine;
+use ym_link::{Clearing, Confirm, EndFault, Port, ReceiverInto, RecvState, Role, receive_over};
+use ym_pair::laws::a_receiver_commits_what_it_heard;
+use ym_play::{Output, StreamFault};
+use ym_show::{
+    Eager, EndMessage, FileMessage, Meter, Reason, Replies, StoreWatch, Teller, Watched,
+    WatchedPort, check_folder,
+};
+
+/// How many milliseconds a receiver waits for a frame.
+const REPLY_MS: u32 = 3000;
+
+/// How many milliseconds it waits for more of a frame that has begun.
+const WITHIN_MS: u32 = 1000;
+
+/// Prints a line for each file.
+fn print_files<O: Output>(out: &mut O, headers: &[Header]) -> Result<(), StreamFault>
+    ensures { Prints (record { holds = O.contents out.old; failed = O.failures out.old }) (file_lines headers.now) result (record { holds = O.contents out.new; failed = O.failures out.new }) }
+{
+    for header in headers {
+        out.put_line(FileLine(header))?;
+    }
+    Ok(())
+}
+
+/// Prints a line for each file, and one for the receiver.
+fn print<O: Output>(out: &mut O, headers: &[Header], state: RecvState) -> Result<(), StreamFault>
+    ensures { Prints (record { holds = O.contents out.old; failed = O.failures out.old }) (receiver_lines headers.now state) result (record { holds = O.contents out.new; failed = O.failures out.new }) }
+{
+    print_files(out, headers)?;
+    let files = headers.len();
+    out.put_line(ReceiverLine { files, state })
+}
+
+/// The status of a receiver that no port stopped.
+fn status_of(state: RecvState) -> Result<u8, CommandFault>
+    ensures { result ≡ receive_answer state }
+{
+    match state {
+        RecvState::Finished => Ok(0),
+        RecvState::SinkFailed => Err(CommandFault::Device),
+        _ => Ok(1),
+    }
+}
+
+/// What a receiver's end comes to. Of several faults that of the engine is told, then that of the folder, then that of the output.
+fn answer_of(
+    ended: Result<(), EndFault>,
+    closed: Result<(), SinkFault>,
+    printed: Result<(), StreamFault>,
+    state: RecvState,
+) -> Result<u8, CommandFault>
+    ensures { result ≡ receive_gives ended closed printed state }
+{
+    ended?;
+    closed?;
+    printed?;
+    status_of(state)
+}
+
+/// What a receiver is asked for, and where.
+#[derive(Clone, Copy)]
+pub struct Order<'a> {
+    /// When it acknowledges an EOT.
+    pub confirm: Confirm,
+    /// When a file counts as stored.
+    pub durability: Durability,
+    /// What becomes of the part of an earlier run.
+    pub leftover: Leftover,
+    /// It asks for the first file at once.
+    pub eager: bool,
+    /// It takes one connection after another.
+    pub keep: bool,
+    /// The folder that it stores in.
+    pub dir: &'a str,
+}
+
+/// The sink that is asked for, which stores files in a folder.
+fn open_sink<'a, R: Files<File = File>>(
+    rt: &'a R,
+    alloc: Global,
+    order: Order<'_>,
+) -> Result<DirSink<&'a R>, AllocError>
+    ensures { IfOk result (λ sink. IsNew (kept_of sink)) }
+{
+    DirSink::new(rt, alloc, order.dir, order.durability, order.leftover)
+}
+
+/// Runs a receiver over a port, lets its sink go of what is open, also after a fault, and prints the files that were committed and how the
+/// receiver has ended. The sink comes back, with how the receiver has ended, and its status: 0 where it has finished.
+pub fn receive_batch<P: Port, K: Store + Drop, O: Output>(
+    port: &mut P,
+    mut receiver: ReceiverInto<K>,
+    out: &mut O,
+) -> (K, RecvState, Result<u8, CommandFault>)
+    ensures { (r : ReceiverParts) × (ended : Result Unit Why) × (closed : Result Unit Shut)
+        × ReceiverRuns (P.tells port.old) (P.tells port.new) receiver (P.failures port.old) (P.failures port.new) ended r
+        × Closes r.kept r.failures closed (K.kept result.0) (K.failures result.0)
+        × (result.1 ≡ r.receiver.state)
+        × TellsReceiver ended closed r (record { holds = O.contents out.old; failed = O.failures out.old }) result.2 (record { holds = O.contents out.new; failed = O.failures out.new }) }
+{
+    a_receiver_commits_what_it_heard();
+    let ended = receive_over(port, &mut receiver);
+    let state = receiver.state();
+    let mut sink = receiver.into_sink();
+    let closed = sink.close();
+    let printed = print(out, sink.headers(), state);
+    (sink, state, answer_of(ended, closed, printed, state))
+}
+
+/// Sees that files can be stored in the folder at this path, or tells why not.
+pub(crate) fn look_at<R: Files<File = File>, E: Write + Drop>(
+    rt: &R,
+    alloc: Global,
+    dir: &str,
+    teller: &mut Teller<E>,
+) -> io::Result<()> {
+    let looked = check_folder(rt, alloc, dir);
+    if let Err(error) = &looked {
+        teller.tell(FileMessage::CannotStoreIn(dir, Reason::of(error)));
+    }
+    looked
+}
+
+/// Tells why a receiver has ended, and, where its sink failed, why the last file was not stored.
+fn tell_outcome<E: Write + Drop>(
+    teller: &mut Teller<E>,
+    alloc: Global,
+    state: RecvState,
+    answer: &Result<u8, CommandFault>,
+    last: Option<String>,
+    why: Option<StoreFault>,
+    leftover: Leftover,
+) {
+    let is_running = state == RecvState::Running;
+    tell_end(teller, answer, is_running, EndMessage::of_receiver(state));
+    match last {
+        Some(name) if state == RecvState::SinkFailed => {
+            tell_not_stored(teller, alloc, name.as_str(), why, leftover);
+        }
+        _ => (),
+    }
+}
+
+/// Receives the files of one connection, and prints them and how the receiver has ended. Where somebody looks, how far each file is is shown, and why
+/// one was not stored and why the receiver has ended told.
+pub(crate) fn receive_from<R, O, E>(
+    rt: &R,
+    alloc: Global,
+    stream: TcpStream,
+    order: Order<'_>,
+    out: &mut O,
+    teller: &mut Teller<E>,
+) -> Result<u8, CommandFault>
+where
+    R: Files<File = File> + Clock,
+    O: Output,
+    E: Write + Drop,
+    ensures { SessionGives order.entry.confirm (record { holds = O.contents out.old; failed = O.failures out.old }) result (record { holds = O.contents out.new; failed = O.failures out.new }) }
+{
+    let sink = open_sink(rt, alloc, order)?;
+    let is_counted = teller.is_loud;
+    let replies = Cell::new(0);
+    let besides = match order.confirm {
+        Confirm::Once => 1,
+        Confirm::Twice => 2,
+    };
+    let meter = Meter::new(alloc, rt, teller);
+    let watch = StoreWatch::new(alloc, meter, &replies, besides);
+    let watched = Watched { sink, watch };
+    let receiver = ReceiverInto::with_sink(alloc, watched, order.confirm);
+    let port = SocketPort::new(rt, stream, REPLY_MS - WITHIN_MS, WITHIN_MS);
+    let port = Eager::new(Clearing::new(port, Role::Receiver), order.eager);
+    let watch = Replies {
+        count: &replies,
+        is_counted,
+    };
+    let mut port = WatchedPort { port, watch };
+    let (watched, state, answer) = receive_batch(&mut port, receiver, out);
+    let Watched { sink, watch } = watched;
+    let last = watch.into_last();
+    tell_outcome(
+        teller,
+        alloc,
+        state,
+        &answer,
+        last,
+        sink.first_fault(),
+        order.leftover,
+    );
+    answer
+}
+
+/// Receives files into a folder from whoever connects first to 127.0.0.1 at this port, and prints them and how the receiver has ended.
+pub fn receive<R, O, E>(
+    rt: &R,
+    alloc: Global,
+    port: u16,
+    order: Order<'_>,
+    out: &mut O,
+    teller: &mut Teller<E>,
+) -> Result<u8, CommandFault>
+where
+    R: Files<File = File> + Net<Listener = TcpListener, Stream = TcpStream> + Clock,
+    O: Output,
+    E: Write + Drop,
+    ensures { ReceiveGives order.entry.confirm (record { holds = O.contents out.old; failed = O.failures out.old }) result (record { holds = O.contents out.new; failed = O.failures out.new }) }
+{
+    look_at(rt, alloc, order.dir, teller)?;
+    let mut connections = listen(rt, port, teller)?;
+    let stream = take_told(&mut connections, teller)?;
+    receive_from(rt, alloc, stream, order, out, teller)
+}

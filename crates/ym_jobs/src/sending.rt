@@ -1,0 +1,272 @@
+//! `send`: files, to whoever listens.
+
+ghost use Rattle.std.specs.Prelude.{◌≡◌, ◌<◌, ◌^◌, ℕ, Result, IfOk, IfErr, length, map};
+ghost use Rattle.ym_header.specs.Header.{IsName, IsRefused, length_limit};
+ghost use Rattle.ym_link.specs.declared.end_fault.EndFault.{EndFault as Why};
+ghost use Rattle.ym_core.specs.Standing.{new_standing};
+ghost use Rattle.ym_link.specs.Sender.{counts};
+ghost use Rattle.ym_machine.specs.declared.limits.TheConstants.{MOST_FILES};
+ghost use Rattle.ym_jobs.specs.Sending.{last_part, IsBatch, MayRefuse, RefusesFile, SenderRuns, TellsSender, SendsOn, SendGives, send_gives};
+ghost use Rattle.ym_jobs.specs.Status.{send_answer};
+
+use crate::command_fault::CommandFault;
+use crate::telling::tell_end;
+use std::alloc::Global;
+use std::fs::{File, Files};
+use std::io::Write;
+use std::net::{Ipv4Addr, Net, SocketAddr, TcpStream};
+use std::path::Path;
+use std::time::{Clock, Duration};
+use std::{io, thread};
+use ym_file::{Shape, Source};
+use ym_header::{HeaderFault, Stamp};
+use ym_host::{FileSource, SocketPort};
+use ym_line::SenderLine;
+use ym_link::{
+    BatchFault, Clearing, EndFault, Port, Role, SendState, SenderFrom, SourceFile, send_over,
+};
+use ym_pair::laws::a_sender_was_acknowledged;
+use ym_play::{Output, StreamFault};
+use ym_show::{
+    EndMessage, FileMessage, LineMessage, Meter, Reason, SendWatch, Teller, WatchedPort,
+};
+
+/// How many milliseconds a sender waits for a reply, and for somebody to answer its call.
+const REPLY_MS: u32 = 10_000;
+
+/// How many milliseconds it waits for more of a reply that has begun.
+const WITHIN_MS: u32 = 1000;
+
+/// How often a sender calls again where nobody listens yet, and how many milliseconds it waits before: two seconds in all.
+const CALLS: u32 = 40;
+
+const CALL_MS: u64 = 50;
+
+/// The last part of a path, or nothing where it has none.
+fn last_part(path: &str) -> &str
+    ensures { result.now ≡ last_part path.now }
+{
+    Path::new(path).file_name().unwrap_or("")
+}
+
+/// The source of the file at this path, or why there is none told.
+fn open_source<'a, R: Files<File = File>, E: Write + Drop>(
+    rt: &'a R,
+    alloc: Global,
+    path: &'a str,
+    teller: &mut Teller<E>,
+) -> io::Result<FileSource<'a, &'a R>> {
+    let opened = FileSource::new(rt, alloc, path);
+    if let Err(error) = &opened {
+        teller.tell(FileMessage::CannotOpen(path, Reason::of(error)));
+    }
+    opened
+}
+
+/// The source with the header that it is sent under, or why there is none told.
+fn with_header<S: Source + Drop, E: Write + Drop>(
+    alloc: Global,
+    path: &str,
+    source: S,
+    teller: &mut Teller<E>,
+) -> Result<SourceFile<S>, HeaderFault>
+    ensures ok { IfOk result (λ file. file.header ≡ record { name = last_part path.now; length = S.size source; stamp = Stamp.Nothing }) }
+    ensures within { IfOk result (λ file. IsName (last_part path.now)) }
+    ensures refused { IfErr result (λ fault. IsRefused length_limit (last_part path.now) (S.size source) fault) }
+{
+    let made = SourceFile::from_source(alloc, last_part(path), source, Stamp::Nothing);
+    if let Err(fault) = &made {
+        teller.tell(FileMessage::CannotSend(path, *fault));
+    }
+    made
+}
+
+/// The file at this path, under the last part of the path. No stamp is sent.
+fn open_file<'a, R: Files<File = File>, E: Write + Drop>(
+    rt: &'a R,
+    alloc: Global,
+    path: &'a str,
+    teller: &mut Teller<E>,
+) -> Result<SourceFile<FileSource<'a, &'a R>>, CommandFault>
+    ensures named { IfOk result (λ file. file.header.name ≡ last_part path.entry.now) }
+    ensures stamp { IfOk result (λ file. file.header.stamp ≡ Stamp.Nothing) }
+    ensures within { IfOk result (λ file. IsName (last_part path.entry.now)) }
+    ensures refused { IfErr result (λ why. MayRefuse (last_part path.entry.now) why) }
+{
+    let source = open_source(rt, alloc, path, teller)?;
+    let file = with_header(alloc, path, source, teller)?;
+    Ok(file)
+}
+
+/// The files at these paths, looked at in order, or the first fault.
+fn open_batch<'a, R: Files<File = File>, E: Write + Drop>(
+    rt: &'a R,
+    alloc: Global,
+    paths: &[&'a str],
+    teller: &mut Teller<E>,
+) -> Result<Vec<SourceFile<FileSource<'a, &'a R>>>, CommandFault>
+    ensures batch { IfOk result (λ batch. IsBatch (map (λ path. path.now) paths.now) batch.items) }
+    ensures refused { IfErr result (λ why. RefusesFile (map (λ path. path.now) paths.now) why) }
+{
+    let mut batch = Vec::new(alloc);
+    for path in paths {
+        let file = open_file(rt, alloc, path, teller)?;
+        if batch.push(file).is_err() {
+            return Err(CommandFault::Memory);
+        }
+    }
+    Ok(batch)
+}
+
+/// A sender of these files, of which there may be too many.
+fn sender_of<S: Source + Drop>(
+    batch: Vec<SourceFile<S>>,
+    shape: Shape,
+) -> Result<SenderFrom<S>, CommandFault>
+    ensures new { IfOk result (λ sender. (sender.shape ≡ shape) × (sender.files ≡ batch.items) × (sender.standing ≡ new_standing (counts sender))) }
+    ensures refused { IfErr result (λ why. (why ≡ CommandFault.TooManyFiles) × (MOST_FILES < length batch.items)) }
+{
+    match SenderFrom::new(batch, shape) {
+        Ok(sender) => Ok(sender),
+        Err(BatchFault::TooMany(_)) => Err(CommandFault::TooManyFiles),
+    }
+}
+
+/// A connection to whoever listens at this address now.
+fn connect_once<R: Net<Stream = TcpStream>>(rt: &R, address: SocketAddr) -> io::Result<TcpStream> {
+    let wait = Duration::from_millis(u64::from(REPLY_MS));
+    let stream = TcpStream::connect_timeout(rt, &address, wait)?;
+    // Where nobody listens, the system may by chance connect a socket to itself.
+    if stream.local_addr()? == address {
+        return Err(io::Error::from(io::ErrorKind::ConnectionRefused));
+    }
+    Ok(stream)
+}
+
+/// The same, where nobody listens yet called again for two seconds: who starts both ends at once need not start the receiver first.
+fn connect<R: Net<Stream = TcpStream> + Clock>(rt: &R, port: u16) -> io::Result<TcpStream> {
+    let address = SocketAddr::from((Ipv4Addr::LOCALHOST, port));
+    for _call in 0..CALLS {
+        match connect_once(rt, address) {
+            Err(error) if error.kind() == io::ErrorKind::ConnectionRefused => {
+                thread::sleep(rt, Duration::from_millis(CALL_MS));
+            }
+            done => return done,
+        }
+    }
+    connect_once(rt, address)
+}
+
+/// The same, with what it does and why it failed told.
+fn connect_telling<R: Net<Stream = TcpStream> + Clock, E: Write + Drop>(
+    rt: &R,
+    port: u16,
+    teller: &mut Teller<E>,
+) -> io::Result<TcpStream> {
+    teller.tell(LineMessage::Connecting(port));
+    let connected = connect(rt, port);
+    if let Err(error) = &connected {
+        teller.tell(LineMessage::of_error(port, error));
+    }
+    connected
+}
+
+/// The status of a sender that no port stopped.
+fn status_of(state: SendState) -> Result<u8, CommandFault>
+    ensures { result ≡ send_answer state }
+{
+    match state {
+        SendState::Finished => Ok(0),
+        SendState::Running | SendState::NoReply | SendState::Cancelled => Ok(1),
+        SendState::SourceFailed => Err(CommandFault::Device),
+    }
+}
+
+/// What a sender's end comes to. Of several faults that of the engine is told, and then that of the output.
+fn answer_of(
+    ended: Result<(), EndFault>,
+    printed: Result<(), StreamFault>,
+    state: SendState,
+) -> Result<u8, CommandFault>
+    ensures { result ≡ send_gives ended printed state }
+{
+    ended?;
+    printed?;
+    status_of(state)
+}
+
+/// Prints how a sender has ended, and answers its status.
+fn tell_sender<S: Source, O: Output>(
+    ended: Result<(), EndFault>,
+    sender: &SenderFrom<S>,
+    out: &mut O,
+) -> Result<u8, CommandFault>
+    ensures { TellsSender ended sender.now (record { holds = O.contents out.old; failed = O.failures out.old }) result (record { holds = O.contents out.new; failed = O.failures out.new }) }
+{
+    let done = sender.done();
+    let state = sender.state();
+    let printed = out.put_line(SenderLine { done, state });
+    answer_of(ended, printed, state)
+}
+
+/// Runs a sender over a port, and prints how it has ended. The answer is its status: 0 where it has finished.
+pub fn send_batch<P: Port, S: Source, O: Output>(
+    port: &mut P,
+    sender: &mut SenderFrom<S>,
+    out: &mut O,
+) -> Result<u8, CommandFault>
+    ensures { (ended : Result Unit Why) × SenderRuns (P.tells port.old) (P.tells port.new) sender.old (P.failures port.old) (P.failures port.new) ended sender.new
+        × TellsSender ended sender.new (record { holds = O.contents out.old; failed = O.failures out.old }) result (record { holds = O.contents out.new; failed = O.failures out.new }) }
+{
+    a_sender_was_acknowledged();
+    let ended = send_over(port, sender);
+    tell_sender(ended, sender, out)
+}
+
+/// The same over a port of the program's own. Where somebody looks, how far each file is is shown, and why the sender has ended told.
+fn send_on<P: Port + Drop, S: Source, O: Output, C: Clock, E: Write + Drop>(
+    rt: &C,
+    alloc: Global,
+    port: P,
+    sender: &mut SenderFrom<S>,
+    out: &mut O,
+    teller: &mut Teller<E>,
+) -> Result<u8, CommandFault>
+    ensures { SendsOn sender.old sender.new (record { holds = O.contents out.old; failed = O.failures out.old }) result (record { holds = O.contents out.new; failed = O.failures out.new }) }
+{
+    let mut port = WatchedPort {
+        port,
+        watch: SendWatch::new(Meter::new(alloc, rt, teller)),
+    };
+    let answer = send_batch(&mut port, sender, out);
+    port.watch.end();
+    drop(port);
+    let state = sender.state();
+    let is_running = state == SendState::Running;
+    tell_end(teller, &answer, is_running, EndMessage::of_sender(state));
+    answer
+}
+
+/// Sends the files at these paths, in order, to whoever listens on 127.0.0.1 at this port, and prints how the sender has ended.
+pub fn send<R, O, E>(
+    rt: &R,
+    alloc: Global,
+    port: u16,
+    shape: Shape,
+    paths: &[&str],
+    out: &mut O,
+    teller: &mut Teller<E>,
+) -> Result<u8, CommandFault>
+where
+    R: Files<File = File> + Net<Stream = TcpStream> + Clock,
+    O: Output,
+    E: Write + Drop,
+    ensures { SendGives shape (map (λ path. path.now) paths.now) (record { holds = O.contents out.old; failed = O.failures out.old }) result (record { holds = O.contents out.new; failed = O.failures out.new }) }
+{
+    let batch = open_batch(rt, alloc, paths, teller)?;
+    let mut sender = sender_of(batch, shape)?;
+    let stream = connect_telling(rt, port, teller)?;
+    let port = SocketPort::new(rt, stream, REPLY_MS - WITHIN_MS, WITHIN_MS);
+    let port = Clearing::new(port, Role::Sender);
+    send_on(rt, alloc, port, &mut sender, out, teller)
+}

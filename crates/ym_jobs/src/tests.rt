@@ -1,0 +1,4 @@
+mod ends;
+mod fixtures;
+mod lines;
+mod sockets;
