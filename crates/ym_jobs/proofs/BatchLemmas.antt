@@ -7,7 +7,7 @@ use Rattle.std.proofs.lemmas.List.{take_more, map-append, length-map}
 use Rattle.std.proofs.lemmas.List.Elements.{All-nil, All-cons, All-append}
 use Rattle.ym_header.specs.Header.{IsName}
 use Rattle.ym_header.specs.declared.stamp.Stamp.TheVariants.{Nothing}
-use Rattle.ym_link.specs.SourceFile.{FileParts}
+use Rattle.ym_file.specs.SourceFile.{FileParts}
 use Rattle.ym_machine.specs.declared.limits.TheConstants.{MOST_FILES}
 use Rattle.ym_jobs.specs.Sending.{last_part, IsBatch, MayRefuse, RefusesFile, SendGives}
 use Rattle.ym_jobs.specs.Page.{Page}

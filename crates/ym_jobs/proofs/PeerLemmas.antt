@@ -8,7 +8,7 @@ use Rattle.ym_link.specs.Course.{SenderHears, sender_none, sender_more}
 use Rattle.ym_link.specs.Port.{Tape}
 use Rattle.ym_link.specs.Sender.{SenderParts, Hears, counts}
 use Rattle.ym_link.specs.SendOver.{Outcome, Sends, ended, unwritten, unread, heard}
-use Rattle.ym_link.specs.SourceFile.{blocks_of}
+use Rattle.ym_file.specs.SourceFile.{blocks_of}
 use Rattle.ym_link.proofs.Files.{filled_counts}
 use Rattle.ym_pair.specs.AnyPeer.{AreAcknowledged, files_places}
 use Rattle.ym_link.specs.declared.end_fault.EndFault.{EndFault}

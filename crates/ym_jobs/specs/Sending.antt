@@ -13,7 +13,7 @@ use Rattle.ym_link.specs.Course.{SenderCourse}
 use Rattle.ym_link.specs.Port.{Tape}
 use Rattle.ym_link.specs.Sender.{SenderParts, counts}
 use Rattle.ym_link.specs.SendOver.{Sends}
-use Rattle.ym_link.specs.SourceFile.{FileParts}
+use Rattle.ym_file.specs.SourceFile.{FileParts}
 use Rattle.ym_link.specs.declared.end_fault.EndFault.{EndFault}
 use Rattle.ym_link.specs.declared.end_fault.EndFault.TheVariants as end
 use Rattle.ym_machine.specs.declared.limits.TheConstants.{MOST_FILES}

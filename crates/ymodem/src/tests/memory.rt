@@ -2,8 +2,7 @@
 
 use super::fixtures::with_file;
 use crate::program::command;
-use std::io;
-use std::io::{ErrorKind, Write};
+use std::io::Cursor;
 use std::test::Fail;
 use ym_show::{Look, Teller};
 
@@ -11,39 +10,13 @@ use ym_show::{Look, Teller};
 const WANT: &str = "want of memory";
 
 /// A writer that takes no memory.
-#[derive(Drop)]
-struct Page {
-    bytes: [u8; 512],
-    length: usize,
+fn page() -> Cursor<[u8; 512]> {
+    Cursor::new([0; 512])
 }
 
-impl Page {
-    fn new() -> Self {
-        Page {
-            bytes: [0; 512],
-            length: 0,
-        }
-    }
-
-    fn text(&self) -> &[u8] {
-        self.bytes.get(..self.length).unwrap_or(&[])
-    }
-}
-
-impl Write for Page {
-    fn write(&mut self, buf: &[u8]) -> io::Result<usize> {
-        let Some(room) = self.bytes.get_mut(self.length..) else {
-            return Err(io::Error::from(ErrorKind::WriteZero));
-        };
-        let count = buf.len().min(room.len());
-        room[..count].copy_from_slice(&buf[..count]);
-        self.length = self.length.saturating_add(count);
-        Ok(count)
-    }
-
-    fn flush(&mut self) -> io::Result<()> {
-        Ok(())
-    }
+/// What was written to it.
+fn text(page: &Cursor<[u8; 512]>) -> &[u8] {
+    page.get_ref().get(..page.position() as usize).unwrap_or(&[])
 }
 
 /// Runs these words on this input. It succeeds where they end with this status and this line on standard error; else they have to end in
@@ -55,19 +28,19 @@ fn run(rt: &HostRuntime, words: &[&str], input: &[u8], status: u8, line: &str) -
         list.push(String::from_str(alloc, word)?)?;
     }
     let mut input = input;
-    let mut out = Page::new();
-    let mut err = Page::new();
+    let mut out = page();
+    let mut err = page();
     let look = Look {
         at_err: false,
         columns: 80,
     };
-    let mut teller = Teller::new(Page::new(), look);
+    let mut teller = Teller::new(page(), look);
     let ended = command(rt, alloc, list, &mut input, &mut out, &mut err, &mut teller);
-    if ended == status && err.text() == line.as_bytes() {
+    if ended == status && text(&err) == line.as_bytes() {
         return Ok(());
     }
-    let told = err.text() == b"fault: memory\n".as_slice();
-    if ended != 3 || !out.text().is_empty() || !told {
+    let told = text(&err) == b"fault: memory\n".as_slice();
+    if ended != 3 || !text(&out).is_empty() || !told {
         return Err(Fail::from("another end"));
     }
     Err(Fail::from(WANT))
