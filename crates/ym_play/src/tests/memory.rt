@@ -21,7 +21,9 @@ fn page() -> Cursor<[u8; 512]> {
 
 /// What was written to it.
 fn text(page: &Cursor<[u8; 512]>) -> &[u8] {
-    page.get_ref().get(..page.position() as usize).unwrap_or(&[])
+    page.get_ref()
+        .get(..page.position() as usize)
+        .unwrap_or(&[])
 }
 
 /// Holds whichever one growth is refused: the fault is want of memory and no other.

@@ -16,7 +16,9 @@ fn page() -> Cursor<[u8; 512]> {
 
 /// What was written to it.
 fn text(page: &Cursor<[u8; 512]>) -> &[u8] {
-    page.get_ref().get(..page.position() as usize).unwrap_or(&[])
+    page.get_ref()
+        .get(..page.position() as usize)
+        .unwrap_or(&[])
 }
 
 /// Runs these words on this input. It succeeds where they end with this status and this line on standard error; else they have to end in
