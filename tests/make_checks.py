@@ -40,7 +40,7 @@ def play():
         wants("the build", it.make("build")[0], 0)
         wants("its calls", it.called(), ["run"])
         wants("play where it is built", (*it.make("play"), it.called()), (0, session(), "", []))
-        os.utime(os.path.join(it.top, "crates", "ym_frame", "src", "check.rt"), (2**32 - 1, 2**32 - 1))
+        os.utime(os.path.join(it.top, "crates", "ym_check", "src", "check.rt"), (2**32 - 1, 2**32 - 1))
         status, out, err = it.make("play")
         wants("play behind an edit", (status, out, it.called()), (0, session(), ["try -- play"]))
         has(err, NOT_PROVED)
@@ -60,7 +60,7 @@ def build():
         status, out, err = it.make("build")
         wants("its status and output", (status, out), (0, ""))
         count = crates_of_program()
-        has(err, "proving crate 1 of %d, ym_frame (0:" % count, "proving crate %d of %d, ymodem (" % (count, count), "is proved and built")
+        has(err, "proving crate 1 of %d, ym_check (0:" % count, "proving crate %d of %d, ymodem (" % (count, count), "is proved and built")
         wants("the lines", err.count("\n"), 4)
         it.mark("wrong")
         status, out, err = it.make("build")
@@ -76,7 +76,7 @@ def build_under_terminal():
         it.mark("slow")
         shown = UnderTerminal([*it.words, "build"], cwd=it.top, env=it.environment)
         try:
-            shown.sees(b"\r\x1b[Kproving crate 1 of %d, ym_frame: 40 of 91 functions, 0:" % crates_of_program())
+            shown.sees(b"\r\x1b[Kproving crate 1 of %d, ym_check: 40 of 91 functions, 0:" % crates_of_program())
             shown.type(b"\x03")
             shown.sees(b"interrupted: the next build goes on where this one was")
             shown.ended()
@@ -97,7 +97,7 @@ def check():
         has(first, "run", "try --test")
         wants("the second check", it.make("check")[0], 0)
         wants("its calls", it.called(), ["run"])
-        with open(os.path.join(it.top, "crates", "ym_frame", "src", "check.rt"), "a", encoding="utf-8") as edited:
+        with open(os.path.join(it.top, "crates", "ym_check", "src", "check.rt"), "a", encoding="utf-8") as edited:
             edited.write("// edited\n")
         wants("a check behind an edit", it.make("check")[0], 0)
         wants("its calls", it.called(), ["run", "try --test"])

@@ -15,9 +15,9 @@ echo "$*" >> "$CALLED/called"
 case $1 in
 run)
     echo "logic: read"
-    echo "rt: chose --jobs 4 for ym_frame"
+    echo "rt: chose --jobs 4 for ym_check"
     echo "so far: 40 of 91 functions checked"
-    echo "fn ym_frame::check16: proved"
+    echo "fn ym_check::check16: proved"
     [ ! -e "$CALLED/slow" ] || { echo $$ > "$CALLED/process"; exec sleep 1000; }
     [ ! -e "$CALLED/wrong" ] || { echo "src/check.rt:1:1: error: not so"; exit 1; }
     echo "rt: chose --jobs 4 for ymodem"
