@@ -1,6 +1,7 @@
 # make play              plays the example session: by the program where it is built, else by a build without proofs (about a minute)
 # make build             proves and builds the program
 # make check             while you write: proves what changed, and tries the tests of the crates that changed since the last green run
+# make layout            whether each source is laid out as `rt fmt` does it, which the gate wants: a second
 # make test              everything that is checked before a change lands: the program on sockets and files, what is shipped beside it,
 #                        want of memory, and then the gate, whose last line is 'N passed, M failed'
 # make memory            each growth of memory refused in turn, alone
@@ -14,7 +15,7 @@
 PREFIX ?= /usr/local
 PROGRAM = crates/ymodem/out/ymodem
 
-.PHONY: play build check test replay memory interop install deb dist charts bench clean
+.PHONY: play build check layout test replay memory interop install deb dist charts bench clean
 
 play:
 	@tools/prove.py play
@@ -23,10 +24,16 @@ play:
 build:
 	@tools/prove.py
 
-check:
+check: layout
 	@tools/prove.py check
 
-test: build replay
+layout:
+	@# the toolchain's `rattle` lies beside its `rt`, which alone has to be on the path
+	@find crates \( -name out -o -name must-fail \) -prune -o \( -name '*.rt' -o -name '*.antt' \) -print0 \
+	    | xargs -0 "$$(dirname "$$(readlink -f "$$(command -v rt)")")/rattle" fmt --check \
+	    || { echo "run rt fmt in the folder of its crate" >&2; exit 1; }
+
+test: layout build replay
 	tests/transfer.py
 	tests/shipped.py
 	tests/memory.py

@@ -3,11 +3,13 @@
 
 Times are the best of three, from the moment at which the receiver has made NAME.part to the one at which NAME is there, since a receiver
 calls only after it has waited three seconds. They are to be read as ratios to bench/pingpong.c, a stop and wait with nothing else in it
-that is run in turns with the program: with its check byte by byte, with slicing by eight, and with no check, which is the floor. Where `sb`
-and `rb` of lrzsz are installed, they send the same file to each other over two pipes, from the moment at which `rb` has made the file to
-the one at which it has all its bytes; about a second of that is waits of their own. Instructions (callgrind) and system calls (strace) are
-differences between two sizes, so that what does not grow with the file is left out. As many files as the protocol allows, each empty, go
-where 64 descriptors are allowed at either end: time, peak memory and descriptors. Figures, not promises.
+that is run in turns with the program: with its check byte by byte, with slicing by eight, and with no check, which is the floor. It leaves
+the file to the system, so the program is timed with `--no-sync`, which does, and beside that as it is, where the file is on the disk
+before its last EOT is acknowledged and the time of the disk counts. What one left for the disk is written before the next begins. Where
+`sb` and `rb` of lrzsz are installed, they send the same file to each other over two pipes, from the moment at which `rb` has made the file
+to the one at which it has all its bytes; about a second of that is waits of their own. Instructions (callgrind) and system calls (strace)
+are differences between two sizes, so that what does not grow with the file is left out. As many files as the protocol allows, each empty,
+go where 64 descriptors are allowed at either end: time, peak memory and descriptors. Figures, not promises.
 
 usage: bench/sockets.py [PROGRAM]     (default: the environment variable YMODEM, else crates/ymodem/out/ymodem)
 """
@@ -31,6 +33,7 @@ PROGRAM = sys.argv[1] if len(sys.argv) > 1 else DEFAULT
 MIB = 1 << 20
 BLOCKS_PER_MIB = 1024
 SIZES = (1, 16, 64)
+PROGRAMS = {"--no-sync": ["--no-sync"], "to the disk": []}
 CHECKS = {"bytes": "C, by bytes", "slices": "C, by slices", "none": "C, no check"}
 TURNS = 3
 PORTS = iter(random.Random(os.getpid()).sample(range(20000, 32000), 500))
@@ -84,12 +87,12 @@ def peak_of(pid, found):
         pass
 
 
-def transfer(path, folder, send_tool=(), receive_tool=()):
+def transfer(path, folder, send_tool=(), receive_tool=(), flags=()):
     """Sends a file. Gives the seconds from NAME.part to NAME, both peaks in KiB, and what both ends wrote to standard error."""
     port = next(PORTS)
     watch = Folder(folder)
     how = {"stdout": subprocess.PIPE, "stderr": subprocess.PIPE}
-    receiver = subprocess.Popen([*receive_tool, PROGRAM, "receive", "--port", str(port), folder], **how)
+    receiver = subprocess.Popen([*receive_tool, PROGRAM, "receive", "--port", str(port), *flags, folder], **how)
     while not listens(port):
         if receiver.poll() is not None:
             sys.exit("receive said: " + receiver.stderr.read().decode())
@@ -149,11 +152,16 @@ def lrzsz(path, folder):
 
 def turn(path, there, pingpong):
     """One turn of everything: the seconds of each by name, and the peaks of the program's ends."""
-    seconds, peaks, _ = transfer(path, there)
-    took = {"program": seconds}
+    took, peaks = {}, []
+    for name, flags in PROGRAMS.items():
+        os.sync()
+        seconds, peaks, _ = transfer(path, there, flags=flags)
+        took[name] = seconds
     if pingpong:
         for word, name in CHECKS.items():
+            os.sync()
             took[name] = float(subprocess.check_output([pingpong, word, path, os.path.join(there, "other")]))
+    os.sync()
     other = lrzsz(path, there)
     if other is not None:
         took["sb to rb"] = other
@@ -166,10 +174,12 @@ def times(here, there, pingpong):
         turns = [turn(path, there, pingpong) for _ in range(TURNS)]
         best = {name: min(took[name] for took, _ in turns if name in took) for took, _ in turns for name in took}
         peak = ["%.1f MiB" % (max(it) / 1024) for it in zip(*(peaks for _, peaks in turns))]
-        print("%d MiB: send to receive %.4f s/MiB; peak of send %s, of receive %s" % (mib, best["program"] / mib, *peak))
+        told = ", ".join("%.4f s/MiB %s" % (best[name] / mib, name) for name in PROGRAMS)
+        print("%d MiB: send to receive %s; peak of send %s, of receive %s" % (mib, told, *peak))
         for name, seconds in best.items():
-            if name != "program":
-                print("    %-12s %.4f s/MiB, ratio of the program to it %.2f" % (name, seconds / mib, best["program"] / seconds))
+            if name not in PROGRAMS:
+                ratios = ", ".join("%.2f %s" % (best[it] / seconds, it) for it in PROGRAMS)
+                print("    %-12s %.4f s/MiB, ratio of the program to it %s" % (name, seconds / mib, ratios))
         if not pingpong:
             print("    no cc: not compared")
 

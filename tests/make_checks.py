@@ -103,10 +103,23 @@ def check():
         wants("its calls", it.called(), ["run", "try --test"])
 
 
+def layout():
+    """What the gate would refuse for its layout is told before anything is proved."""
+    with tree() as it:
+        wants("make layout", it.make("layout"), (0, "", ""))
+        it.mark("loose")
+        for goal in "layout", "check":
+            status, out, err = it.make(goal)
+            wants("its status", status, 2)
+            has(err, " is not in the layout", "run rt fmt in the folder of its crate")
+        wants("calls of rt", it.called(), [])
+
+
 CHECKS = [
     ("make play, before and after a build", play),
     ("make play of a tree that is wrong", play_that_fails),
     ("make build shows which crate it proves", build),
     ("make build under a terminal, and interrupted", build_under_terminal),
     ("make check tries what changed", check),
+    ("make layout of sources that are not laid out", layout),
 ]

@@ -36,8 +36,14 @@ esac
 """
 
 
+# The one for `rattle`, which lies beside `rt`. Where the file `loose` is there, a source is not laid out.
+STAND_IN_BESIDE = r"""#!/bin/sh
+[ ! -e "$CALLED/loose" ] || { echo "$3 is not in the layout" >&2; exit 1; }
+"""
+
+
 class Tree:
-    """A fresh copy of the tree, in a folder with a space in its name, with the stand-in on the path."""
+    """A fresh copy of the tree, in a folder with a space in its name, with the stand-ins on the path."""
 
     def __init__(self, top):
         self.top, self.calls = os.path.join(top, "a tree"), os.path.join(top, "calls")
@@ -52,9 +58,10 @@ class Tree:
                 shutil.copy2(source, to)
         # What it is a copy of may be one that can only be read.
         subprocess.run(["chmod", "-R", "u+w", self.top], check=True)
-        with open(os.path.join(self.calls, "rt"), "w", encoding="utf-8") as it:
-            it.write(STAND_IN)
-        os.chmod(it.name, 0o755)
+        for name, text in ("rt", STAND_IN), ("rattle", STAND_IN_BESIDE):
+            with open(os.path.join(self.calls, name), "w", encoding="utf-8") as it:
+                it.write(text)
+            os.chmod(it.name, 0o755)
         self.environment = {**os.environ, "PATH": self.calls + ":" + os.environ["PATH"], "CALLED": self.calls, "YMODEM": PROGRAM}
         self.words = ["make", "--no-print-directory"]
         self.how = {}

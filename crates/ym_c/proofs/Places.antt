@@ -13,9 +13,9 @@ use Rattle.ym_frame.specs.declared.control.Reply.{Reply}
 use Rattle.ym_header.specs.Split.{is_zero}
 use Rattle.ym_header.specs.declared.fault.HeaderFault.{HeaderFault}
 use Rattle.ym_header.specs.declared.reading.Zero.{Zero}
-use Rattle.ym_header.specs.declared.reading.Zero.TheVariants.{File, End}
+use Rattle.ym_header.specs.declared.reading.Zero.TheVariants.{File}
 use Rattle.ym_machine.specs.declared.confirm.Confirm.{Confirm}
-use Rattle.ym_machine.specs.declared.confirm.Confirm.TheVariants.{Twice, Once}
+use Rattle.ym_machine.specs.declared.confirm.Confirm.TheVariants.{Twice}
 use Rattle.ym_machine.specs.declared.limits.TheConstants.{GIVE_UP, MOST_FILES}
 use Rattle.ym_core.specs.Receiver.{Receiver, Call, No_call, Begins, Adds, Commits, Step, stays, hears, hears_at, running_hears, zero_heard, next_block, covered_eot}
 use Rattle.ym_core.specs.Hearing.{heard_at, heard_of}
@@ -35,9 +35,8 @@ front : (n m : ℕ) (x : List ℕ) → take (length (take n (take m x))) x ≡ t
 front n m x =
     let p = take n (take m x) in
     let q = drop n (take m x) ++ drop m x in
-    let whole : p ++ q ≡ x =
-    sym (append_assoc p (drop n (take m x)) (drop m x)) ∙ ap (λ t. t ++ drop m x) (take-append-drop n (take m x)) ∙ take-append-drop m x in
-    ap (take (length p)) (sym whole) ∙ take_at p q (length p) refl
+    let whole : p ++ q ≡ x = rw (← append_assoc p (drop n (take m x)) (drop m x), take-append-drop n (take m x)) (take-append-drop m x) in
+    rw whole at (take_at {A = ℕ} p q (length p) refl)
 
 -- a call's name or bytes stand behind the first three bytes
 abbrev Behind : Call → List ℕ → Type 0
@@ -64,98 +63,47 @@ stays_no r reply held = either (nat_lt (r.count + 1) GIVE_UP) _ _ held (λ e. tt
 zero_behind : (r : Receiver) (zero : Result Zero HeaderFault) (held : List ℕ) (b : BlockParts) → Found held b → StandsFor b.body zero → Behind (zero_heard r zero).call held
 zero_behind r (Ok (File header)) held b f reads =
     either (nat_lt r.files MOST_FILES) _ _ held (λ e. front_of held b (position_or_len is_zero b.body) header.name f reads.name) tt
-zero_behind r (Ok End) held b f reads = tt
-zero_behind r (Err fault) held b f reads = tt
+zero_behind r zero held b f reads = tt
 
 next_behind : (r : Receiver) (file : OpenFile) (held : List ℕ) (b : BlockParts) → Found held b → Behind (next_block r file b.body).call held
 next_behind r file held b f =
     either (nat_lt file.taken file.length) _ _ held (λ e. front_of held b (file.length - file.taken) (take (file.length - file.taken) b.body) f refl) (stays_no _ _ held)
 
-repeat_behind : (first : Bool) (r : Receiver) (one other : Reply) (held : List ℕ) → Behind (cond first (stays r one) (stays r other)).call held
-repeat_behind true r one other held = stays_no r one held
-repeat_behind false r one other held = stays_no r other held
-
-block_in : (stage : Stage) (r : Receiver) (zero : Result Zero HeaderFault) (held : List ℕ) (b : BlockParts) → Found held b → (stage ≡ AwaitHeader → b.number ≡ 0 → StandsFor b.body zero) →
-    Behind (running_hears r stage zero (heard.Item (item.Block b))).call held
-block_in AwaitHeader r zero held b f means =
-    either (b.number == 0) _ _ held (λ e. zero_behind r zero held b f (means refl (eqb-true b.number 0 e))) tt
-block_in (InFile file) r zero held b f means =
-    either (b.number == (file.blocks + 1) % 256) _ _ held (λ e. next_behind r file held b f)
-    (either (b.number == file.blocks % 256) _ _ held (λ e. repeat_behind (file.blocks == 0) r _ _ held) tt)
-
-block_at : (s : RecvState) (r : Receiver) (zero : Result Zero HeaderFault) (held : List ℕ) (b : BlockParts) → Found held b → (s ≡ state.Running → r.stage ≡ AwaitHeader → b.number ≡ 0 → StandsFor b.body zero) →
-    Behind (hears_at s r zero (heard.Item (item.Block b))).call held
-block_at state.Running r zero held b f means = block_in r.stage r zero held b f (means refl)
-block_at state.Finished r zero held b f means = tt
-block_at state.TooManyErrors r zero held b f means = tt
-block_at state.Cancelled r zero held b f means = tt
-block_at state.OutOfStep r zero held b f means = tt
-block_at (state.BadHeader fault) r zero held b f means = tt
-block_at state.TooManyFiles r zero held b f means = tt
-block_at state.SinkFailed r zero held b f means = tt
-
 -- ---- Anything else asks for no bytes
 
 covered_no : (confirm : Confirm) (first : Bool) (r : Receiver) (file : OpenFile) (held : List ℕ) → Behind (covered_eot r confirm file first).call held
 covered_no Twice false r file held = tt
-covered_no Twice true r file held = tt
-covered_no Once first r file held = tt
+covered_no confirm first r file held = tt
 
-eot_in : (stage : Stage) (r : Receiver) (zero : Result Zero HeaderFault) (held : List ℕ) → Behind (running_hears r stage zero (heard.Item item.Eot)).call held
-eot_in AwaitHeader r zero held = repeat_behind (nat_lt 0 r.files) r _ _ held
-eot_in (InFile file) r zero held = either (nat_lt file.taken file.length) _ _ held (λ e. stays_no r _ held) (covered_no r.confirm file.first_eot r file held)
-
-eot_at : (s : RecvState) (r : Receiver) (zero : Result Zero HeaderFault) (held : List ℕ) → Behind (hears_at s r zero (heard.Item item.Eot)).call held
-eot_at state.Running r zero held = eot_in r.stage r zero held
-eot_at state.Finished r zero held = tt
-eot_at state.TooManyErrors r zero held = tt
-eot_at state.Cancelled r zero held = tt
-eot_at state.OutOfStep r zero held = tt
-eot_at (state.BadHeader fault) r zero held = tt
-eot_at state.TooManyFiles r zero held = tt
-eot_at state.SinkFailed r zero held = tt
-
-cancel_in : (stage : Stage) (r : Receiver) (zero : Result Zero HeaderFault) (held : List ℕ) → Behind (running_hears r stage zero (heard.Item item.Cancel)).call held
-cancel_in AwaitHeader r zero held = tt
-cancel_in (InFile file) r zero held = tt
-
-cancel_at : (s : RecvState) (r : Receiver) (zero : Result Zero HeaderFault) (held : List ℕ) → Behind (hears_at s r zero (heard.Item item.Cancel)).call held
-cancel_at state.Running r zero held = cancel_in r.stage r zero held
-cancel_at state.Finished r zero held = tt
-cancel_at state.TooManyErrors r zero held = tt
-cancel_at state.Cancelled r zero held = tt
-cancel_at state.OutOfStep r zero held = tt
-cancel_at (state.BadHeader fault) r zero held = tt
-cancel_at state.TooManyFiles r zero held = tt
-cancel_at state.SinkFailed r zero held = tt
-
-bad_in : (stage : Stage) (r : Receiver) (zero : Result Zero HeaderFault) (held : List ℕ) → Behind (running_hears r stage zero heard.Bad).call held
-bad_in AwaitHeader r zero held = stays_no r _ held
-bad_in (InFile file) r zero held = repeat_behind (file.blocks == 0) r _ _ held
-
-bad_at : (s : RecvState) (r : Receiver) (zero : Result Zero HeaderFault) (held : List ℕ) → Behind (hears_at s r zero heard.Bad).call held
-bad_at state.Running r zero held = bad_in r.stage r zero held
-bad_at state.Finished r zero held = tt
-bad_at state.TooManyErrors r zero held = tt
-bad_at state.Cancelled r zero held = tt
-bad_at state.OutOfStep r zero held = tt
-bad_at (state.BadHeader fault) r zero held = tt
-bad_at state.TooManyFiles r zero held = tt
-bad_at state.SinkFailed r zero held = tt
+twice_no : (t : Bool) (r : Receiver) (one other : Reply) (held : List ℕ) → Behind (cond t (stays r one) (stays r other)).call held
+twice_no t r one other held = either t _ _ held (λ e. stays_no r one held) (stays_no r other held)
 
 -- ---- All of it
 
-by_verdict : (r : Receiver) (zero : Result Zero HeaderFault) (held : List ℕ) (v : Result (Item × ℕ) Broken) → verdict_of held ≡ v → Means r (heard_at v) zero → Behind (hears r zero (heard_at v)).call held
-by_verdict r zero held (Ok (item.Block b, len)) e means = block_at r.state r zero held b (found_at held b len e) (λ runs awaits none. means b runs awaits refl none)
-by_verdict r zero held (Ok (item.Eot, len)) e means = eot_at r.state r zero held
-by_verdict r zero held (Ok (item.Cancel, len)) e means = cancel_at r.state r zero held
-by_verdict r zero held (Err broken) e means = bad_at r.state r zero held
+running : (stage : Stage) (r : Receiver) (zero : Result Zero HeaderFault) (held : List ℕ) (v : Result (Item × ℕ) Broken) → verdict_of held ≡ v
+    → ((b : BlockParts) → stage ≡ AwaitHeader → heard_at v ≡ heard.Item (item.Block b) → b.number ≡ 0 → StandsFor b.body zero) → Behind (running_hears r stage zero (heard_at v)).call held
+running AwaitHeader r zero held (Ok (item.Block b, len)) e means =
+    either (b.number == 0) _ _ held (λ w. zero_behind r zero held b (found_at held b len e) (means b refl refl (eqb-true b.number 0 w))) tt
+running (InFile file) r zero held (Ok (item.Block b, len)) e means =
+    either (b.number == (file.blocks + 1) % 256) _ _ held (λ w. next_behind r file held b (found_at held b len e))
+    (either (b.number == file.blocks % 256) _ _ held (λ w. twice_no (file.blocks == 0) r _ _ held) tt)
+running AwaitHeader r zero held (Ok (item.Eot, len)) e means = twice_no (nat_lt 0 r.files) r _ _ held
+running (InFile file) r zero held (Ok (item.Eot, len)) e means =
+    either (nat_lt file.taken file.length) _ _ held (λ w. stays_no r _ held) (covered_no r.confirm file.first_eot r file held)
+running AwaitHeader r zero held (Err broken) e means = stays_no r _ held
+running (InFile file) r zero held (Err broken) e means = twice_no (file.blocks == 0) r _ _ held
+running stage r zero held v e means = tt
+
+by_state : (s : RecvState) (r : Receiver) (zero : Result Zero HeaderFault) (held : List ℕ)
+    → ((b : BlockParts) → s ≡ state.Running → r.stage ≡ AwaitHeader → heard_of held ≡ heard.Item (item.Block b) → b.number ≡ 0 → StandsFor b.body zero)
+    → Behind (hears_at s r zero (heard_of held)).call held
+by_state state.Running r zero held means = running r.stage r zero held (verdict_of held) refl (λ b. means b refl)
+by_state s r zero held means = tt
 
 told_at : (call : Call) (ask : YmAsk) (held : List ℕ) → ask.at ≡ 3 → IsAsk call ask → Behind call held → IsPlaced call ask held
-told_at No_call ask held at is there = tt
 told_at (Begins header) ask held at is there = ap₂ (λ n a. take n (drop a held)) is.2 at ∙ there
 told_at (Adds bytes) ask held at is there = ap₂ (λ n a. take n (drop a held)) is.1 at ∙ there
-told_at Commits ask held at is there = tt
+told_at call ask held at is there = tt
 
 pub placed : (r : Receiver) (zero : Result Zero HeaderFault) (held : List ℕ) (ask : YmAsk) → Means r (heard_of held) zero → ask.at ≡ 3 → IsAsk (hears r zero (heard_of held)).call ask → IsPlaced (hears r zero (heard_of held)).call ask held
-placed r zero held ask means at is = told_at (hears r zero (heard_of held)).call ask held at is (by_verdict r zero held (verdict_of held) refl means)
+placed r zero held ask means at is = told_at (hears r zero (heard_of held)).call ask held at is (by_state r.state r zero held means)

@@ -1,7 +1,7 @@
 -- The check of a body as a number of sixteen bits, which takes one byte after another.
 use Rattle.std.specs.Prelude.{◌≡◌, ℕ, ◌+◌, ◌*◌, ◌/◌, ◌%◌, ◌^◌, ◌<◌, ◌≤◌, zero, suc, Bool, true, false, eqb, cond, List, [], ◌∷◌, ◌++◌, length, replicate, bit_xor, refl}
 use Rattle.std.specs.Int.{bit_at}
-use Rattle.std.proofs.Common.{sym, ◌∙◌, ap, subst, arith}
+use Rattle.std.proofs.Common.{sym, ◌∙◌, ap, arith}
 use Rattle.std.proofs.Math.Nat.{zero-add, suc-add, pow-suc}
 use Rattle.std.proofs.lemmas.List.{append-nil}
 use Rattle.std.proofs.lemmas.Grind.{flat_map-append}
@@ -20,46 +20,31 @@ parity zero (suc zero) h k = refl
 parity (suc zero) zero h k = refl
 parity (suc zero) (suc zero) h k = refl
 parity (suc (suc x)) y h k = absurd (omega arith)
-parity zero (suc (suc y)) h k = absurd (omega arith)
-parity (suc zero) (suc (suc y)) h k = absurd (omega arith)
+parity x (suc (suc y)) h k = absurd (omega arith)
 
 pub bits-xor : (k a b : ℕ) → bits k (bit_xor a b) ≡ subtract (bits k a) (bits k b)
 bits-xor zero a b = refl
 bits-xor (suc k) a b =
     let head : eqb (bit_at (bit_xor a b) k) 1 ≡ minus (eqb (bit_at a k) 1) (eqb (bit_at b k) 1) =
-    ap (λ x. eqb x 1) (bit_at_xor a b k) ∙ parity (bit_at a k) (bit_at b k) (bit_at-lt a k) (bit_at-lt b k) in
-    ap (λ c. c ∷ bits k (bit_xor a b)) head ∙
-    ap (λ t. minus (eqb (bit_at a k) 1) (eqb (bit_at b k) 1) ∷ t) (bits-xor k a b)
+    rw (bit_at_xor a b k) (parity (bit_at a k) (bit_at b k) (bit_at-lt a k) (bit_at-lt b k)) in
+    rw (head, bits-xor k a b) refl
 
 -- the high bits and the low ones
 pub bits-split : (j k n : ℕ) → bits (j + k) n ≡ bits j (n / 2 ^ k) ++ bits k n
 bits-split zero k n = ap (λ i. bits i n) (zero-add k)
 bits-split (suc j) k n =
     let power : n / 2 ^ k / 2 ^ j ≡ n / 2 ^ (j + k) = shr-shr n k j ∙ ap (λ i. n / 2 ^ i) (omega arith) in
-    ap (λ i. bits i n) (suc-add j k) ∙
-    ap (λ q. eqb (q % 2) 1 ∷ bits (j + k) n) (sym power) ∙
-    ap (λ t. eqb (n / 2 ^ k / 2 ^ j % 2) 1 ∷ t) (bits-split j k n)
+    rw (suc-add j k, power, bits-split j k n) refl
 
 -- what stands above the low bits does not change them
 pub bits-above : (k m a b : ℕ) → k ≤ m → bits k (a * 2 ^ m + b) ≡ bits k b
 bits-above zero m a b h = refl
-bits-above (suc k) m a b h =
-    let low : bit_at (a * 2 ^ m + b) k ≡ bit_at b k = bit_at_cat_low a m b k (omega arith) in
-    let rest : bits k (a * 2 ^ m + b) ≡ bits k b = bits-above k m a b (omega arith) in
-    ap (λ x. eqb x 1 ∷ bits k (a * 2 ^ m + b)) low ∙ ap (λ t. eqb (bit_at b k) 1 ∷ t) rest
+bits-above (suc k) m a b h = rw (bit_at_cat_low a m b k (omega arith), bits-above k m a b (omega arith)) refl
 
 number_of-lt : (bs : List Bool) → number_of bs < 2 ^ length bs
 number_of-lt [] = omega arith
-number_of-lt (true ∷ bs) =
-    let twice : 2 ^ suc (length bs) ≡ 2 ^ length bs * 2 = pow-suc 2 (length bs) in
-    let less : number_of bs < 2 ^ length bs = number_of-lt bs in
-    let goal : 2 ^ length bs + number_of bs < 2 ^ suc (length bs) = omega arith in
-    goal
-number_of-lt (false ∷ bs) =
-    let twice : 2 ^ suc (length bs) ≡ 2 ^ length bs * 2 = pow-suc 2 (length bs) in
-    let less : number_of bs < 2 ^ length bs = number_of-lt bs in
-    let goal : number_of bs < 2 ^ suc (length bs) = omega arith in
-    goal
+number_of-lt (true ∷ bs) = omega (arith, pow-suc 2 (length bs), number_of-lt bs)
+number_of-lt (false ∷ bs) = omega (arith, pow-suc 2 (length bs), number_of-lt bs)
 
 pub bits-number_of : (bs : List Bool) → bits (length bs) (number_of bs) ≡ bs
 bits-number_of [] = refl
@@ -67,16 +52,12 @@ bits-number_of (true ∷ bs) =
     let k = length bs in
     let same : 2 ^ k + number_of bs ≡ 1 * 2 ^ k + number_of bs = omega arith in
     let quotient : (1 * 2 ^ k + number_of bs) / 2 ^ k ≡ 1 = div-mul-add 1 (2 ^ k) (number_of bs) (number_of-lt bs) in
-    ap (λ n. eqb (n / 2 ^ k % 2) 1 ∷ bits k n) same ∙
-    ap (λ q. eqb (q % 2) 1 ∷ bits k (1 * 2 ^ k + number_of bs)) quotient ∙
-    ap (λ t. true ∷ t) (bits-above k k 1 (number_of bs) (omega arith) ∙ bits-number_of bs)
+    rw (same, quotient, bits-above k k 1 (number_of bs) (omega arith), bits-number_of bs) refl
 bits-number_of (false ∷ bs) =
     let k = length bs in
-    let same : number_of bs ≡ 0 * 2 ^ k + number_of bs = omega arith in
-    let quotient : (0 * 2 ^ k + number_of bs) / 2 ^ k ≡ 0 = div-mul-add 0 (2 ^ k) (number_of bs) (number_of-lt bs) in
-    ap (λ n. eqb (n / 2 ^ k % 2) 1 ∷ bits k (number_of bs)) same ∙
-    ap (λ q. eqb (q % 2) 1 ∷ bits k (number_of bs)) quotient ∙
-    ap (λ t. false ∷ t) (bits-number_of bs)
+    let same : 0 * 2 ^ k + number_of bs ≡ number_of bs = omega arith in
+    let quotient : number_of bs / 2 ^ k ≡ 0 = rw same at (div-mul-add 0 (2 ^ k) (number_of bs) (number_of-lt bs)) in
+    rw (quotient, bits-number_of bs) refl
 
 number_of-first : (c : Bool) (bs : List Bool) → number_of (c ∷ bs) ≡ cond c (2 ^ length bs) 0 + number_of bs
 number_of-first true bs = refl
@@ -98,11 +79,8 @@ number_of-bits (suc k) n h =
     let bit : q < 2 = div_below n (2 ^ k) 2 positive below in
     let whole : q * 2 ^ k + r ≡ n = shr_split n k in
     let low : bits k n ≡ bits k r = ap (bits k) (sym whole) ∙ bits-above k k q r (omega arith) in
-    number_of-first (eqb (q % 2) 1) (bits k n) ∙
-    ap (λ i. cond (eqb (q % 2) 1) (2 ^ i) 0 + number_of (bits k n)) (length-bits k n) ∙
-    ap (λ t. cond (eqb (q % 2) 1) (2 ^ k) 0 + number_of t) low ∙
-    ap (λ m. cond (eqb (q % 2) 1) (2 ^ k) 0 + m) (number_of-bits k r (mod_below n (2 ^ k) positive)) ∙
-    first_bit q (2 ^ k) r bit ∙ whole
+    let rest : number_of (bits k n) ≡ r = rw low (number_of-bits k r (mod_below n (2 ^ k) positive)) in
+    rw (number_of-first (eqb (q % 2) 1) (bits k n), length-bits k n, rest, first_bit q (2 ^ k) r bit) whole
 
 -- the bits that a shift by eight leaves of sixteen
 shifted : (n : ℕ) → bits 16 (n * 2 ^ 8 % 2 ^ 16) ≡ bits 8 n ++ replicate 8 false
@@ -128,11 +106,8 @@ check_bits bytes =
 pub check_of-lt : (bytes : List ℕ) → check_of bytes < 2 ^ 16
 unfolding check_of
 check_of-lt bytes =
-    let same : remainder (body_bits bytes) ≡ run start (body_bits bytes) = remainder_is_run (body_bits bytes) in
-    let long : length (run start (body_bits bytes)) ≡ 16 = length-run start (body_bits bytes) in
-    let P : ℕ → Type 0 = λ k. number_of (run start (body_bits bytes)) < 2 ^ k in
-    let Q : List Bool → Type 0 = λ t. number_of t < 2 ^ 16 in
-    subst Q (sym same) (subst P long (number_of-lt (run start (body_bits bytes))))
+    let less : number_of (run start (body_bits bytes)) < 2 ^ 16 = rw (length-run start (body_bits bytes)) at (number_of-lt (run start (body_bits bytes))) in
+    rw (remainder_is_run (body_bits bytes)) less
 
 -- One byte more: the low byte of the check moves up, and the check of the one byte that is the high byte with the new one is added.
 pub check_of-push : (old byte word : ℕ) (bytes : List ℕ) → old ≡ check_of bytes → word ≡ check_of (bit_xor (old / 2 ^ 8) byte ∷ []) →
@@ -158,6 +133,6 @@ check_of-push old byte word bytes is e =
     ap (run start) (sym (flat_map-append (bits 8) bytes (byte ∷ []))) in
     let small : bit_xor (old * 2 ^ 8 % 2 ^ 16) word < 2 ^ 16 =
     xor_lt 16 (old * 2 ^ 8 % 2 ^ 16) word (mod_below (old * 2 ^ 8) (2 ^ 16) (omega arith))
-    (let P : ℕ → Type 0 = λ n. n < 2 ^ 16 in subst P (sym e) (check_of-lt (bit_xor (old / 2 ^ 8) byte ∷ []))) in
+    (rw e (check_of-lt (bit_xor (old / 2 ^ 8) byte ∷ []))) in
     sym (number_of-bits 16 (bit_xor (old * 2 ^ 8 % 2 ^ 16) word) small) ∙
     ap number_of (new_bits ∙ sym (remainder_is_run (body_bits (bytes ++ byte ∷ []))))

@@ -7,13 +7,9 @@ use Rattle.ym_check.specs.Check.{minus, subtract, divided, remainder}
 -- ---- subtraction of lists of bits
 
 minus-assoc : (a b c : Bool) → minus (minus a b) c ≡ minus a (minus b c)
-minus-assoc false false false = refl
-minus-assoc false false true = refl
-minus-assoc false true false = refl
+minus-assoc a b false = refl
+minus-assoc a false true = refl
 minus-assoc false true true = refl
-minus-assoc true false false = refl
-minus-assoc true false true = refl
-minus-assoc true true false = refl
 minus-assoc true true true = refl
 
 zero-minus : (b : Bool) → minus false b ≡ b
@@ -21,19 +17,14 @@ zero-minus false = refl
 zero-minus true = refl
 
 pub length-subtract : (xs ys : List Bool) → length (subtract xs ys) ≡ length xs
-length-subtract [] [] = refl
+length-subtract xs [] = refl
 length-subtract [] (y ∷ ys) = refl
-length-subtract (x ∷ xs) [] = refl
 length-subtract (x ∷ xs) (y ∷ ys) = ap suc (length-subtract xs ys)
 
 pub subtract_twice : (xs ys zs : List Bool) → length zs ≤ length ys → subtract (subtract xs ys) zs ≡ subtract xs (subtract ys zs)
-subtract_twice [] [] [] h = refl
-subtract_twice [] [] (z ∷ zs) h = refl
-subtract_twice [] (y ∷ ys) [] h = refl
+subtract_twice xs ys [] h = refl
+subtract_twice xs [] (z ∷ zs) h = absurd (omega arith)
 subtract_twice [] (y ∷ ys) (z ∷ zs) h = refl
-subtract_twice (x ∷ xs) [] [] h = refl
-subtract_twice (x ∷ xs) [] (z ∷ zs) h = absurd (omega arith)
-subtract_twice (x ∷ xs) (y ∷ ys) [] h = refl
 subtract_twice (x ∷ xs) (y ∷ ys) (z ∷ zs) h =
     let k : length zs ≤ length ys = omega arith in
     rw (minus-assoc x y z, subtract_twice xs ys zs k) refl
@@ -134,21 +125,13 @@ pub run-byte : (high low bs : List Bool) → length high ≡ 8 → length low �
 run-byte high low bs h l b =
     let whole : length (high ++ low) ≡ 16 = omega (arith, length-append high low) in
     let same : length bs ≡ length high = omega arith in
-    let bs_less = subtract bs high in
+    let less = subtract bs high in
     let low_first : subtract start low ≡ low ++ replicate 8 false =
     ap (subtract start) (sym (append-nil low)) ∙
     subtract-append (replicate 8 false) (replicate 8 false) low [] (sym l) ∙
     ap (λ t. t ++ replicate 8 false) (zeros-subtract 8 low l) in
-    let ways : divided (length bs) (subtract (bs ++ start) (high ++ low)) ≡ subtract start (run (high ++ low) bs) =
-    divided-run bs (high ++ low) start whole in
-    let other : divided (length (subtract bs high)) (subtract (subtract bs high ++ subtract start low) start) ≡ subtract (subtract start low) (run start (subtract bs high)) =
-    divided-run (subtract bs high) start (subtract start low) refl in
-    let lengths : length (subtract bs high) ≡ length bs = length-subtract bs high in
-    let split : subtract (bs ++ start) (high ++ low) ≡ subtract bs high ++ subtract start low = subtract-append bs start high low same in
-    let bare : subtract (subtract bs high ++ subtract start low) start ≡ subtract bs high ++ subtract start low = subtract-zeros 16 (subtract bs high ++ subtract start low) in
-    sym (zeros-subtract 16 (run (high ++ low) bs) (length-run (high ++ low) bs ∙ whole)) ∙
-    sym ways ∙
-    ap (divided (length bs)) (split ∙ sym bare) ∙
-    ap (λ n. divided n (subtract (subtract bs high ++ subtract start low) start)) (sym lengths) ∙
-    other ∙
-    ap (λ t. subtract t (run start (subtract bs high))) low_first
+    let ways : divided (length bs) (less ++ subtract start low) ≡ run (high ++ low) bs =
+    rw (subtract-append bs start high low same, zeros-subtract 16 (run (high ++ low) bs) (length-run (high ++ low) bs ∙ whole)) at (divided-run bs (high ++ low) start whole) in
+    let other : divided (length bs) (less ++ subtract start low) ≡ subtract (subtract start low) (run start less) =
+    rw (length-subtract bs high, subtract-zeros 16 (less ++ subtract start low)) at (divided-run less start (subtract start low) refl) in
+    sym ways ∙ other ∙ ap (λ t. subtract t (run start less)) low_first

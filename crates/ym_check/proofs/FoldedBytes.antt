@@ -1,7 +1,7 @@
 -- Bytes as words that are folded, and the check of the bytes before them.
 use Rattle.std.specs.Prelude.{◌≡◌, ℕ, ◌+◌, ◌*◌, ◌^◌, ◌<◌, ◌≤◌, suc, Bool, false, List, [], ◌∷◌, ◌++◌, length, get_or, replicate, bit_xor, refl}
 use Rattle.std.specs.Int.{from_be_bytes, w64}
-use Rattle.std.proofs.Common.{sym, ◌∙◌, ap, subst, arith}
+use Rattle.std.proofs.Common.{sym, ◌∙◌, ap, arith}
 use Rattle.std.proofs.lemmas.Grind.{flat_map-append}
 use Rattle.std.proofs.lemmas.Nat.{pow-add, mul-add-lt, div-mul-add}
 use Rattle.ym_check.specs.Check.{bits, number_of, minus, subtract, divided, remainder, body_bits}
@@ -13,9 +13,8 @@ use Rattle.ym_check.proofs.Folding.{folded_in}
 
 remainder-append : (xs ys bs : List Bool) → remainder xs ≡ remainder ys → remainder (xs ++ bs) ≡ remainder (ys ++ bs)
 remainder-append xs ys bs e =
-    remainder_is_run (xs ++ bs) ∙ run-append start xs bs ∙
-    ap (λ v. run v bs) (sym (remainder_is_run xs) ∙ e ∙ remainder_is_run ys) ∙
-    sym (run-append start ys bs) ∙ sym (remainder_is_run (ys ++ bs))
+    let same : run start xs ≡ run start ys = rw (remainder_is_run xs, remainder_is_run ys) at e in
+    rw (remainder_is_run (xs ++ bs), remainder_is_run (ys ++ bs), run-append start xs bs, run-append start ys bs, same) refl
 
 -- a word for the bytes so far, what it becomes, and the word of the next bytes
 pub next_word : (word m next : ℕ) (bytes more : List ℕ) → remainder (bits 64 word) ≡ remainder (body_bits bytes) →
@@ -43,13 +42,10 @@ zeros_behind n (x ∷ xs) (v ∷ vs) = ap (λ t. minus x v ∷ t) (zeros_behind 
 pub entered : (v bs : List Bool) → length v ≡ 16 → 16 ≤ length bs → run v bs ≡ run start (subtract bs v)
 entered v bs h l =
     let less = subtract bs v in
-    sym (zeros-subtract 16 (run v bs) (length-run v bs ∙ h)) ∙
-    sym (divided-run bs v start h) ∙
-    ap (divided (length bs)) (subtract_front bs v start (omega arith)) ∙
-    ap (λ k. divided k (less ++ start)) (sym (length-subtract bs v)) ∙
-    ap (divided (length less)) (sym (subtract-zeros 16 (less ++ start))) ∙
-    divided-run less start start refl ∙
-    zeros-subtract 16 (run start less) (length-run start less)
+    let ways : divided (length bs) (less ++ start) ≡ run v bs = rw (subtract_front bs v start (omega arith), zeros-subtract 16 (run v bs) (length-run v bs ∙ h)) at (divided-run bs v start h) in
+    let other : divided (length bs) (less ++ start) ≡ run start less =
+    rw (length-subtract bs v, subtract-zeros 16 (less ++ start), zeros-subtract 16 (run start less) (length-run start less)) at (divided-run less start start refl) in
+    sym ways ∙ other
 
 -- ---- eight bytes as a number, the first byte highest
 
@@ -64,8 +60,7 @@ high_first-lt (b ∷ bs) h =
     let small : b < 2 ^ 8 = omega (arith, h 0) in
     let more : 2 ^ (8 + 8 * length bs) ≡ 2 ^ 8 * 2 ^ (8 * length bs) = pow-add 2 8 (8 * length bs) in
     let same : 8 * suc (length bs) ≡ 8 + 8 * length bs = omega arith in
-    let P : ℕ → Type 0 = λ k. b * 2 ^ (8 * length bs) + high_first bs < 2 ^ k in
-    subst P (sym same) (omega (arith, more, mul-add-lt b (2 ^ (8 * length bs)) (high_first bs) (2 ^ 8) small rest))
+    rw same (omega (arith, more, mul-add-lt b (2 ^ (8 * length bs)) (high_first bs) (2 ^ 8) small rest))
 
 bits-high_first : (bs : List ℕ) → ((i : ℕ) → get_or bs i 0 < 256) → bits (8 * length bs) (high_first bs) ≡ body_bits bs
 bits-high_first [] h = refl

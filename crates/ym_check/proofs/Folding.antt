@@ -46,28 +46,24 @@ in_front w n = run start (bits w n ++ replicate w false)
 abbrev pub alone : ℕ → (ℕ → ℕ) → ℕ → List Bool
 alone w f n = run start (bits w (f n))
 
+pub padded-linear : (n : ℕ) (F : ℕ → List Bool) → IsLinearInBits F → ((a b : ℕ) → length (F a) ≡ length (F b)) → IsLinearInBits (λ k. run start (F k ++ replicate n false))
+padded-linear n F linear same a b =
+    let zeros = replicate n false in
+    let long : length (F a ++ zeros) ≡ length (F b ++ zeros) = omega (arith, length-append (F a) zeros, length-append (F b) zeros, same a b) in
+    rw (subtract-append (F a) zeros (F b) zeros (same a b), subtract-zeros n zeros, sym (linear a b)) at (start-subtract (F a ++ zeros) (F b ++ zeros) long)
+
 in_front-linear : (w : ℕ) → IsLinearInBits (in_front w)
-in_front-linear w a b =
-    let zeros = replicate w false in
-    let same : length (bits w a) ≡ length (bits w b) = length-bits w a ∙ sym (length-bits w b) in
-    let long : length (bits w a ++ zeros) ≡ length (bits w b ++ zeros) = omega (arith, length-append (bits w a) zeros, length-append (bits w b) zeros) in
-    ap (λ t. run start (t ++ zeros)) (bits-xor w a b) ∙
-    ap (λ t. run start (subtract (bits w a) (bits w b) ++ t)) (sym (subtract-zeros w zeros)) ∙
-    ap (run start) (sym (subtract-append (bits w a) zeros (bits w b) zeros same)) ∙
-    start-subtract (bits w a ++ zeros) (bits w b ++ zeros) long
+in_front-linear w = padded-linear w (bits w) (bits-xor w) (λ a b. length-bits w a ∙ sym (length-bits w b))
 
 alone-linear : (w : ℕ) (f : ℕ → ℕ) → IsLinear f → IsLinearInBits (alone w f)
 alone-linear w f lf a b =
-    ap (λ n. run start (bits w n)) (lf a b) ∙
-    ap (run start) (bits-xor w (f a) (f b)) ∙
-    start-subtract (bits w (f a)) (bits w (f b)) (length-bits w (f a) ∙ sym (length-bits w (f b)))
+    rw (lf a b, bits-xor w (f a) (f b)) (start-subtract (bits w (f a)) (bits w (f b)) (length-bits w (f a) ∙ sym (length-bits w (f b))))
 
 fold_at : (w : ℕ) (f : ℕ → ℕ) → IsLinear f → in_front w 0 ≡ alone w f 0 → AgreeBelow (in_front w) (alone w f) w →
     (n : ℕ) → n < 2 ^ w → remainder (bits w n ++ replicate w false) ≡ remainder (bits w (f n))
 fold_at w f lf none same n l =
-    remainder_is_run (bits w n ++ replicate w false) ∙
-    same_below (in_front w) (alone w f) (in_front-linear w) (alone-linear w f lf) none w same n l ∙
-    sym (remainder_is_run (bits w (f n)))
+    rw (remainder_is_run (bits w n ++ replicate w false), remainder_is_run (bits w (f n)))
+    (same_below (in_front w) (alone w f) (in_front-linear w) (alone-linear w f lf) none w same n l)
 
 -- ---- the three widths
 
@@ -179,27 +175,18 @@ added_behind w k front rest becomes high low same e =
     let before = replicate w false in
     let behind = replicate k false in
     let zeros_long : length before ≡ length front = length-replicate w false ∙ sym high in
-    let apart : subtract (before ++ rest) (front ++ behind) ≡ front ++ rest =
-    subtract-append before rest front behind zeros_long ∙
-    ap (λ t. t ++ subtract rest behind) (zeros-subtract w front high) ∙
-    ap (λ t. front ++ t) (subtract-zeros k rest) in
     let long : length (before ++ rest) ≡ length (front ++ behind) =
     omega (arith, length-append before rest, length-append front behind, length-replicate k false) in
-    ap (run start) (sym apart) ∙
-    start-subtract (before ++ rest) (front ++ behind) long ∙
-    ap (λ t. subtract t (run start (front ++ behind))) (zeros_in_front w rest) ∙
-    ap (subtract (run start rest)) e ∙
-    sym (start-subtract rest becomes (low ∙ sym same))
+    rw (subtract-append before rest front behind zeros_long, zeros-subtract w front high, subtract-zeros k rest, zeros_in_front w rest, e, sym (start-subtract rest becomes (low ∙ sym same)))
+    at (start-subtract (before ++ rest) (front ++ behind) long)
 
 -- the next word is added to what the word in front becomes
 pub folded_in : (w n m next : ℕ) → remainder (bits w n ++ replicate w false) ≡ remainder (bits w m) →
     remainder (bits w n ++ bits w next) ≡ remainder (bits w (bit_xor m next))
 folded_in w n m next e =
-    remainder_is_run (bits w n ++ bits w next) ∙
-    added_behind w w (bits w n) (bits w next) (bits w m) (length-bits w n) (length-bits w next) (length-bits w m)
-    (sym (remainder_is_run (bits w n ++ replicate w false)) ∙ e ∙ remainder_is_run (bits w m)) ∙
-    ap (run start) (sym (bits-xor w next m) ∙ ap (bits w) (xor_comm next m)) ∙
-    sym (remainder_is_run (bits w (bit_xor m next)))
+    let held : run start (bits w n ++ replicate w false) ≡ run start (bits w m) = rw (remainder_is_run (bits w n ++ replicate w false), remainder_is_run (bits w m)) at e in
+    rw (remainder_is_run (bits w n ++ bits w next), remainder_is_run (bits w (bit_xor m next)), xor_comm m next, bits-xor w next m)
+    (added_behind w w (bits w n) (bits w next) (bits w m) (length-bits w n) (length-bits w next) (length-bits w m) held)
 
 -- both halves of a word
 pub halves : (w n m : ℕ) → remainder (bits w (n / 2 ^ w) ++ replicate w false) ≡ remainder (bits w m) →
@@ -207,5 +194,4 @@ pub halves : (w n m : ℕ) → remainder (bits w (n / 2 ^ w) ++ replicate w fals
 halves w n m e =
     let low : bits w n ≡ bits w (n % 2 ^ w) =
     ap (bits w) (sym (shr_split n w)) ∙ bits-above w w (n / 2 ^ w) (n % 2 ^ w) (omega arith) in
-    ap remainder (bits-split w w n ∙ ap (λ t. bits w (n / 2 ^ w) ++ t) low) ∙
-    folded_in w (n / 2 ^ w) m (n % 2 ^ w) e
+    rw (bits-split w w n, low) (folded_in w (n / 2 ^ w) m (n % 2 ^ w) e)

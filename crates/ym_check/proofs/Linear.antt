@@ -1,7 +1,7 @@
 -- Functions of numbers that are linear over bitwise sums, of any width: two that agree at the powers of two agree everywhere.
-use Rattle.std.specs.Prelude.{◌≡◌, ℕ, ◌+◌, ◌*◌, ◌/◌, ◌%◌, ◌^◌, ◌<◌, zero, suc, Bool, List, [], ◌∷◌, bit_xor}
+use Rattle.std.specs.Prelude.{◌≡◌, ℕ, ◌+◌, ◌*◌, ◌/◌, ◌%◌, ◌^◌, ◌<◌, zero, suc, Bool, List, [], ◌∷◌, bit_xor, refl}
 use Rattle.std.specs.Int.Bits.{xor_assoc, xor_shifted}
-use Rattle.std.proofs.Common.{sym, ◌∙◌, ap, subst, arith}
+use Rattle.std.proofs.Common.{sym, ◌∙◌, ap, arith}
 use Rattle.std.proofs.Math.Nat.{pow-suc}
 use Rattle.std.proofs.lemmas.Nat.{pow_pos, shr_split, mod_below, div_below, xor_comm, xor_shr, xor_mod, xor_block}
 use Rattle.ym_check.specs.Check.{subtract}
@@ -16,15 +16,10 @@ IsLinearInBits f = (a b : ℕ) → f (bit_xor a b) ≡ subtract (f a) (f b)
 
 xor_four : (a b c d : ℕ) → bit_xor (bit_xor a b) (bit_xor c d) ≡ bit_xor (bit_xor a c) (bit_xor b d)
 xor_four a b c d =
-    xor_assoc a b (bit_xor c d) ∙
-    ap (bit_xor a) (sym (xor_assoc b c d) ∙ ap (λ t. bit_xor t d) (xor_comm b c) ∙ xor_assoc c b d) ∙
-    sym (xor_assoc a c (bit_xor b d))
+    rw (xor_assoc a b (bit_xor c d), sym (xor_assoc b c d), xor_comm b c, xor_assoc c b d, sym (xor_assoc a c (bit_xor b d))) refl
 
 pub added : (f g : ℕ → ℕ) → IsLinear f → IsLinear g → IsLinear (λ n. bit_xor (f n) (g n))
-added f g hf hg a b =
-    ap (λ t. bit_xor t (g (bit_xor a b))) (hf a b) ∙
-    ap (bit_xor (bit_xor (f a) (f b))) (hg a b) ∙
-    xor_four (f a) (f b) (g a) (g b)
+added f g hf hg a b = rw (hf a b, hg a b, xor_four (f a) (f b) (g a) (g b)) refl
 
 pub right : (k : ℕ) → IsLinear (λ n. n / 2 ^ k)
 right k a b = xor_shr a b k
@@ -33,11 +28,7 @@ pub left : (k w : ℕ) → IsLinear (λ n. n * 2 ^ k % 2 ^ w)
 left k w a b =
     let low : 0 < 2 ^ k = pow_pos k in
     let plain : (n : ℕ) → n * 2 ^ k + 0 ≡ n * 2 ^ k = λ n. omega arith in
-    let whole : bit_xor a b * 2 ^ k ≡ bit_xor (a * 2 ^ k) (b * 2 ^ k) =
-    sym (plain (bit_xor a b)) ∙
-    sym (xor_block k a b 0 0 low low) ∙
-    ap (λ t. bit_xor t (b * 2 ^ k + 0)) (plain a) ∙
-    ap (bit_xor (a * 2 ^ k)) (plain b) in
+    let whole : bit_xor a b * 2 ^ k ≡ bit_xor (a * 2 ^ k) (b * 2 ^ k) = rw (plain (bit_xor a b), plain a, plain b) at (sym (xor_block k a b 0 0 low low)) in
     ap (λ t. t % 2 ^ w) whole ∙ xor_mod (a * 2 ^ k) (b * 2 ^ k) w
 
 -- ---- what holds at the powers of two holds at every number
@@ -67,20 +58,19 @@ agree_further f g low (suc n) below e k h =
 one_bit_more : (f g : ℕ → List Bool) → IsLinearInBits f → IsLinearInBits g → (k q r h : ℕ) → q < 2 → r < 2 ^ k → q * 2 ^ k + r ≡ h →
     f (2 ^ k) ≡ g (2 ^ k) → f r ≡ g r → f h ≡ g h
 one_bit_more f g lf lg k zero r h l b e high low =
-    let same : r ≡ h = omega arith in
-    subst (λ (n : ℕ). f n ≡ g n) same low
+    let same : h ≡ r = omega arith in
+    rw same low
 one_bit_more f g lf lg k (suc zero) r h l b e high low =
     let one : 1 * 2 ^ k ≡ 2 ^ k = omega arith in
     let same : bit_xor (2 ^ k) r ≡ h = ap (λ t. bit_xor t r) (sym one) ∙ xor_shifted 1 k r b ∙ e in
-    subst (λ (n : ℕ). f n ≡ g n) same
-    (lf (2 ^ k) r ∙ ap (λ t. subtract t (f r)) high ∙ ap (subtract (g (2 ^ k))) low ∙ sym (lg (2 ^ k) r))
+    rw (sym same, lf (2 ^ k) r, lg (2 ^ k) r, high, low) refl
 one_bit_more f g lf lg k (suc (suc q)) r h l b e high low = absurd (omega arith)
 
 pub same_below : (f g : ℕ → List Bool) → IsLinearInBits f → IsLinearInBits g → f 0 ≡ g 0 → (n : ℕ) → AgreeBelow f g n → (h : ℕ) → h < 2 ^ n → f h ≡ g h
 unfolding AgreeBelow
 same_below f g lf lg none zero agree h l =
-    let same : 0 ≡ h = omega arith in
-    subst (λ (n : ℕ). f n ≡ g n) same none
+    let same : h ≡ 0 = omega arith in
+    rw same none
 same_below f g lf lg none (suc k) agree h l =
     let positive : 0 < 2 ^ k = pow_pos k in
     let twice : 2 ^ suc k ≡ 2 ^ k * 2 = pow-suc 2 k in

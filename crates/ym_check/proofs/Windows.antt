@@ -1,7 +1,7 @@
 -- Eight bytes in front of thirty-two others, added to these: modulo the divisor, x^256 is x^192 + x^80 + 1.
 use Rattle.std.specs.Prelude.{◌≡◌, ℕ, ◌+◌, ◌*◌, ◌/◌, ◌%◌, ◌^◌, ◌<◌, ◌≤◌, zero, suc, Bool, false, List, ◌++◌, length, take, drop, get_or, replicate, bit_xor, refl}
 use Rattle.std.specs.Int.{w64, byte_at, bytes_low_first, to_le_bytes, swap_bytes}
-use Rattle.std.proofs.Common.{sym, ◌∙◌, ap, arith, append_assoc, length-append}
+use Rattle.std.proofs.Common.{sym, ◌∙◌, ap, arith, append_assoc}
 use Rattle.std.proofs.lemmas.Grind.{flat_map-append}
 use Rattle.std.proofs.lemmas.List.{take_all}
 use Rattle.std.proofs.lemmas.Nat.{pow-add, mod_below, xor_shr, xor_mod}
@@ -13,7 +13,7 @@ use Rattle.ym_check.proofs.Division.{run, start, run-append, subtract-append, su
 use Rattle.ym_check.proofs.CheckNumbers.{length-bits, bits-xor, check_bits}
 use Rattle.ym_check.proofs.Linear.{IsLinearInBits, added, right, left, AgreeBelow, agree_nowhere, agree_further, same_below}
 use Rattle.ym_check.proofs.Register.{start-subtract, zeros_in_front}
-use Rattle.ym_check.proofs.Folding.{agree_quickly, added_behind}
+use Rattle.ym_check.proofs.Folding.{padded-linear, agree_quickly, added_behind}
 use Rattle.ym_check.proofs.FoldedBytes.{next_word, entered, zeros_behind, word_bits}
 
 -- ---- the bits of a word's bytes are linear in the word
@@ -68,8 +68,7 @@ fours a b c d = a ++ (b ++ (c ++ d))
 fours-subtract : (a b c d s t u v : List Bool) → length a ≡ length s → length b ≡ length t → length c ≡ length u →
     subtract (fours a b c d) (fours s t u v) ≡ fours (subtract a s) (subtract b t) (subtract c u) (subtract d v)
 fours-subtract a b c d s t u v h k l =
-    subtract-append a (b ++ (c ++ d)) s (t ++ (u ++ v)) h ∙
-    ap (λ x. subtract a s ++ x) (subtract-append b (c ++ d) t (u ++ v) k ∙ ap (λ x. subtract b t ++ x) (subtract-append c d u v l))
+    rw (subtract-append a (b ++ (c ++ d)) s (t ++ (u ++ v)) h, subtract-append b (c ++ d) t (u ++ v) k, subtract-append c d u v l) refl
 
 length-fours : (a b c d : ℕ) → length (fours (eight_bits a) (eight_bits b) (eight_bits c) (eight_bits d)) ≡ 256
 unfolding eight_bits eight
@@ -91,14 +90,7 @@ same_long : (a b : ℕ) → length (eight_bits a) ≡ length (eight_bits b)
 same_long a b = length-eight_bits a ∙ sym (length-eight_bits b)
 
 in_front-linear : IsLinearInBits (λ n. run start (in_front n))
-in_front-linear a b =
-    let zeros = replicate 256 false in
-    let long : length (in_front a) ≡ length (in_front b) =
-    length-append (eight_bits a) zeros ∙ ap (λ k. k + length zeros) (same_long a b) ∙ sym (length-append (eight_bits b) zeros) in
-    ap (λ t. run start (t ++ zeros)) (eight_bits-xor a b) ∙
-    ap (λ t. run start (subtract (eight_bits a) (eight_bits b) ++ t)) (sym (subtract-zeros 256 zeros)) ∙
-    ap (run start) (sym (subtract-append (eight_bits a) zeros (eight_bits b) zeros (same_long a b))) ∙
-    start-subtract (in_front a) (in_front b) long
+in_front-linear = padded-linear 256 eight_bits eight_bits-xor same_long
 
 down : (a b : ℕ) → eight_bits (moved_down (bit_xor a b)) ≡ subtract (eight_bits (moved_down a)) (eight_bits (moved_down b))
 down a b = ap eight_bits (left 48 64 a b) ∙ eight_bits-xor (moved_down a) (moved_down b)
@@ -109,12 +101,10 @@ up a b = ap eight_bits (right 16 a b) ∙ eight_bits-xor (moved_up a) (moved_up 
 behind-linear : IsLinearInBits (λ n. run start (behind n))
 behind-linear a b =
     let E = eight_bits in
-    ap (λ t. run start (fours t (E (moved_down (bit_xor a b))) (E (moved_up (bit_xor a b))) t)) (eight_bits-xor a b) ∙
-    ap (λ t. run start (fours (subtract (E a) (E b)) t (E (moved_up (bit_xor a b))) (subtract (E a) (E b)))) (down a b) ∙
-    ap (λ t. run start (fours (subtract (E a) (E b)) (subtract (E (moved_down a)) (E (moved_down b))) t (subtract (E a) (E b)))) (up a b) ∙
-    ap (run start) (sym (fours-subtract (E a) (E (moved_down a)) (E (moved_up a)) (E a) (E b) (E (moved_down b)) (E (moved_up b)) (E b)
-    (same_long a b) (same_long (moved_down a) (moved_down b)) (same_long (moved_up a) (moved_up b)))) ∙
-    start-subtract (behind a) (behind b) (length-fours a (moved_down a) (moved_up a) a ∙ sym (length-fours b (moved_down b) (moved_up b) b))
+    let same : length (behind a) ≡ length (behind b) = length-fours a (moved_down a) (moved_up a) a ∙ sym (length-fours b (moved_down b) (moved_up b) b) in
+    let sums =
+    fours-subtract (E a) (E (moved_down a)) (E (moved_up a)) (E a) (E b) (E (moved_down b)) (E (moved_up b)) (E b) (same_long a b) (same_long (moved_down a) (moved_down b)) (same_long (moved_up a) (moved_up b)) in
+    rw (eight_bits-xor a b, down a b, up a b, sym sums) (start-subtract (behind a) (behind b) same)
 
 agree : AgreeBelow (λ n. run start (in_front n)) (λ n. run start (behind n)) 64
 unfolding eight_bits eight
@@ -138,28 +128,12 @@ run_from xs ys e = sym (check_bits xs) ∙ ap (bits 16) e ∙ check_bits ys
 
 window_bits : (a b c d : ℕ) → body_bits (window_bytes a b c d) ≡ fours (eight_bits a) (eight_bits b) (eight_bits c) (eight_bits d)
 unfolding eight_bits
-window_bits a b c d =
-    let A = body_bits (eight a) in
-    let B = body_bits (eight b) in
-    let C = body_bits (eight c) in
-    let D = body_bits (eight d) in
-    flat_map-append (bits 8) (eight a ++ eight b ++ eight c) (eight d) ∙
-    ap (λ t. t ++ D) (flat_map-append (bits 8) (eight a ++ eight b) (eight c) ∙ ap (λ t. t ++ C) (flat_map-append (bits 8) (eight a) (eight b))) ∙
-    append_assoc (A ++ B) C D ∙ append_assoc A B (C ++ D)
+window_bits a b c d = simp (flat_map-append, append_assoc)
 
 with_next_bits : (a b c d n : ℕ) →
     body_bits (window_bytes a b c d ++ eight n) ≡ eight_bits a ++ fours (eight_bits b) (eight_bits c) (eight_bits d) (eight_bits n)
 unfolding eight_bits
-with_next_bits a b c d n =
-    let A = body_bits (eight a) in
-    let B = body_bits (eight b) in
-    let C = body_bits (eight c) in
-    let D = body_bits (eight d) in
-    let N = body_bits (eight n) in
-    flat_map-append (bits 8) (window_bytes a b c d) (eight n) ∙
-    ap (λ t. t ++ N) (window_bits a b c d) ∙
-    append_assoc A (B ++ (C ++ D)) N ∙
-    ap (λ t. A ++ t) (append_assoc B (C ++ D) N ∙ ap (λ t. B ++ t) (append_assoc C D N))
+with_next_bits a b c d n = simp (flat_map-append, append_assoc)
 
 -- the next eight bytes come, and the first eight are added to those behind them
 pub moved_on : (a b c d n : ℕ) → a < 2 ^ 64 →
@@ -170,16 +144,16 @@ moved_on a b c d n l =
     let t = moved_up a in
     let rest = fours (E b) (E c) (E d) (E n) in
     let sums : subtract rest (behind a) ≡ body_bits (window_bytes (bit_xor b a) (bit_xor c s) (bit_xor d t) (bit_xor n a)) =
-    fours-subtract (E b) (E c) (E d) (E n) (E a) (E s) (E t) (E a) (same_long b a) (same_long c s) (same_long d t) ∙
-    ap (λ x. fours x (subtract (E c) (E s)) (subtract (E d) (E t)) (subtract (E n) (E a))) (sym (eight_bits-xor b a)) ∙
-    ap (λ x. fours (E (bit_xor b a)) x (subtract (E d) (E t)) (subtract (E n) (E a))) (sym (eight_bits-xor c s)) ∙
-    ap (λ x. fours (E (bit_xor b a)) (E (bit_xor c s)) x (subtract (E n) (E a))) (sym (eight_bits-xor d t)) ∙
-    ap (λ x. fours (E (bit_xor b a)) (E (bit_xor c s)) (E (bit_xor d t)) x) (sym (eight_bits-xor n a)) ∙
-    sym (window_bits (bit_xor b a) (bit_xor c s) (bit_xor d t) (bit_xor n a)) in
+    rw (
+      fours-subtract (E b) (E c) (E d) (E n) (E a) (E s) (E t) (E a) (same_long b a) (same_long c s) (same_long d t),
+      sym (eight_bits-xor b a),
+      sym (eight_bits-xor c s),
+      sym (eight_bits-xor d t),
+      sym (eight_bits-xor n a),
+      window_bits (bit_xor b a) (bit_xor c s) (bit_xor d t) (bit_xor n a),
+    ) refl in
     check_from (window_bytes a b c d ++ eight n) (window_bytes (bit_xor b a) (bit_xor c s) (bit_xor d t) (bit_xor n a))
-    (ap (run start) (with_next_bits a b c d n) ∙
-    added_behind 64 256 (E a) rest (behind a) (length-eight_bits a) (length-fours b c d n) (length-fours a s t a) (becomes a l) ∙
-    ap (run start) sums)
+    (rw (with_next_bits a b c d n, sym sums) (added_behind 64 256 (E a) rest (behind a) (length-eight_bits a) (length-fours b c d n) (length-fours a s t a) (becomes a l)))
 
 -- ---- the check of a window
 
@@ -279,23 +253,17 @@ first_window old next place bytes more is reads placed =
 
 check-append : (xs ys more : List ℕ) → check_of xs ≡ check_of ys → check_of (xs ++ more) ≡ check_of (ys ++ more)
 check-append xs ys more e =
-    check_from (xs ++ more) (ys ++ more)
-    (ap (run start) (flat_map-append (bits 8) xs more) ∙
-    run-append start (body_bits xs) (body_bits more) ∙
-    ap (λ v. run v (body_bits more)) (run_from xs ys e) ∙
-    sym (run-append start (body_bits ys) (body_bits more)) ∙
-    ap (run start) (sym (flat_map-append (bits 8) ys more)))
+    let cut : (zs : List ℕ) → run start (body_bits (zs ++ more)) ≡ run (run start (body_bits zs)) (body_bits more) =
+    λ zs. rw (flat_map-append (bits 8) zs more) (run-append start (body_bits zs) (body_bits more)) in
+    check_from (xs ++ more) (ys ++ more) (rw (cut xs, cut ys, run_from xs ys e) refl)
 
 -- one more word of some bytes
 pub taken_more : (window next : List ℕ) (i : ℕ) (before bytes : List ℕ) → check_of (before ++ take (8 * i) bytes) ≡ check_of window →
     next ≡ take 8 (drop (8 * i) bytes) → check_of (before ++ take (8 * (i + 1)) bytes) ≡ check_of (window ++ next)
 taken_more window next i before bytes is reads =
     let more : 8 * (i + 1) ≡ 8 * i + 8 = omega arith in
-    let taken : take (8 * (i + 1)) bytes ≡ take (8 * i) bytes ++ next =
-    ap (λ k. take k bytes) more ∙ take-add (8 * i) 8 bytes ∙ ap (λ t. take (8 * i) bytes ++ t) (sym reads) in
-    ap (λ t. check_of (before ++ t)) taken ∙
-    ap check_of (sym (append_assoc before (take (8 * i) bytes) next)) ∙
-    check-append (before ++ take (8 * i) bytes) window next is
+    let taken : take (8 * (i + 1)) bytes ≡ take (8 * i) bytes ++ next = rw (more, take-add (8 * i) 8 bytes, reads) refl in
+    rw (taken, sym (append_assoc before (take (8 * i) bytes) next)) (check-append (before ++ take (8 * i) bytes) window next is)
 
 -- all words are all bytes
 pub all_words : (i : ℕ) (bytes : List ℕ) → length bytes % 8 ≡ 0 → length bytes / 8 ≤ i → take (8 * i) bytes ≡ bytes

@@ -1,5 +1,5 @@
 -- The frame that a source's fill made is that of the file's block.
-use Rattle.std.proofs.Common.{ℕ, ◌+◌, ◌/◌, ◌%◌, ◌≡◌, inl, inr, List, [], ◌∷◌, length, take, Option, None, Some, Result, Ok, Err, refl, ap, sym, ◌∙◌, arith, subst}
+use Rattle.std.proofs.Common.{ℕ, ◌+◌, ◌/◌, ◌%◌, ◌≡◌, inl, inr, List, [], ◌∷◌, length, take, Option, None, Some, Result, Ok, Err, refl, ap, ◌∙◌, arith}
 use Rattle.std.specs.Prelude.{IfSome, IfOk}
 use Rattle.std.proofs.lemmas.List.{length-append}
 use Rattle.ym_frame.specs.Block.{BlockParts}
@@ -24,18 +24,17 @@ module _ (shape : Shape) (file : FileParts) (k : ℕ) where
   framed_by : (known : Option (List ℕ)) → file.bytes ≡ known → (bytes body : List ℕ) → length body ≡ size_at shape file.header.length k → IsFrame (Block (record { number = k % 256; body = body })) bytes
       → IfSome known (λ all. IsFrame (Block (record { number = k % 256; body = piece_at shape all k })) bytes)
       → (block : BlockParts) × IsBlockOf shape file k block × IsFrame (Block block) bytes
-  framed_by None is bytes body size frame told = (record { number = k % 256; body = body }, record { number = refl; size = size; body = subst (λ b. IfSome b (λ all. body ≡ piece_at shape all k)) (sym is) tt }, frame)
+  framed_by None is bytes body size frame told = (record { number = k % 256; body = body }, record { number = refl; size = size; body = rw is tt }, frame)
   framed_by (Some all) is bytes body size frame told =
       let piece : BlockParts = record { number = k % 256; body = piece_at shape all k } in
       let a = frame_length (record { number = k % 256; body = body }) bytes frame in
       let b = frame_length piece bytes told in
-      (piece, record { number = refl; size = omega (arith, a, b, size); body = subst (λ b. IfSome b (λ all. piece.body ≡ piece_at shape all k)) (sym is) refl }, told)
+      (piece, record { number = refl; size = omega (arith, a, b, size); body = rw is refl }, told)
 
   pub framed : (size : ℕ) (bytes : Option (List ℕ)) → size ≡ file.header.length → bytes ≡ file.bytes → (r : Result ℕ SourceFault) (buffer : List ℕ)
       → IfOk r (λ len. (body : List ℕ) × (length body ≡ size_at shape size k) × IsFrame (Block (record { number = k % 256; body = body })) (take len buffer))
       → IfOk r (λ len. IfSome bytes (λ all. IsFrame (Block (record { number = k % 256; body = piece_at shape all k })) (take len buffer)))
       → IfOk r (λ len. (block : BlockParts) × IsBlockOf shape file k block × IsFrame (Block block) (take len buffer))
   framed size bytes same known (Ok len) buffer made told =
-      framed_by file.bytes refl (take len buffer) made.0 (made.1 ∙ ap (λ n. size_at shape n k) same) made.2
-      (subst (λ b. IfSome b (λ all. IsFrame (Block (record { number = k % 256; body = piece_at shape all k })) (take len buffer))) known told)
+      framed_by file.bytes refl (take len buffer) made.0 (made.1 ∙ ap (λ n. size_at shape n k) same) made.2 (rw known at told)
   framed size bytes same known (Err fault) buffer made told = tt

@@ -1,50 +1,18 @@
 -- The verdict of any bytes by its cases, and what more bytes behind them change.
-use Rattle.std.specs.Prelude.{◌≡◌, ℕ, ◌+◌, ◌-◌, ◌*◌, ◌<◌, ◌≤◌, Bool, true, false, not, ◌&&◌, nat_lt, ◌==◌, cond, List, [], ◌∷◌, ◌++◌, length, take, drop, slice_index, Result, Ok, Err, refl}
-use Rattle.std.proofs.Common.{sym, ◌∙◌, ap, arith, subst, length-append, length-drop}
+use Rattle.std.specs.Prelude.{◌≡◌, ℕ, ◌+◌, ◌-◌, ◌<◌, ◌≤◌, Bool, true, false, not, nat_lt, ◌==◌, List, [], ◌∷◌, ◌++◌, length, take, drop, slice_index, Ok, Err, refl}
+use Rattle.std.proofs.Common.{◌∙◌, ap, arith, length-append, length-drop}
 use Rattle.std.proofs.Math.ListN.{get_or-append}
 use Rattle.std.proofs.lemmas.Bool.{and_parts, ltb-true, ltb-false, le-ltb, lt-ltb, eqb-true}
 use Rattle.std.proofs.lemmas.List.{take-append-le, drop-append-le}
-use Rattle.ym_check.specs.Check.{check_of}
-use Rattle.ym_frame.specs.Frame.{IsOpen, verdict_of, block_verdict, cancel_verdict, body_of, check_field, has_byte_where, fault_at}
-use Rattle.ym_frame.specs.declared.frame.Item.{Item}
-use Rattle.ym_frame.specs.declared.frame.Item.TheVariants.{Block}
-use Rattle.ym_frame.specs.declared.frame.Why.TheVariants.{FirstByte, Complement, Check, Cut}
-use Rattle.ym_frame.specs.declared.frame.Broken.{Broken}
-
-pub false_true : false ≡ true → ⊥
-false_true e = cc
+use Rattle.ym_frame.proofs.Names.{check_of, IsOpen, verdict_of, block_verdict, cancel_verdict, body_of, check_field, fault_at, Block, FirstByte, Complement, Check, Cut}
+use Rattle.ym_frame.specs.Frame.{has_byte_where}
 
 -- ---- a block's verdict, by its four cases
-unfoldable pub wrong_by : Bool → ℕ → ℕ → Bool
-wrong_by longer complement number = longer && not (complement == 255 - number)
-
 abbrev pub wrong_at : List ℕ → Bool
 wrong_at bytes = has_byte_where bytes 2 (λ b. not (b == 255 - slice_index bytes 1))
 
-pub wrong_is : (bytes : List ℕ) → wrong_at bytes ≡ wrong_by (nat_lt 2 (length bytes)) (slice_index bytes 2) (slice_index bytes 1)
-unfolding wrong_by
-wrong_is bytes = refl
-
 wrong_longer : (bytes : List ℕ) → wrong_at bytes ≡ true → 2 < length bytes
 wrong_longer bytes h = ltb-true 2 (length bytes) (and_parts (nat_lt 2 (length bytes)) _ h).0
-
-unfoldable pub judged : Bool → Bool → ℕ → ℕ → ℕ → List ℕ → ℕ → Result (Item × ℕ) Broken
-judged wrong short size len number body check_field =
-    cond wrong (Err (fault_at 2 Complement))
-    (cond short (Err (fault_at len Cut))
-    (cond (check_of body == check_field) (Ok (Block (record { number = number; body = body }), size + 5)) (Err (fault_at (size + 3) Check))))
-
-pub judged_is : (size : ℕ) (bytes : List ℕ) → block_verdict size bytes ≡ judged (wrong_at bytes) (nat_lt (length bytes) (size + 5)) size (length bytes) (slice_index bytes 1) (body_of size bytes) (check_field size bytes)
-unfolding judged
-judged_is size bytes = refl
-
-judged_whole : (wrong : Bool) (size len other number : ℕ) (body : List ℕ) (fld : ℕ) → judged wrong false size len number body fld ≡ judged wrong false size other number body fld
-unfolding judged
-judged_whole wrong size len other number body fld = refl
-
-judged_wrong : (short : Bool) (size len number : ℕ) (body : List ℕ) (fld : ℕ) → judged true short size len number body fld ≡ Err (fault_at 2 Complement)
-unfolding judged
-judged_wrong short size len number body fld = refl
 
 pub data BlockCase (size : ℕ) (bytes : List ℕ) : Type 0 where
   wrong : wrong_at bytes ≡ true → block_verdict size bytes ≡ Err (fault_at 2 Complement) → BlockCase size bytes
@@ -55,28 +23,10 @@ pub data BlockCase (size : ℕ) (bytes : List ℕ) : Type 0 where
       block_verdict size bytes ≡ Err (fault_at (size + 3) Check) → BlockCase size bytes
 
 cases_by : (size : ℕ) (bytes : List ℕ) (w s m : Bool) → wrong_at bytes ≡ w → nat_lt (length bytes) (size + 5) ≡ s → (check_of (body_of size bytes) == check_field size bytes) ≡ m → BlockCase size bytes
-unfolding judged
-cases_by size bytes true s m w l e =
-    wrong w
-    (judged_is size bytes ∙
-    ap (λ t. judged t (nat_lt (length bytes) (size + 5)) size (length bytes) (slice_index bytes 1) (body_of size bytes) (check_field size bytes)) w)
-cases_by size bytes false true m w l e =
-    cut w (ltb-true (length bytes) (size + 5) l)
-    (judged_is size bytes ∙
-    ap (λ t. judged t (nat_lt (length bytes) (size + 5)) size (length bytes) (slice_index bytes 1) (body_of size bytes) (check_field size bytes)) w ∙
-    ap (λ t. judged false t size (length bytes) (slice_index bytes 1) (body_of size bytes) (check_field size bytes)) l)
-cases_by size bytes false false true w l e =
-    good w (ltb-false (length bytes) (size + 5) l) (eqb-true (check_of (body_of size bytes)) (check_field size bytes) e)
-    (judged_is size bytes ∙
-    ap (λ t. judged t (nat_lt (length bytes) (size + 5)) size (length bytes) (slice_index bytes 1) (body_of size bytes) (check_field size bytes)) w ∙
-    ap (λ t. judged false t size (length bytes) (slice_index bytes 1) (body_of size bytes) (check_field size bytes)) l ∙
-    ap (λ t. cond t (Ok (Block (record { number = slice_index bytes 1; body = body_of size bytes }), size + 5)) (Err (fault_at (size + 3) Check))) e)
-cases_by size bytes false false false w l e =
-    bad w (ltb-false (length bytes) (size + 5) l) e
-    (judged_is size bytes ∙
-    ap (λ t. judged t (nat_lt (length bytes) (size + 5)) size (length bytes) (slice_index bytes 1) (body_of size bytes) (check_field size bytes)) w ∙
-    ap (λ t. judged false t size (length bytes) (slice_index bytes 1) (body_of size bytes) (check_field size bytes)) l ∙
-    ap (λ t. cond t (Ok (Block (record { number = slice_index bytes 1; body = body_of size bytes }), size + 5)) (Err (fault_at (size + 3) Check))) e)
+cases_by size bytes true s m w l e = wrong w (rw w refl)
+cases_by size bytes false true m w l e = cut w (ltb-true (length bytes) (size + 5) l) (rw (w, l) refl)
+cases_by size bytes false false true w l e = good w (ltb-false (length bytes) (size + 5) l) (eqb-true (check_of (body_of size bytes)) (check_field size bytes) e) (rw (w, l, e) refl)
+cases_by size bytes false false false w l e = bad w (ltb-false (length bytes) (size + 5) l) e (rw (w, l, e) refl)
 
 pub block_case : (size : ℕ) (bytes : List ℕ) → BlockCase size bytes
 block_case size bytes = cases_by size bytes (wrong_at bytes) (nat_lt (length bytes) (size + 5)) (check_of (body_of size bytes) == check_field size bytes) refl refl refl
@@ -89,11 +39,7 @@ wrong_more bytes more h =
     let second : nat_lt 2 (length bytes) ≡ true = lt-ltb 2 (length bytes) h in
     let third : slice_index (bytes ++ more) 2 ≡ slice_index bytes 2 = get_or-append bytes more 0 2 h in
     let fourth : slice_index (bytes ++ more) 1 ≡ slice_index bytes 1 = get_or-append bytes more 0 1 (omega arith) in
-    wrong_is (bytes ++ more) ∙
-    ap (λ t. wrong_by t (slice_index (bytes ++ more) 2) (slice_index (bytes ++ more) 1)) (first ∙ sym second) ∙
-    ap (λ t. wrong_by (nat_lt 2 (length bytes)) t (slice_index (bytes ++ more) 1)) third ∙
-    ap (λ t. wrong_by (nat_lt 2 (length bytes)) (slice_index bytes 2) t) fourth ∙
-    sym (wrong_is bytes)
+    rw (first, second, third, fourth) refl
 
 pub body_of-more : (size : ℕ) (bytes more : List ℕ) → size + 3 ≤ length bytes → body_of size (bytes ++ more) ≡ body_of size bytes
 body_of-more size bytes more h =
@@ -108,17 +54,8 @@ block_more size bytes more h =
     let number : slice_index (bytes ++ more) 1 ≡ slice_index bytes 1 = get_or-append bytes more 0 1 (omega arith) in
     let high : slice_index (bytes ++ more) (size + 3) ≡ slice_index bytes (size + 3) = get_or-append bytes more 0 (size + 3) (omega arith) in
     let low : slice_index (bytes ++ more) (size + 4) ≡ slice_index bytes (size + 4) = get_or-append bytes more 0 (size + 4) (omega arith) in
-    let fld : check_field size (bytes ++ more) ≡ check_field size bytes = ap (λ t. t * 256 + slice_index (bytes ++ more) (size + 4)) high ∙ ap (λ t. slice_index bytes (size + 3) * 256 + t) low in
     let body : body_of size (bytes ++ more) ≡ body_of size bytes = body_of-more size bytes more (omega arith) in
-    judged_is size (bytes ++ more) ∙
-    ap (λ t. judged t (nat_lt (length (bytes ++ more)) (size + 5)) size (length (bytes ++ more)) (slice_index (bytes ++ more) 1) (body_of size (bytes ++ more)) (check_field size (bytes ++ more))) wrong_same ∙
-    ap (λ t. judged (wrong_at bytes) t size (length (bytes ++ more)) (slice_index (bytes ++ more) 1) (body_of size (bytes ++ more)) (check_field size (bytes ++ more))) first ∙
-    judged_whole (wrong_at bytes) size (length (bytes ++ more)) (length bytes) (slice_index (bytes ++ more) 1) (body_of size (bytes ++ more)) (check_field size (bytes ++ more)) ∙
-    ap (λ t. judged (wrong_at bytes) false size (length bytes) t (body_of size (bytes ++ more)) (check_field size (bytes ++ more))) number ∙
-    ap (λ t. judged (wrong_at bytes) false size (length bytes) (slice_index bytes 1) t (check_field size (bytes ++ more))) body ∙
-    ap (λ t. judged (wrong_at bytes) false size (length bytes) (slice_index bytes 1) (body_of size bytes) t) fld ∙
-    ap (λ t. judged (wrong_at bytes) t size (length bytes) (slice_index bytes 1) (body_of size bytes) (check_field size bytes)) (sym second) ∙
-    sym (judged_is size bytes)
+    rw (wrong_same, first, second, number, high, low, body) refl
 
 -- ---- the verdict of any bytes, by its first byte
 pub data FirstCase (bytes : List ℕ) : Type 0 where
@@ -148,19 +85,11 @@ unfolding verdict_of
 other_verdict first more e c s l = rw (e, c, s, l) refl
 
 -- ---- what is not open stays
-pub open_cut : (v : Result (Item × ℕ) Broken) (n : ℕ) → v ≡ Err (fault_at n Cut) → IsOpen v
-open_cut v n e = subst IsOpen (sym e) refl
-
 pub block_stays : (size : ℕ) (bytes more : List ℕ) → (IsOpen (block_verdict size bytes) → ⊥) → block_verdict size (bytes ++ more) ≡ block_verdict size bytes
 block_stays size bytes more shut =
     elim (block_case size bytes) [
-      | wrong w e ↦
-          judged_is size (bytes ++ more) ∙
-          ap (λ t. judged t (nat_lt (length (bytes ++ more)) (size + 5)) size (length (bytes ++ more)) (slice_index (bytes ++ more) 1) (body_of size (bytes ++ more)) (check_field size (bytes ++ more)))
-          (wrong_more bytes more (wrong_longer bytes w) ∙ w) ∙
-          judged_wrong (nat_lt (length (bytes ++ more)) (size + 5)) size (length (bytes ++ more)) (slice_index (bytes ++ more) 1) (body_of size (bytes ++ more)) (check_field size (bytes ++ more)) ∙
-          sym e
-      | cut w l e ↦ absurd (shut (open_cut (block_verdict size bytes) (length bytes) e))
+      | wrong w e ↦ rw (wrong_more bytes more (wrong_longer bytes w), w) refl
+      | cut w l e ↦ absurd (shut (rw e refl))
       | good w l m e ↦ block_more size bytes more l
       | bad w l m e ↦ block_more size bytes more l
     ]
@@ -171,19 +100,12 @@ cancel_stays (second ∷ bytes) more shut = refl
 
 stays_at : (bytes : List ℕ) → FirstCase bytes → (more : List ℕ) → (IsOpen (verdict_of bytes) → ⊥) → verdict_of (bytes ++ more) ≡ verdict_of bytes
 unfolding verdict_of
-stays_at bytes (nothing e) more shut = absurd (shut (open_cut (verdict_of bytes) 0 (ap verdict_of e)))
-stays_at bytes (eot rest e) more shut = ap (λ b. verdict_of (b ++ more)) e ∙ sym (ap verdict_of e)
-stays_at bytes (can rest e) more shut =
-    let P : List ℕ → Type 0 = λ b. IsOpen (verdict_of b) → ⊥ in
-    ap (λ b. verdict_of (b ++ more)) e ∙ cancel_stays rest more (subst P e shut) ∙ sym (ap verdict_of e)
-stays_at bytes (soh rest e) more shut =
-    let P : List ℕ → Type 0 = λ b. IsOpen (verdict_of b) → ⊥ in
-    ap (λ b. verdict_of (b ++ more)) e ∙ block_stays 128 (0x01 ∷ rest) more (subst P e shut) ∙ sym (ap verdict_of e)
-stays_at bytes (stx rest e) more shut =
-    let P : List ℕ → Type 0 = λ b. IsOpen (verdict_of b) → ⊥ in
-    ap (λ b. verdict_of (b ++ more)) e ∙ block_stays 1024 (0x02 ∷ rest) more (subst P e shut) ∙ sym (ap verdict_of e)
-stays_at bytes (other first rest e a b c d) more shut =
-    ap (λ b. verdict_of (b ++ more)) e ∙ other_verdict first (rest ++ more) a b c d ∙ sym (ap verdict_of e ∙ other_verdict first rest a b c d)
+stays_at bytes (nothing e) more shut = absurd (shut (rw e refl))
+stays_at bytes (eot rest e) more shut = rw e refl
+stays_at bytes (can rest e) more shut = rw e (cancel_stays rest more (rw e at shut))
+stays_at bytes (soh rest e) more shut = rw e (block_stays 128 (0x01 ∷ rest) more (rw e at shut))
+stays_at bytes (stx rest e) more shut = rw e (block_stays 1024 (0x02 ∷ rest) more (rw e at shut))
+stays_at bytes (other first rest e a b c d) more shut = rw (e, a, b, c, d) refl
 
 pub verdict_stays : (bytes more : List ℕ) → (IsOpen (verdict_of bytes) → ⊥) → verdict_of (bytes ++ more) ≡ verdict_of bytes
 verdict_stays bytes more shut = stays_at bytes (first_case bytes) more shut

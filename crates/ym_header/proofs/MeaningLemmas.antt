@@ -1,31 +1,21 @@
 -- Each body has one meaning.
-use Rattle.std.proofs.Common.{◌≡◌, ◌≢◌, ℕ, ◌≤◌, ◌⊎◌, ◌^◌, List, [], ◌∷◌, length, codes, All, sym, refl, ap, ◌∙◌, subst, inl, inr, arith}
-use Rattle.std.specs.Char.{digit_value}
+use Rattle.std.proofs.Common.{◌≡◌, ◌≢◌, ℕ, ◌≤◌, ◌⊎◌, ◌^◌, List, [], ◌∷◌, length, codes, All, refl, ap, inl, inr, arith}
 use Rattle.std.specs.Str.{is_utf8, bytes_eq}
 use Rattle.std.specs.Str.Parse.{AllDigits, digits_value}
 use Rattle.std.specs.Cmp.Lexicographic.{bytes_decides}
 use Rattle.std.proofs.lemmas.List.{nil_from_length}
 use Rattle.std.proofs.lemmas.List.Elements.{All-nil, All-cons, All-head, All-tail}
-use Rattle.std.proofs.lemmas.Bool.{cases_lt, cases_eq, cases_Bool, both_ways}
-use Rattle.ym_header.specs.declared.stamp.Stamp.{Stamp}
-use Rattle.ym_header.specs.declared.stamp.Stamp.TheVariants.{Nothing, Time, TimeMode}
+use Rattle.std.proofs.lemmas.Bool.{cases_lt, cases_Bool, both_ways}
+use Rattle.ym_header.proofs.Names.{Stamp, Nothing, Time, TimeMode, NameEmpty, NameLong, NameUnsafe, NoLength, LengthLarge, MOST_NAME_BYTES, Zero, File, End, HeaderParts, IsName, IsSafe, IsStamp, IsHeader, name_in, field_in, behind_field, HasField, HasNoField, ReadsStamp, Reads, ReadsHeader, IsFault}
 use Rattle.ym_header.specs.declared.fault.HeaderFault.{HeaderFault}
-use Rattle.ym_header.specs.declared.fault.HeaderFault.TheVariants.{NameEmpty, NameLong, NameUnsafe, NoLength, LengthLarge, Memory}
-use Rattle.ym_header.specs.declared.limits.TheConstants.{MOST_NAME_BYTES}
-use Rattle.ym_header.specs.declared.reading.Zero.{Zero}
-use Rattle.ym_header.specs.declared.reading.Zero.TheVariants.{File, End}
-use Rattle.ym_header.specs.Header.{HeaderParts, IsName, IsSafe, IsStamp, IsHeader}
-use Rattle.ym_header.specs.Split.{name_in, field_in, behind_field, HasField, HasNoField, ReadsStamp}
-use Rattle.ym_header.specs.Reading.{Reads, ReadsHeader, IsFault, length_in, behind_length}
+use Rattle.ym_header.specs.declared.fault.HeaderFault.TheVariants.{Memory}
+use Rattle.ym_header.specs.Reading.{length_in, behind_length}
 
 -- ---- Tests
 
 all_digits_or_not : (radix : ℕ) (ds : List ℕ) → AllDigits radix ds ⊎ ¬ AllDigits radix ds
 all_digits_or_not radix [] = inl tt
-all_digits_or_not radix (c ∷ cs) = elim (cases_lt (digit_value c) radix) [
-  | inl below ↦ elim (all_digits_or_not radix cs) [ inl rest ↦ inl (below, rest) | inr fails ↦ inr (λ h. fails h.1) ]
-  | inr above ↦ inr (λ h. absurd (omega (arith, h.0, above)))
-]
+all_digits_or_not radix (c ∷ cs) = grind (arith, all_digits_or_not radix cs)
 
 field_or_not : (bound : ℕ) (rest : List ℕ) → ((n : ℕ) × HasField bound rest n) ⊎ HasNoField bound rest
 field_or_not bound rest = elim (cases_lt 0 (length (field_in rest))) [
@@ -47,10 +37,7 @@ all_or_not P each (x ∷ xs) = elim (each x) [
 ]
 
 byte_or_not : (b : ℕ) → ((0x20 ≤ b) × (b ≢ 0x2f)) ⊎ ¬ ((0x20 ≤ b) × (b ≢ 0x2f))
-byte_or_not b = elim (cases_lt b 0x20) [
-  | inl low ↦ inr (λ h. absurd (omega (arith, h.0, low)))
-  | inr high ↦ elim (cases_eq b 0x2f) [ inl slash ↦ inr (λ h. h.1 slash) | inr other ↦ inl (high, other) ]
-]
+byte_or_not b = grind arith
 
 same_or_not : (xs ys : List ℕ) → (xs ≡ ys) ⊎ (xs ≡ ys → ⊥)
 same_or_not xs ys = elim (cases_Bool (bytes_eq xs ys)) [
@@ -117,24 +104,20 @@ one_stamp rest Nothing Nothing x y = refl
 one_stamp rest Nothing (Time b) x y = absurd (x b y.0)
 one_stamp rest Nothing (TimeMode b d) x y = absurd (x b y.0)
 one_stamp rest (Time a) Nothing x y = absurd (y a x.0)
-one_stamp rest (Time a) (Time b) x y = ap (λ n. Time n) (x.0.value ∙ sym y.0.value)
+one_stamp rest (Time a) (Time b) x y = rw (x.0.value, y.0.value) refl
 one_stamp rest (Time a) (TimeMode b d) x y = absurd (x.1 d y.1)
 one_stamp rest (TimeMode a c) Nothing x y = absurd (y a x.0)
 one_stamp rest (TimeMode a c) (Time b) x y = absurd (y.1 c x.1)
-one_stamp rest (TimeMode a c) (TimeMode b d) x y =
-    ap (λ n. TimeMode n c) (x.0.value ∙ sym y.0.value) ∙ ap (λ n. TimeMode b n) (x.1.value ∙ sym y.1.value)
+one_stamp rest (TimeMode a c) (TimeMode b d) x y = rw (x.0.value, y.0.value, x.1.value, y.1.value) refl
 
 one_header : (limit : ℕ) (body : List ℕ) (g h : HeaderParts) → ReadsHeader limit body g → ReadsHeader limit body h → g ≡ h
 one_header limit body g h x y =
-    let name : g.name ≡ h.name = x.name ∙ sym y.name in
-    let len : g.length ≡ h.length = x.length ∙ sym y.length in
     let stamp : g.stamp ≡ h.stamp = one_stamp (behind_length body) g.stamp h.stamp x.stamp y.stamp in
-    ap (λ (n : List ℕ). let p : HeaderParts = record { name = n; length = g.length; stamp = g.stamp } in p) name
-    ∙ ap (λ (n : ℕ). let p : HeaderParts = record { name = h.name; length = n; stamp = g.stamp } in p) len
-    ∙ ap (λ (s : Stamp). let p : HeaderParts = record { name = h.name; length = h.length; stamp = s } in p) stamp
+    let same : ◌≡◌ {A = HeaderParts} (record { name = g.name; length = g.length; stamp = g.stamp }) h = rw (x.name, y.name, x.length, y.length, stamp) refl in
+    same
 
 named : (limit : ℕ) (body : List ℕ) (h : HeaderParts) → ReadsHeader limit body h → IsName (name_in body)
-named limit body h x = subst (λ n. IsName n) x.name x.safe
+named limit body h x = rw x.name at x.safe
 
 pub one_value : (limit : ℕ) (body : List ℕ) (y z : Zero) → Reads limit body y → Reads limit body z → y ≡ z
 one_value limit body End End x y = refl
@@ -143,56 +126,33 @@ one_value limit body (File g) End x y = absurd (omega (arith, ap length y, (name
 one_value limit body (File g) (File h) x y = ap (λ p. File p) (one_header limit body g h x y)
 
 pub one_fault : (limit : ℕ) (body : List ℕ) (f g : HeaderFault) → IsFault limit body f → IsFault limit body g → f ≡ g
+one_fault limit body NameEmpty g x y = absurd x
+one_fault limit body Memory g x y = absurd x
+one_fault limit body f NameEmpty x y = absurd y
+one_fault limit body f Memory x y = absurd y
 one_fault limit body NameLong NameLong x y = refl
 one_fault limit body NameLong NameUnsafe x y = absurd (omega (arith, x, y.1))
-one_fault limit body NameLong NoLength x y = absurd (omega (arith, x, y.0.short))
-one_fault limit body NameLong LengthLarge x y = absurd (omega (arith, x, y.0.short))
-one_fault limit body NameLong NameEmpty x y = absurd y
-one_fault limit body NameLong Memory x y = absurd y
-one_fault limit body NameUnsafe NameLong x y = absurd (omega (arith, y, x.1))
+one_fault limit body NameLong g x y = absurd (omega (arith, x, y.0.short))
 one_fault limit body NameUnsafe NameUnsafe x y = refl
-one_fault limit body NameUnsafe NoLength x y = absurd (x.2 y.0.safe)
-one_fault limit body NameUnsafe LengthLarge x y = absurd (x.2 y.0.safe)
-one_fault limit body NameUnsafe NameEmpty x y = absurd y
-one_fault limit body NameUnsafe Memory x y = absurd y
-one_fault limit body NoLength NameLong x y = absurd (omega (arith, y, x.0.short))
-one_fault limit body NoLength NameUnsafe x y = absurd (y.2 x.0.safe)
+one_fault limit body NameUnsafe NameLong x y = absurd (omega (arith, y, x.1))
+one_fault limit body NameUnsafe g x y = absurd (x.2 y.0.safe)
+one_fault limit body f NameLong x y = absurd (omega (arith, y, x.0.short))
+one_fault limit body f NameUnsafe x y = absurd (y.2 x.0.safe)
 one_fault limit body NoLength NoLength x y = refl
 one_fault limit body NoLength LengthLarge x y = absurd (omega (arith, ap length x.1, y.1))
-one_fault limit body NoLength NameEmpty x y = absurd y
-one_fault limit body NoLength Memory x y = absurd y
-one_fault limit body LengthLarge NameLong x y = absurd (omega (arith, y, x.0.short))
-one_fault limit body LengthLarge NameUnsafe x y = absurd (y.2 x.0.safe)
 one_fault limit body LengthLarge NoLength x y = absurd (omega (arith, ap length y.1, x.1))
 one_fault limit body LengthLarge LengthLarge x y = refl
-one_fault limit body LengthLarge NameEmpty x y = absurd y
-one_fault limit body LengthLarge Memory x y = absurd y
-one_fault limit body NameEmpty NameLong x y = absurd x
-one_fault limit body NameEmpty NameUnsafe x y = absurd x
-one_fault limit body NameEmpty NoLength x y = absurd x
-one_fault limit body NameEmpty LengthLarge x y = absurd x
-one_fault limit body NameEmpty NameEmpty x y = absurd x
-one_fault limit body NameEmpty Memory x y = absurd x
-one_fault limit body Memory NameLong x y = absurd x
-one_fault limit body Memory NameUnsafe x y = absurd x
-one_fault limit body Memory NoLength x y = absurd x
-one_fault limit body Memory LengthLarge x y = absurd x
-one_fault limit body Memory NameEmpty x y = absurd x
-one_fault limit body Memory Memory x y = absurd x
 
 pub not_both : (limit : ℕ) (body : List ℕ) (z : Zero) (f : HeaderFault) → Reads limit body z → IsFault limit body f → ⊥
+not_both limit body z NameEmpty x y = y
+not_both limit body z Memory x y = y
 not_both limit body End NameLong x y = absurd (omega (arith, ap length x, y))
 not_both limit body End NameUnsafe x y = absurd (omega (arith, ap length x, y.0))
-not_both limit body End NoLength x y = absurd (omega (arith, ap length x, y.0.some))
-not_both limit body End LengthLarge x y = absurd (omega (arith, ap length x, y.0.some))
-not_both limit body End NameEmpty x y = y
-not_both limit body End Memory x y = y
+not_both limit body End f x y = absurd (omega (arith, ap length x, y.0.some))
 not_both limit body (File h) NameLong x y = absurd (omega (arith, (named limit body h x).short, y))
 not_both limit body (File h) NameUnsafe x y = y.2 (named limit body h x).safe
 not_both limit body (File h) NoLength x y = absurd (omega (arith, x.digits, ap length y.1))
 not_both limit body (File h) LengthLarge x y = absurd (omega (arith, x.length, x.fits, y.2))
-not_both limit body (File h) NameEmpty x y = y
-not_both limit body (File h) Memory x y = y
 
 pub wider : (narrow wide : ℕ) (body : List ℕ) (z : Zero) → narrow ≤ wide → Reads narrow body z → Reads wide body z
 wider narrow wide body End le x = x

@@ -1,5 +1,5 @@
 -- What is written is read.
-use Rattle.std.proofs.Common.{◌≡◌, ◌≢◌, ℕ, zero, suc, ◌+◌, ◌-◌, ◌<◌, ◌≤◌, ◌^◌, ◌⊎◌, inl, inr, Bool, true, false, not, List, [], ◌∷◌, ◌++◌, length, get_or, take, drop, All, decimal, replicate, sym, refl, ap, ◌∙◌, subst, arith}
+use Rattle.std.proofs.Common.{◌≡◌, ◌≢◌, ℕ, zero, suc, ◌-◌, ◌<◌, ◌≤◌, ◌^◌, ◌⊎◌, inl, inr, Bool, true, false, not, List, [], ◌∷◌, ◌++◌, length, get_or, take, All, decimal, replicate, sym, refl, ap, ◌∙◌, arith}
 use Rattle.std.specs.Char.{is_ascii_digit, digit_value}
 use Rattle.std.specs.List.{prefix_len}
 use Rattle.std.specs.Str.Parse.{AllDigits, IsNumeral, digits_value}
@@ -9,14 +9,9 @@ use Rattle.std.proofs.lemmas.Fmt.{digits_is_IsNumeral, decimal_is_IsNumeral, len
 use Rattle.std.proofs.lemmas.List.{append_assoc, take_at, drop_at, drop-drop, length-append, length-replicate}
 use Rattle.std.proofs.lemmas.List.Elements.{All-head, All-tail}
 use Rattle.std.proofs.lemmas.Str.Parse.{digit_from_value}
-use Rattle.ym_header.specs.declared.stamp.Stamp.{Stamp}
-use Rattle.ym_header.specs.declared.stamp.Stamp.TheVariants.{Nothing, Time, TimeMode}
-use Rattle.ym_header.specs.declared.reading.Zero.{Zero}
-use Rattle.ym_header.specs.declared.reading.Zero.TheVariants.{File}
-use Rattle.ym_header.specs.Header.{HeaderParts, IsName, IsSafe, IsStamp, IsHeader, length_limit}
-use Rattle.ym_header.specs.Split.{is_zero, ends_field, name_in, behind_name, digits_in, behind_digits, field_in, behind_field, HasField, HasNoField, ReadsStamp}
-use Rattle.ym_header.specs.Reading.{Reads, ReadsHeader}
-use Rattle.ym_header.specs.Text.{octal, field, stamp_text, fields, text, size_for, padded}
+use Rattle.ym_header.proofs.Names.{Stamp, Nothing, Time, TimeMode, Zero, File, HeaderParts, IsName, IsSafe, IsStamp, IsHeader, length_limit, name_in, field_in, behind_field, HasField, HasNoField, ReadsStamp, Reads, ReadsHeader, octal, text}
+use Rattle.ym_header.specs.Split.{is_zero, ends_field, behind_name, digits_in, behind_digits}
+use Rattle.ym_header.specs.Text.{field, stamp_text, fields, size_for, padded}
 use Rattle.ym_header.proofs.OctalLemmas.{octal_short}
 use Rattle.ym_header.proofs.MeaningLemmas.{one_value}
 
@@ -48,42 +43,34 @@ name_at name rest safe = front_at (λ b. not (is_zero b)) name (0 ∷ rest) (nam
 
 behind_name_at : (name rest : List ℕ) → IsSafe name → behind_name (name ++ 0 ∷ rest) ≡ rest
 behind_name_at name rest safe =
-    ap (λ n. drop (n + 1) (name ++ 0 ∷ rest)) (run_at (λ b. not (is_zero b)) name (0 ∷ rest) (name_passes name safe.bytes) refl)
-    ∙ sym (drop-drop 1 (length name) (name ++ 0 ∷ rest))
-    ∙ ap (λ bs. drop 1 bs) (drop_at name (0 ∷ rest) (length name) refl)
+    let run = run_at (λ b. not (is_zero b)) name (0 ∷ rest) (name_passes name safe.bytes) refl in
+    rw (run, sym (drop-drop 1 (length name) (name ++ 0 ∷ rest)), drop_at name (0 ∷ rest) (length name) refl) refl
 
 -- ---- The length
 
 digit_passes : (c : ℕ) → digit_value c < 10 → is_ascii_digit c ≡ true
 digit_passes c h = let range = digit_from_value c h in grind (arith, nat_tests)
 
-digits_pass : (ds : List ℕ) → AllDigits 10 ds → Passes is_ascii_digit ds
-digits_pass [] h = tt
-digits_pass (c ∷ cs) h = (digit_passes c h.0, digits_pass cs h.1)
+digits_pass : (p : ℕ → Bool) (radix : ℕ) → ((c : ℕ) → digit_value c < radix → p c ≡ true) → (ds : List ℕ) → AllDigits radix ds → Passes p ds
+digits_pass p radix each [] h = tt
+digits_pass p radix each (c ∷ cs) h = (each c h.0, digits_pass p radix each cs h.1)
 
 digits_at : (ds rest : List ℕ) → AllDigits 10 ds → prefix_len is_ascii_digit rest ≡ 0 → digits_in (ds ++ rest) ≡ ds
-digits_at ds rest h e = front_at is_ascii_digit ds rest (digits_pass ds h) e
+digits_at ds rest h e = front_at is_ascii_digit ds rest (digits_pass is_ascii_digit 10 digit_passes ds h) e
 
 behind_digits_at : (ds rest : List ℕ) → AllDigits 10 ds → prefix_len is_ascii_digit rest ≡ 0 → behind_digits (ds ++ rest) ≡ rest
-behind_digits_at ds rest h e = ap (λ front. drop (length front) (ds ++ rest)) (digits_at ds rest h e) ∙ drop_at ds rest (length ds) refl
+behind_digits_at ds rest h e = rw (digits_at ds rest h e, drop_at ds rest (length ds) refl) refl
 
 -- ---- The fields
 
 octal_passes : (c : ℕ) → digit_value c < 8 → not (ends_field c) ≡ true
 octal_passes c h = let range = digit_from_value c (omega (arith, h)) in grind (arith, nat_tests)
 
-octals_pass : (ds : List ℕ) → AllDigits 8 ds → Passes (λ c. not (ends_field c)) ds
-octals_pass [] h = tt
-octals_pass (c ∷ cs) h = (octal_passes c h.0, octals_pass cs h.1)
-
 field_at : (ds rest : List ℕ) → AllDigits 8 ds → prefix_len (λ c. not (ends_field c)) rest ≡ 0 → field_in (0x20 ∷ (ds ++ rest)) ≡ ds
-field_at ds rest h e = front_at (λ c. not (ends_field c)) ds rest (octals_pass ds h) e
+field_at ds rest h e = front_at (λ c. not (ends_field c)) ds rest (digits_pass (λ c. not (ends_field c)) 8 octal_passes ds h) e
 
 behind_field_at : (ds rest : List ℕ) → AllDigits 8 ds → prefix_len (λ c. not (ends_field c)) rest ≡ 0 → behind_field (0x20 ∷ (ds ++ rest)) ≡ rest
-behind_field_at ds rest h e =
-    ap (λ front. drop (1 + length front) (0x20 ∷ (ds ++ rest))) (field_at ds rest h e)
-    ∙ sym (drop-drop (length ds) 1 (0x20 ∷ (ds ++ rest)))
-    ∙ drop_at ds rest (length ds) refl
+behind_field_at ds rest h e = rw (field_at ds rest h e, sym (drop-drop (length ds) 1 (0x20 ∷ (ds ++ rest))), drop_at ds rest (length ds) refl) refl
 
 octal_is : (n : ℕ) → n < 2 ^ 64 → IsNumeral 8 (octal n) × (digits_value 8 (octal n) ≡ n)
 octal_is n h = digits_is_IsNumeral 8 false (omega arith) (omega arith) n (omega (arith, h))
@@ -92,11 +79,7 @@ has_field : (bound n : ℕ) (rest : List ℕ) → n < 2 ^ 64 → n < bound → p
 has_field bound n rest h fits e =
     let o = octal_is n h in
     let at = field_at (octal n) rest o.0.1 e in
-    record {
-      numeral = subst (λ ds. IsNumeral 8 ds) (sym at) o.0;
-      value = sym o.1 ∙ ap (λ ds. digits_value 8 ds) (sym at);
-      fits = fits;
-    }
+    record { numeral = rw at o.0; value = rw (at, o.1) refl; fits = fits }
 
 zeros_stop : (n : ℕ) → prefix_len (λ c. not (ends_field c)) (replicate n 0) ≡ 0
 zeros_stop zero = refl
@@ -108,19 +91,14 @@ zeros_have_none bound (suc n) m h = absurd (omega (arith, h.numeral.0))
 
 stamp_at : (s : Stamp) (n : ℕ) → IsStamp s → ReadsStamp (stamp_text s ++ replicate n 0) s
 stamp_at Nothing n fits = zeros_have_none (2 ^ 64) n
-stamp_at (Time time) n fits = (
-  has_field (2 ^ 64) time (replicate n 0) fits fits (zeros_stop n),
-  subst (λ rest. HasNoField (2 ^ 32) rest) (sym (behind_field_at (octal time) (replicate n 0) (octal_is time fits).0.1 (zeros_stop n)))
-      (zeros_have_none (2 ^ 32) n),
-)
+stamp_at (Time time) n fits =
+    let behind = behind_field_at (octal time) (replicate n 0) (octal_is time fits).0.1 (zeros_stop n) in
+    (has_field (2 ^ 64) time (replicate n 0) fits fits (zeros_stop n), rw behind (zeros_have_none (2 ^ 32) n))
 stamp_at (TimeMode time mode) n fits =
     let rest = 0x20 ∷ (octal mode ++ replicate n 0) in
-    let regrouped : stamp_text (TimeMode time mode) ++ replicate n 0 ≡ 0x20 ∷ (octal time ++ rest) =
-    ap (λ bs. 0x20 ∷ bs) (append_assoc (octal time) (0x20 ∷ octal mode) (replicate n 0)) in
     let first : HasField (2 ^ 64) (0x20 ∷ (octal time ++ rest)) time = has_field (2 ^ 64) time rest fits.0 fits.0 refl in
     let second : HasField (2 ^ 32) rest mode = has_field (2 ^ 32) mode (replicate n 0) (omega (arith, fits.1)) fits.1 (zeros_stop n) in
-    subst (λ bs. ReadsStamp bs (TimeMode time mode)) (sym regrouped)
-    (first, subst (λ bs. HasField (2 ^ 32) bs mode) (sym (behind_field_at (octal time) rest (octal_is time fits.0).0.1 refl)) second)
+    rw (append_assoc (octal time) (0x20 ∷ octal mode) (replicate n 0)) (first, rw (behind_field_at (octal time) rest (octal_is time fits.0).0.1 refl) second)
 
 -- no digit stands behind the length
 no_digit : (s : Stamp) (n : ℕ) → prefix_len is_ascii_digit (stamp_text s ++ replicate n 0) ≡ 0
@@ -138,17 +116,15 @@ body_read limit n h room ok =
     let rest = decimal h.length ++ behind in
     let numeral = decimal_is_IsNumeral h.length room in
     let after : behind_name (h.name ++ 0 ∷ rest) ≡ rest = behind_name_at h.name rest ok.name.safe in
-    let run : digits_in (behind_name (h.name ++ 0 ∷ rest)) ≡ decimal h.length =
-    ap digits_in after ∙ digits_at (decimal h.length) behind numeral.0.1 (no_digit h.stamp n) in
-    let left : behind_digits (behind_name (h.name ++ 0 ∷ rest)) ≡ behind =
-    ap behind_digits after ∙ behind_digits_at (decimal h.length) behind numeral.0.1 (no_digit h.stamp n) in
+    let run : digits_in (behind_name (h.name ++ 0 ∷ rest)) ≡ decimal h.length = rw after (digits_at (decimal h.length) behind numeral.0.1 (no_digit h.stamp n)) in
+    let left : behind_digits (behind_name (h.name ++ 0 ∷ rest)) ≡ behind = rw after (behind_digits_at (decimal h.length) behind numeral.0.1 (no_digit h.stamp n)) in
     record {
       name = sym (name_at h.name rest ok.name.safe);
       safe = ok.name;
-      digits = subst (λ ds. 0 < length ds) (sym run) numeral.0.0;
-      length = sym numeral.1 ∙ ap (λ ds. digits_value 10 ds) (sym run);
+      digits = rw run numeral.0.0;
+      length = rw (run, numeral.1) refl;
       fits = ok.length;
-      stamp = subst (λ bs. ReadsStamp bs h.stamp) (sym left) (stamp_at h.stamp n ok.stamp);
+      stamp = rw left (stamp_at h.stamp n ok.stamp);
     }
 
 regrouped_text : (name dec stamp pad : List ℕ) → name ++ (0 ∷ []) ++ dec ++ stamp ++ pad ≡ name ++ 0 ∷ (dec ++ (stamp ++ pad))
@@ -158,7 +134,7 @@ pub text_read : (limit : ℕ) (h : HeaderParts) → limit < 2 ^ 64 → IsHeader 
 text_read limit h small ok =
     let n = size_for (length (fields h)) - length (fields h) in
     let room : h.length < 2 ^ 64 = omega (arith, ok.length, small) in
-    subst (λ body. ReadsHeader limit body h) (sym (regrouped_text h.name (decimal h.length) (stamp_text h.stamp) (replicate n 0))) (body_read limit n h room ok)
+    rw (regrouped_text h.name (decimal h.length) (stamp_text h.stamp) (replicate n 0)) (body_read limit n h room ok)
 
 pub text_read_alone : (limit : ℕ) (h : HeaderParts) (z : Zero) → limit < 2 ^ 64 → IsHeader limit h → Reads limit (text h) z → z ≡ File h
 text_read_alone limit h z small ok reads = one_value limit (text h) z (File h) reads (text_read limit h small ok)
@@ -171,7 +147,7 @@ pub first_byte : (h : HeaderParts) → IsName h.name → get_or (text h) 0 0 ≢
 first_byte h ok =
     let pad = replicate (size_for (length (fields h)) - length (fields h)) 0 in
     let rest = 0 ∷ (decimal h.length ++ (stamp_text h.stamp ++ pad)) in
-    subst (λ body. get_or body 0 0 ≢ 0) (sym (regrouped_text h.name (decimal h.length) (stamp_text h.stamp) pad)) (first_of_name h.name rest ok)
+    rw (regrouped_text h.name (decimal h.length) (stamp_text h.stamp) pad) (first_of_name h.name rest ok)
 
 -- ---- The size
 

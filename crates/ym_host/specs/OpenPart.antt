@@ -1,5 +1,5 @@
 -- The file that a sink in a folder takes at present.
-use Rattle.std.specs.Prelude.{◌≡◌, ℕ, ◌<◌, ◌≤◌, Option, None, Some}
+use Rattle.std.specs.Prelude.{ℕ, ◌<◌, ◌≤◌, Option, None, Some}
 use Rattle.ym_header.specs.Header.{HeaderParts, length_limit}
 use Rattle.ym_host.specs.declared.dir_sink.OpenPart.{OpenPart}
 

@@ -1,5 +1,5 @@
 -- A batch, file by file.
-use Rattle.std.proofs.Common.{◌≡◌, ◌+◌, ◌<◌, ◌∙◌, ◌++◌, ℕ, List, [], ◌∷◌, length, take, slice_index_or, refl, sym, ap, ap₂, arith}
+use Rattle.std.proofs.Common.{◌≡◌, ◌+◌, ◌<◌, ◌∙◌, ◌++◌, ℕ, List, [], ◌∷◌, length, take, slice_index_or, refl, sym, ap, arith}
 use Rattle.ym_file.specs.declared.plan.Shape.{Shape}
 use Rattle.std.proofs.Common.{below_more, inl, inr, Result, Ok, Err}
 use Rattle.std.specs.Result.{IsErrAnd}
@@ -23,21 +23,22 @@ pub record LookedAt (count : ℕ) (paths : List (List ℕ)) (files : List FilePa
 abbrev is_plain : FileParts → Type 0
 is_plain file = file.header.stamp ≡ Nothing
 
-pub looked_at_none : (paths : List (List ℕ)) → LookedAt 0 paths []
-looked_at_none paths = record { batch = record { names = refl; stamps = All-nil is_plain }; named = λ j lt. absurd (omega arith) }
-
 -- one more path
 pub looked_at_more : (count : ℕ) (paths : List (List ℕ)) (files : List FileParts) (path : List ℕ) (file : FileParts) → LookedAt count paths files
     → count < length paths → path ≡ slice_index_or paths count [] → file.header.name ≡ last_part path → file.header.stamp ≡ Nothing → IsName (last_part path)
     → LookedAt (count + 1) paths (files ++ file ∷ [])
 looked_at_more count paths files path file h within is name stamp fits =
-    let here : slice_index_or paths count [] ≡ path = sym is in
-    let named : IsName (last_part (slice_index_or paths count [])) = rw here fits in
+    let named : IsName (last_part (slice_index_or paths count [])) = rw (← is) fits in
     record {
       batch = record {
-        names = rw (take_more paths count [] within) (map-append (λ (f : FileParts). f.header.name) files (file ∷ [])
-            ∙ ap₂ (λ xs ys. xs ++ ys) h.batch.names (ap (λ n. n ∷ []) (name ∙ ap last_part is))
-            ∙ sym (map-append last_part (take count paths) (slice_index_or paths count [] ∷ [])));
+        names = rw (
+          take_more paths count [] within,
+          map-append (λ (f : FileParts). f.header.name) files (file ∷ []),
+          map-append last_part (take count paths) (slice_index_or paths count [] ∷ []),
+          h.batch.names,
+          name,
+          is,
+        ) refl;
         stamps = All-append is_plain files (file ∷ []) h.batch.stamps (All-cons is_plain file [] stamp (All-nil is_plain));
       };
       named = below_more _ _ h.named named;

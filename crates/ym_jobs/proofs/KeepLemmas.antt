@@ -1,5 +1,5 @@
 -- How the sessions of `receive --keep` end.
-use Rattle.std.proofs.Common.{◌≡◌, ◌≤◌, ◌+◌, ◌-◌, ◌^◌, inl, inr, ℕ, Result, Ok, Err, refl, sym, subst}
+use Rattle.std.proofs.Common.{◌≡◌, ◌≤◌, ◌+◌, ◌-◌, ◌^◌, inl, inr, ℕ, Result, Ok, Err, refl}
 use Rattle.std.specs.Result.{IsErrAnd}
 use Rattle.ym_file.specs.Counts.{Rose}
 use Rattle.ym_machine.specs.declared.confirm.Confirm.{Confirm}
@@ -10,19 +10,13 @@ use Rattle.ym_jobs.specs.Status.{IsHostFault}
 use Rattle.ym_jobs.specs.declared.command_fault.CommandFault.{CommandFault}
 use Rattle.ym_jobs.specs.declared.command_fault.CommandFault.TheVariants as fault
 
-counted : (confirm : Confirm) (taken count : ℕ) (out err new_out new_err : Page) → taken ≡ count → Sessions confirm count out err new_out new_err
-    → Sessions confirm taken out err new_out new_err
-counted confirm taken count out err new_out new_err same sessions =
-    let P : ℕ → Type 0 = λ n. Sessions confirm n out err new_out new_err in
-    subst P (sym same) sessions
-
 -- no connection could be taken
 pub none_comes : (confirm : Confirm) (taken count failed new_failed : ℕ) (out err : Page) (answer : Result ℕ CommandFault) (new_out new_err : Page)
     → IsErrAnd answer (λ why. IsHostFault why) → taken ≡ count → Rose failed new_failed → Sessions confirm count out err new_out new_err
     → KeepsOn confirm taken failed new_failed out err answer new_out new_err
 none_comes confirm taken count failed new_failed out err (Ok status) new_out new_err host same rose sessions = absurd host
 none_comes confirm taken count failed new_failed out err (Err why) new_out new_err host same rose sessions =
-    inl (record { why = why; of_host = host; answer_is = refl; rose = rose; sessions = counted confirm taken count out err new_out new_err same sessions })
+    inl (record { why = why; of_host = host; answer_is = refl; rose = rose; sessions = rw same sessions })
 
 -- the fault of a session could not be told
 pub cannot_tell : (confirm : Confirm) (taken count failed new_failed : ℕ) (out err between between_err : Page) (untold : StreamFault) (answer : Result ℕ CommandFault)
@@ -45,4 +39,4 @@ cannot_tell confirm taken count failed new_failed out err between between_err un
 pub are_all : (confirm : Confirm) (taken count failed new_failed : ℕ) (out err new_out new_err : Page) → taken ≡ count → 2 ^ 64 - 1 ≤ count
     → Sessions confirm count out err new_out new_err → KeepsOn confirm taken failed new_failed out err (Ok 0) new_out new_err
 are_all confirm taken count failed new_failed out err new_out new_err same all sessions =
-    inr (inr (record { all = rw same all; sessions = counted confirm taken count out err new_out new_err same sessions; answer_is = refl }))
+    inr (inr (record { all = rw same all; sessions = rw same sessions; answer_is = refl }))

@@ -1,5 +1,5 @@
 -- Lines printed one after another.
-use Rattle.std.proofs.Common.{◌≡◌, ◌∙◌, ◌++◌, ℕ, List, [], ◌∷◌, length, Option, Some, None, sym, ap, ap₂, subst, append_assoc, append-nil}
+use Rattle.std.proofs.Common.{◌≡◌, ◌∙◌, ◌++◌, ℕ, List, [], ◌∷◌, length, sym, ap, append_assoc, append-nil}
 use Rattle.std.proofs.Common.{Result, Ok, Err, OnOk, OnErr}
 use Rattle.std.specs.Io.KnownBytes.{Appends}
 use Rattle.ym_file.specs.Counts.{Rose}
@@ -19,34 +19,16 @@ use Rattle.ym_jobs.specs.Receiving.{TellsReceiver, receive_gives}
 use Rattle.ym_jobs.specs.Sending.{TellsSender, send_gives}
 use Rattle.ym_jobs.specs.declared.command_fault.CommandFault.{CommandFault}
 
--- what goes there in two steps
-pub both : (a b c : Option (List ℕ)) (x y : List ℕ) → Appends a b x → Appends b c y → Appends a c (x ++ y)
-both None b c x y h i = tt
-both (Some xs) None c x y h i = absurd h
-both (Some xs) (Some ys) None x y h i = absurd i
-both (Some xs) (Some ys) (Some zs) x y h i = i ∙ ap (λ ws. ws ++ y) h ∙ append_assoc xs x y
-
--- nothing goes there
-pub none : (a : Option (List ℕ)) → Appends a a []
-none None = tt
-none (Some xs) = sym (append-nil xs)
-
 -- what a write of a line says
 pub printed_line : (printed : Result Unit StreamFault) (old new : Page) (text : List ℕ) → OnOk printed (Appends old.holds new.holds text)
     → OnOk printed (new.failed ≡ old.failed) → OnErr printed (Rose old.failed new.failed) → Prints old text printed new
 printed_line (Ok done) old new text bytes same rose = (bytes, same)
 printed_line (Err fault) old new text bytes same rose = rose
 
--- a text and then another one
-pub printed_both : (printed : Result Unit StreamFault) (old between new : Page) (x y : List ℕ) → Prints old x (Ok tt) between → Prints between y printed new
-    → Prints old (x ++ y) printed new
-printed_both (Ok done) old between new x y h i = (both old.holds between.holds new.holds x y h.0 i.0, i.1 ∙ h.1)
-printed_both (Err fault) old between new x y h i = rw h.1 at i
-
 -- the lines of one more file
 pub one_more : (files : List HeaderParts) (h : HeaderParts) → file_lines (files ++ h ∷ []) ≡ file_lines files ++ line (file_words h)
 one_more [] h = append-nil (line (file_words h))
-one_more (x ∷ files) h = ap (λ xs. line (file_words x) ++ xs) (one_more files h) ∙ sym (append_assoc (line (file_words x)) (file_lines files) (line (file_words h)))
+one_more (x ∷ files) h = rw (one_more files h) (sym (append_assoc (line (file_words x)) (file_lines files) (line (file_words h))))
 
 -- of a line whose numbers are known
 pub tells_sender : (ended : Result Unit EndFault) (s : SenderParts) (done : ℕ) (state : SendState) (printed : Result Unit StreamFault) (old new : Page) (answer : Result ℕ CommandFault)
@@ -54,10 +36,9 @@ pub tells_sender : (ended : Result Unit EndFault) (s : SenderParts) (done : ℕ)
     → OnOk printed (Appends old.holds new.holds (sender_line done state)) → OnOk printed (new.failed ≡ old.failed) → OnErr printed (Rose old.failed new.failed)
     → answer ≡ send_gives ended printed state → TellsSender ended s old answer new
 tells_sender ended s done state printed old new answer d e bytes same rose is =
-    let P : List ℕ → Type 0 = λ text. Prints old text printed new in
     record {
       printed = printed;
-      prints = subst P (ap₂ sender_line d e) (printed_line printed old new (sender_line done state) bytes same rose);
+      prints = rw (← d, ← e) (printed_line printed old new (sender_line done state) bytes same rose);
       answer_is = is ∙ ap (send_gives ended printed) e;
     }
 
@@ -66,9 +47,8 @@ pub tells_receiver : (ended : Result Unit EndFault) (closed : Result Unit SinkFa
     (printed : Result Unit StreamFault) (old new : Page) (answer : Result ℕ CommandFault) → headers ≡ kept.headers → kept.headers ≡ r.kept.headers → state ≡ r.receiver.state
     → Prints old (receiver_lines headers state) printed new → answer ≡ receive_gives ended closed printed state → TellsReceiver ended closed r old answer new
 tells_receiver ended closed r kept headers state printed old new answer h i e prints is =
-    let P : List ℕ → Type 0 = λ text. Prints old text printed new in
     record {
       printed = printed;
-      prints = subst P (ap₂ receiver_lines (h ∙ i) e) prints;
+      prints = rw (← i, ← h, ← e) prints;
       answer_is = is ∙ ap (receive_gives ended closed printed) e;
     }

@@ -1,5 +1,5 @@
 -- What the calls of the engines say against any peer.
-use Rattle.std.proofs.Common.{◌≡◌, ◌∙◌, ℕ, List, length, refl, sym, ap, subst, Result}
+use Rattle.std.proofs.Common.{◌≡◌, ◌∙◌, ℕ, List, length, refl, sym, ap, Result}
 use Rattle.std.proofs.lemmas.List.{length-map}
 use Rattle.ym_core.specs.Place.{done_at}
 use Rattle.ym_core.specs.Reading.{controls_in}
@@ -7,12 +7,12 @@ use Rattle.ym_core.specs.Standing.{hears}
 use Rattle.ym_link.specs.Course.{SenderHears, sender_none, sender_more}
 use Rattle.ym_link.specs.Port.{Tape}
 use Rattle.ym_link.specs.Sender.{SenderParts, Hears, counts}
-use Rattle.ym_link.specs.SendOver.{Outcome, Sends, ended, unwritten, unread, heard}
+use Rattle.ym_link.specs.SendOver.{Outcome, Sends, heard}
 use Rattle.ym_file.specs.SourceFile.{blocks_of}
 use Rattle.ym_link.proofs.Files.{filled_counts}
 use Rattle.ym_pair.specs.AnyPeer.{AreAcknowledged, files_places}
 use Rattle.ym_link.specs.declared.end_fault.EndFault.{EndFault}
-use Rattle.ym_pair.specs.Logs.{Spoke, spoke_in, spoke_along}
+use Rattle.ym_pair.specs.Logs.{spoke_in, spoke_along}
 use Rattle.ym_jobs.specs.Sending.{AcknowledgesFiles}
 
 -- A batch has as many files as before.
@@ -27,27 +27,16 @@ count-along s deliveries progress new (sender_more _ before steps between bytes 
     same-count between new bytes gives ∙ count-along s before steps between hears
 
 count-in : (s : SenderParts) (t : Tape) (out : Outcome) → Sends s t out → length out.sender.files ≡ length s.files
-count-in s t out (ended _ _ over) = refl
-count-in s t out (unwritten _ _ is some) = refl
-count-in s t out (unread _ _ f is on none) = refl
 count-in s t out (heard _ _ bytes new _ is on some gives later) = count-in new _ out later ∙ same-count s new bytes gives
+count-in s t out run = refl
 
 -- so that the files that are done are counted among those
-acknowledges : (old new : SenderParts) (spoke : List Spoke) → length new.files ≡ length old.files
-    → AreAcknowledged old.shape old.files (files_places (counts old) (done_at (length old.files) new.standing.place)) spoke → AcknowledgesFiles old new spoke
-acknowledges old new spoke same all =
-    let P : ℕ → Type 0 = λ n. AreAcknowledged old.shape old.files (files_places (counts old) (done_at n new.standing.place)) spoke in
-    subst P (sym same) all
-
 pub acknowledges-told : (old new : SenderParts) (t u : Tape) (answer : Result Unit EndFault) (run : Sends old t (record { sender = new; tape = u; answer = answer }))
     → AreAcknowledged old.shape old.files (files_places (counts old) (done_at (length old.files) new.standing.place)) (spoke_in old t (record { sender = new; tape = u; answer = answer }) run)
     → AcknowledgesFiles old new (spoke_in old t (record { sender = new; tape = u; answer = answer }) run)
-acknowledges-told old new t u answer run all =
-    let out : Outcome = record { sender = new; tape = u; answer = answer } in
-    acknowledges old new (spoke_in old t out run) (count-in old t out run) all
+acknowledges-told old new t u answer run all = rw (count-in old t (record { sender = new; tape = u; answer = answer }) run) all
 
 pub acknowledges-along : (old new : SenderParts) (deliveries : List (List ℕ)) (progress : ℕ) (hears : SenderHears old deliveries progress new)
     → AreAcknowledged old.shape old.files (files_places (counts old) (done_at (length old.files) new.standing.place)) (spoke_along old deliveries progress new hears)
     → AcknowledgesFiles old new (spoke_along old deliveries progress new hears)
-acknowledges-along old new deliveries progress hears all =
-    acknowledges old new (spoke_along old deliveries progress new hears) (count-along old deliveries progress new hears) all
+acknowledges-along old new deliveries progress hears all = rw (count-along old deliveries progress new hears) all

@@ -1,5 +1,5 @@
 -- Sessions of `receive`.
-use Rattle.std.proofs.Common.{◌≡◌, ◌∙◌, inl, inr, ℕ, Result, sym, ap, subst}
+use Rattle.std.proofs.Common.{◌≡◌, ◌∙◌, ℕ, Result, sym, ap}
 use Rattle.ym_file.specs.Kept.{IsNew}
 use Rattle.ym_file.specs.declared.sink.SinkFault.{SinkFault}
 use Rattle.ym_machine.specs.declared.confirm.Confirm.{Confirm}
@@ -7,11 +7,9 @@ use Rattle.ym_core.specs.Receiver.{Receiver, new_receiver}
 use Rattle.ym_link.specs.Port.{Tape}
 use Rattle.ym_link.specs.ReceiverInto.{ReceiverParts}
 use Rattle.ym_link.specs.declared.end_fault.EndFault.{EndFault}
-use Rattle.ym_pair.specs.AnyPeer.{CommitsTheHeard}
 use Rattle.ym_jobs.specs.Page.{Page}
-use Rattle.ym_jobs.specs.Receiving.{IsNewReceiver, ReceiverRuns, TellsReceiver, ReceivesBatch, SessionGives, ReceiveGives}
+use Rattle.ym_jobs.specs.Receiving.{IsNewReceiver, ReceiverRuns, TellsReceiver, ReceivesBatch}
 use Rattle.ym_jobs.specs.declared.command_fault.CommandFault.{CommandFault}
-use Rattle.ym_jobs.specs.declared.command_fault.CommandFault.TheVariants as fault
 
 -- a new receiver ran
 pub batch : (confirm : Confirm) (old new : ReceiverParts) (before after : Tape → Type 0) (failed new_failed : ℕ) (ended : Result Unit EndFault) (closed : Result Unit SinkFault)
@@ -20,7 +18,6 @@ pub batch : (confirm : Confirm) (old new : ReceiverParts) (before after : Tape �
 batch confirm old new before after failed new_failed ended closed out answer new_out runs tells begins into_new =
     let same : old.receiver.confirm ≡ confirm = ap (λ (r : Receiver). r.confirm) begins in
     let is_new : IsNewReceiver old = record { begins = begins ∙ ap new_receiver (sym same); into_new = into_new } in
-    let P : Confirm → Type 0 = λ c. CommitsTheHeard c runs.course.0 new.kept in
     record {
       old = old;
       new = new;
@@ -28,12 +25,7 @@ batch confirm old new before after failed new_failed ended closed out answer new
       closed = closed;
       begins = begins;
       into_new = into_new;
-      course = (runs.course.0, runs.course.1, subst P same (runs.course.2 is_new));
+      course = (runs.course.0, runs.course.1, rw same at (runs.course.2 is_new));
       over = runs.over;
       tells = tells;
     }
-
--- a session is what `receive` does
-pub of_session : (confirm : Confirm) (out : Page) (answer : Result ℕ CommandFault) (new_out : Page) → SessionGives confirm out answer new_out → ReceiveGives confirm out answer new_out
-of_session confirm out answer new_out (inl none) = inl (record { why = fault.Memory; refused = tt; answer_is = none.0; out_stays = none.1 })
-of_session confirm out answer new_out (inr received) = inr received

@@ -1,11 +1,11 @@
 //! `receive`, from one connection or, with `--keep`, from one after another.
 
 ghost use Rattle.std.specs.Prelude.{◌≡◌};
-ghost use Rattle.ym_jobs.specs.Keeping.{HoldsSession, KeepsOn, KeepGives, ReceivesSo};
+ghost use Rattle.ym_jobs.specs.Keeping.{HoldsSession, KeepsOn, ReceivesSo};
 
 use crate::command_fault::CommandFault;
 use crate::connections::{Connections, listen, take_told};
-use crate::receiving::{Order, look_at, receive, receive_from};
+use crate::receiving::{Order, look_at, receive_from};
 use std::alloc::Global;
 use std::fs::{File, Files};
 use std::io::Write;
@@ -67,29 +67,8 @@ where
     Ok(0)
 }
 
-/// Receives files into a folder from one connection after another to 127.0.0.1 at this port, as [`receive_each`] does.
-fn receive_on<R, O, F, E>(
-    rt: &R,
-    alloc: Global,
-    port: u16,
-    order: Order<'_>,
-    out: &mut O,
-    err: &mut F,
-    teller: &mut Teller<E>,
-) -> Result<u8, CommandFault>
-where
-    R: Files<File = File> + Net<Listener = TcpListener, Stream = TcpStream> + Clock,
-    O: Output,
-    F: Output,
-    E: Write + Drop,
-    ensures { KeepGives order.entry.confirm (record { holds = O.contents out.old; failed = O.failures out.old }) (record { holds = F.contents err.old; failed = F.failures err.old }) result (record { holds = O.contents out.new; failed = O.failures out.new }) (record { holds = F.contents err.new; failed = F.failures err.new }) }
-{
-    look_at(rt, alloc, order.dir, teller)?;
-    let mut connections = listen(rt, port, teller)?;
-    receive_each(rt, alloc, &mut connections, order, out, err, teller)
-}
-
-/// Receives as it is asked for: from one connection, or from one after another.
+/// Receives files into a folder over 127.0.0.1 at this port as it is asked for: from whoever connects first, or from one connection after another, as
+/// [`receive_each`] does.
 pub fn receive_as_asked<R, O, F, E>(
     rt: &R,
     alloc: Global,
@@ -106,9 +85,12 @@ where
     E: Write + Drop,
     ensures { ReceivesSo order.entry.keep order.entry.confirm (record { holds = O.contents out.old; failed = O.failures out.old }) (record { holds = F.contents err.old; failed = F.failures err.old }) result (record { holds = O.contents out.new; failed = O.failures out.new }) (record { holds = F.contents err.new; failed = F.failures err.new }) }
 {
+    look_at(rt, alloc, order.dir, teller)?;
+    let mut connections = listen(rt, port, teller)?;
     if order.keep {
-        receive_on(rt, alloc, port, order, out, err, teller)
+        receive_each(rt, alloc, &mut connections, order, out, err, teller)
     } else {
-        receive(rt, alloc, port, order, out, teller)
+        let stream = take_told(&mut connections, teller)?;
+        receive_from(rt, alloc, stream, order, out, teller)
     }
 }

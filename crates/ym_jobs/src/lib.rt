@@ -15,7 +15,7 @@ pub use command_fault::CommandFault;
 pub use connections::Connections;
 pub use keeping::{receive_as_asked, receive_each};
 pub use looped::looped_session;
-pub use receiving::{Order, receive, receive_batch};
+pub use receiving::{Order, receive_batch};
 pub use sending::{send, send_batch};
 pub use store::Store;
 

@@ -1,4 +1,4 @@
-//! `receive`: files, from whoever connects first.
+//! `receive`: the files of one connection.
 
 ghost use Rattle.std.specs.Prelude.{◌≡◌, ◌≢◌, ◌≤◌, ℕ, Result, OnOk, OnErr, IfOk};
 ghost use Rattle.std.specs.Io.KnownBytes.{Appends};
@@ -10,11 +10,10 @@ ghost use Rattle.ym_link.specs.ReceiverInto.{ReceiverParts};
 ghost use Rattle.ym_link.specs.declared.end_fault.EndFault.{EndFault as Why};
 ghost use Rattle.ym_jobs.specs.Lines.{file_lines, receiver_lines};
 ghost use Rattle.ym_jobs.specs.Page.{Prints};
-ghost use Rattle.ym_jobs.specs.Receiving.{ReceiverRuns, Closes, TellsReceiver, ReceiveGives, SessionGives, receive_gives};
+ghost use Rattle.ym_jobs.specs.Receiving.{ReceiverRuns, Closes, TellsReceiver, SessionGives, receive_gives};
 ghost use Rattle.ym_jobs.specs.Status.{receive_answer};
 
 use crate::command_fault::CommandFault;
-use crate::connections::{listen, take_told};
 use crate::lines::FileLine;
 use crate::store::Store;
 use crate::telling::{tell_end, tell_not_stored};
@@ -23,7 +22,7 @@ use std::cell::Cell;
 use std::fs::{File, Files};
 use std::io;
 use std::io::Write;
-use std::net::{Net, TcpListener, TcpStream};
+use std::net::TcpStream;
 use std::time::Clock;
 use ym_file::SinkFault;
 use ym_header::Header;
@@ -219,25 +218,4 @@ where
         order.leftover,
     );
     answer
-}
-
-/// Receives files into a folder from whoever connects first to 127.0.0.1 at this port, and prints them and how the receiver has ended.
-pub fn receive<R, O, E>(
-    rt: &R,
-    alloc: Global,
-    port: u16,
-    order: Order<'_>,
-    out: &mut O,
-    teller: &mut Teller<E>,
-) -> Result<u8, CommandFault>
-where
-    R: Files<File = File> + Net<Listener = TcpListener, Stream = TcpStream> + Clock,
-    O: Output,
-    E: Write + Drop,
-    ensures { ReceiveGives order.entry.confirm (record { holds = O.contents out.old; failed = O.failures out.old }) result (record { holds = O.contents out.new; failed = O.failures out.new }) }
-{
-    look_at(rt, alloc, order.dir, teller)?;
-    let mut connections = listen(rt, port, teller)?;
-    let stream = take_told(&mut connections, teller)?;
-    receive_from(rt, alloc, stream, order, out, teller)
 }

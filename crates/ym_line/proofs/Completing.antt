@@ -3,38 +3,20 @@ use Rattle.std.proofs.Common.{◌≡◌, ◌≢◌, ◌∙◌, ◌≤◌, ◌<�
 use Rattle.std.proofs.lemmas.List.{length-map}
 use Rattle.std.proofs.lemmas.List.Sums.{sum_by-cons}
 use Rattle.std.proofs.lemmas.Simd.{map-map}
-use Rattle.ym_header.specs.Header.{HeaderParts}
-use Rattle.ym_file.specs.Plan.{pieces_of, count_of}
-use Rattle.ym_file.specs.declared.plan.Shape.{Shape}
-use Rattle.ym_machine.specs.declared.confirm.Confirm.{Confirm}
-use Rattle.ym_machine.specs.declared.confirm.Confirm.TheVariants.{Twice, Once}
-use Rattle.ym_machine.specs.Frames.{File, frames_of}
+use Rattle.ym_line.proofs.Names.{HeaderParts, pieces_of, Shape, Confirm, File, frames_of, Turn, NoFailure, IsDamage, after_turns, bytes_of, Batch, AllTold, file_of, told_pieces, FileParts, IsFile, SendState, Round, Seen, Trace, AllWhole, AreGoing, HaveFinished, NoneRose, whole_rounds, AreNew, Pair, IsTrace, AreTurns, CommitsFirst, PairStands, Reports}
+use Rattle.ym_file.specs.Plan.{count_of}
 use Rattle.ym_machine.specs.declared.limits.TheConstants.{BURST}
 use Rattle.ym_machine.specs.Left.{SenderGoes, ReceiverGoes, IsGoing, CountsWithin, IsComplete, needed_by, rounds_needed}
-use Rattle.ym_machine.specs.Run.{Turn, NoFailure, IsDamage, after_turns}
 use Rattle.ym_machine.specs.Run as machine
 use Rattle.ym_machine.specs.State.{SenderEnd, ReceiverEnd, State, start}
-use Rattle.ym_link.specs.ReceiverStands.{bytes_of}
 use Rattle.ym_link.specs.ReceiverStands as receiver
-use Rattle.ym_core.specs.Receiver.{Receiver}
-use Rattle.ym_link.specs.ReceiverInto.{ReceiverParts}
-use Rattle.ym_link.specs.Sender.{SenderParts}
-use Rattle.ym_core.specs.declared.standing.Standing.{Standing}
-use Rattle.ym_link.specs.SenderStands.{Batch, AllTold, batch_of, file_of, told_pieces}
 use Rattle.ym_link.specs.SenderStands as sender
-use Rattle.ym_file.specs.SourceFile.{FileParts, IsFile, blocks_of}
-use Rattle.ym_core.specs.declared.state.SendState.{SendState}
+use Rattle.ym_file.specs.SourceFile.{blocks_of}
 use Rattle.ym_core.specs.declared.state.SendState.TheVariants as send_state
 use Rattle.ym_core.specs.declared.state.RecvState.{RecvState}
 use Rattle.ym_core.specs.declared.state.RecvState.TheVariants as recv_state
-use Rattle.ym_line.specs.declared.delivery.Round.{Round}
-use Rattle.ym_line.specs.declared.trace.Seen.{Seen}
-use Rattle.ym_line.specs.declared.trace.Trace.{Trace}
-use Rattle.ym_line.specs.Completion.{AllWhole, AreGoing, BringsShortBadRuns, HaveFinished, NoneRose, rounds_for, whole_rounds}
+use Rattle.ym_line.specs.Completion.{BringsShortBadRuns, rounds_for}
 use Rattle.ym_line.specs.Needed.{others_of}
-use Rattle.ym_line.specs.Promise.{AreNew}
-use Rattle.ym_line.specs.Rounds.{Pair, IsTrace}
-use Rattle.ym_line.specs.Turns.{AreTurns, CommitsFirst, PairStands, Reports}
 use Rattle.ym_line.proofs.Promised.{Laws, SameEnds, all-bytes, batch_to_send, confirm_of, known, run-of, run-stands, trace-heard}
 use Rattle.ym_line.proofs.Truths.{SameTurns, same-turns, no-failure}
 
@@ -62,27 +44,22 @@ pieces-count laws shape size (Some all) sized told = laws.count shape all ∙ ap
 
 needed-file : Completion → (confirm : Confirm) (shape : Shape) (source : FileParts) → IsFile source → IsSome source.bytes →
     needed_by confirm (file_of shape source) ≡ blocks_of shape source + others_of confirm
-needed-file laws Twice shape source file told = ap (λ n. n + 3) (pieces-count laws shape source.header.length source.bytes file.bytes told)
-needed-file laws Once shape source file told = ap (λ n. n + 2) (pieces-count laws shape source.header.length source.bytes file.bytes told)
-
-abbrev needed : Confirm → File HeaderParts → ℕ
-needed confirm file = needed_by confirm file
+needed-file laws confirm shape source file told = let x = pieces-count laws shape source.header.length source.bytes file.bytes told in grind (arith, x)
 
 abbrev blocks_and_others : Confirm → Shape → FileParts → ℕ
 blocks_and_others confirm shape source = blocks_of shape source + others_of confirm
 
 needed-files : Completion → (confirm : Confirm) (shape : Shape) (sources : List FileParts) → All IsFile sources → AllTold sources →
-    sum_by (needed confirm) (map (file_of shape) sources) ≡ sum_by (blocks_and_others confirm shape) sources
+    sum_by (needed_by confirm) (map (file_of shape) sources) ≡ sum_by (blocks_and_others confirm shape) sources
 needed-files laws confirm shape [] files tells = refl
 needed-files laws confirm shape (source ∷ sources) files tells =
     let file : IsFile source = files 0 source (omega arith) in
     let tell : IsSome source.bytes = tells 0 source (omega arith) in
-    let here : needed confirm (file_of shape source) ≡ blocks_and_others confirm shape source = needed-file laws confirm shape source file tell in
+    let here : needed_by confirm (file_of shape source) ≡ blocks_and_others confirm shape source = needed-file laws confirm shape source file tell in
     let others = needed-files laws confirm shape sources (λ k d below. files (suc k) d (omega (arith, below))) (λ k d below. tells (suc k) d (omega (arith, below))) in
-    sum_by-cons (needed confirm) (file_of shape source) (map (file_of shape) sources)
-    ∙ (ap (λ n. n + sum_by (needed confirm) (map (file_of shape) sources)) here
-    ∙ (ap (λ n. blocks_and_others confirm shape source + n) others
-    ∙ sym (sum_by-cons (blocks_and_others confirm shape) source sources)))
+    let both = sum_by-cons (needed_by confirm) (file_of shape source) (map (file_of shape) sources) in
+    let each = sum_by-cons (blocks_and_others confirm shape) source sources in
+    omega (arith, both, each, here, others)
 
 needed-is : Completion → (pair : Pair) → AreNew pair → All IsFile pair.sender.files → rounds_needed (confirm_of pair) (batch_to_send pair) ≡ rounds_for pair
 needed-is laws pair fresh files = ap (λ n. 2 + n) (needed-files laws (confirm_of pair) pair.sender.shape pair.sender.files files fresh.tells)
@@ -90,26 +67,19 @@ needed-is laws pair fresh files = ap (λ n. 2 + n) (needed-files laws (confirm_o
 -- ---- How the ends stand
 
 pub sender-going : (end : SenderEnd) (s : SendState) → s ≡ sender.state_of end → SenderGoes end → (s ≡ send_state.Running) ⊎ (s ≡ send_state.Finished)
-sender-going SenderEnd.Running s is goes = inl is
-sender-going SenderEnd.Finished s is goes = inr is
-sender-going _ s is goes = absurd goes
+sender-going end s is goes = grind (arith, is, goes)
 
 pub receiver-going : (end : ReceiverEnd) (s : RecvState) → s ≡ receiver.state_of end → ReceiverGoes end → (s ≡ recv_state.Running) ⊎ (s ≡ recv_state.Finished)
-receiver-going ReceiverEnd.Running s is goes = inl is
-receiver-going ReceiverEnd.Finished s is goes = inr is
-receiver-going _ s is goes = absurd goes
+receiver-going end s is goes = grind (arith, is, goes)
 
 pub sender-runs : (end : SenderEnd) → sender.state_of end ≡ send_state.Running → end ≡ SenderEnd.Running
-sender-runs SenderEnd.Running is = refl
-sender-runs _ is = absurd (cc)
+sender-runs end is = grind (arith, is)
 
 pub sender-finished : (end : SenderEnd) → sender.state_of end ≡ send_state.Finished → end ≡ SenderEnd.Finished
-sender-finished SenderEnd.Finished is = refl
-sender-finished _ is = absurd (cc)
+sender-finished end is = grind (arith, is)
 
 receiver-runs : (end : ReceiverEnd) → receiver.state_of end ≡ recv_state.Running → end ≡ ReceiverEnd.Running
-receiver-runs ReceiverEnd.Running is = refl
-receiver-runs _ is = absurd (cc)
+receiver-runs end is = grind (arith, is)
 
 -- ---- A run
 
@@ -144,24 +114,20 @@ ran laws completion rounds old new trace gives fresh files none =
 
 -- new ends that are as they were run
 still-send : (rounds : List Round) (old new : Pair) (trace : Trace) → IsTrace rounds old trace new → AreNew old → SameEnds old new → trace.send ≡ send_state.Running
-still-send rounds old new trace gives fresh same = gives.send ∙ (ap (λ (p : SenderParts). p.standing.state) same.sender ∙ ap (λ (s : Standing). s.state) fresh.sender)
+still-send rounds old new trace gives fresh same = rw (gives.send, same.sender, fresh.sender) refl
 
 still-going : (rounds : List Round) (old new : Pair) (trace : Trace) → IsTrace rounds old trace new → AreNew old → SameEnds old new → AreGoing trace new
 still-going rounds old new trace gives fresh same =
-    let misses : new.sender.standing.misses ≡ 0 = ap (λ (p : SenderParts). p.standing.misses) same.sender ∙ ap (λ (s : Standing). s.misses) fresh.sender in
-    let count : new.receiver.receiver.count ≡ 0 = ap (λ (p : ReceiverParts). p.receiver.count) same.receiver ∙ ap (λ (r : Receiver). r.count) fresh.receiver in
     record {
       send = inl (still-send rounds old new trace gives fresh same);
-      recv = inl (gives.recv ∙ (ap (λ (p : ReceiverParts). p.receiver.state) same.receiver ∙ ap (λ (r : Receiver). r.state) fresh.receiver));
-      sender_count = λ _. omega (arith, misses);
-      receiver_count = λ _. omega (arith, count);
+      recv = inl (rw (gives.recv, same.receiver, fresh.receiver) refl);
+      sender_count = λ _. rw (same.sender, fresh.sender) (omega arith);
+      receiver_count = λ _. rw (same.receiver, fresh.receiver) (omega arith);
     }
 
 -- and every batch needs some
 needs-some : (rounds : List Round) (old : Pair) → rounds ≡ [] → rounds_for old ≤ whole_rounds rounds → ⊥
-needs-some rounds old none enough =
-    let few : rounds_for old ≤ 0 = subst (λ l. rounds_for old ≤ whole_rounds l) none enough in
-    omega (arith, few)
+needs-some rounds old none enough = let few = rw none at enough in omega (arith, few)
 
 -- ---- What is promised
 
@@ -170,20 +136,15 @@ run-going laws completion rounds old new trace gives brings = elim (trace-heard 
   | inl same ↦ still-going rounds old new trace gives brings.fresh same.1
   | inr files ↦
       let ran_so : Ran rounds old trace new = ran laws completion rounds old new trace gives brings.fresh files brings.none in
-      let turns : List Turn = ran_so.turns in
-      let st : State = after old turns in
-      let brief : machine.longest_bad_run 0 turns ≤ BURST = subst (λ n. n ≤ BURST) (sym (ran_so.same.longest 0)) brings.short in
-      let goes : IsGoing st = completion.going (batch_to_send old) (confirm_of old) turns ran_so.damage ran_so.none brief in
-      let counts : CountsWithin (BURST + 1 + BURST) st = completion.counts (batch_to_send old) (confirm_of old) turns ran_so.damage ran_so.none brief in
+      let st : State = after old ran_so.turns in
+      let brief : machine.longest_bad_run 0 ran_so.turns ≤ BURST = subst (λ n. n ≤ BURST) (sym (ran_so.same.longest 0)) brings.short in
+      let goes : IsGoing st = completion.going (batch_to_send old) (confirm_of old) ran_so.turns ran_so.damage ran_so.none brief in
+      let counts : CountsWithin (BURST + 1 + BURST) st = completion.counts (batch_to_send old) (confirm_of old) ran_so.turns ran_so.damage ran_so.none brief in
       record {
         send = sender-going st.sender trace.send ran_so.reports.send goes.0;
         recv = receiver-going st.receiver trace.recv ran_so.reports.recv goes.1;
-        sender_count = λ running.
-            let runs : st.sender ≡ SenderEnd.Running = sender-runs st.sender (sym ran_so.reports.send ∙ running) in
-            subst (λ n. n ≤ BURST + 1 + BURST) (sym (ran_so.stands.sender.standing.misses runs)) (counts.sender_count runs);
-        receiver_count = λ running.
-            let runs : st.receiver ≡ ReceiverEnd.Running = receiver-runs st.receiver (sym ran_so.reports.recv ∙ running) in
-            subst (λ n. n ≤ BURST + 1 + BURST) (sym (ap (λ (r : Receiver). r.count) (ran_so.stands.receiver.running runs))) (counts.receiver_count runs);
+        sender_count = λ running. let runs = sender-runs st.sender (sym ran_so.reports.send ∙ running) in rw (ran_so.stands.sender.standing.misses runs) (counts.sender_count runs);
+        receiver_count = λ running. let runs = receiver-runs st.receiver (sym ran_so.reports.recv ∙ running) in rw (ran_so.stands.receiver.running runs) (counts.receiver_count runs);
       }
 ]
 
@@ -193,14 +154,12 @@ run-complete laws completion rounds old new trace gives brings enough = elim (tr
   | inl same ↦ absurd (needs-some rounds old same.0 enough)
   | inr files ↦
       let ran_so : Ran rounds old trace new = ran laws completion rounds old new trace gives brings.fresh files brings.none in
-      let turns : List Turn = ran_so.turns in
-      let st : State = after old turns in
+      let st : State = after old ran_so.turns in
       let shape : Shape = old.sender.shape in
       let sources : List FileParts = old.sender.files in
-      let brief : machine.longest_bad_run 0 turns ≤ BURST = subst (λ n. n ≤ BURST) (sym (ran_so.same.longest 0)) brings.short in
-      let many : rounds_needed (confirm_of old) (batch_to_send old) ≤ machine.whole_turns turns =
-      subst (λ n. n ≤ machine.whole_turns turns) (sym (needed-is completion old brings.fresh files)) (subst (λ n. rounds_for old ≤ n) (sym ran_so.same.whole) enough) in
-      let complete : IsComplete (batch_to_send old) st = completion.complete (batch_to_send old) (confirm_of old) turns ran_so.damage ran_so.none brief many in
+      let brief : machine.longest_bad_run 0 ran_so.turns ≤ BURST = subst (λ n. n ≤ BURST) (sym (ran_so.same.longest 0)) brings.short in
+      let many : rounds_needed (confirm_of old) (batch_to_send old) ≤ machine.whole_turns ran_so.turns = rw (needed-is completion old brings.fresh files, ran_so.same.whole) enough in
+      let complete : IsComplete (batch_to_send old) st = completion.complete (batch_to_send old) (confirm_of old) ran_so.turns ran_so.damage ran_so.none brief many in
       record {
         send = ran_so.reports.send ∙ ap sender.state_of complete.sender;
         recv = ran_so.reports.recv ∙ ap receiver.state_of complete.receiver;
@@ -218,9 +177,7 @@ run-sooner laws completion rounds old new trace gives fresh none whole fewer = e
   | inl same ↦ λ finished. let runs : trace.send ≡ send_state.Running = still-send rounds old new trace gives fresh same.1 in cc
   | inr files ↦
       let ran_so : Ran rounds old trace new = ran laws completion rounds old new trace gives fresh files none in
-      let turns : List Turn = ran_so.turns in
-      let st : State = after old turns in
-      let few : length turns < rounds_needed (confirm_of old) (batch_to_send old) =
-      subst (λ n. length turns < n) (sym (needed-is completion old fresh files)) (subst (λ n. n < rounds_for old) (sym ran_so.same.long) fewer) in
-      λ finished. completion.running (batch_to_send old) (confirm_of old) turns (ran_so.same.all_whole whole) ran_so.none few (sender-finished st.sender (sym ran_so.reports.send ∙ finished))
+      let st : State = after old ran_so.turns in
+      let few : length ran_so.turns < rounds_needed (confirm_of old) (batch_to_send old) = rw (needed-is completion old fresh files, ran_so.same.long) fewer in
+      λ finished. completion.running (batch_to_send old) (confirm_of old) ran_so.turns (ran_so.same.all_whole whole) ran_so.none few (sender-finished st.sender (sym ran_so.reports.send ∙ finished))
 ]

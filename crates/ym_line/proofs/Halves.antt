@@ -1,36 +1,21 @@
 -- A round of a pair that stands is a turn of the machine.
-use Rattle.std.proofs.Common.{◌≡◌, ◌∙◌, ℕ, Bool, true, false, List, [], ◌∷◌, length, Option, None, Some, Ok, IsSome, refl, sym, ap, subst, inl, inr}
+use Rattle.std.proofs.Common.{◌≡◌, ◌∙◌, ℕ, Bool, true, false, List, [], ◌∷◌, length, Option, Some, Ok, IsSome, refl, sym, ap, subst, inl, inr, arith}
 use Rattle.std.proofs.lemmas.List.Elements.{All-set}
-use Rattle.ym_frame.specs.Control.{reply_bytes}
-use Rattle.ym_frame.specs.declared.control.Control.{Control}
-use Rattle.ym_frame.specs.declared.control.Reply.{Reply}
-use Rattle.ym_machine.specs.declared.confirm.Confirm.{Confirm}
-use Rattle.ym_machine.specs.Frames.{File, Frame, count_within, files_within, frames_of}
+use Rattle.ym_line.proofs.Names.{reply_bytes, Control, Reply, Confirm, File, frames_of, State, Turn, IsDamage, came_back, after_turn, after_turns, HeaderParts, done_at, controls_in, IsBatch, Batch, IsSaid, AllTold, SenderParts, IsSender, spoken, FileParts, file_at, no_file, Kept, Place, Delivery, Round, Seen, Trace, ShowsBack, arrives, Pair, Goes, GoOn, IsTrace, AreTurns, IsSourceTruth, PairStands, Reports, RunsAsMachine, came_of, is_whole, turn_of}
+use Rattle.ym_machine.specs.Frames.{count_within, files_within}
 use Rattle.ym_machine.specs.Halves as machine
-use Rattle.ym_machine.specs.Machine.{State, IsMachine, Answer, said, there, back, KeepsSender, KeepsReceiver}
-use Rattle.ym_machine.specs.Run.{Turn, IsDamage, came_back, after_turn, after_turns}
-use Rattle.ym_header.specs.Header.{HeaderParts}
-use Rattle.ym_core.specs.Hearing.{heard_of}
-use Rattle.ym_core.specs.Place.{done_at}
-use Rattle.ym_core.specs.Reading.{controls_in}
-use Rattle.ym_link.specs.ReceiverInto.{ReceiverParts, HearsGives, Tells}
+use Rattle.ym_machine.specs.Machine.{IsMachine, said, there, back, KeepsSender, KeepsReceiver}
+use Rattle.ym_link.specs.ReceiverInto.{ReceiverParts, HearsGives}
 use Rattle.ym_core.specs.Receiver.{Receiver}
-use Rattle.ym_link.specs.ReceiverStands.{IsBatch, ReceiverStands, heard_there, open_at, receiver_at}
+use Rattle.ym_link.specs.ReceiverStands.{ReceiverStands, heard_there}
 use Rattle.ym_link.specs.ReceiverStands as receiver
-use Rattle.ym_link.specs.SenderStands.{Batch, SenderStands, IsSaid, AllTold}
-use Rattle.ym_link.specs.Sender.{SenderParts, IsSender, IsStep, IsFilled, counts, spoken}
-use Rattle.ym_file.specs.SourceFile.{FileParts, file_at, filled, no_file}
+use Rattle.ym_link.specs.SenderStands.{SenderStands}
+use Rattle.ym_link.specs.Sender.{IsStep, IsFilled, counts}
+use Rattle.ym_file.specs.SourceFile.{filled}
 use Rattle.ym_core.specs.Standing.{hears}
-use Rattle.ym_file.specs.Kept.{Kept}
-use Rattle.ym_core.specs.declared.place.Place.{Place}
-use Rattle.ym_core.specs.declared.place.Place.TheVariants.{Header, Block, Eot, End}
-use Rattle.ym_line.specs.declared.delivery.Delivery.{Delivery}
-use Rattle.ym_line.specs.declared.delivery.Round.{Round}
-use Rattle.ym_line.specs.declared.trace.Seen.{Seen}
-use Rattle.ym_line.specs.declared.trace.Trace.{Trace}
-use Rattle.ym_line.specs.Damage.{arrives}
-use Rattle.ym_line.specs.Rounds.{Pair, sent_by, Goes, GoesThere, GoOn, IsTrace}
-use Rattle.ym_line.specs.Turns.{AreTurns, IsHalfTurn, IsSourceTruth, IsTurn, PairStands, Reports, RunsAsMachine, came_of, is_whole, turn_of}
+use Rattle.ym_core.specs.declared.place.Place.TheVariants.{Block}
+use Rattle.ym_line.specs.Rounds.{GoesThere}
+use Rattle.ym_line.specs.Turns.{IsHalfTurn, IsTurn}
 use Rattle.ym_line.proofs.Turns.{FrameFound, WithinReply, said-heard, came-within, controls-arrive}
 
 -- ---- What the laws below say
@@ -62,47 +47,25 @@ pub record Laws : Type 0 where
 -- ---- An end that the half leaves alone
 
 pub sender-still : (files : Batch) (old new : State) (sender : SenderParts) → KeepsSender old new → SenderStands files old sender → SenderStands files new sender
-sender-still files old new sender same stands = record {
-  standing = record {
-    state = rw same.sender stands.standing.state;
-    farewell = rw (same.sender, same.farewell) stands.standing.farewell;
-    place = rw same.acknowledged stands.standing.place;
-    mode = λ runs. rw same.sent (stands.standing.mode (sym same.sender ∙ runs));
-    misses = λ runs. rw same.sender_count (stands.standing.misses (sym same.sender ∙ runs));
-  };
-  batch = stands.batch;
-}
+sender-still files old new sender same stands = grind (arith, same, stands)
 
 receiver-still : (confirm : Confirm) (files : Batch) (old new : State) (r : Receiver) (kept : Kept) → KeepsReceiver old new → ReceiverStands confirm files old r kept → ReceiverStands confirm files new r kept
-receiver-still confirm files old new r kept same stands = record {
-  confirm_is = stands.confirm_is;
-  state_is = rw same.receiver stands.state_is;
-  files_is = rw same.taken stands.files_is;
-  keeps = rw same.taken stands.keeps;
-  running = λ runs. rw (same.taken, same.first_eot, same.receiver_count) (stands.running (sym same.receiver ∙ runs));
-  keeps_open = λ runs. rw same.taken (stands.keeps_open (sym same.receiver ∙ runs));
-}
+receiver-still confirm files old new r kept same stands = grind (arith, same, stands)
 
 -- ---- The sources
 
 pub source-truth : (failed : Bool) (fills : Option Place) (old new : List FileParts) → IsFilled failed fills old new → IsSourceTruth failed old new
 source-truth false (Some (Block file k)) old new filled = inr (file, filled)
-source-truth false (Some (Header file)) old new filled = inl filled
-source-truth false (Some (Eot file)) old new filled = inl filled
-source-truth false (Some End) old new filled = inl filled
-source-truth false None old new filled = inl filled
 source-truth true (Some (Block file k)) old new filled = (file, filled)
+source-truth false _ old new filled = inl filled
 source-truth true _ old new filled = absurd filled
 
 -- the files go on to tell their bytes
 pub still-told : (failed : Bool) (old new : List FileParts) → IsSourceTruth failed old new → AllTold old → AllTold new
 still-told false old new (inl same) told = rw same told
-still-told false old new (inr truth) told =
-    let tells : FileParts → Type 0 = λ f. IsSome f.bytes in
-    rw truth.1.after (All-set tells old truth.0 (filled (file_at old truth.0)) (told truth.0 no_file truth.1.within) told)
+still-told false old new (inr truth) told = rw truth.1.after (All-set (λ (f : FileParts). IsSome f.bytes) old truth.0 (filled (file_at old truth.0)) (told truth.0 no_file truth.1.within) told)
 still-told true old new truth told =
-    let tells : FileParts → Type 0 = λ f. IsSome f.bytes in
-    rw truth.1.after (All-set tells old truth.0 (record (filled (file_at old truth.0)) { failures = truth.1.failures }) (told truth.0 no_file truth.1.within) told)
+    rw truth.1.after (All-set (λ (f : FileParts). IsSome f.bytes) old truth.0 (record (filled (file_at old truth.0)) { failures = truth.1.failures }) (told truth.0 no_file truth.1.within) told)
 
 -- ---- The half there
 
@@ -111,14 +74,12 @@ pub half-turn : Laws → (confirm : Confirm) (files : Batch) (st : State) (deliv
     PairStands confirm files st old → GoesThere delivery old reply new →
     (half : IsHalfTurn confirm files st delivery old reply new) × (reply ≡ (there (frames_of files) confirm half.sink_failed (is_whole delivery) st).1)
 half-turn laws confirm files st delivery old reply new stands goes =
-    let whole : Bool = is_whole delivery in
-    let says : IsSaid files (said st) (spoken old.sender) = laws.says files st old.sender stands.sender goes.keeps stands.told in
-    let heard : heard_of (arrives delivery (sent_by old.sender)) ≡ heard_there files whole st = said-heard laws.found files (said st) old.sender delivery says goes.bad in
-    let answers : receiver.Follows confirm files whole st old.receiver reply new.receiver =
-    laws.receiver_follows confirm files whole st old.receiver reply new.receiver stands.batch stands.machine stands.receiver
-    (subst (λ h. HearsGives old.receiver h (Ok reply) new.receiver) heard goes.hears) in
+    let whole = is_whole delivery in
+    let says = laws.says files st old.sender stands.sender goes.keeps stands.told in
+    let heard = said-heard laws.found files (said st) old.sender delivery says goes.bad in
+    let answers = laws.receiver_follows confirm files whole st old.receiver reply new.receiver stands.batch stands.machine stands.receiver (rw heard at goes.hears) in
     let same_sender : new.sender ≡ old.sender = ap (λ (p : Pair). p.sender) goes.others in
-    let st_new : State = (there (frames_of files) confirm answers.0 whole st).0 in (
+    let keeps = laws.keeps_sender files confirm answers.0 whole st in (
       record {
         goes = goes;
         says = says;
@@ -127,8 +88,8 @@ half-turn laws confirm files st delivery old reply new stands goes =
         stands = record {
           machine = laws.machine_there files confirm answers.0 whole st stands.machine;
           batch = stands.batch;
-          told = subst (λ (s : SenderParts). AllTold s.files) (sym same_sender) stands.told;
-          sender = subst (λ s. SenderStands files st_new s) (sym same_sender) (sender-still files st st_new old.sender (laws.keeps_sender files confirm answers.0 whole st) stands.sender);
+          told = rw same_sender stands.told;
+          sender = rw same_sender (sender-still files st (there (frames_of files) confirm answers.0 whole st).0 old.sender keeps stands.sender);
           receiver = answers.2.stands;
         };
       },
@@ -140,41 +101,36 @@ half-turn laws confirm files st delivery old reply new stands goes =
 pub goes-turn : Laws → (confirm : Confirm) (files : Batch) (st : State) (round : Round) (old new : Pair) (seen : Seen) →
     PairStands confirm files st old → Goes round old seen new → (turn : Turn) × IsTurn confirm files st round turn old seen new
 goes-turn laws confirm files st round old new seen stands goes =
-    let between : Pair = goes.between in
-    let frames : List (Frame HeaderParts) = frames_of files in
-    let whole : Bool = is_whole round.there in
+    let between = goes.between in
     let both = half-turn laws confirm files st round.there old seen.reply between stands goes.there in
-    let half : IsHalfTurn confirm files st round.there old seen.reply between = both.0 in
-    let sink_failed : Bool = half.sink_failed in
-    let answer : Answer = there frames confirm sink_failed whole st in
-    let reply_is : seen.reply ≡ answer.1 = both.1 in
-    let came : List Control = came_back (came_of round.back) answer.1 in
+    let half = both.0 in
+    let answer = there (frames_of files) confirm half.sink_failed (is_whole round.there) st in
+    let came = came_back (came_of round.back) answer.1 in
     let same_receiver : new.receiver ≡ between.receiver = ap (λ (p : Pair). p.receiver) goes.back.others in
-    let bytes : List ℕ = arrives round.back (reply_bytes seen.reply) in
-    let came_is : controls_in bytes ≡ came = controls-arrive round.back seen.reply ∙ ap (came_back (came_of round.back)) reply_is in
-    let within : machine.is_within came (machine.controls answer.1) ≡ true =
-    subst (λ r. machine.is_within (came_back (came_of round.back) r) (machine.controls r) ≡ true) reply_is (came-within laws.within laws.whole round.back seen.reply goes.back.shows) in
-    let remnant : machine.IsRemnant (controls_in bytes) = subst machine.IsRemnant (sym came_is) (laws.remnants answer.1 came within) in
-    let source_failed : Bool = goes.back.hears.0 in
-    let behind : State = back frames source_failed came answer.0 in
-    let source : IsSourceTruth source_failed old.sender.files new.sender.files =
-    subst (λ s. IsSourceTruth source_failed s.files new.sender.files) (ap (λ (p : Pair). p.sender) goes.there.others) (source-truth source_failed _ between.sender.files new.sender.files goes.back.hears.1.files) in (
-      turn_of round sink_failed source_failed,
+    let bytes = arrives round.back (reply_bytes seen.reply) in
+    let came_is : controls_in bytes ≡ came = controls-arrive round.back seen.reply ∙ ap (came_back (came_of round.back)) both.1 in
+    let within : machine.is_within came (machine.controls answer.1) ≡ true = came-within laws.within laws.whole round.back answer.1 (subst (λ r. ShowsBack r round.back) both.1 goes.back.shows) in
+    let remnant : machine.IsRemnant (controls_in bytes) = rw came_is (laws.remnants answer.1 came within) in
+    let source_failed = goes.back.hears.0 in
+    let filled = source-truth source_failed _ between.sender.files new.sender.files goes.back.hears.1.files in
+    let source : IsSourceTruth source_failed old.sender.files new.sender.files = rw (ap (λ (p : Pair). p.sender) goes.there.others) at filled in
+    let follows = laws.sender_follows files answer.0 between.sender new.sender bytes source_failed half.stands.sender remnant goes.back.hears.1 in
+    let keeps = laws.keeps_receiver files source_failed came answer.0 in (
+      turn_of round half.sink_failed source_failed,
       record {
         goes = goes;
         says = half.says;
-        reply_is = reply_is;
+        reply_is = both.1;
         turn_is = refl;
-        sink = subst (λ (r : ReceiverParts). Tells sink_failed old.receiver.failures r.failures) (sym same_receiver) half.sink;
+        sink = rw same_receiver half.sink;
         source = source;
         stands = record {
-          machine = laws.machine_back files confirm sink_failed whole source_failed came st stands.machine within;
+          machine = laws.machine_back files confirm half.sink_failed (is_whole round.there) source_failed came st stands.machine within;
           batch = stands.batch;
           told = still-told source_failed old.sender.files new.sender.files source stands.told;
-          sender = subst (λ c. SenderStands files (back frames source_failed c answer.0) new.sender) came_is
-              (laws.sender_follows files answer.0 between.sender new.sender bytes source_failed half.stands.sender remnant goes.back.hears.1);
-          receiver = subst (λ r. ReceiverStands confirm files behind r.receiver r.kept) (sym same_receiver)
-              (receiver-still confirm files answer.0 behind between.receiver.receiver between.receiver.kept (laws.keeps_receiver files source_failed came answer.0) half.stands.receiver);
+          sender = rw came_is at follows;
+          receiver = rw same_receiver
+              (receiver-still confirm files answer.0 (back (frames_of files) source_failed came answer.0) between.receiver.receiver between.receiver.kept keeps half.stands.receiver);
         };
       },
     )
@@ -205,15 +161,8 @@ pub turns-damage : WithinReply → ((r : Reply) → machine.is_within (machine.c
     AreTurns confirm files st rounds turns old all new → IsDamage (frames_of files) confirm turns st
 turns-damage within whole confirm files [] [] st old new [] went = tt
 turns-damage within whole confirm files (round ∷ rounds) (turn ∷ turns) st old new (seen ∷ all) went =
-    let first : IsTurn confirm files st round turn old seen went.0 = went.1 in
-    let answer : Answer = there (frames_of files) confirm turn.sink_failed turn.whole_there st in
-    let reply_is : seen.reply ≡ answer.1 = first.reply_is in
-    let back_is : turn.back ≡ came_of round.back = ap (λ (t : Turn). t.back) first.turn_is in
-    let shown : machine.is_within (came_back (came_of round.back) answer.1) (machine.controls answer.1) ≡ true =
-    subst (λ r. machine.is_within (came_back (came_of round.back) r) (machine.controls r) ≡ true) reply_is (came-within within whole round.back seen.reply first.goes.back.shows) in (
-      subst (λ back. machine.is_within (came_back back answer.1) (machine.controls answer.1) ≡ true) (sym back_is) shown,
-      turns-damage within whole confirm files rounds turns (after_turn (frames_of files) confirm turn st) went.0 new all went.2,
-    )
+    let shown = came-within within whole round.back _ (subst (λ r. ShowsBack r round.back) went.1.reply_is went.1.goes.back.shows) in
+    (rw (ap (λ (t : Turn). t.back) went.1.turn_is) shown, turns-damage within whole confirm files rounds turns (after_turn (frames_of files) confirm turn st) went.0 new all went.2)
 turns-damage within whole confirm files _ _ st old new _ went = absurd went
 
 -- what the trace of a pair that stands reports

@@ -2,36 +2,20 @@
 use Rattle.std.proofs.Common.{◌≡◌, ◌∙◌, ◌≤◌, ◌⊎◌, ℕ, min, suc, List, [], ◌∷◌, length, map, take, Option, None, Some, IfSome, IsSome, All, false, Result, Ok, Err, refl, sym, ap, subst, inl, inr, arith}
 use Rattle.std.proofs.lemmas.List.{length-map, length-take, take-map}
 use Rattle.std.proofs.lemmas.Simd.{map-map}
-use Rattle.ym_header.specs.Header.{HeaderParts, IsHeader, length_limit}
-use Rattle.ym_file.specs.Kept.{Kept, Told, IsNew, TellsNone}
-use Rattle.ym_file.specs.Plan.{IsPieces, pieces_of}
-use Rattle.ym_file.specs.declared.plan.Shape.{Shape}
-use Rattle.ym_machine.specs.declared.confirm.Confirm.{Confirm}
-use Rattle.ym_machine.specs.Frames.{File, frames_of, IsPrefix}
-use Rattle.ym_machine.specs.declared.limits.TheConstants.{MOST_FILES}
-use Rattle.ym_machine.specs.Machine.{State, start, committed, reported}
-use Rattle.ym_machine.specs.Run.{Turn, after_turns}
-use Rattle.ym_core.specs.Place.{done_at, first_of}
-use Rattle.ym_core.specs.Receiver.{Receiver, new_receiver}
-use Rattle.ym_link.specs.ReceiverInto.{ReceiverParts}
-use Rattle.ym_link.specs.Sender.{SenderParts}
-use Rattle.ym_core.specs.declared.place.Place.{Place}
+use Rattle.ym_line.proofs.Names.{HeaderParts, IsHeader, length_limit, Kept, IsPieces, pieces_of, Shape, Confirm, File, frames_of, MOST_FILES, State, Turn, after_turns, done_at, Place, bytes_of, Batch, AllTold, batch_of, file_of, told_pieces, FileParts, IsFile, Round, LineFault, Seen, Trace, AreNew, ReportsCommitted, Pair, GoOn, StopsIn, IsTrace, RunGives, AreTurns, CommitsFirst, FollowsMachine, PairStands, RunsAsMachine, StopsWithMachine}
+use Rattle.ym_file.specs.Kept.{Told, IsNew, TellsNone}
+use Rattle.ym_machine.specs.Frames.{IsPrefix}
+use Rattle.ym_machine.specs.Machine.{start, committed, reported}
+use Rattle.ym_core.specs.Place.{first_of}
+use Rattle.ym_core.specs.Receiver.{new_receiver}
 use Rattle.ym_core.specs.declared.place.Mode.TheVariants.{Waiting}
 use Rattle.ym_core.specs.declared.standing.Standing.{Standing}
 use Rattle.ym_core.specs.declared.state.SendState.TheVariants.{Running}
-use Rattle.ym_link.specs.ReceiverStands.{bytes_of}
-use Rattle.ym_link.specs.SenderStands.{Batch, AllTold, batch_of, file_of, told_pieces}
-use Rattle.ym_file.specs.SourceFile.{FileParts, IsFile, counts_of}
+use Rattle.ym_file.specs.SourceFile.{counts_of}
 use Rattle.ym_core.specs.Standing.{new_standing}
 use Rattle.ym_line.specs.declared.delivery.Handed.{Handed}
-use Rattle.ym_line.specs.declared.delivery.Round.{Round}
-use Rattle.ym_line.specs.declared.fault.LineFault.{LineFault}
-use Rattle.ym_line.specs.declared.trace.Seen.{Seen}
-use Rattle.ym_line.specs.declared.trace.Trace.{Trace}
-use Rattle.ym_line.specs.Promise.{AreNew, CommitsAPrefix, ReportsCommitted, first_place}
-use Rattle.ym_line.specs.Rounds.{Pair, GoOn, StopsIn, IsTrace, RunGives}
-use Rattle.ym_line.specs.Turns.{AreTurns, CommitsFirst, FollowsMachine, PairStands, RunsAsMachine, StopsWithMachine}
-use Rattle.ym_line.proofs.Stops.{Same, half-same, stopped-stands}
+use Rattle.ym_line.specs.Promise.{CommitsAPrefix, first_place}
+use Rattle.ym_line.proofs.Stops.{Same, half-same, stopped-stands, unchanged}
 
 -- ---- What the laws say
 
@@ -82,18 +66,7 @@ pub new-stands : NewStand → (pair : Pair) → AreNew pair → All IsFile pair.
 new-stands stand pair new files =
     let made = stand (confirm_of pair) pair.sender.shape pair.sender.files pair.sender.frame pair.receiver.kept pair.receiver.failures pair.told pair.failures files new.tells new.few new.sink in
     let standing : pair.sender.standing ≡ new_standing (counts_of pair.sender.shape pair.sender.files) = new.sender ∙ sym (ap waiting_at (first-is pair.sender.shape pair.sender.files)) in
-    let with_sender = subst (λ s. PairStands (confirm_of pair) (batch_to_send pair) start (record {
-      sender = record { standing = s; shape = pair.sender.shape; files = pair.sender.files; frame = pair.sender.frame };
-      receiver = record { receiver = new_receiver (confirm_of pair); kept = pair.receiver.kept; failures = pair.receiver.failures };
-      told = pair.told;
-      failures = pair.failures;
-    })) (sym standing) made in
-    subst (λ r. PairStands (confirm_of pair) (batch_to_send pair) start (record {
-      sender = pair.sender;
-      receiver = record { receiver = r; kept = pair.receiver.kept; failures = pair.receiver.failures };
-      told = pair.told;
-      failures = pair.failures;
-    })) (sym new.receiver) with_sender
+    rw (← standing, ← new.receiver) at made
 
 -- ---- A run that no end heard anything in
 
@@ -105,18 +78,15 @@ pub record SameEnds (old new : Pair) : Type 0 where
 same-ends : (old new : Pair) → Same old new → SameEnds old new
 same-ends old new same = record { sender = ap (λ (p : Pair). p.sender) same; receiver = ap (λ (p : Pair). p.receiver) same }
 
-equal-ends : (old new : Pair) → new ≡ old → SameEnds old new
-equal-ends old new same = record { sender = ap (λ (p : Pair). p.sender) same; receiver = ap (λ (p : Pair). p.receiver) same }
-
 -- each sender keeps files that are within their limits; a run without rounds tells nothing of it
 pub trace-heard : (rounds : List Round) (old new : Pair) (all : List Seen) → GoOn rounds old all new → ((rounds ≡ []) × SameEnds old new) ⊎ All IsFile old.sender.files
-trace-heard [] old new [] went = inl (refl, equal-ends old new went)
+trace-heard [] old new [] went = inl (refl, same-ends old new (unchanged old new went))
 trace-heard (round ∷ rounds) old new (seen ∷ all) went = inr went.1.there.keeps.files
 trace-heard _ old new _ went = absurd went
 
 fault-heard : (n : ℕ) (rounds : List Round) (old new : Pair) (fault : LineFault) → StopsIn n rounds old fault new → SameEnds old new ⊎ All IsFile old.sender.files
 fault-heard n [] old new fault stops = absurd stops
-fault-heard n (round ∷ rounds) old new fault (inl no_memory) = inl (equal-ends old new no_memory.1)
+fault-heard n (round ∷ rounds) old new fault (inl no_memory) = inl (same-ends old new (unchanged old new no_memory.1))
 fault-heard n (round ∷ rounds) old new fault (inr (inl (inl (inl stopped)))) = inl (same-ends old new (half-same n _ _ old fault new stopped))
 fault-heard n (round ∷ rounds) old new fault (inr (inl (inl (inr wanted)))) = inr wanted.3.files
 fault-heard n (round ∷ rounds) old new fault (inr (inl (inr stopped))) = inr stopped.2.keeps.files
@@ -133,16 +103,13 @@ none-told (Some all) t none is = let same : all ≡ t = cc in subst (λ (x : Tol
 
 same-commits : (old new : Pair) → AreNew old → SameEnds old new → CommitsAPrefix old.sender.files new
 same-commits old new fresh same =
-    let place : new.sender.standing.place ≡ first_place old.sender.files = ap (λ (s : SenderParts). s.standing.place) same.sender ∙ ap (λ (s : Standing). s.place) fresh.sender in
-    let long : length new.sender.files ≡ length old.sender.files = ap (λ (s : SenderParts). length s.files) same.sender in
-    let done : done_at (length new.sender.files) new.sender.standing.place ≡ 0 = rw (place, long) (none-done old.sender.files) in
     record {
       number = 0;
       within = omega arith;
-      headers = ap (λ (r : ReceiverParts). r.kept.headers) same.receiver ∙ fresh.sink.headers;
-      bytes = λ told is. ap (map known) (none-told old.receiver.kept.told told fresh.sink.told (sym (ap (λ (r : ReceiverParts). r.kept.told) same.receiver) ∙ is));
-      files_is = ap (λ (r : ReceiverParts). r.receiver.files) same.receiver ∙ ap (λ (r : Receiver). r.files) fresh.receiver;
-      done = omega (arith, done);
+      headers = rw same.receiver fresh.sink.headers;
+      bytes = λ told is. ap (map known) (none-told old.receiver.kept.told told fresh.sink.told (rw same.receiver at is));
+      files_is = rw (same.receiver, fresh.receiver) refl;
+      done = rw (same.sender, fresh.sender) (let none = none-done old.sender.files in omega (arith, none));
     }
 
 -- ---- The bytes of a file as it is sent
@@ -165,9 +132,8 @@ all-bytes laws shape (source ∷ sources) files tells =
 pub sent-bytes : Laws → (shape : Shape) (sources : List FileParts) (n : ℕ) → All IsFile sources → AllTold sources →
     map known (map bytes_of (map (file_of shape) (take n sources))) ≡ map (λ (f : FileParts). f.bytes) (take n sources)
 sent-bytes laws shape sources n files tells =
-    ap (map known) (map-map bytes_of (file_of shape) (take n sources)) ∙ (map-map known (λ f. bytes_of (file_of shape f)) (take n sources)
-    ∙ (sym (take-map (λ f. known (bytes_of (file_of shape f))) n sources)
-    ∙ (ap (take n) (all-bytes laws shape sources files tells) ∙ take-map (λ (f : FileParts). f.bytes) n sources)))
+    rw (map-map bytes_of (file_of shape) (take n sources), map-map known (λ f. bytes_of (file_of shape f)) (take n sources))
+    (sym (take-map (λ f. known (bytes_of (file_of shape f))) n sources) ∙ (ap (take n) (all-bytes laws shape sources files tells) ∙ take-map (λ (f : FileParts). f.bytes) n sources))
 
 -- ---- What was committed
 
@@ -186,14 +152,13 @@ commits-prefix laws shape sources st pair files tells commits =
     let within : n ≤ length batch = prefix-long (committed batch st) batch commits.first in
     let among : length (reported batch st) ≤ n = prefix-long (reported batch st) (committed batch st) commits.among in
     let long : length batch ≡ length sources = length-map sources (file_of shape) in
-    let done_is : done_at (length pair.sender.files) pair.sender.standing.place ≡ length (reported batch st) = commits.done_is in
     record {
       number = n;
       within = subst (λ m. n ≤ m) long within;
       headers = commits.headers ∙ (ap (map (λ (f : File HeaderParts). f.header)) committed_is ∙ map-map (λ (f : File HeaderParts). f.header) (file_of shape) (take n sources));
       bytes = λ told told_is. ap (map known) (commits.bytes told told_is ∙ ap (map bytes_of) committed_is) ∙ sent-bytes laws shape sources n files tells;
       files_is = commits.files_is;
-      done = subst (λ m. m ≤ n) (sym done_is) among;
+      done = rw commits.done_is among;
     }
 
 pub run-of : Laws → (rounds : List Round) (old new : Pair) (trace : Trace) → IsTrace rounds old trace new → AreNew old → All IsFile old.sender.files →
@@ -211,12 +176,6 @@ standing-commits : Laws → (old new : Pair) (st : State) → AreNew old → All
 standing-commits laws old new st fresh files stands =
     commits-prefix laws old.sender.shape old.sender.files st new files fresh.tells (laws.first (confirm_of old) (batch_to_send old) st new stands)
 
-fault-commits : Laws → (rounds : List Round) (old new : Pair) (fault : LineFault) → StopsIn 1 rounds old fault new → AreNew old → All IsFile old.sender.files → CommitsAPrefix old.sender.files new
-fault-commits laws rounds old new fault gives fresh files =
-    let begins = new-stands laws.new_stand old fresh files in
-    let last = stopped-stands (confirm_of old) (batch_to_send old) rounds 1 start old new fault begins (laws.stop 1 rounds old new fault gives (confirm_of old) (batch_to_send old) start begins) in
-    standing-commits laws old new last.0 fresh files last.1
-
 pub run-commits : Laws → (rounds : List Round) (old new : Pair) (result : Result Trace LineFault) → RunGives rounds old result new → AreNew old → CommitsAPrefix old.sender.files new
 run-commits laws rounds old new (Ok trace) gives fresh = elim (trace-heard rounds old new trace.rounds.items gives.goes_on) [
   | inl same ↦ same-commits old new fresh same.1
@@ -226,7 +185,10 @@ run-commits laws rounds old new (Ok trace) gives fresh = elim (trace-heard round
 ]
 run-commits laws rounds old new (Err fault) gives fresh = elim (fault-heard 1 rounds old new fault gives) [
   | inl same ↦ same-commits old new fresh same
-  | inr files ↦ fault-commits laws rounds old new fault gives fresh files
+  | inr files ↦
+      let begins = new-stands laws.new_stand old fresh files in
+      let last = stopped-stands (confirm_of old) (batch_to_send old) rounds 1 start old new fault begins (laws.stop 1 rounds old new fault gives (confirm_of old) (batch_to_send old) start begins) in
+      standing-commits laws old new last.0 fresh files last.1
 ]
 
 pub run-reports : Laws → (rounds : List Round) (old new : Pair) (trace : Trace) → IsTrace rounds old trace new → AreNew old → ReportsCommitted trace new
@@ -234,10 +196,7 @@ run-reports laws rounds old new trace gives fresh =
     let commits = run-commits laws rounds old new (Ok trace) gives fresh in
     let headers_long : length new.receiver.kept.headers ≡ min commits.number (length old.sender.files) =
     ap length commits.headers ∙ (length-map (take commits.number old.sender.files) (λ (f : FileParts). f.header) ∙ length-take commits.number old.sender.files) in
-    let files_is : trace.files ≡ commits.number = gives.files ∙ commits.files_is in
-    let done : trace.done ≤ commits.number = subst (λ m. m ≤ commits.number) (sym gives.done) commits.done in
-    let within : commits.number ≤ length old.sender.files = commits.within in
     record {
-      files_is = omega (arith, headers_long, files_is, within);
-      done = omega (arith, headers_long, done, within);
+      files_is = omega (arith, headers_long, gives.files, commits.files_is, commits.within);
+      done = omega (arith, headers_long, gives.done, commits.done, commits.within);
     }

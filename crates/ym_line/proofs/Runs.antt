@@ -1,17 +1,10 @@
 -- What is seen of a round, and runs one round more.
 use Rattle.std.proofs.Common.{◌≡◌, ℕ, ◌+◌, ◌<◌, suc, zero, List, [], ◌∷◌, ◌++◌, length, take, get_or, Result, Ok, Err, IfOk, IfErr, refl, subst, inl, inr, ◌⊎◌, arith}
-use Rattle.ym_frame.specs.declared.control.Reply.{Reply}
-use Rattle.ym_link.specs.Sender.{SenderParts, IsSender}
-use Rattle.ym_line.specs.declared.delivery.Round.{Round}
-use Rattle.ym_line.specs.declared.fault.LineFault.{LineFault}
-use Rattle.ym_line.specs.declared.fault.LineFault.TheVariants.{Memory}
+use Rattle.ym_line.proofs.Names.{Reply, SenderParts, IsSender, Round, LineFault, Memory, Seen, what_of, Trace, Pair, Goes, GoOn, IsTrace, RunGives, Stops, StopsIn, sent_by}
 use Rattle.ym_line.specs.declared.trace.How.{How}
-use Rattle.ym_line.specs.declared.trace.Seen.{Seen}
 use Rattle.ym_line.specs.declared.trace.What.{What}
 use Rattle.ym_line.specs.Damage.{how_of}
-use Rattle.ym_line.specs.What.{what_of}
-use Rattle.ym_line.specs.declared.trace.Trace.{Trace}
-use Rattle.ym_line.specs.Rounds.{Pair, Goes, GoOn, IsTrace, RoundGives, RunGives, Stops, StopsIn, sent_by, seen_of}
+use Rattle.ym_line.specs.Rounds.{RoundGives, seen_of}
 use Rattle.ym_line.proofs.Turns.{FrameFound, sent-shown}
 
 -- what is seen, part by part
@@ -25,10 +18,9 @@ seen-parts found round sender reply what there back sent what_is sent_is is ther
 pub GoOn-append : (rounds : List Round) (round : Round) (old between new : Pair) (all : List Seen) (seen : Seen) →
     GoOn rounds old all between → Goes round between seen new → GoOn (rounds ++ round ∷ []) old (all ++ seen ∷ []) new
 GoOn-append [] round old between new [] seen went goes = (new, subst (λ p. Goes round p seen new) went goes, refl)
-GoOn-append [] round old between new (x ∷ all) seen went goes = absurd went
-GoOn-append (first ∷ rounds) round old between new [] seen went goes = absurd went
 GoOn-append (first ∷ rounds) round old between new (x ∷ all) seen went goes =
     (went.0, went.1, GoOn-append rounds round went.0 between new all seen went.2 goes)
+GoOn-append _ round old between new _ seen went goes = absurd went
 
 -- a round does not come to its end: it met a fault, or there was no memory for its entry in the trace
 abbrev pub StopsAt : ℕ → Round → Pair → LineFault → Pair → Type 0
@@ -43,11 +35,10 @@ StopsIn-at (first ∷ rounds) n zero round old between new [] fault below at wen
     let number : n + 0 ≡ n = omega arith in
     let first_stops : StopsAt n first old fault new = subst (λ m. StopsAt m first old fault new) number (subst (λ r. StopsAt (n + 0) r old fault new) at (subst (λ p. StopsAt (n + 0) round p fault new) went stops)) in
     elim first_stops [ inl no_memory ↦ inl no_memory | inr stopped ↦ inr (inl stopped) ]
-StopsIn-at (first ∷ rounds) n zero round old between new (x ∷ all) fault below at went stops = absurd went
-StopsIn-at (first ∷ rounds) n (suc i) round old between new [] fault below at went stops = absurd went
 StopsIn-at (first ∷ rounds) n (suc i) round old between new (x ∷ all) fault below at went stops =
     let number : n + suc i ≡ n + 1 + i = omega arith in
     inr (inr (x, went.0, went.1, StopsIn-at rounds (n + 1) i round went.0 between new all fault (omega arith) at went.2 (subst (λ m. StopsAt m round between fault new) number stops)))
+StopsIn-at (first ∷ rounds) n _ round old between new _ fault below at went stops = absurd went
 
 -- what holds of each trace of a run holds of the one that it answers
 pub trace-gives : (rounds : List Round) (old new : Pair) (result : Result Trace LineFault) (P : Trace → Type 0) →

@@ -2,13 +2,8 @@
 use Rattle.std.proofs.Common.{◌≡◌, ◌≤◌, ℕ, List, length, Option, None, Some, IfSome, IsSome, All, sym}
 use Rattle.std.proofs.lemmas.List.{length-map}
 use Rattle.std.proofs.lemmas.List.Elements.{All-map}
-use Rattle.ym_machine.specs.declared.limits.TheConstants.{MOST_FILES}
-use Rattle.ym_header.specs.Header.{HeaderParts, IsHeader, length_limit}
-use Rattle.ym_file.specs.Plan.{IsPieces, pieces_of}
-use Rattle.ym_file.specs.declared.plan.Shape.{Shape}
-use Rattle.ym_link.specs.ReceiverStands.{IsSent, IsBatch}
-use Rattle.ym_link.specs.SenderStands.{AllTold, batch_of, file_of, told_pieces}
-use Rattle.ym_file.specs.SourceFile.{FileParts, IsFile}
+use Rattle.ym_line.proofs.Names.{MOST_FILES, HeaderParts, IsHeader, length_limit, IsPieces, pieces_of, Shape, IsBatch, AllTold, batch_of, file_of, told_pieces, FileParts, IsFile}
+use Rattle.ym_link.specs.ReceiverStands.{IsSent}
 
 -- a file that is cut by a plan is sent whole
 abbrev pub PlannedIsSent : Type 0

@@ -1,17 +1,10 @@
 -- A run that met a fault: the rounds before are turns, and of the round with the fault at most the half there was taken.
 use Rattle.std.proofs.Common.{◌≡◌, inl, inr, ℕ, ◌+◌, List, [], ◌∷◌, refl, sym, subst}
-use Rattle.ym_machine.specs.declared.confirm.Confirm.{Confirm}
-use Rattle.ym_machine.specs.Frames.{frames_of}
-use Rattle.ym_machine.specs.Machine.{State}
-use Rattle.ym_machine.specs.Run.{after_turn}
-use Rattle.ym_link.specs.SenderStands.{Batch}
-use Rattle.ym_line.specs.declared.delivery.Round.{Round}
+use Rattle.ym_line.proofs.Names.{Confirm, frames_of, State, after_turn, Batch, Round, LineFault, Memory, arrives, Pair, sent_by, Stops, StopsIn, PairStands}
 use Rattle.ym_line.specs.declared.delivery.Way.TheVariants.{There}
-use Rattle.ym_line.specs.declared.fault.LineFault.{LineFault}
-use Rattle.ym_line.specs.declared.fault.LineFault.TheVariants.{NotDamage, TooLong, Carrier, Memory}
-use Rattle.ym_line.specs.Damage.{arrives}
-use Rattle.ym_line.specs.Rounds.{Pair, handed, sent_by, Stops, StopsHalf, StopsIn}
-use Rattle.ym_line.specs.Turns.{PairStands, StopsAsMachine, StopsInTurn}
+use Rattle.ym_line.specs.declared.fault.LineFault.TheVariants.{Carrier}
+use Rattle.ym_line.specs.Rounds.{handed, StopsHalf}
+use Rattle.ym_line.specs.Turns.{StopsAsMachine, StopsInTurn}
 use Rattle.ym_line.proofs.Halves.{Laws, goes-turn, half-turn}
 
 -- ---- What a half leaves where no end has heard
@@ -20,14 +13,13 @@ use Rattle.ym_line.proofs.Halves.{Laws, goes-turn, half-turn}
 abbrev pub Same : Pair → Pair → Type 0
 Same old new = new ≡ record old { failures = new.failures }
 
-unchanged : (old new : Pair) → new ≡ old → Same old new
+pub unchanged : (old new : Pair) → new ≡ old → Same old new
 unchanged old new same = subst (λ (p : Pair). p ≡ record old { failures = p.failures }) (sym same) refl
 
 pub half-same : (n : ℕ) (shows short : Type 0) (old : Pair) (fault : LineFault) (new : Pair) → StopsHalf n shows short old fault new → Same old new
-half-same n shows short old (NotDamage number) new stops = unchanged old new stops.1
-half-same n shows short old (TooLong number) new stops = unchanged old new stops.1
 half-same n shows short old Carrier new stops = stops.3
 half-same n shows short old Memory new stops = unchanged old new stops.2
+half-same n shows short old _ new stops = unchanged old new stops.1
 
 -- ---- The line's failures
 
@@ -64,9 +56,7 @@ turn-stands : (confirm : Confirm) (files : Batch) (st : State) (n : ℕ) (round 
 turn-stands confirm files st n round old fault new stands (StopsInTurn.unseen memory same) = (st, subst (PairStands confirm files st) (sym same) stands)
 turn-stands confirm files st n round old fault new stands (StopsInTurn.nothing stopped) = (st, failures-stand confirm files st old new (half-same n _ _ old fault new stopped) stands)
 turn-stands confirm files st n round old fault new stands (StopsInTurn.unheard memory says told) =
-    let there_told : PairStands confirm files st (handed There (arrives round.there (sent_by old.sender)) old) =
-    record { machine = stands.machine; batch = stands.batch; told = stands.told; sender = stands.sender; receiver = stands.receiver } in
-    (st, subst (PairStands confirm files st) (sym told) there_told)
+    let there_told : PairStands confirm files st (handed There (arrives round.there (sent_by old.sender)) old) = assumption in (st, rw told there_told)
 turn-stands confirm files st n round old fault new stands (StopsInTurn.half between reply half stopped) =
     (_, failures-stand confirm files _ between new (half-same n _ _ between fault new stopped) half.stands)
 

@@ -1,66 +1,40 @@
 -- Where no failure count rose over a run, none of its turns has a sink or a source that failed; and what is whole or bad in a list of rounds
 -- is so in its turns.
-use Rattle.std.proofs.Common.{◌≡◌, ◌∙◌, ◌≤◌, ◌<◌, ◌&&◌, ℕ, ◌+◌, Bool, true, false, List, [], ◌∷◌, length, is_none, refl, sym, ap, subst, inl, inr, arith}
-use Rattle.std.proofs.Math.Nat.{eq-or-lt_of_le}
+use Rattle.std.proofs.Common.{◌≡◌, ◌∙◌, ◌≤◌, ◌<◌, ◌&&◌, ℕ, ◌+◌, Bool, true, false, List, [], ◌∷◌, length, is_none, refl, ap, subst, inl, inr, arith}
 use Rattle.std.proofs.lemmas.Bool.{cases_eq}
 use Rattle.std.proofs.lemmas.List.{length-set, get_or-set_same, get_or-set_other}
+use Rattle.ym_line.proofs.Names.{Confirm, frames_of, State, Turn, NoFailure, after_turn, Batch, FileParts, file_at, no_file, Delivery, Whole, Round, Seen, NoneRose, AllWhole, whole_rounds, Pair, AreTurns, IsSourceTruth, came_of, is_whole, turn_of}
 use Rattle.ym_file.specs.Counts.{Rose}
-use Rattle.ym_machine.specs.declared.confirm.Confirm.{Confirm}
-use Rattle.ym_machine.specs.Frames.{frames_of}
-use Rattle.ym_machine.specs.Machine.{State}
-use Rattle.ym_machine.specs.Run.{Turn, NoFailure, after_turn}
 use Rattle.ym_machine.specs.Run as machine
 use Rattle.ym_link.specs.ReceiverInto.{Tells}
 use Rattle.ym_link.specs.Sender.{FilledAt, FailedAt}
-use Rattle.ym_link.specs.SenderStands.{Batch}
-use Rattle.ym_file.specs.SourceFile.{FileParts, file_at, filled, no_file}
-use Rattle.ym_line.specs.declared.delivery.Delivery.{Delivery}
-use Rattle.ym_line.specs.declared.delivery.Delivery.TheVariants.{Whole, Lost, Damaged}
-use Rattle.ym_line.specs.declared.delivery.Round.{Round}
-use Rattle.ym_line.specs.declared.trace.Seen.{Seen}
-use Rattle.ym_line.specs.Completion.{NoneRose, AllWhole, both_whole, whole_rounds, longest_bad_run}
-use Rattle.ym_line.specs.Rounds.{Pair}
-use Rattle.ym_line.specs.Turns.{AreTurns, IsTurn, IsSourceTruth, came_of, is_whole, turn_of}
+use Rattle.ym_line.specs.Completion.{both_whole, longest_bad_run}
 
 -- ---- Counts never fall
 
 pub rose-on : (a b c : ℕ) → Rose a b → b ≤ c → Rose a c
-rose-on a b c (inl below) within = inl (omega (arith, below, within))
-rose-on a b c (inr most) within = elim (eq-or-lt_of_le within) [
-  | inl same ↦ inr (most.0, sym same ∙ most.1)
-  | inr below ↦ inl (omega (arith, below, most.1))
-]
+rose-on a b c rose within = grind (arith, rose, within)
 
 rose-grew : (a b : ℕ) → Rose a b → a ≤ b
-rose-grew a b (inl below) = omega (arith, below)
-rose-grew a b (inr most) = omega (arith, most.1)
+rose-grew a b rose = grind (arith, rose)
 
 pub tells-grew : (failed : Bool) (a b : ℕ) → Tells failed a b → a ≤ b
-tells-grew true a b rose = rose-grew a b rose
-tells-grew false a b same = omega (arith, same)
+tells-grew failed a b tells = grind (arith, tells)
+
+failed-at : (at : ℕ) (old new : List FileParts) (failed : FailedAt at old new) → (file_at new at).failures ≡ failed.failures
+failed-at at old new failed = ap (λ l. (file_at l at).failures) failed.after ∙ ap (λ (f : FileParts). f.failures) (get_or-set_same old at _ no_file failed.within)
 
 failed-grew : (at : ℕ) (old new : List FileParts) → FailedAt at old new → (i : ℕ) → (file_at old i).failures ≤ (file_at new i).failures
 failed-grew at old new failed i = elim (cases_eq i at) [
-  | inl same ↦
-      let set_is : file_at new at ≡ record (filled (file_at old at)) { failures = failed.failures } = ap (λ l. file_at l at) failed.after ∙ get_or-set_same old at _ no_file failed.within in
-      let counts : (file_at new at).failures ≡ failed.failures = ap (λ (f : FileParts). f.failures) set_is in
-      let grew : (file_at old at).failures ≤ (file_at new at).failures = omega (arith, counts, rose-grew (file_at old at).failures failed.failures failed.rose) in
-      subst (λ j. (file_at old j).failures ≤ (file_at new j).failures) (sym same) grew
-  | inr other ↦
-      let kept_is : file_at new i ≡ file_at old i = ap (λ l. file_at l i) failed.after ∙ get_or-set_other old at i _ no_file other in
-      let counts : (file_at new i).failures ≡ (file_at old i).failures = ap (λ (f : FileParts). f.failures) kept_is in
-      omega (arith, counts)
+  | inl same ↦ let counts = failed-at at old new failed in let grew = rose-grew (file_at old at).failures failed.failures failed.rose in rw same (omega (arith, counts, grew))
+  | inr other ↦ let kept = ap (λ l. (file_at l i).failures) failed.after ∙ ap (λ (f : FileParts). f.failures) (get_or-set_other old at i _ no_file other) in omega (arith, kept)
 ]
 
 filled-same : (at : ℕ) (old new : List FileParts) → FilledAt at old new → (i : ℕ) → (file_at new i).failures ≡ (file_at old i).failures
-filled-same at old new asked i = elim (cases_eq i at) [
-  | inl same ↦
-      let set_is : file_at new at ≡ filled (file_at old at) = ap (λ l. file_at l at) asked.after ∙ get_or-set_same old at _ no_file asked.within in
-      subst (λ j. (file_at new j).failures ≡ (file_at old j).failures) (sym same) (ap (λ (f : FileParts). f.failures) set_is)
-  | inr other ↦
-      let kept_is : file_at new i ≡ file_at old i = ap (λ l. file_at l i) asked.after ∙ get_or-set_other old at i _ no_file other in
-      ap (λ (f : FileParts). f.failures) kept_is
-]
+filled-same at old new asked i = rw asked.after (elim (cases_eq i at) [
+  | inl same ↦ rw same (ap (λ (f : FileParts). f.failures) (get_or-set_same old at _ no_file asked.within))
+  | inr other ↦ ap (λ (f : FileParts). f.failures) (get_or-set_other old at i _ no_file other)
+])
 
 pub sources-grew : (failed : Bool) (old new : List FileParts) → IsSourceTruth failed old new → (i : ℕ) → (file_at old i).failures ≤ (file_at new i).failures
 sources-grew true old new truth i = failed-grew truth.0 old new truth.1 i
@@ -68,11 +42,8 @@ sources-grew false old new (inl truth) i = let same : (file_at new i).failures �
 sources-grew false old new (inr truth) i = let same = filled-same truth.0 old new truth.1 i in omega (arith, same)
 
 -- the number of files stays
-failed-long : (at : ℕ) (old new : List FileParts) → FailedAt at old new → length new ≡ length old
-failed-long at old new failed = ap length failed.after ∙ length-set old at _
-
 pub sources-long : (failed : Bool) (old new : List FileParts) → IsSourceTruth failed old new → length new ≡ length old
-sources-long true old new truth = failed-long truth.0 old new truth.1
+sources-long true old new truth = ap length truth.1.after ∙ length-set old truth.0 _
 sources-long false old new (inl truth) = ap length truth
 sources-long false old new (inr truth) = ap length truth.1.after ∙ length-set old truth.0 _
 
@@ -82,17 +53,12 @@ record Grew (old new : Pair) : Type 0 where
 
 turns-grew : (confirm : Confirm) (files : Batch) (rounds : List Round) (turns : List Turn) (st : State) (old new : Pair) (all : List Seen) →
     AreTurns confirm files st rounds turns old all new → Grew old new
-turns-grew confirm files [] [] st old new [] went = record {
-  sink = let same : new.receiver.failures ≡ old.receiver.failures = ap (λ (p : Pair). p.receiver.failures) went in omega (arith, same);
-  sources = λ i. let same : (file_at new.sender.files i).failures ≡ (file_at old.sender.files i).failures = ap (λ (p : Pair). (file_at p.sender.files i).failures) went in omega (arith, same);
-}
+turns-grew confirm files [] [] st old new [] went = rw went (record { sink = omega arith; sources = λ i. omega arith })
 turns-grew confirm files (round ∷ rounds) (turn ∷ turns) st old new (seen ∷ all) went =
-    let between : Pair = went.0 in
-    let first : IsTurn confirm files st round turn old seen between = went.1 in
-    let others = turns-grew confirm files rounds turns (after_turn (frames_of files) confirm turn st) between new all went.2 in
+    let others = turns-grew confirm files rounds turns (after_turn (frames_of files) confirm turn st) went.0 new all went.2 in
     record {
-      sink = omega (arith, tells-grew turn.sink_failed old.receiver.failures between.receiver.failures first.sink, others.sink);
-      sources = λ i. omega (arith, sources-grew turn.source_failed old.sender.files between.sender.files first.source i, others.sources i);
+      sink = omega (arith, tells-grew turn.sink_failed old.receiver.failures went.0.receiver.failures went.1.sink, others.sink);
+      sources = λ i. omega (arith, sources-grew turn.source_failed old.sender.files went.0.sender.files went.1.source i, others.sources i);
     }
 turns-grew confirm files _ _ st old new _ went = absurd went
 
@@ -105,8 +71,7 @@ sink-true false a b c same grew none = refl
 failed-rose : (at : ℕ) (old between new : List FileParts) → FailedAt at old between →
     ((i : ℕ) → (file_at between i).failures ≤ (file_at new i).failures) → Rose (file_at old at).failures (file_at new at).failures
 failed-rose at old between new failed grew =
-    let set_is : file_at between at ≡ record (filled (file_at old at)) { failures = failed.failures } = ap (λ l. file_at l at) failed.after ∙ get_or-set_same old at _ no_file failed.within in
-    let counts : (file_at between at).failures ≡ failed.failures = ap (λ (f : FileParts). f.failures) set_is in
+    let counts = failed-at at old between failed in
     rose-on (file_at old at).failures failed.failures (file_at new at).failures failed.rose (omega (arith, counts, grew at))
 
 pub source-true : (failed : Bool) (old between new : List FileParts) → IsSourceTruth failed old between →
@@ -117,24 +82,20 @@ source-true false old between new truth grew none = refl
 
 -- a count that rose behind a turn rose over the run
 pub rose-behind : (a b c : ℕ) → a ≤ b → Rose b c → Rose a c
-rose-behind a b c grew rose = elim (eq-or-lt_of_le grew) [
-  | inl same ↦ subst (λ n. Rose n c) (sym same) rose
-  | inr below ↦ inl (omega (arith, below, rose-grew b c rose))
-]
+rose-behind a b c grew rose = grind (arith, grew, rose)
 
 pub no-failure : (confirm : Confirm) (files : Batch) (rounds : List Round) (turns : List Turn) (st : State) (old new : Pair) (all : List Seen) →
     AreTurns confirm files st rounds turns old all new → NoneRose old new → NoFailure turns
 no-failure confirm files [] [] st old new [] went none = tt
 no-failure confirm files (round ∷ rounds) (turn ∷ turns) st old new (seen ∷ all) went none =
     let between : Pair = went.0 in
-    let first : IsTurn confirm files st round turn old seen between = went.1 in
     let later : State = after_turn (frames_of files) confirm turn st in
     let grew = turns-grew confirm files rounds turns later between new all went.2 in
-    let sink_grew = tells-grew turn.sink_failed old.receiver.failures between.receiver.failures first.sink in
-    let sources_grew = sources-grew turn.source_failed old.sender.files between.sender.files first.source in
-    let long : length between.sender.files ≡ length old.sender.files = sources-long turn.source_failed old.sender.files between.sender.files first.source in (
-      sink-true turn.sink_failed old.receiver.failures between.receiver.failures new.receiver.failures first.sink grew.sink none.sink,
-      source-true turn.source_failed old.sender.files between.sender.files new.sender.files first.source grew.sources none.sources,
+    let sink_grew = tells-grew turn.sink_failed old.receiver.failures between.receiver.failures went.1.sink in
+    let sources_grew = sources-grew turn.source_failed old.sender.files between.sender.files went.1.source in
+    let long : length between.sender.files ≡ length old.sender.files = sources-long turn.source_failed old.sender.files between.sender.files went.1.source in (
+      sink-true turn.sink_failed old.receiver.failures between.receiver.failures new.receiver.failures went.1.sink grew.sink none.sink,
+      source-true turn.source_failed old.sender.files between.sender.files new.sender.files went.1.source grew.sources none.sources,
       no-failure confirm files rounds turns later between new all went.2 (record {
         sink = λ rose. none.sink (rose-behind _ _ _ sink_grew rose);
         sources = λ i below rose. none.sources i (subst (λ n. i < n) long below) (rose-behind _ _ _ (sources_grew i) rose);
@@ -146,8 +107,7 @@ no-failure confirm files _ _ st old new _ went none = absurd went
 
 comes-whole : (delivery : Delivery) → is_none (came_of delivery) ≡ is_whole delivery
 comes-whole Whole = refl
-comes-whole Lost = refl
-comes-whole (Damaged bytes) = refl
+comes-whole _ = refl
 
 pub whole-turn : (round : Round) (turn : Turn) → turn ≡ turn_of round turn.sink_failed turn.source_failed → machine.is_whole turn ≡ both_whole round
 whole-turn round turn turn_is = ap machine.is_whole turn_is ∙ ap (λ back. is_whole round.there && back) (comes-whole round.back)
@@ -165,9 +125,8 @@ same-turns confirm files [] [] st old new [] went = record { long = refl; whole 
 same-turns confirm files (round ∷ rounds) (turn ∷ turns) st old new (seen ∷ all) went =
     let first : machine.is_whole turn ≡ both_whole round = whole-turn round turn went.1.turn_is in
     let others = same-turns confirm files rounds turns (after_turn (frames_of files) confirm turn st) went.0 new all went.2 in
-    let long : length turns ≡ length rounds = others.long in
     record {
-      long = omega (arith, long);
+      long = omega (arith, others.long);
       whole = rw (first, others.whole) refl;
       longest = λ before. rw (first, others.longest 0, others.longest (before + 1)) refl;
       all_whole = λ whole. (first ∙ whole.0, others.all_whole whole.1);

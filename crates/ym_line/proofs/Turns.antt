@@ -1,36 +1,27 @@
 -- What is heard of a delivery, and what comes back of a reply, by the machine.
-use Rattle.std.proofs.Common.{◌≡◌, ◌∙◌, inl, inr, is_some, if◌then◌else◌, append-nil, unwrap_or, ℕ, Bool, true, false, List, [], ◌∷◌, ◌++◌, length, map, Option, None, Some, Ok, refl, sym, ap, subst}
+use Rattle.std.proofs.Common.{◌≡◌, ◌∙◌, inl, inr, is_some, if◌then◌else◌, append-nil, unwrap_or, ℕ, Bool, true, List, [], ◌∷◌, ◌++◌, length, map, Option, None, Some, Ok, refl, sym, ap, arith}
 use Rattle.std.specs.List.{cons_option}
-use Rattle.std.proofs.lemmas.Bool.Decides.{eqb_tells}
-use Rattle.ym_header.specs.Header.{HeaderParts}
-use Rattle.ym_frame.specs.Control.{control_at, reply_bytes, controls, IsSubsequence}
+use Rattle.std.proofs.lemmas.Bool.Decides.{nat_tests}
+use Rattle.ym_line.proofs.Names.{HeaderParts, reply_bytes, Reply, Control, frames_of, came_back, controls_in, Batch, IsSaid, SendState, SenderParts, IsSender, spoken, Delivery, Whole, arrives, ShowsBack, sent_by, is_whole, came_of, what_of}
+use Rattle.ym_frame.specs.Control.{control_at, controls, IsSubsequence}
 use Rattle.ym_frame.specs.Frame.{IsFrame, verdict_of}
-use Rattle.ym_frame.specs.declared.control.Reply.{Reply}
 use Rattle.ym_frame.specs.declared.control.Reply.TheVariants as reply
-use Rattle.ym_frame.specs.declared.control.Control.{Control}
-use Rattle.ym_frame.specs.declared.control.Control.TheVariants as control
 use Rattle.ym_frame.specs.declared.frame.Item.{Item}
 use Rattle.ym_frame.specs.declared.frame.Item.TheVariants as item
-use Rattle.ym_machine.specs.Frames.{Frame, BlockZero, frames_of, frame_at}
+use Rattle.ym_machine.specs.Frames.{Frame, BlockZero, frame_at}
 use Rattle.ym_machine.specs.Halves as machine
 use Rattle.ym_machine.specs.Machine.{Speech, Nothing, FrameAt, CanCan}
-use Rattle.ym_machine.specs.Run.{came_back}
 use Rattle.ym_core.specs.Hearing.{heard_of, heard_at}
 use Rattle.ym_core.specs.declared.delivery.Heard.TheVariants as heard
-use Rattle.ym_core.specs.Reading.{controls_in}
 use Rattle.ym_link.specs.ReceiverStands as receiver
-use Rattle.ym_link.specs.SenderStands.{Batch, IsSaid, item_of}
+use Rattle.ym_link.specs.SenderStands.{item_of}
 use Rattle.ym_core.specs.declared.place.Mode.{Mode}
-use Rattle.ym_core.specs.declared.place.Mode.TheVariants.{Waiting, Sent}
-use Rattle.ym_core.specs.declared.state.SendState.{SendState}
+use Rattle.ym_core.specs.declared.place.Mode.TheVariants.{Sent}
 use Rattle.ym_core.specs.declared.state.SendState.TheVariants as sender
-use Rattle.ym_link.specs.Sender.{SenderParts, IsSender, spoken, spoken_in}
-use Rattle.ym_line.specs.declared.delivery.Delivery.{Delivery}
-use Rattle.ym_line.specs.declared.delivery.Delivery.TheVariants.{Whole, Lost, Damaged}
-use Rattle.ym_line.specs.Damage.{arrives, ShowsBack, IsHeardBad}
-use Rattle.ym_line.specs.Rounds.{sent_by}
-use Rattle.ym_line.specs.Turns.{is_whole, came_of}
-use Rattle.ym_line.specs.What.{what_heard, what_is, what_of}
+use Rattle.ym_link.specs.Sender.{spoken_in}
+use Rattle.ym_line.specs.declared.delivery.Delivery.TheVariants.{Lost, Damaged}
+use Rattle.ym_line.specs.Damage.{IsHeardBad}
+use Rattle.ym_line.specs.What.{what_heard, what_is}
 
 -- ---- What comes back
 
@@ -50,27 +41,8 @@ reply-controls reply.Silence = refl
 reply-controls _ = refl
 
 -- the byte of the control that a byte is
-known-byte : (byte n : ℕ) (known control : Control) → byte ≡ n → control_at n ≡ Some known → machine.control_byte known ≡ n → control_at byte ≡ Some control →
-    machine.control_byte control ≡ byte
-known-byte byte n known control same at_n is_n is =
-    let found : Some known ≡ Some control = sym at_n ∙ subst (λ m. control_at m ≡ Some control) same is in
-    let control_is : known ≡ control = cc in
-    subst (λ c. machine.control_byte c ≡ byte) control_is (is_n ∙ sym same)
-
 byte-of : (byte : ℕ) (found : Control) → control_at byte ≡ Some found → machine.control_byte found ≡ byte
-byte-of byte found is = elim (eqb_tells byte 0x06) [
-  | inl ack ↦ known-byte byte 0x06 control.Ack found ack.1 refl refl is
-  | inr no_ack ↦ elim (eqb_tells byte 0x15) [
-    | inl nak ↦ known-byte byte 0x15 control.Nak found nak.1 refl refl is
-    | inr no_nak ↦ elim (eqb_tells byte 0x43) [
-      | inl c ↦ known-byte byte 0x43 control.Start found c.1 refl refl is
-      | inr no_c ↦ elim (eqb_tells byte 0x18) [
-        | inl can ↦ known-byte byte 0x18 control.Can found can.1 refl refl is
-        | inr no_can ↦ let none = rw (no_ack.0, no_nak.0, no_c.0, no_can.0) at is in cc
-      ]
-    ]
-  ]
-]
+byte-of byte found is = grind (arith, nat_tests, is)
 
 with-control : (byte : ℕ) (found : Option Control) (rest : List Control) (others : List ℕ) → control_at byte ≡ found → map machine.control_byte rest ≡ others →
     map machine.control_byte (cons_option found rest) ≡ (if is_some found then byte ∷ others else others)
@@ -106,11 +78,7 @@ words-shown found sender.Running Sent farewell frame holds =
     what-frame held.0 frame held.1 ∙ sym (ap what_heard (frame-heard found held.0 frame held.1))
 words-shown found sender.NoReply mode true frame holds = refl
 words-shown found sender.SourceFailed mode true frame holds = refl
-words-shown found sender.Running Waiting farewell frame holds = refl
-words-shown found sender.NoReply mode false frame holds = refl
-words-shown found sender.SourceFailed mode false frame holds = refl
-words-shown found sender.Finished mode farewell frame holds = refl
-words-shown found sender.Cancelled mode farewell frame holds = refl
+words-shown found _ _ _ frame holds = refl
 
 pub sent-shown : FrameFound → (s : SenderParts) → IsSender s → what_of (sent_by s) ≡ what_heard (heard_of (sent_by s))
 sent-shown found s is = words-shown found s.standing.state s.standing.mode s.standing.farewell s.frame (λ runs sent. let held = is.frame runs sent in (held.item, held.frame))

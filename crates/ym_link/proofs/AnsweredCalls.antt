@@ -1,23 +1,18 @@
 -- Over a line that answers each copy, an end hears for each call nothing as often as it waited in vain, and then the answer.
-use Rattle.std.proofs.Common.{◌≡◌, Bool, ◌<◌, ◌≤◌, ◌+◌, ℕ, zero, suc, true, false, nat_lt, nat_le, nat_eq, min, List, [], ◌∷◌, ◌++◌, length, Ok, refl, sym, ◌∙◌, ◌&&◌, ap, arith, lit<}
-use Rattle.std.proofs.lemmas.Bool.{ne_eqb, lt-ltb, lt-leb, eq-eqb}
-use Rattle.ym_link.specs.Clearing.{cleared, said, new_talk, once, fresh}
-use Rattle.ym_link.specs.Exchange.{front_of, new_exchange, is_same, is_taken, wrote, all_ask, is_opening, is_stale}
-use Rattle.ym_link.specs.LateAnswers.{AreLate, late_and_quiet, waits, Act, Writes, Reads, gives, Call, acts_of, hears, behind, comes, all_acts, all_comes, all_hears, AreCalls, one}
-use Rattle.ym_link.specs.Port.{Seen, Data, Silence, read_gives}
-use Rattle.ym_link.specs.declared.clearing.TheConstants.{STALE_READS}
-use Rattle.ym_link.specs.declared.clearing.Talk.{Talk}
-use Rattle.ym_link.specs.declared.event.Event.{Event}
+use Rattle.std.proofs.Common.{◌≡◌, Bool, ◌<◌, ◌≤◌, ◌+◌, ℕ, zero, suc, true, false, nat_eq, min, List, [], ◌∷◌, ◌++◌, length, Ok, refl, sym, ◌∙◌, ap, arith, lit<}
+use Rattle.std.proofs.lemmas.Bool.{and_right, ne_eqb, lt-ltb, lt-leb, eq-eqb}
+use Rattle.ym_link.proofs.Names.{cleared, said, front_of, AreLate, late_and_quiet, Seen, Data, STALE_READS, Talk, Event, Exchange, Role, Sender, DELIVERY_LIMIT}
+use Rattle.ym_link.specs.Clearing.{new_talk}
+use Rattle.ym_link.specs.Exchange.{new_exchange, is_same, is_taken, wrote, all_ask, is_opening}
+use Rattle.ym_link.specs.LateAnswers.{waits, Act, Writes, Reads, gives, Call, acts_of, hears, behind, comes, all_acts, all_comes, all_hears, AreCalls, one}
+use Rattle.ym_link.specs.Port.{Silence}
 use Rattle.ym_link.specs.declared.event.Event.TheVariants as event
-use Rattle.ym_link.specs.declared.exchange.Exchange.{Exchange}
 use Rattle.ym_link.specs.declared.exchange.Front.{Front}
-use Rattle.ym_link.specs.declared.exchange.Role.{Role}
-use Rattle.ym_link.specs.declared.exchange.Role.TheVariants.{Sender, Receiver}
+use Rattle.ym_link.specs.declared.exchange.Role.TheVariants.{Receiver}
 use Rattle.ym_link.specs.declared.sweep.Held.TheVariants as held
 use Rattle.ym_link.specs.declared.sweep.Heed.TheVariants as heed
 use Rattle.ym_link.proofs.Fresh.{fresh-over}
 use Rattle.ym_link.proofs.LateAnswersDropped.{whole-piece, late-answers-dropped}
-use Rattle.ym_link.specs.declared.port.TheConstants.{DELIVERY_LIMIT}
 
 -- what an end has said and heard, where nothing of it is held
 abbrev talk_of : Role → Exchange → Talk
@@ -31,27 +26,9 @@ said_of owed came prompt front repeat = record { owed = owed; came = came; is_qu
 abbrev waiting : ℕ → Bool → Front → Bool → Exchange
 waiting owed prompt front repeat = record { owed = owed; came = 0; is_quiet = true; waited = true; was_prompt = prompt; last = front; is_repeat = repeat }
 
-same-as-itself : (f : Front) → is_same f f ≡ true
-same-as-itself f =
-    let a : nat_eq f.length f.length ≡ true = eq-eqb f.length f.length refl in
-    let b : nat_eq f.first f.first ≡ true = eq-eqb f.first f.first refl in
-    let d : nat_eq f.second f.second ≡ true = eq-eqb f.second f.second refl in
-    rw (a, b, d) refl
-
 -- ---- One act
 
-and-false : (b : Bool) → b && false ≡ false
-and-false true = refl
-and-false false = refl
-
 -- an answer is no question that a sender passes over
-not-stale : (role : Role) (x : Exchange) (answer : List ℕ) → all_ask answer ≡ false → is_stale role x (Data answer) ≡ false
-not-stale role x answer answers = rw answers (and-false (is_opening role x))
-
-read-fresh : (talk : Talk) (events : List Event) (seen : Seen) → seen ≡ read_gives DELIVERY_LIMIT events → is_stale talk.role talk.exchange seen ≡ false
-    → fresh STALE_READS DELIVERY_LIMIT talk events ≡ once DELIVERY_LIMIT talk events
-read-fresh talk events seen gives new = fresh-over STALE_READS 0 DELIVERY_LIMIT talk events seen (lit< tt) gives new
-
 read-answer : (acts : List Act) (role : Role) (owed : ℕ) (prompt repeat : Bool) (front : Front) (answer : List ℕ) (rest : List Event) → 0 < length answer → length answer < DELIVERY_LIMIT
     → all_ask answer ≡ false → gives (Reads ∷ acts) (talk_of role (said_of owed 0 prompt front repeat)) (event.Piece answer ∷ rest)
     ≡ Data answer ∷ gives acts (talk_of role (said_of owed (min DELIVERY_LIMIT (0 + length answer)) prompt front repeat)) rest
@@ -59,16 +36,14 @@ unfolding gives
 read-answer acts role owed prompt repeat front answer rest some short answers =
     let x = said_of owed 0 prompt front repeat in
     let read = whole-piece answer rest some (omega arith) in
-    let first = read-fresh (talk_of role x) (event.Piece answer ∷ rest) (Data answer) (sym read.0) (not-stale role x answer answers) in
+    let first = fresh-over STALE_READS 0 DELIVERY_LIMIT (talk_of role x) (event.Piece answer ∷ rest) (Data answer) (lit< tt) (sym read.0) (and_right (is_opening role x) (all_ask answer) answers) in
     rw (first, read.0, read.1) refl
 
 read-quiet : (acts : List Act) (role : Role) (owed : ℕ) (prompt repeat : Bool) (front : Front) (rest : List Event)
     → gives (Reads ∷ acts) (talk_of role (said_of owed 0 prompt front repeat)) (event.Quiet ∷ event.Quiet ∷ rest) ≡ Silence ∷ gives acts (talk_of role (waiting owed prompt front repeat)) rest
 unfolding gives
 read-quiet acts role owed prompt repeat front rest =
-    let x = said_of owed 0 prompt front repeat in
-    let first = read-fresh (talk_of role x) (event.Quiet ∷ event.Quiet ∷ rest) Silence refl refl in
-    rw first refl
+    rw (fresh-over STALE_READS 0 DELIVERY_LIMIT (talk_of role (said_of owed 0 prompt front repeat)) (event.Quiet ∷ event.Quiet ∷ rest) Silence (lit< tt) refl refl) refl
 
 -- a write, by what it drops and how it leaves the port
 write-by : (acts : List Act) (talk new : Talk) (written : List ℕ) (events rest : List Event)
@@ -78,89 +53,55 @@ unfolding gives
 write-by acts talk new written events rest drops leaves = rw drops (ap (λ (t : Talk). gives acts t rest) leaves)
 
 -- after a wait in vain nothing was taken, so nothing is dropped
-again-cleared : (role : Role) (owed : ℕ) (prompt repeat : Bool) (written : List ℕ) (events : List Event)
-    → cleared (talk_of role (waiting owed prompt (front_of written) repeat)) written events ≡ record { answer = Ok held.Nothing; rest = events }
-again-cleared Sender owed prompt repeat written events = refl
-again-cleared Receiver owed prompt repeat written events = refl
-
-again-wrote : (role : Role) (owed : ℕ) (prompt repeat : Bool) (f : Front) → 0 < owed → wrote role (waiting owed prompt f repeat) f ≡ said_of 2 0 prompt f true
-again-wrote Sender owed prompt repeat f some =
-    let more : nat_eq owed 0 ≡ false = ne_eqb owed 0 (omega arith) in
-    let same = same-as-itself f in rw (more, same) refl
-again-wrote Receiver owed prompt repeat f some =
-    let more : nat_eq owed 0 ≡ false = ne_eqb owed 0 (omega arith) in
-    let same = same-as-itself f in rw (more, same) refl
-
 write-again : (acts : List Act) (role : Role) (owed : ℕ) (prompt repeat : Bool) (written : List ℕ) (events : List Event) → 0 < owed
     → gives (Writes written ∷ acts) (talk_of role (waiting owed prompt (front_of written) repeat)) events ≡ gives acts (talk_of role (said_of 2 0 prompt (front_of written) true)) events
 write-again acts role owed prompt repeat written events some =
-    write-by acts _ _ written events events (again-cleared role owed prompt repeat written events)
-    (ap (talk_of role) (again-wrote role owed prompt repeat (front_of written) some))
+    let more : nat_eq owed 0 ≡ false = ne_eqb owed 0 (omega arith) in
+    let f = front_of written in
+    let same : is_same f f ≡ true = rw (eq-eqb f.length f.length refl, eq-eqb f.first f.first refl, eq-eqb f.second f.second refl) refl in
+    let old = waiting owed prompt f repeat in
+    let drops = elim role as (λ r. cleared (talk_of r old) written events ≡ record { answer = Ok held.Nothing; rest = events }) [ Sender ↦ refl | Receiver ↦ refl ] in
+    let wrote = elim role as (λ r. wrote r old f ≡ said_of 2 0 prompt f true) [ Sender ↦ rw (more, same) refl | Receiver ↦ rw (more, same) refl ] in
+    write-by acts _ _ written events events drops (ap (talk_of role) wrote)
 
 -- ---- The first write of a call
 
 -- what came is what the end waited for
 taken : (role : Role) (owed came : ℕ) (prompt repeat : Bool) (before next : Front) → 0 < came → came < DELIVERY_LIMIT → (role ≡ Sender → is_same before next ≡ false)
     → is_taken role (said_of owed came prompt before repeat) next ≡ true
-taken Sender owed came prompt repeat before next some short other =
-    let any : nat_lt 0 came ≡ true = lt-ltb 0 came some in rw (any, other refl) refl
-taken Receiver owed came prompt repeat before next some short other =
-    let any : nat_lt 0 came ≡ true = lt-ltb 0 came some in let room : nat_lt came DELIVERY_LIMIT ≡ true = lt-ltb came DELIVERY_LIMIT short in rw (any, room) refl
+taken Sender owed came prompt repeat before next some short other = rw (lt-ltb 0 came some, other refl) refl
+taken Receiver owed came prompt repeat before next some short other = rw (lt-ltb 0 came some, lt-ltb came DELIVERY_LIMIT short) refl
 
 -- behind an answer to the one write before nothing is dropped, and behind one of several the answers to the others are
-nothing-dropped : (role : Role) (came : ℕ) (prompt repeat : Bool) (before written : List ℕ) (events : List Event) → 0 < came → came < DELIVERY_LIMIT
-    → (role ≡ Sender → is_same (front_of before) (front_of written) ≡ false)
-    → cleared (talk_of role (said_of 1 came prompt (front_of before) repeat)) written events ≡ record { answer = Ok held.Nothing; rest = events }
-nothing-dropped role came prompt repeat before written events some short other =
-    let room : nat_le DELIVERY_LIMIT came ≡ false = lt-leb DELIVERY_LIMIT came short in
-    rw (room, taken role 1 came prompt repeat (front_of before) (front_of written) some short other) refl
+abbrev Drops : Role → Exchange → List Event → List Event → Type 0
+Drops role x events more = (written : List ℕ) → is_taken role x (front_of written) ≡ true → cleared (talk_of role x) written events ≡ record { answer = Ok held.Nothing; rest = more }
 
-others-dropped : (role : Role) (came : ℕ) (prompt repeat : Bool) (before written : List ℕ) (late more : List Event) → 0 < came → came < DELIVERY_LIMIT
-    → (role ≡ Sender → is_same (front_of before) (front_of written) ≡ false) → AreLate role heed.Open 9 late → length late ≤ 65000
-    → cleared (talk_of role (said_of 2 came prompt (front_of before) repeat)) written (late_and_quiet role late more) ≡ record { answer = Ok held.Nothing; rest = more }
-others-dropped role came prompt repeat before written late more some short other are few =
-    let room : nat_le DELIVERY_LIMIT came ≡ false = lt-leb DELIVERY_LIMIT came short in
-    rw (room, taken role 2 came prompt repeat (front_of before) (front_of written) some short other) (late-answers-dropped role late more are few)
+nothing-dropped : (role : Role) (came : ℕ) (prompt repeat : Bool) (before : Front) (events : List Event) → came < DELIVERY_LIMIT → Drops role (said_of 1 came prompt before repeat) events events
+nothing-dropped role came prompt repeat before events short written took = rw (lt-leb DELIVERY_LIMIT came short, took) refl
 
--- how it leaves the port: one answer is owed
-first-wrote : (role : Role) (x : Exchange) (next : Front) → is_taken role x next ≡ true → wrote role x next ≡ said_of 1 0 (wrote role x next).was_prompt next (is_same x.last next)
-first-wrote role x next took = rw took refl
+others-dropped : (role : Role) (came : ℕ) (prompt repeat : Bool) (before : Front) (late more : List Event) → came < DELIVERY_LIMIT → AreLate role heed.Open 9 late → length late ≤ 65000
+    → Drops role (said_of 2 came prompt before repeat) (late_and_quiet role late more) more
+others-dropped role came prompt repeat before late more short are few written took = rw (lt-leb DELIVERY_LIMIT came short, took) (late-answers-dropped role late more are few)
 
--- how a call finds the port: new, behind one write that was answered, or behind several
+-- how a call finds the port: new, or behind writes that were answered
 data Found (role : Role) : List ℕ → Exchange → List Event → List Event → Type 0 where
   new : (more : List Event) → Found role [] new_exchange more more
-  answered : (before : List ℕ) (came : ℕ) (prompt repeat : Bool) (more : List Event) → 0 < came → came < DELIVERY_LIMIT
-      → Found role before (said_of 1 came prompt (front_of before) repeat) more more
-  copied : (before : List ℕ) (came : ℕ) (prompt repeat : Bool) (late more : List Event) → 0 < came → came < DELIVERY_LIMIT → AreLate role heed.Open 9 late → length late ≤ 65000
-      → Found role before (said_of 2 came prompt (front_of before) repeat) (late_and_quiet role late more) more
+  answered : (before : List ℕ) (owed came : ℕ) (prompt repeat : Bool) (events more : List Event) → 0 < came → came < DELIVERY_LIMIT
+      → Drops role (said_of owed came prompt (front_of before) repeat) events more → Found role before (said_of owed came prompt (front_of before) repeat) events more
 
 -- how its first write leaves it
 abbrev Begun : Role → Exchange → List Event → List ℕ → List Event → List Act → Type 0
 Begun role x events written more acts = (prompt : Bool) × (repeat : Bool)
     × (gives (Writes written ∷ acts) (talk_of role x) events ≡ gives acts (talk_of role (said_of 1 0 prompt (front_of written) repeat)) more)
 
-begin-taken : (role : Role) (x : Exchange) (events : List Event) (written : List ℕ) (more : List Event) (acts : List Act)
-    → cleared (talk_of role x) written events ≡ record { answer = Ok held.Nothing; rest = more } → is_taken role x (front_of written) ≡ true
-    → Begun role x events written more acts
-begin-taken role x events written more acts drops took = (
-  (wrote role x (front_of written)).was_prompt,
-  is_same x.last (front_of written),
-  write-by acts _ _ written events more drops (ap (talk_of role) (first-wrote role x (front_of written) took)),
-)
-
-begin-new : (role : Role) (written : List ℕ) (more : List Event) (acts : List Act) → Begun role new_exchange more written more acts
-begin-new Sender written more acts = (_, _, write-by acts _ _ written more more refl refl)
-begin-new Receiver written more acts = (_, _, write-by acts _ _ written more more refl refl)
-
 begin : (role : Role) (before written : List ℕ) (x : Exchange) (events more : List Event) (acts : List Act) → Found role before x events more
     → (role ≡ Sender → is_same (front_of before) (front_of written) ≡ false) → Begun role x events written more acts
-begin role _ written _ _ more acts (new _) other = begin-new role written more acts
-begin role before written _ _ more acts (answered _ came prompt repeat _ some short) other =
-    begin-taken role _ more written more acts (nothing-dropped role came prompt repeat before written more some short other)
-    (taken role 1 came prompt repeat (front_of before) (front_of written) some short other)
-begin role before written _ _ more acts (copied _ came prompt repeat late _ some short are few) other =
-    begin-taken role _ _ written more acts (others-dropped role came prompt repeat before written late more some short other are few)
-    (taken role 2 came prompt repeat (front_of before) (front_of written) some short other)
+begin Sender _ written _ _ more acts (new _) other = (_, _, write-by acts _ _ written more more refl refl)
+begin Receiver _ written _ _ more acts (new _) other = (_, _, write-by acts _ _ written more more refl refl)
+begin role before written _ _ more acts (answered _ owed came prompt repeat events _ some short drops) other =
+    let x = said_of owed came prompt (front_of before) repeat in
+    let took = taken role owed came prompt repeat (front_of before) (front_of written) some short other in
+    ((wrote role x (front_of written)).was_prompt, is_same (front_of before) (front_of written), write-by acts (talk_of role x) _ written events more (drops written took) (rw took refl))
 
 -- ---- One call
 
@@ -205,9 +146,10 @@ one-call role written answer (suc again) owed prompt repeat acts rest more some 
 found-behind : (role : Role) (written answer : List ℕ) (late more : List Event) (again : ℕ) (prompt repeat : Bool) → 0 < length answer → length answer < DELIVERY_LIMIT
     → AreLate role heed.Open 9 late → length late ≤ 65000
     → Found role written (said_of (owed_by again 1) (min DELIVERY_LIMIT (0 + length answer)) prompt (front_of written) (repeat_by again repeat)) (behind role again late more) more
-found-behind role written answer late more zero prompt repeat some short are few = answered written (min DELIVERY_LIMIT (0 + length answer)) prompt repeat more (omega arith) (omega arith)
+found-behind role written answer late more zero prompt repeat some short are few =
+    answered written 1 _ prompt repeat more more (omega arith) (omega arith) (nothing-dropped role _ prompt repeat (front_of written) more (omega arith))
 found-behind role written answer late more (suc again) prompt repeat some short are few =
-    copied written (min DELIVERY_LIMIT (0 + length answer)) prompt true late more (omega arith) (omega arith) are few
+    answered written 2 _ prompt true _ more (omega arith) (omega arith) (others-dropped role _ prompt true (front_of written) late more (omega arith) are few)
 
 calls-heard : (role : Role) (before : List ℕ) (calls : List Call) (x : Exchange) (events more : List Event) → AreCalls role before calls
     → Found role before x events (all_comes role calls more) → gives (all_acts calls) (talk_of role x) events ≡ all_hears calls

@@ -1,11 +1,10 @@
 -- The waits of reads, read by read and delivery by delivery.
-use Rattle.std.proofs.Common.{◌≡◌, ◌<◌, ◌≤◌, ◌+◌, ℕ, zero, suc, List, [], ◌∷◌, ◌++◌, length, replicate, refl, sym, ap, ◌∙◌, arith, subst, append_assoc}
+use Rattle.std.proofs.Common.{◌≡◌, ◌<◌, ◌≤◌, ◌+◌, ℕ, zero, suc, List, [], ◌∷◌, ◌++◌, length, replicate, refl, sym, ap, ◌∙◌, arith, append_assoc}
 use Rattle.std.proofs.lemmas.List.{append-nil, length-append}
 use Rattle.std.proofs.lemmas.List.Elements.{All-nil, All-cons, All-append}
-use Rattle.ym_link.specs.Course.{waits_of, waits_in, AreReads, ReadOnce, Asks}
-use Rattle.ym_link.specs.declared.port.Wait.{Wait}
-use Rattle.ym_link.specs.declared.port.Wait.TheVariants.{Within, Reply}
-use Rattle.ym_link.specs.declared.port.TheConstants.{DELIVERY_LIMIT}
+use Rattle.ym_link.proofs.Names.{Asks, Wait, Within, DELIVERY_LIMIT}
+use Rattle.ym_link.specs.Course.{waits_of, waits_in, AreReads, ReadOnce}
+use Rattle.ym_link.specs.declared.port.Wait.TheVariants.{Reply}
 
 -- the wait of the next read of a delivery
 abbrev pub next_wait : ℕ → Wait
@@ -29,9 +28,7 @@ waits-next zero = refl
 waits-next (suc n) = ap (λ ws. Reply ∷ ws) (one-more n)
 
 waits-read : (n : ℕ) (old mid new : List Wait) (wait : Wait) → wait ≡ next_wait n → mid ≡ old ++ waits_of n → new ≡ mid ++ wait ∷ [] → new ≡ old ++ waits_of (suc n)
-waits-read n old mid new wait next before now =
-    now ∙ (ap (λ (w : Wait). mid ++ w ∷ []) next ∙ (ap (λ (ws : List Wait). ws ++ next_wait n ∷ []) before
-    ∙ (append_assoc old (waits_of n) (next_wait n ∷ []) ∙ ap (λ (ws : List Wait). old ++ ws) (waits-next n))))
+waits-read n old mid new wait next before now = rw (now, before, next, append_assoc, waits-next n)
 
 pub reading-none : (old : List Wait) → Reading 0 Reply old old
 reading-none old = record { reads = 0; short = omega arith; none = λ h. refl; next = refl; waits = sym (append-nil old) }
@@ -47,23 +44,18 @@ reading-more len n wait old mid new so_far some now = let short = so_far.short i
 }
 
 -- the read with which a delivery ends, or finds that there is none
-pub reading-last : (len : ℕ) (wait : Wait) (old mid new : List Wait) → Reading len wait old mid → len < DELIVERY_LIMIT → new ≡ mid ++ wait ∷ [] → ReadOnce old new
-reading-last len wait old mid new so_far less now = let short = so_far.short in record {
-  reads = suc so_far.reads;
-  are = (omega arith, omega (arith, short, less));
-  waits = waits-read so_far.reads old mid new wait so_far.next so_far.waits now;
-}
+pub reading-last : {A B : List Wait → Type 0} (len : ℕ) (wait : Wait) (new : List Wait) → ((mid : List Wait) → B mid → (old : List Wait) × A old × Reading len wait old mid)
+    → (mid : List Wait) × B mid × (new ≡ mid ++ wait ∷ []) → len < DELIVERY_LIMIT → (old : List Wait) × A old × ReadOnce old new
+reading-last len wait new asked got less =
+    let before = asked got.0 got.1 in
+    let r = before.2 in
+    let short = r.short in
+    (before.0, before.1, record { reads = suc r.reads; are = (omega arith, omega (arith, short, less)); waits = waits-read r.reads before.0 got.0 new wait r.next r.waits got.2 })
 
 -- a delivery of 2048 bytes
 pub reading-full : (len : ℕ) (wait : Wait) (old new : List Wait) → Reading len wait old new → DELIVERY_LIMIT ≤ len → len ≤ DELIVERY_LIMIT → ReadOnce old new
-reading-full len wait old new so_far full within = record { reads = so_far.reads; are = (some so_far.reads so_far.none, omega (arith, short, within)); waits = so_far.waits }
-  where
-    short : so_far.reads ≤ len
-    short = so_far.short
-
-    some : (n : ℕ) → (n ≡ 0 → len ≡ 0) → 0 < n
-    some zero none = let no = none refl in absurd (omega (arith, no, full))
-    some (suc n) none = omega arith
+reading-full len wait old new so_far full within = let short = so_far.short in let none = so_far.none in
+    record { reads = so_far.reads; are = (grind (arith, none, full), omega (arith, short, within)); waits = so_far.waits }
 
 -- ---- Deliveries
 
@@ -79,10 +71,9 @@ asks-more n old mid new before once = record {
   reads = before.reads ++ once.reads ∷ [];
   few = All-append AreReads before.reads (once.reads ∷ []) before.few (All-cons AreReads once.reads [] once.are (All-nil AreReads));
   count = let long = length-append before.reads (once.reads ∷ []) in let count = before.count in omega (arith, long, count);
-  waits = once.waits ∙ (ap (λ (ws : List Wait). ws ++ waits_of once.reads) before.waits
-      ∙ (append_assoc old (waits_in before.reads) (waits_of once.reads) ∙ ap (λ (ws : List Wait). old ++ ws) (sym (waits-append before.reads once.reads))));
+  waits = cc (append_assoc old (waits_in before.reads) (waits_of once.reads), waits-append before.reads once.reads);
 }
 
 -- one more delivery, of any kind
 pub asks-behind : {A : Type 0} (ds : List A) (d : A) (old mid new : List Wait) → Asks (length ds) old mid → ReadOnce mid new → Asks (length (ds ++ d ∷ [])) old new
-asks-behind ds d old mid new before once = subst (λ n. Asks n old new) (sym (length-append ds (d ∷ []))) (asks-more (length ds) old mid new before once)
+asks-behind ds d old mid new before once = rw (length-append ds (d ∷ [])) (asks-more (length ds) old mid new before once)

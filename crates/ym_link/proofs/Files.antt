@@ -1,16 +1,11 @@
 -- A batch in which one file's source was asked to fill, or failed.
-use Rattle.std.proofs.Common.{ℕ, ◌≡◌, ◌<◌, List, length, get_or, Option, None, Some, Bool, true, false, refl, ap, ap₂, sym, subst, ◌∙◌, slice_set}
+use Rattle.std.proofs.Common.{ℕ, ◌≡◌, ◌<◌, List, length, get_or, Option, Some, Bool, true, false, refl, ap, ap₂, sym, subst, ◌∙◌, slice_set}
 use Rattle.std.specs.Prelude.{All}
 use Rattle.std.proofs.Math.Seq.{map-set_same}
 use Rattle.std.proofs.lemmas.List.{get_or_default}
 use Rattle.std.proofs.lemmas.List.Elements.{All-set, All-get_or}
-use Rattle.ym_header.specs.Header.{HeaderParts}
-use Rattle.ym_file.specs.Counts.{Rose, raised}
-use Rattle.ym_file.specs.declared.plan.Shape.{Shape}
-use Rattle.ym_file.specs.SourceFile.{FileParts, IsFile, file_at, filled, no_file, blocks_of, counts_of}
-use Rattle.ym_core.specs.declared.place.Place.{Place}
-use Rattle.ym_core.specs.declared.place.Place.TheVariants.{Header, Block, Eot, End}
-use Rattle.ym_link.specs.Sender.{FilledAt, FailedAt, IsFilled}
+use Rattle.ym_link.proofs.Names.{HeaderParts, Rose, raised, Shape, FileParts, IsFile, file_at, filled, no_file, blocks_of, counts_of, Place, Block, IsFilled}
+use Rattle.ym_link.specs.Sender.{FilledAt, FailedAt}
 
 pub failed_at : (files : List FileParts) (file : ℕ) (d y : FileParts) → file < length files
     → y.header ≡ (get_or files file d).header → y.bytes ≡ (get_or files file d).bytes → y.fills ≡ raised (get_or files file d).fills
@@ -32,31 +27,17 @@ filled_at files file d y less same = record { within = less; after = ap (slice_s
 -- how many blocks the files have does not change
 pub filled_counts : (shape : Shape) (failed : Bool) (place : Option Place) (old new : List FileParts) → IsFilled failed place old new → counts_of shape new ≡ counts_of shape old
 filled_counts shape false (Some (Block file k)) old new h = ap (counts_of shape) h.after ∙ map-set_same (blocks_of shape) old file _ no_file refl
-filled_counts shape false (Some (Header file)) old new h = ap (counts_of shape) h
-filled_counts shape false (Some (Eot file)) old new h = ap (counts_of shape) h
-filled_counts shape false (Some End) old new h = ap (counts_of shape) h
-filled_counts shape false None old new h = ap (counts_of shape) h
+filled_counts shape false _ old new h = ap (counts_of shape) h
 filled_counts shape true (Some (Block file k)) old new h = ap (counts_of shape) h.after ∙ map-set_same (blocks_of shape) old file _ no_file refl
-filled_counts shape true (Some (Header file)) old new h = absurd h
-filled_counts shape true (Some (Eot file)) old new h = absurd h
-filled_counts shape true (Some End) old new h = absurd h
-filled_counts shape true None old new h = absurd h
+filled_counts shape true _ old new h = absurd h
 
 -- each file stays within its limits
 pub filled_files : (failed : Bool) (place : Option Place) (old new : List FileParts) → IsFilled failed place old new → All IsFile old → All IsFile new
-filled_files false (Some (Block file k)) old new h all = subst (All IsFile) (sym h.after) (All-set IsFile old file _ (record { header = one.header; bytes = one.bytes }) all)
-  where
-    one : IsFile (file_at old file)
-    one = All-get_or IsFile old file no_file h.within all
-filled_files false (Some (Header file)) old new h all = subst (All IsFile) (sym h) all
-filled_files false (Some (Eot file)) old new h all = subst (All IsFile) (sym h) all
-filled_files false (Some End) old new h all = subst (All IsFile) (sym h) all
-filled_files false None old new h all = subst (All IsFile) (sym h) all
-filled_files true (Some (Block file k)) old new h all = subst (All IsFile) (sym h.after) (All-set IsFile old file _ (record { header = one.header; bytes = one.bytes }) all)
-  where
-    one : IsFile (file_at old file)
-    one = All-get_or IsFile old file no_file h.within all
-filled_files true (Some (Header file)) old new h all = absurd h
-filled_files true (Some (Eot file)) old new h all = absurd h
-filled_files true (Some End) old new h all = absurd h
-filled_files true None old new h all = absurd h
+filled_files false (Some (Block file k)) old new h all =
+    let one = All-get_or IsFile old file no_file h.within all in
+    rw h.after (All-set IsFile old file _ (record { header = one.header; bytes = one.bytes }) all)
+filled_files false _ old new h all = rw h all
+filled_files true (Some (Block file k)) old new h all =
+    let one = All-get_or IsFile old file no_file h.within all in
+    rw h.after (All-set IsFile old file _ (record { header = one.header; bytes = one.bytes }) all)
+filled_files true _ old new h all = absurd h

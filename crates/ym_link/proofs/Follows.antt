@@ -1,33 +1,21 @@
 -- a receiver that stands at a state of the machine goes where the machine's half there goes
 use Rattle.std.proofs.Common.{ℕ, ◌+◌, ◌-◌, ◌%◌, ◌<◌, ◌≤◌, ◌≡◌, ◌≢◌, List, [], ◌∷◌, ◌++◌, length, Bool, true, false, refl, sym, ap, ◌∙◌, subst, arith, cond, nat_lt, min, Option, Some, None, Ok, Result}
-use Rattle.ym_frame.specs.declared.control.Reply.{Reply}
-use Rattle.ym_frame.specs.declared.control.Reply.TheVariants.{Silence, Start, Ack, AckStart, Nak, Cancel}
+use Rattle.ym_link.proofs.Names.{Reply, Silence, AckStart, Nak, Cancel, HeaderParts, IsHeader, length_limit, text, end_text, HeaderFault, Zero, Kept, Confirm, Twice, File, BlockZero, Piece, frames_of, frame_at, body_at, count_within, files_within, ReceiverEnd, State, nothing_taken, asks_again, Heard, Stage, AwaitHeader, InFile, Receiver, Step, No_call, Begins, Adds, Commits, goes_on, stays, ends, opened, covered_eot, StandsFor, Means, ReceiverParts, outcome, called, kept_after, bytes_of, IsSent, item_of, open_at, receiver_at, KeepsFirst, KeepsOpen, ReceiverStands, Goes, GIVE_UP, MOST_FILES}
+use Rattle.ym_frame.specs.declared.control.Reply.TheVariants.{Start, Ack}
 use Rattle.ym_frame.specs.declared.frame.Item.TheVariants as item
-use Rattle.ym_header.specs.Header.{HeaderParts, IsHeader, length_limit}
-use Rattle.ym_header.specs.Text.{text, end_text}
-use Rattle.ym_header.specs.declared.fault.HeaderFault.{HeaderFault}
-use Rattle.ym_header.specs.declared.reading.Zero.{Zero}
 use Rattle.ym_header.specs.declared.reading.Zero.TheVariants as zero_is
-use Rattle.ym_file.specs.Kept.{Kept}
-use Rattle.ym_machine.specs.declared.confirm.Confirm.{Confirm}
-use Rattle.ym_machine.specs.declared.confirm.Confirm.TheVariants.{Twice, Once}
-use Rattle.ym_machine.specs.Frames.{File, Frame, BlockZero, Piece, Eot, EndBlock, frames_of, frame_at, body_at, count_within, files_within}
-use Rattle.ym_machine.specs.State.{ReceiverEnd, State}
-use Rattle.ym_machine.specs.Halves.{Answer, nothing_taken, takes, hears_next, hears_last, asks_again}
-use Rattle.ym_core.specs.declared.delivery.Heard.{Heard}
+use Rattle.ym_machine.specs.declared.confirm.Confirm.TheVariants.{Once}
+use Rattle.ym_machine.specs.Frames.{Eot}
+use Rattle.ym_machine.specs.Halves.{Answer, takes, hears_next, hears_last}
 use Rattle.ym_core.specs.declared.delivery.Heard.TheVariants as heard
-use Rattle.ym_core.specs.declared.stage.Stage.{Stage}
-use Rattle.ym_core.specs.declared.stage.Stage.TheVariants.{AwaitHeader, InFile}
 use Rattle.ym_core.specs.declared.state.RecvState.TheVariants as state
-use Rattle.ym_core.specs.Receiver.{Receiver, Step, No_call, Begins, Adds, Commits, goes_on, stays, ends, opened, hears, covered_eot, commits}
-use Rattle.ym_core.specs.Step.{StandsFor, Means}
-use Rattle.ym_link.specs.ReceiverInto.{ReceiverParts, outcome, called, Takes}
-use Rattle.ym_link.specs.ReceiverStands.{kept_after, bytes_of, IsSent, item_of, open_at, stage_of, state_of, receiver_at, KeepsFirst, KeepsOpen, ReceiverStands, Goes}
+use Rattle.ym_core.specs.Receiver.{hears, commits}
+use Rattle.ym_link.specs.ReceiverInto.{Takes}
+use Rattle.ym_link.specs.ReceiverStands.{stage_of, state_of}
 use Rattle.ym_link.proofs.Positions.{Position, opening, piece, closing, ending}
 use Rattle.ym_link.proofs.TableRows as row
-use Rattle.ym_link.proofs.TableRows.{running_at, file_of, yes, differ}
+use Rattle.ym_link.proofs.TableRows.{running_at, file_of}
 use Rattle.ym_link.proofs.Keeping.{keeps-same, keeps-begun, keeps-added, keeps-committed, taken_from, kept-length, open-begun, open-added, open-committed}
-use Rattle.ym_machine.specs.declared.limits.TheConstants.{GIVE_UP, MOST_FILES}
 
 -- what the laws of block 0 say
 pub record ZeroLaws : Type 0 where
@@ -62,26 +50,6 @@ quiet confirm files st y r after kept failed reply new t s =
   where
     step : Step
     step = record { receiver = after; reply = y; call = No_call }
-
-abbrev IsRunning : ReceiverEnd → Type 0
-IsRunning ReceiverEnd.Running = Unit {0}
-IsRunning _ = ⊥
-
-too-many : ReceiverEnd.TooManyErrors ≡ ReceiverEnd.Running → ⊥
-too-many w = subst IsRunning (sym w) tt
-
-sink-failed : ReceiverEnd.SinkFailed ≡ ReceiverEnd.Running → ⊥
-sink-failed w = subst IsRunning (sym w) tt
-
-cancelled : ReceiverEnd.Cancelled ≡ ReceiverEnd.Running → ⊥
-cancelled w = subst IsRunning (sym w) tt
-
-finished : ReceiverEnd.Finished ≡ ReceiverEnd.Running → ⊥
-finished w = subst IsRunning (sym w) tt
-
-abbrev IsEot : Frame HeaderParts → Type 0
-IsEot Eot = Unit {0}
-IsEot _ = ⊥
 
 module _ (confirm : Confirm) (files : List (File HeaderParts)) (st : State) (kept : Kept) (keeps : KeepsFirst files st.taken kept) (runs : st.receiver ≡ ReceiverEnd.Running) (failed : Bool) (reply : Reply) (new : ReceiverParts) where
   abbrev n : ℕ
@@ -119,8 +87,8 @@ module _ (confirm : Confirm) (files : List (File HeaderParts)) (st : State) (kep
         state_is = refl;
         files_is = refl;
         keeps = keeps;
-        running = λ w. absurd (too-many w);
-        keeps_open = λ w. absurd (too-many w);
+        running = λ w. cc;
+        keeps_open = λ w. cc;
       })
 
   -- the sink failed
@@ -130,8 +98,8 @@ module _ (confirm : Confirm) (files : List (File HeaderParts)) (st : State) (kep
     state_is = refl;
     files_is = refl;
     keeps = keeps;
-    running = λ w. absurd (sink-failed w);
-    keeps_open = λ w. absurd (sink-failed w);
+    running = λ w. cc;
+    keeps_open = λ w. cc;
   })
 
   -- the state behind a frame that was taken
@@ -227,8 +195,8 @@ module _ (confirm : Confirm) (files : List (File HeaderParts)) (st : State) (kep
     state_is = refl;
     files_is = sym same;
     keeps = keeps-same files st.taken (st.taken + 1) kept keeps same;
-    running = λ w. absurd (finished w);
-    keeps_open = λ w. absurd (finished w);
+    running = λ w. cc;
+    keeps_open = λ w. cc;
   })
 
   cancel-goes : (stage : Stage) → Took (on stage) kept (ends (on stage) state.Cancelled Silence) failed reply new → GoesTo (record st { receiver = ReceiverEnd.Cancelled }, Silence)
@@ -237,8 +205,8 @@ module _ (confirm : Confirm) (files : List (File HeaderParts)) (st : State) (kep
     state_is = refl;
     files_is = refl;
     keeps = keeps;
-    running = λ w. absurd (cancelled w);
-    keeps_open = λ w. absurd (cancelled w);
+    running = λ w. cc;
+    keeps_open = λ w. cc;
   })
 
   -- ---- F[r]
@@ -252,49 +220,21 @@ module _ (confirm : Confirm) (files : List (File HeaderParts)) (st : State) (kep
       → hearing (open_at files st.taken) st.first_eot zero (heard.Item (item_of (frame_at (frames_of files) st.taken)))
       → GoesTo (hears_next confirm failed (frame_at (frames_of files) st.taken) st)
   next-goes laws zero few (opening file sent a b c d less) o eot means t =
-      subst (λ fr. GoesTo (hears_next confirm failed fr st)) (sym a) (opening-goes file (hears (on AwaitHeader) zero (heard.Item (item_of (BlockZero file.header)))) (ap (λ z. hears (on AwaitHeader) z (heard.Item (item_of (BlockZero file.header)))) is
-      ∙ row.row-opening confirm n st.receiver_count file.header (text file.header) (omega (arith, few, less))) c d t3)
+      let is : zero ≡ Ok (zero_is.File file.header) =
+      laws.one (text file.header) zero (Ok (zero_is.File file.header)) (means (record { number = 0; body = text file.header }) refl (ap (λ p. stage_of p st.first_eot) b) (ap (λ fr. heard.Item (item_of fr)) a) refl) (laws.header file.header sent.header) in
+      let step = ap (λ z. hears (on AwaitHeader) z (heard.Item (item_of (BlockZero file.header)))) is ∙ row.row-opening confirm n st.receiver_count file.header (text file.header) (omega (arith, few, less)) in
+      rw a (opening-goes file (hears (on AwaitHeader) zero (heard.Item (item_of (BlockZero file.header)))) step c d (rw (a, b) at t))
+  next-goes laws zero few (piece file k sent less a b c d) o eot means t = rw a (piece-goes file k sent less (rw b at o) c d zero (by st.first_eot eot (rw (a, b) at t)))
     where
-      t2 : hearing (open_at files st.taken) st.first_eot zero (heard.Item (item_of (BlockZero file.header)))
-      t2 = subst (λ fr. hearing (open_at files st.taken) st.first_eot zero (heard.Item (item_of fr))) a t
-
-      t3 : hearing None st.first_eot zero (heard.Item (item_of (BlockZero file.header)))
-      t3 = subst (λ p. hearing p st.first_eot zero (heard.Item (item_of (BlockZero file.header)))) b t2
-
-      is : zero ≡ Ok (zero_is.File file.header)
-      is = laws.one (text file.header) zero (Ok (zero_is.File file.header)) (means (record { number = 0; body = text file.header }) refl (ap (λ p. stage_of p st.first_eot) b) (ap (λ fr. heard.Item (item_of fr)) a) refl) (laws.header file.header sent.header)
-  next-goes laws zero few (piece file k sent less a b c d) o eot means t =
-      subst (λ fr. GoesTo (hears_next confirm failed fr st)) (sym a) (piece-goes file k sent less (subst (λ p. KeepsOpen p kept) b o) c d zero (by st.first_eot eot t3))
-    where
-      t2 : hearing (open_at files st.taken) st.first_eot zero (heard.Item (item_of (Piece ((k + 1) % 256) (body_at k file.pieces))))
-      t2 = subst (λ fr. hearing (open_at files st.taken) st.first_eot zero (heard.Item (item_of fr))) a t
-
-      t3 : hearing (Some (file, k)) st.first_eot zero (heard.Item (item_of (Piece ((k + 1) % 256) (body_at k file.pieces))))
-      t3 = subst (λ p. hearing p st.first_eot zero (heard.Item (item_of (Piece ((k + 1) % 256) (body_at k file.pieces))))) b t2
-
       by : (e : Bool) → (e ≡ true → frame_at (frames_of files) st.taken ≡ Eot) → hearing (Some (file, k)) e zero (heard.Item (item_of (Piece ((k + 1) % 256) (body_at k file.pieces)))) → hearing (Some (file, k)) false zero (heard.Item (item_of (Piece ((k + 1) % 256) (body_at k file.pieces))))
       by false w u = u
-      by true w u = absurd (subst IsEot (sym (sym a ∙ w refl)) tt)
+      by true w u = let x = sym a ∙ w refl in cc
   next-goes laws zero few (closing file sent a b c d within) o eot means t =
-      subst (λ fr. GoesTo (hears_next confirm failed fr st)) (sym a) (closing-goes file (subst (λ p. KeepsOpen p kept) b o) b c d within confirm st.first_eot refl
-      (subst (λ s. Took (on (stage_of (Some (file, length file.pieces)) st.first_eot)) kept s failed reply new) (row.row-eot confirm n st.receiver_count zero file.header.length (length (bytes_of file)) (length file.pieces) st.first_eot sent.covered) t3))
-    where
-      t2 : hearing (open_at files st.taken) st.first_eot zero (heard.Item item.Eot)
-      t2 = subst (λ fr. hearing (open_at files st.taken) st.first_eot zero (heard.Item (item_of fr))) a t
-
-      t3 : hearing (Some (file, length file.pieces)) st.first_eot zero (heard.Item item.Eot)
-      t3 = subst (λ p. hearing p st.first_eot zero (heard.Item item.Eot)) b t2
+      let row = row.row-eot confirm n st.receiver_count zero file.header.length (length (bytes_of file)) (length file.pieces) st.first_eot sent.covered in
+      rw a (closing-goes file (rw b at o) b c d within confirm st.first_eot refl (rw (a, b, row) at t))
   next-goes laws zero few (ending a b c d l) o eot means t =
-      subst (λ fr. GoesTo (hears_next confirm failed fr st)) (sym a) (ending-goes d (subst (λ z. Took (on AwaitHeader) kept (hears (on AwaitHeader) z (heard.Item (item_of EndBlock))) failed reply new) is t3))
-    where
-      t2 : hearing (open_at files st.taken) st.first_eot zero (heard.Item (item_of EndBlock))
-      t2 = subst (λ fr. hearing (open_at files st.taken) st.first_eot zero (heard.Item (item_of fr))) a t
-
-      t3 : hearing None st.first_eot zero (heard.Item (item_of EndBlock))
-      t3 = subst (λ p. hearing p st.first_eot zero (heard.Item (item_of EndBlock))) b t2
-
-      is : zero ≡ Ok zero_is.End
-      is = laws.one end_text zero (Ok zero_is.End) (means (record { number = 0; body = end_text }) refl (ap (λ p. stage_of p st.first_eot) b) (ap (λ fr. heard.Item (item_of fr)) a) refl) laws.end
+      let is : zero ≡ Ok zero_is.End = laws.one end_text zero (Ok zero_is.End) (means (record { number = 0; body = end_text }) refl (ap (λ p. stage_of p st.first_eot) b) (ap (λ fr. heard.Item (item_of fr)) a) refl) laws.end in
+      rw a (ending-goes d (rw (a, b, is) at t))
 
   -- ---- F[r-1], and no frame
 
@@ -302,31 +242,17 @@ module _ (confirm : Confirm) (files : List (File HeaderParts)) (st : State) (kep
       → hearing (open_at files st.taken) st.first_eot zero (heard.Item (item_of (frame_at (frames_of files) i)))
       → GoesTo (hears_last (frame_at (frames_of files) i) st)
   last-goes zero i last inner (opening file sent a b c d less) o t =
-      subst (λ fr. GoesTo (hears_last fr st)) (sym a) (stays-goes (on (stage_of (Some (file, 0)) st.first_eot)) (stage_of (Some (file, 0)) st.first_eot) AckStart o (sym (ap (λ p. stage_of p st.first_eot) here))
-      (subst (λ p. hearing p st.first_eot zero (heard.Item (item_of (BlockZero file.header)))) here (subst (λ fr. hearing (open_at files st.taken) st.first_eot zero (heard.Item (item_of fr))) a t)))
-    where
-      here : open_at files st.taken ≡ Some (file, 0)
-      here = ap (open_at files) (sym last) ∙ c
+      let here : open_at files st.taken ≡ Some (file, 0) = ap (open_at files) (sym last) ∙ c in
+      rw a (stays-goes (on (stage_of (Some (file, 0)) st.first_eot)) (stage_of (Some (file, 0)) st.first_eot) AckStart o (sym (ap (λ p. stage_of p st.first_eot) here)) (rw (a, here) at t))
   last-goes zero i last inner (piece file k sent less a b c d) o t =
-      subst (λ fr. GoesTo (hears_last fr st)) (sym a) (stays-goes (on stage) stage Ack o (sym (ap (λ p. stage_of p st.first_eot) here))
-      (subst (λ s. Took (on stage) kept s failed reply new) (row.row-piece-again confirm n st.receiver_count zero file.header.length (length (kept_after file (k + 1))) k st.first_eot (body_at k file.pieces))
-      (subst (λ p. hearing p st.first_eot zero (heard.Item (item_of (Piece ((k + 1) % 256) (body_at k file.pieces))))) here (subst (λ fr. hearing (open_at files st.taken) st.first_eot zero (heard.Item (item_of fr))) a t))))
-    where
-      here : open_at files st.taken ≡ Some (file, (k + 1))
-      here = ap (open_at files) (sym last) ∙ c
-
-      stage : Stage
-      stage = stage_of (Some (file, (k + 1))) st.first_eot
+      let here : open_at files st.taken ≡ Some (file, (k + 1)) = ap (open_at files) (sym last) ∙ c in
+      let row = row.row-piece-again confirm n st.receiver_count zero file.header.length (length (kept_after file (k + 1))) k st.first_eot (body_at k file.pieces) in
+      rw a (stays-goes (on (stage_of (Some (file, (k + 1))) st.first_eot)) (stage_of (Some (file, (k + 1))) st.first_eot) Ack o (sym (ap (λ p. stage_of p st.first_eot) here)) (rw (a, here, row) at t))
   last-goes zero i last inner (closing file sent a b c d within) o t =
-      subst (λ fr. GoesTo (hears_last fr st)) (sym a) (stays-goes (on AwaitHeader) AwaitHeader AckStart o (sym (ap (λ p. stage_of p st.first_eot) here))
-      (subst (λ s. Took (on AwaitHeader) kept s failed reply new) (row.row-eot-again confirm n st.receiver_count zero some)
-      (subst (λ p. hearing p st.first_eot zero (heard.Item item.Eot)) here (subst (λ fr. hearing (open_at files st.taken) st.first_eot zero (heard.Item (item_of fr))) a t))))
-    where
-      here : open_at files st.taken ≡ None
-      here = ap (open_at files) (sym last) ∙ c
-
-      some : 0 < n
-      some = let x : count_within files st.taken ≡ count_within files i + 1 = ap (count_within files) (sym last) ∙ d in omega (arith, x)
+      let here : open_at files st.taken ≡ None = ap (open_at files) (sym last) ∙ c in
+      let count : count_within files st.taken ≡ count_within files i + 1 = ap (count_within files) (sym last) ∙ d in
+      let row = row.row-eot-again confirm n st.receiver_count zero (omega (arith, count)) in
+      rw a (stays-goes (on AwaitHeader) AwaitHeader AckStart o (sym (ap (λ p. stage_of p st.first_eot) here)) (rw (a, here, row) at t))
   last-goes zero i last inner (ending a b c d l) o t = absurd (inner (sym last ∙ l))
 
   pub cancelled-goes : (zero : Result Zero HeaderFault) → hearing (open_at files st.taken) st.first_eot zero (heard.Item item.Cancel) → GoesTo (record st { receiver = ReceiverEnd.Cancelled }, Silence)
@@ -339,21 +265,11 @@ module _ (confirm : Confirm) (files : List (File HeaderParts)) (st : State) (kep
   pub bad-goes : (zero : Result Zero HeaderFault) (i : ℕ) → i + 1 ≡ st.taken → Position IsSent files i → KeepsOpen (open_at files st.taken) kept
       → hearing (open_at files st.taken) st.first_eot zero heard.Bad → GoesTo (nothing_taken st (asks_again (frame_at (frames_of files) i)))
   bad-goes zero i last (opening file sent a b c d less) o t =
-      subst (λ fr. GoesTo (nothing_taken st (asks_again fr))) (sym a) (stays-goes (on (stage_of (Some (file, 0)) st.first_eot)) (stage_of (Some (file, 0)) st.first_eot) Start o (sym (ap (λ p. stage_of p st.first_eot) here))
-      (subst (λ p. hearing p st.first_eot zero heard.Bad) here t))
-    where
-      here : open_at files st.taken ≡ Some (file, 0)
-      here = ap (open_at files) (sym last) ∙ c
+      let here : open_at files st.taken ≡ Some (file, 0) = ap (open_at files) (sym last) ∙ c in
+      rw a (stays-goes (on (stage_of (Some (file, 0)) st.first_eot)) (stage_of (Some (file, 0)) st.first_eot) Start o (sym (ap (λ p. stage_of p st.first_eot) here)) (rw here at t))
   bad-goes zero i last (piece file k sent less a b c d) o t =
-      subst (λ fr. GoesTo (nothing_taken st (asks_again fr))) (sym a) (stays-goes (on stage) stage Nak o (sym (ap (λ p. stage_of p st.first_eot) here))
-      (subst (λ s. Took (on stage) kept s failed reply new) (row.row-bad-later confirm n st.receiver_count zero file.header.length (length (kept_after file (k + 1))) k st.first_eot) (subst (λ p. hearing p st.first_eot zero heard.Bad) here t)))
-    where
-      here : open_at files st.taken ≡ Some (file, (k + 1))
-      here = ap (open_at files) (sym last) ∙ c
-
-      stage : Stage
-      stage = stage_of (Some (file, (k + 1))) st.first_eot
-  bad-goes zero i last (closing file sent a b c d within) o t =
-      subst (λ fr. GoesTo (nothing_taken st (asks_again fr))) (sym a) (first-bad-goes zero (ap (open_at files) (sym last) ∙ c) o t)
-  bad-goes zero i last (ending a b c d l) o t =
-      subst (λ fr. GoesTo (nothing_taken st (asks_again fr))) (sym a) (first-bad-goes zero (ap (open_at files) (sym last) ∙ c) o t)
+      let here : open_at files st.taken ≡ Some (file, (k + 1)) = ap (open_at files) (sym last) ∙ c in
+      let row = row.row-bad-later confirm n st.receiver_count zero file.header.length (length (kept_after file (k + 1))) k st.first_eot in
+      rw a (stays-goes (on (stage_of (Some (file, (k + 1))) st.first_eot)) (stage_of (Some (file, (k + 1))) st.first_eot) Nak o (sym (ap (λ p. stage_of p st.first_eot) here)) (rw (here, row) at t))
+  bad-goes zero i last (closing file sent a b c d within) o t = rw a (first-bad-goes zero (ap (open_at files) (sym last) ∙ c) o t)
+  bad-goes zero i last (ending a b c d l) o t = rw a (first-bad-goes zero (ap (open_at files) (sym last) ∙ c) o t)

@@ -1,17 +1,11 @@
 -- The frame of a data block.
 use Rattle.std.proofs.Common.{ℕ, ◌≡◌, List, take, Option, Result, Ok, Err, refl, ap, sym, ◌∙◌, subst}
 use Rattle.std.specs.Prelude.{IfSome, IfOk}
-use Rattle.ym_frame.specs.Block.{BlockParts}
-use Rattle.ym_frame.specs.Frame.{IsFrame}
+use Rattle.ym_link.proofs.Names.{BlockParts, IsFrame, Shape, piece_at, FileParts, file_at, HeaderParts, text, IsItemAt, IsFrameAt, Place}
 use Rattle.ym_frame.specs.declared.frame.Item.TheVariants.{Block}
-use Rattle.ym_file.specs.declared.plan.Shape.{Shape}
-use Rattle.ym_file.specs.Plan.{piece_at, size_at}
+use Rattle.ym_file.specs.Plan.{size_at}
 use Rattle.ym_file.specs.declared.source.SourceFault.{SourceFault}
-use Rattle.ym_file.specs.SourceFile.{FileParts, IsBlockOf, file_at}
-use Rattle.ym_header.specs.Header.{HeaderParts}
-use Rattle.ym_header.specs.Text.{text}
-use Rattle.ym_link.specs.FrameAt.{IsItemAt, IsFrameAt}
-use Rattle.ym_core.specs.declared.place.Place.{Place}
+use Rattle.ym_file.specs.SourceFile.{IsBlockOf}
 use Rattle.ym_core.specs.declared.place.Place.TheVariants as place
 
 -- a block of a file is one of any file with its header and bytes

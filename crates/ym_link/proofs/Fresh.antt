@@ -1,14 +1,7 @@
 -- One read past what asks for the block 0 that was just written.
 use Rattle.std.proofs.Common.{◌≡◌, ◌<◌, ◌≤◌, ◌-◌, ◌+◌, ℕ, zero, suc, true, false, List, Result, Ok, Err, OnOk, refl, ◌∙◌, ap, arith}
-use Rattle.ym_link.specs.Clearing.{Read, IsRead, once, fresh}
-use Rattle.ym_link.specs.Exchange.{is_stale, after_seen}
-use Rattle.ym_link.specs.Port.{Tape, Seen, seen_of, read_gives, read_leaves}
-use Rattle.ym_link.specs.declared.clearing.Talk.{Talk}
-use Rattle.ym_link.specs.declared.event.Event.{Event}
-use Rattle.ym_link.specs.declared.exchange.Exchange.{Exchange}
-use Rattle.ym_link.specs.declared.exchange.Role.{Role}
-use Rattle.ym_link.specs.declared.port.Got.{Got}
-use Rattle.ym_link.specs.declared.port.PortFault.{PortFault}
+use Rattle.ym_link.proofs.Names.{IsRead, fresh, is_stale, after_seen, Tape, Seen, seen_of, read_gives, read_leaves, Talk, Event, Exchange, Role, Got, PortFault}
+use Rattle.ym_link.specs.Clearing.{Read, once}
 
 -- it goes on
 pub fresh-on : (most i room : ℕ) (talk : Talk) (events : List Event) (seen : Seen) → i < most → seen ≡ read_gives room events → is_stale talk.role talk.exchange seen ≡ true
@@ -16,8 +9,7 @@ pub fresh-on : (most i room : ℕ) (talk : Talk) (events : List Event) (seen : S
 unfolding fresh
 fresh-on most i room talk events seen more gives stale =
     let e : most - i ≡ suc (most - (i + 1)) = omega arith in
-    let asks : is_stale talk.role talk.exchange (read_gives room events) ≡ true = rw (← gives) stale in
-    rw (e, asks) refl
+    rw (e, ← gives, stale) refl
 
 -- it ends with what it read
 pub fresh-over : (most i room : ℕ) (talk : Talk) (events : List Event) (seen : Seen) → i < most → seen ≡ read_gives room events → is_stale talk.role talk.exchange seen ≡ false
@@ -25,8 +17,7 @@ pub fresh-over : (most i room : ℕ) (talk : Talk) (events : List Event) (seen :
 unfolding fresh
 fresh-over most i room talk events seen more gives new =
     let e : most - i ≡ suc (most - (i + 1)) = omega arith in
-    let asks : is_stale talk.role talk.exchange (read_gives room events) ≡ false = rw (← gives) new in
-    rw (e, asks) refl
+    rw (e, ← gives, new) refl
 
 -- no read is left to pass over
 pub fresh-out : (most i room : ℕ) (talk : Talk) (events : List Event) → most ≤ i → fresh (most - i) room talk events ≡ once room talk events
@@ -47,6 +38,4 @@ stale-calm role x (Err e) buf P stale calm = absurd cc
 -- how a read leaves what was said and heard
 pub talk-after : (a b : Talk) (x : Exchange) (s t : Seen) → a ≡ b → x ≡ after_seen s a.exchange → s ≡ t
     → ◌≡◌ {A = Talk} (record a { exchange = x }) (record b { exchange = after_seen t b.exchange })
-talk-after a b x s t same is seen =
-    let whole : (y : Talk) → Talk = λ y. record y { exchange = after_seen t y.exchange } in
-    rw (is, seen) (ap whole same)
+talk-after a b x s t same is seen = rw (is, seen, same) refl

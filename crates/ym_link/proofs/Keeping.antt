@@ -1,34 +1,24 @@
 -- what a sink tells after the calls of a receiver that stands
-use Rattle.std.proofs.Common.{ℕ, ◌+◌, ◌-◌, ◌<◌, ◌≡◌, suc, zero, List, [], ◌∷◌, ◌++◌, length, take, map, refl, sym, ap, ◌∙◌, subst, arith, add-one, min, Option, Some, None, length-append}
+use Rattle.std.proofs.Common.{ℕ, ◌+◌, ◌-◌, ◌<◌, ◌≡◌, suc, zero, List, [], ◌∷◌, ◌++◌, length, take, map, refl, sym, ap, ◌∙◌, arith, add-one, min, Option, Some, None, length-append}
 use Rattle.std.specs.Prelude.{option_to_list}
 use Rattle.std.proofs.lemmas.List.{length-take, map-append}
-use Rattle.ym_header.specs.Header.{HeaderParts}
-use Rattle.ym_file.specs.Kept.{Kept, Told, told_begun, told_added, told_committed, begun, added, committed}
-use Rattle.ym_file.specs.Collecting.{keep, keep_all}
-use Rattle.ym_machine.specs.Frames.{File, count_within, files_within, body_at}
-use Rattle.ym_link.specs.ReceiverStands.{kept_after, bytes_of, KeepsFirst, KeepsOpen}
+use Rattle.ym_link.proofs.Names.{HeaderParts, Kept, Told, keep_all, File, count_within, files_within, body_at, kept_after, bytes_of, KeepsFirst, KeepsOpen}
+use Rattle.ym_file.specs.Kept.{told_begun, told_added, told_committed, begun, added, committed}
+use Rattle.ym_file.specs.Collecting.{keep}
 
 -- ---- What is told
 
-abbrev IsNone : Option Told → Type 0
-IsNone None = Unit {0}
-IsNone (Some t) = ⊥
-
-abbrev told_in : Told → Option Told → Told
-told_in d None = d
-told_in d (Some t) = t
-
 told-begun : (o : Option Told) (P : Told → Type 0) → ((t : Told) → o ≡ Some t → P (record { open_bytes = []; files = t.files })) → (new : Told) → told_begun o ≡ Some new → P new
-told-begun None P f new e = absurd (subst IsNone e tt)
-told-begun (Some t) P f new e = subst P (ap (told_in t) e) (f t refl)
+told-begun None P f new e = absurd cc
+told-begun (Some t) P f new e = let is : record { open_bytes = []; files = t.files } ≡ new = cc in rw (← is) (f t refl)
 
 told-added : (bytes : List ℕ) (o : Option Told) (P : Told → Type 0) → ((t : Told) → o ≡ Some t → P (record { open_bytes = t.open_bytes ++ bytes; files = t.files })) → (new : Told) → told_added bytes o ≡ Some new → P new
-told-added bytes None P f new e = absurd (subst IsNone e tt)
-told-added bytes (Some t) P f new e = subst P (ap (told_in t) e) (f t refl)
+told-added bytes None P f new e = absurd cc
+told-added bytes (Some t) P f new e = let is : record { open_bytes = t.open_bytes ++ bytes; files = t.files } ≡ new = cc in rw (← is) (f t refl)
 
 told-committed : (o : Option Told) (P : Told → Type 0) → ((t : Told) → o ≡ Some t → P (record { open_bytes = []; files = t.files ++ t.open_bytes ∷ [] })) → (new : Told) → told_committed o ≡ Some new → P new
-told-committed None P f new e = absurd (subst IsNone e tt)
-told-committed (Some t) P f new e = subst P (ap (told_in t) e) (f t refl)
+told-committed None P f new e = absurd cc
+told-committed (Some t) P f new e = let is : record { open_bytes = []; files = t.files ++ t.open_bytes ∷ [] } ≡ new = cc in rw (← is) (f t refl)
 
 -- ---- The committed files
 
@@ -37,22 +27,15 @@ header_of f = f.header
 
 module _ (files : List (File HeaderParts)) (n m : ℕ) (kept : Kept) (k : KeepsFirst files n kept) where
   pub keeps-same : count_within files m ≡ count_within files n → KeepsFirst files m kept
-  keeps-same e = record {
-    headers = k.headers ∙ ap (λ c. map header_of (take c files)) (sym e);
-    bytes = λ t is. k.bytes t is ∙ ap (λ c. map bytes_of (take c files)) (sym e);
-  }
+  keeps-same e = record { headers = rw e k.headers; bytes = λ t is. rw e (k.bytes t is) }
 
   pub keeps-begun : (header : HeaderParts) → count_within files m ≡ count_within files n → KeepsFirst files m (begun header kept)
-  keeps-begun header e = record {
-    headers = k.headers ∙ ap (λ c. map header_of (take c files)) (sym e);
-    bytes = told-begun kept.told (λ t. t.files ≡ map bytes_of (files_within files m)) (λ t is. k.bytes t is ∙ ap (λ c. map bytes_of (take c files)) (sym e));
-  }
+  keeps-begun header e =
+      let same = keeps-same e in record { headers = same.headers; bytes = told-begun kept.told (λ t. t.files ≡ map bytes_of (files_within files m)) same.bytes }
 
   pub keeps-added : (bytes : List ℕ) → count_within files m ≡ count_within files n → KeepsFirst files m (added bytes kept)
-  keeps-added bytes e = record {
-    headers = k.headers ∙ ap (λ c. map header_of (take c files)) (sym e);
-    bytes = told-added bytes kept.told (λ t. t.files ≡ map bytes_of (files_within files m)) (λ t is. k.bytes t is ∙ ap (λ c. map bytes_of (take c files)) (sym e));
-  }
+  keeps-added bytes e =
+      let same = keeps-same e in record { headers = same.headers; bytes = told-added bytes kept.told (λ t. t.files ≡ map bytes_of (files_within files m)) same.bytes }
 
   pub keeps-committed : (file : File HeaderParts) → KeepsOpen (Some (file, length file.pieces)) kept → files_within files m ≡ files_within files n ++ file ∷ [] → KeepsFirst files m (committed kept)
   keeps-committed file o e = record {
@@ -76,8 +59,7 @@ kept-more file k less = rw add-one (keep-more file.header.length k [] file.piece
 
 pub kept-length : (file : File HeaderParts) (k : ℕ) → k < length file.pieces → length (kept_after file (k + 1)) ≡ length (kept_after file k) + min (file.header.length - length (kept_after file k)) (length (body_at k file.pieces))
 kept-length file k less =
-    ap length (kept-more file k less) ∙ (length-append (kept_after file k) (taken_from file k)
-    ∙ ap (λ n. length (kept_after file k) + n) (length-take (file.header.length - length (kept_after file k)) (body_at k file.pieces)))
+    rw (kept-more file k less, length-append (kept_after file k) (taken_from file k), length-take (file.header.length - length (kept_after file k)) (body_at k file.pieces)) refl
 
 pub open-begun : (file : File HeaderParts) (kept : Kept) → KeepsOpen (Some (file, 0)) (begun file.header kept)
 open-begun file kept = record { opened = refl; taken = refl; bytes = told-begun kept.told (λ t. t.open_bytes ≡ []) (λ t is. refl) }

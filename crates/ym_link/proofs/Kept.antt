@@ -1,23 +1,11 @@
 -- What a sender keeps to, after a step.
 use Rattle.std.proofs.Common.{ℕ, ◌≡◌, List, true, false, refl, ap, sym, ◌∙◌, subst, Option, None, Some}
 use Rattle.std.specs.Prelude.{All}
-use Rattle.ym_file.specs.declared.plan.Shape.{Shape}
-use Rattle.ym_frame.specs.declared.control.Control.{Control}
-use Rattle.ym_file.specs.SourceFile.{FileParts, IsFile, counts_of}
-use Rattle.ym_core.specs.Place.{IsPlace}
-use Rattle.ym_link.specs.FrameAt.{IsFrameAt}
-use Rattle.ym_core.specs.declared.place.Place.{Place}
-use Rattle.ym_core.specs.declared.place.Place.TheVariants.{Header, Block, Eot, End}
-use Rattle.ym_core.specs.declared.standing.Standing.{Standing}
+use Rattle.ym_link.proofs.Names.{Shape, Control, FileParts, IsFile, counts_of, IsPlace, IsFrameAt, Place, Block, Standing, Running, SenderParts, IsSender, IsStep, IsFilled, hears, after_fill}
 use Rattle.ym_core.specs.declared.standing.SendStep.{SendStep as Step}
-use Rattle.ym_core.specs.declared.state.SendState.TheVariants.{Running, SourceFailed}
-use Rattle.ym_link.specs.Sender.{SenderParts, IsSender, IsStep, IsFilled}
-use Rattle.ym_core.specs.Standing.{hears, after_fill}
+use Rattle.ym_core.specs.declared.state.SendState.TheVariants.{SourceFailed}
 use Rattle.ym_link.proofs.Files.{filled_counts, filled_files}
 use Rattle.ym_link.proofs.Steps.{Keeps, step_keeps}
-
-is_failed : SourceFailed ≡ Running → ⊥
-is_failed h = absurd cc
 
 -- a step at which the source failed is one of the table's
 pub failed_hears : (shape : Shape) (seen files new : List FileParts) (held out : List ℕ) (s t : Standing) (cs : List Control) (step : Step) (place : Place) → seen ≡ files
@@ -29,32 +17,27 @@ failed_hears shape seen files new held out s t cs step place same is fills faile
     subst (λ (x : Step). IsStep old x true left) (is ∙ ap (λ (fs : List FileParts). hears (counts_of shape fs) s cs) same) (record {
       files = subst (λ p. IsFilled true p files new) (sym fills) filled;
       standing = failed ∙ (by place filled ∙ ap (λ p. after_fill true p step.standing) (sym fills));
-      frame = λ h. absurd (no_truth h);
+      frame = λ h. absurd cc;
       shape = refl;
     })
   where
-    no_truth : true ≡ false → ⊥
-    no_truth h = absurd cc
-
     by : (p : Place) → IsFilled true (Some p) files new → record step.standing { state = SourceFailed; farewell = true } ≡ after_fill true (Some p) step.standing
     by (Block file k) h = refl
-    by (Header file) h = absurd h
-    by (Eot file) h = absurd h
-    by End h = absurd h
+    by _ h = absurd h
 
 -- `seen` are the files before the step, as the step saw them
 module _ (shape : Shape) (frame : List ℕ) (seen old : List FileParts) (same : seen ≡ old) where
-  within_old : (place : Place) → IsPlace (counts_of shape seen) place → IsPlace (counts_of shape old) place
-  within_old place = subst (λ files. IsPlace (counts_of shape files) place → IsPlace (counts_of shape old) place) (sym same) (λ h. h)
+  keeps : (s : Standing) (step : Step) (cs : List Control) → step ≡ hears (counts_of shape seen) s cs → step.standing.state ≡ Running → Keeps s step
+  keeps s step cs is = rw is (step_keeps (counts_of shape seen) s cs)
 
   -- the source failed
   pub failed_sender : (new : List FileParts) (place : Option Place) (s t : Standing) → t ≡ record s { state = SourceFailed; farewell = true } → IsFilled true place old new → All IsFile old → IsPlace (counts_of shape seen) s.place
       → IsSender (record { standing = t; shape = shape; files = new; frame = frame })
   failed_sender new place s t is filled files within = subst (λ (x : Standing). IsSender (record { standing = x; shape = shape; files = new; frame = frame })) (sym is) (record {
     files = filled_files true place old new filled files;
-    place = subst (λ counts. IsPlace counts s.place) (sym (filled_counts shape true place old new filled)) (within_old s.place within);
-    misses = λ h. absurd (is_failed h);
-    frame = λ h. absurd (is_failed h);
+    place = rw (filled_counts shape true place old new filled) (rw same at within);
+    misses = λ h. absurd cc;
+    frame = λ h. absurd cc;
   })
 
   -- no frame was filled
@@ -63,13 +46,10 @@ module _ (shape : Shape) (frame : List ℕ) (seen old : List FileParts) (same : 
       → IsSender (record { standing = step.standing; shape = shape; files = old; frame = frame })
   unfilled_sender s step cs is none within sender = record {
     files = sender.files;
-    place = within_old step.standing.place within;
-    misses = λ h. (keeps h).misses;
-    frame = λ h sent. subst (λ p. IsFrameAt shape old p frame) (sym ((keeps h).place none sent)) (sender.frame (keeps h).state ((keeps h).mode none sent));
+    place = rw same at within;
+    misses = λ h. (keeps s step cs is h).misses;
+    frame = λ h sent. subst (λ p. IsFrameAt shape old p frame) (sym ((keeps s step cs is h).place none sent)) (sender.frame (keeps s step cs is h).state ((keeps s step cs is h).mode none sent));
   }
-    where
-      keeps : step.standing.state ≡ Running → Keeps s step
-      keeps h = subst (λ (x : Step). x.standing.state ≡ Running → Keeps s x) (sym is) (step_keeps (counts_of shape seen) s cs) h
 
   -- a frame was filled
   pub filled_sender : (out : List ℕ) (new : List FileParts) (s : Standing) (step : Step) (cs : List Control) (place : Place) → step ≡ hears (counts_of shape seen) s cs
@@ -77,10 +57,7 @@ module _ (shape : Shape) (frame : List ℕ) (seen old : List FileParts) (same : 
       → IsSender (record { standing = step.standing; shape = shape; files = new; frame = out })
   filled_sender out new s step cs place is fills filled within held files = record {
     files = filled_files false (Some place) old new filled files;
-    place = subst (λ counts. IsPlace counts step.standing.place) (sym (filled_counts shape false (Some place) old new filled)) (within_old step.standing.place within);
-    misses = λ h. (keeps h).misses;
-    frame = λ h sent. subst (λ p. IsFrameAt shape new p out) (sym ((keeps h).filled place fills)) held;
+    place = rw (filled_counts shape false (Some place) old new filled) (rw same at within);
+    misses = λ h. (keeps s step cs is h).misses;
+    frame = λ h sent. subst (λ p. IsFrameAt shape new p out) (sym ((keeps s step cs is h).filled place fills)) held;
   }
-    where
-      keeps : step.standing.state ≡ Running → Keeps s step
-      keeps h = subst (λ (x : Step). x.standing.state ≡ Running → Keeps s x) (sym is) (step_keeps (counts_of shape seen) s cs) h

@@ -1,3 +1,4 @@
+mod Names
 pub mod Courses
 pub mod AnsweredCalls
 pub mod Follows
@@ -9,7 +10,7 @@ pub mod OneStep
 pub mod Passing
 pub mod Planned
 pub mod Positions
-pub mod ReceiverLemmas
+pub mod ReceiverMoves
 pub mod Controls
 pub mod ReceiverDeliveries
 pub mod ReceiverBound
@@ -21,7 +22,6 @@ pub mod SenderHalf
 pub mod SenderPlaces
 pub mod SenderStanding
 pub mod DeliverySize
-pub mod SenderDeliveries
 pub mod SenderBound
 pub mod Settled
 pub mod Steps

@@ -1,22 +1,13 @@
 -- a block 0 means one thing, and a delivery has one step
 use Rattle.std.proofs.Common.{ℕ, ◌≡◌, ◌⊎◌, ◌==◌, inl, inr, suc, zero, List, false, refl, ap, subst, arith, cond, Result, Ok, Err}
 use Rattle.std.proofs.lemmas.Bool.Decides.{nat_tests}
-use Rattle.ym_frame.specs.Block.{BlockParts}
-use Rattle.ym_frame.specs.declared.control.Reply.TheVariants.{Cancel}
+use Rattle.ym_link.proofs.Names.{BlockParts, Cancel, length_limit, HeaderFault, Zero, Heard, Stage, AwaitHeader, RecvState, Receiver, hears_at, running_hears, zero_heard, ends, StandsFor, Means}
 use Rattle.ym_frame.specs.declared.frame.Item.TheVariants as item
-use Rattle.ym_header.specs.Header.{length_limit}
 use Rattle.ym_header.specs.Reading.{Reads, IsFault}
-use Rattle.ym_header.specs.declared.fault.HeaderFault.{HeaderFault}
-use Rattle.ym_header.specs.declared.reading.Zero.{Zero}
 use Rattle.ym_header.specs.declared.reading.Zero.TheVariants.{End}
-use Rattle.ym_core.specs.declared.delivery.Heard.{Heard}
 use Rattle.ym_core.specs.declared.delivery.Heard.TheVariants as heard
-use Rattle.ym_core.specs.declared.stage.Stage.{Stage}
-use Rattle.ym_core.specs.declared.stage.Stage.TheVariants.{AwaitHeader, InFile}
-use Rattle.ym_core.specs.declared.state.RecvState.{RecvState}
 use Rattle.ym_core.specs.declared.state.RecvState.TheVariants as state
-use Rattle.ym_core.specs.Receiver.{Receiver, hears_at, running_hears, hears, zero_heard, ends}
-use Rattle.ym_core.specs.Step.{StandsFor, Means}
+use Rattle.ym_core.specs.Receiver.{hears}
 
 pub some_meaning : (body : List ℕ) → ((z : Zero) × Reads length_limit body z) ⊎ ((f : HeaderFault) × IsFault length_limit body f) → (zero : Result Zero HeaderFault) × StandsFor body zero
 some_meaning body (inl found) = (Ok found.0, found.1)
@@ -31,39 +22,23 @@ one_meaning value fault both body (Ok x) (Err y) a b = absurd (both length_limit
 one_meaning value fault both body (Err x) (Ok y) a b = absurd (both length_limit body y x b a)
 one_meaning value fault both body (Err x) (Err y) a b = ap Err (fault length_limit body x y a b)
 
-not-zero : (n : ℕ) → (suc n == 0) ≡ false
-not-zero n = grind (arith, nat_tests)
-
 module _ (some : (body : List ℕ) → (zero : Result Zero HeaderFault) × StandsFor body zero) (one : (body : List ℕ) (x y : Result Zero HeaderFault) → StandsFor body x → StandsFor body y → x ≡ y) where
   pub some_step : (r : Receiver) (h : Heard) → (zero : Result Zero HeaderFault) × Means r h zero
-  some_step r (heard.Item (item.Block block)) = ((some block.body).0, λ other _ _ is _. subst (λ b. StandsFor b (some block.body).0) (bodies other is) (some block.body).1)
-    where
-      bodies : (other : BlockParts) → heard.Item (item.Block block) ≡ heard.Item (item.Block other) → block.body ≡ other.body
-      bodies other is = cc
-  some_step r (heard.Item item.Eot) = (Ok End, λ _ _ _ is _. cc)
-  some_step r (heard.Item item.Cancel) = (Ok End, λ _ _ _ is _. cc)
-  some_step r heard.Bad = (Ok End, λ _ _ _ is _. cc)
+  some_step r (heard.Item (item.Block block)) =
+      ((some block.body).0, λ other _ _ is _. let same : block.body ≡ other.body = cc in subst (λ b. StandsFor b (some block.body).0) same (some block.body).1)
+  some_step r _ = (Ok End, λ _ _ _ is _. cc)
 
   pub one_step : (r : Receiver) (h : Heard) (x y : Result Zero HeaderFault) → Means r h x → Means r h y → hears r x h ≡ hears r y h
   one_step r h x y a b = at r.state refl
     where
       zero-case : (n : ℕ) → (n ≡ 0 → x ≡ y) → cond (n == 0) (zero_heard r x) (ends r state.OutOfStep Cancel) ≡ cond (n == 0) (zero_heard r y) (ends r state.OutOfStep Cancel)
       zero-case zero same = ap (zero_heard r) (same refl)
-      zero-case (suc n) same = let other = not-zero n in rw other refl
+      zero-case (suc n) same = let other : (suc n == 0) ≡ false = grind (arith, nat_tests) in rw other refl
 
       running : (s : Stage) (g : Heard) → ((block : BlockParts) → s ≡ AwaitHeader → g ≡ heard.Item (item.Block block) → block.number ≡ 0 → x ≡ y) → running_hears r s x g ≡ running_hears r s y g
       running AwaitHeader (heard.Item (item.Block block)) same = zero-case block.number (same block refl refl)
-      running AwaitHeader (heard.Item item.Eot) same = refl
-      running AwaitHeader (heard.Item item.Cancel) same = refl
-      running AwaitHeader heard.Bad same = refl
-      running (InFile file) g same = refl
+      running _ _ same = refl
 
       at : (s : RecvState) → r.state ≡ s → hears_at s r x h ≡ hears_at s r y h
       at state.Running e = running r.stage h (λ block stage is number. one block.body x y (a block e stage is number) (b block e stage is number))
-      at state.Finished e = refl
-      at state.TooManyErrors e = refl
-      at state.Cancelled e = refl
-      at state.OutOfStep e = refl
-      at (state.BadHeader fault) e = refl
-      at state.TooManyFiles e = refl
-      at state.SinkFailed e = refl
+      at _ e = refl

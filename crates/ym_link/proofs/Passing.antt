@@ -1,16 +1,10 @@
 -- What passes a port that lets the line clear, read by read and write by write.
-use Rattle.std.proofs.Common.{◌≡◌, ◌<◌, ◌≤◌, ℕ, Bool, true, false, nat_lt, List, [], ◌∷◌, length, take, Result, Ok, Err, refl, sym, ◌∙◌, ap, arith}
+use Rattle.std.proofs.Common.{◌≡◌, ◌<◌, ◌≤◌, ℕ, Bool, true, false, List, [], ◌∷◌, length, take, Result, Ok, Err, refl, sym, ◌∙◌, ap, arith}
 use Rattle.std.proofs.lemmas.Bool.{le-ltb}
 use Rattle.std.proofs.lemmas.List.{length-take-le}
-use Rattle.ym_link.specs.Clearing.{Passes, reads, writes, fails, IsRead, read_by, cleared, said, event_of}
-use Rattle.ym_link.specs.Port.{Tape, Seen, Data, Silence, End, Failed, read_gives, read_leaves, after_write, seen_of}
-use Rattle.ym_link.specs.declared.clearing.Talk.{Talk}
-use Rattle.ym_link.specs.declared.event.Event.{Event}
-use Rattle.ym_link.specs.declared.port.Got.{Got}
+use Rattle.ym_link.proofs.Names.{IsRead, cleared, said, event_of, Tape, Seen, Data, read_gives, read_leaves, after_write, seen_of, Talk, Event, Got, PortFault, Wait, Held}
+use Rattle.ym_link.specs.Clearing.{Passes, reads, writes, fails, read_by}
 use Rattle.ym_link.specs.declared.port.Got.TheVariants as got
-use Rattle.ym_link.specs.declared.port.PortFault.{PortFault}
-use Rattle.ym_link.specs.declared.port.Wait.{Wait}
-use Rattle.ym_link.specs.declared.sweep.Held.{Held}
 
 -- a read gives some bytes, and no more than it has room for
 abbrev pub FitsIn : ℕ → Seen → Type 0
@@ -20,17 +14,12 @@ FitsIn room _ = Unit {0}
 abbrev pub tape_of : List Event → List ℕ → Tape
 tape_of coming written = record { coming = coming; written = written }
 
-pub same-tape : (u : Tape) (coming : List Event) (written : List ℕ) → u.coming ≡ coming → u.written ≡ written → u ≡ tape_of coming written
-same-tape u coming written c w = ap (λ x. tape_of x u.written) c ∙ ap (λ x. tape_of coming x) w
-
 -- what a read gave is what it gives of that event, and leaves what is behind it
 pub gives-event : (room : ℕ) (seen : Seen) (rest : List Event) → FitsIn room seen
     → (read_gives room (event_of seen ∷ rest) ≡ seen) × (read_leaves room (event_of seen ∷ rest) ≡ rest)
 gives-event room (Data []) rest fits = absurd (omega (arith, fits.0))
-gives-event room (Data (b ∷ bs)) rest fits = let small : nat_lt room (length (b ∷ bs)) ≡ false = le-ltb room (length (b ∷ bs)) fits.1 in (rw small refl, rw small refl)
-gives-event room Silence rest fits = (refl, refl)
-gives-event room End rest fits = (refl, refl)
-gives-event room Failed rest fits = (refl, refl)
+gives-event room (Data (b ∷ bs)) rest fits = rw (le-ltb room (length (b ∷ bs)) fits.1) (refl, refl)
+gives-event room _ rest fits = (refl, refl)
 
 -- what a read gives fits into its buffer
 pub fits-seen : (room : ℕ) (result : Result Got PortFault) (buf : List ℕ) → room ≡ length buf → ((n : ℕ) → result ≡ Ok (got.Bytes n) → (0 < n) × (n ≤ room))
@@ -39,9 +28,7 @@ fits-seen room (Ok (got.Bytes n)) buf size count =
     let sized = count n refl in
     let taken : length (take n buf) ≡ n = length-take-le n buf (rw (← size) sized.1) in
     (rw taken sized.0, rw taken sized.1)
-fits-seen room (Ok got.Quiet) buf size count = tt
-fits-seen room (Ok got.Closed) buf size count = tt
-fits-seen room (Err e) buf size count = tt
+fits-seen room _ buf size count = tt
 
 -- a read
 pub read-passes : (wait : Wait) (room : ℕ) (talk new : Talk) (seen : Seen) (u p t : Tape) → FitsIn room seen
@@ -54,7 +41,7 @@ read-passes wait room talk new seen u p t fits is wrote passes =
       wrote ∙ ap (λ (x : Tape). x.written) is.2,
       rw is.0 (reads talk t.coming u.coming wait room (rw (is.1, is.2) at passes)),
       sym one.0,
-      same-tape u _ u.written (sym one.1) refl,
+      rw one.1 refl,
     )
 
 -- a write that was made, or failed
@@ -64,11 +51,11 @@ pub write-passes : (ok : Bool) (bytes : List ℕ) (talk new : Talk) (h : Held) (
     → Passes talk t.coming u.coming × (u ≡ after_write ok (tape_of u.coming t.written) bytes)
 write-passes true bytes talk new h u p v t is rest is_new left_p wrote passes = (
   writes talk t.coming u.coming bytes h (sym is) (rw (is_new, left_p, rest) at passes),
-  same-tape u _ _ refl (wrote ∙ rw (left_p, rest) refl),
+  rw (← (rw (left_p, rest) at wrote)) refl,
 )
 write-passes false bytes talk new h u p v t is rest is_new left_p wrote passes = (
   writes talk t.coming u.coming bytes h (sym is) (rw (is_new, left_p, rest) at passes),
-  same-tape u _ _ refl (wrote ∙ rw (left_p, rest) refl),
+  rw (← (rw (left_p, rest) at wrote)) refl,
 )
 
 -- a line that failed while it was let clear

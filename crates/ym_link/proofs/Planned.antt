@@ -1,12 +1,9 @@
 -- a file that is cut by a plan is covered by its last piece, and not before
 use Rattle.std.proofs.Common.{ℕ, ◌<◌, ◌≤◌, ◌≡◌, suc, zero, List, [], ◌∷◌, ◌++◌, length, take, drop, refl, sym, ap, ◌∙◌, subst, arith}
 use Rattle.std.proofs.Math.Seq.{take-length}
-use Rattle.ym_header.specs.Header.{HeaderParts, IsHeader, length_limit}
-use Rattle.ym_file.specs.declared.plan.Shape.{Shape}
+use Rattle.ym_link.proofs.Names.{HeaderParts, IsHeader, length_limit, Shape, keep_all, body_at, bytes_of, IsSent}
 use Rattle.ym_file.specs.Plan.{IsPieces}
-use Rattle.ym_file.specs.Collecting.{keep_all, IsCovered}
-use Rattle.ym_machine.specs.Frames.{body_at}
-use Rattle.ym_link.specs.ReceiverStands.{bytes_of, IsSent}
+use Rattle.ym_file.specs.Collecting.{IsCovered}
 
 split : (k : ℕ) (pieces : List (List ℕ)) → k < length pieces → pieces ≡ take k pieces ++ body_at k pieces ∷ drop (suc k) pieces
 split k [] less = absurd (omega arith)

@@ -1,11 +1,10 @@
 -- each frame of a batch, with the open file and the files committed before it and behind it
-use Rattle.std.proofs.Common.{ℕ, ◌+◌, ◌-◌, ◌%◌, ◌<◌, ◌≤◌, ◌≡◌, ◌⊎◌, inl, inr, suc, zero, List, [], ◌∷◌, ◌++◌, length, take, Some, None, refl, sym, ap, ◌∙◌, subst, arith}
-use Rattle.std.specs.Prelude.{nat_le, true, false, All}
-use Rattle.std.proofs.lemmas.Bool.Decides.{nat_tests}
+use Rattle.std.proofs.Common.{ℕ, ◌+◌, ◌-◌, ◌%◌, ◌<◌, ◌≤◌, ◌≡◌, ◌⊎◌, inl, inr, suc, zero, List, [], ◌∷◌, ◌++◌, length, take, Some, None, refl, sym, ap, ◌∙◌, subst, arith, add-one}
+use Rattle.std.specs.Prelude.{All}
+use Rattle.std.proofs.lemmas.Bool.{le-leb, lt-leb, cases_order}
 use Rattle.std.proofs.lemmas.List.Elements.{All-head, All-tail}
-use Rattle.ym_header.specs.Header.{HeaderParts}
-use Rattle.ym_machine.specs.Frames.{File, BlockZero, Piece, Eot, EndBlock, frames_of, frame_at, body_at, count_within, files_within}
-use Rattle.ym_link.specs.ReceiverStands.{open_at}
+use Rattle.ym_link.proofs.Names.{HeaderParts, File, BlockZero, Piece, EndBlock, frames_of, frame_at, body_at, count_within, files_within, open_at}
+use Rattle.ym_machine.specs.Frames.{Eot}
 
 -- what the machine's laws say of the places of a batch
 pub record PlaceLaws : Type 0 where
@@ -30,57 +29,45 @@ pub data Position (P : File HeaderParts → Type 0) (files : List (File HeaderPa
   ending : frame_at (frames_of files) i ≡ EndBlock → open_at files i ≡ None → open_at files (i + 1) ≡ None
       → count_within files (i + 1) ≡ count_within files i → i + 1 ≡ length (frames_of files) → Position P files i
 
-le-true : (a b : ℕ) → a ≤ b → nat_le a b ≡ true
-le-true a b h = grind (arith, nat_tests)
-
-le-false : (a b : ℕ) → b < a → nat_le a b ≡ false
-le-false a b h = grind (arith, nat_tests)
-
-ordered : (a b : ℕ) → (a < b) ⊎ ((a ≡ b) ⊎ (b < a))
-ordered a b = grind arith
+pub none-first : (files : List (File HeaderParts)) → open_at files 0 ≡ None
+none-first [] = refl
+none-first (file ∷ files) = refl
 
 module _ (laws : PlaceLaws) (P : File HeaderParts → Type 0) where
   module _ (file : File HeaderParts) (files : List (File HeaderParts)) where
     open-in : (i n : ℕ) → i ≡ suc n → n ≤ length file.pieces → open_at (file ∷ files) i ≡ Some (file, n)
-    open-in i n e h = let le = le-true n (length file.pieces) h in ap (open_at (file ∷ files)) e ∙ rw le refl
+    open-in i n e h = let le = le-leb n (length file.pieces) h in ap (open_at (file ∷ files)) e ∙ rw le refl
 
     open-out : (i m : ℕ) → i ≡ length file.pieces + 2 + m → open_at (file ∷ files) i ≡ open_at files m
     open-out i m e =
-        let le = le-false (length file.pieces + 1 + m) (length file.pieces) (omega arith) in
+        let up : i ≡ suc (length file.pieces + 1 + m) = omega (arith, e) in
+        let le = lt-leb (length file.pieces + 1 + m) (length file.pieces) (omega arith) in
         ap (open_at (file ∷ files)) up ∙ rw le (ap (open_at files) (omega arith))
-      where
-        up : i ≡ suc (length file.pieces + 1 + m)
-        up = omega (arith, e)
 
     count-out : (i m : ℕ) → i ≡ length file.pieces + 2 + m → count_within (file ∷ files) i ≡ count_within files m + 1
     count-out i m e = ap (count_within (file ∷ files)) e ∙ laws.counted file files m
 
     within-out : (i m : ℕ) → i ≡ length file.pieces + 2 + m → files_within (file ∷ files) i ≡ file ∷ files_within files m
-    within-out i m e = ap (λ c. take c (file ∷ files)) (count-out i m e ∙ up)
-      where
-        up : count_within files m + 1 ≡ suc (count_within files m)
-        up = omega arith
+    within-out i m e = ap (λ c. take c (file ∷ files)) (count-out i m e ∙ add-one (count_within files m))
 
     frame-out : (i m : ℕ) → i ≡ length file.pieces + 2 + m → frame_at (frames_of (file ∷ files)) i ≡ frame_at (frames_of files) m
     frame-out i m e = ap (frame_at (frames_of (file ∷ files))) e ∙ laws.behind file files m
 
+    same-out : (i m : ℕ) → i ≡ length file.pieces + 2 + m → count_within files (m + 1) ≡ count_within files m → count_within (file ∷ files) (i + 1) ≡ count_within (file ∷ files) i
+    same-out i m e same = let x = count-out i m e in let y = count-out (i + 1) (m + 1) (omega (arith, e)) in omega (arith, x, y, same)
+
     -- behind a file
     rest-at : (i m : ℕ) → i ≡ length file.pieces + 2 + m → Position P files m → Position P (file ∷ files) i
-    rest-at i m e at = by at
-      where
-        next : i + 1 ≡ length file.pieces + 2 + (m + 1)
-        next = omega (arith, e)
-
-        same : count_within files (m + 1) ≡ count_within files m → count_within (file ∷ files) (i + 1) ≡ count_within (file ∷ files) i
-        same h = count-out (i + 1) (m + 1) next ∙ (ap (λ c. c + 1) h ∙ sym (count-out i m e))
-
-        by : Position P files m → Position P (file ∷ files) i
-        by (opening f p a b c d less) = opening f p (frame-out i m e ∙ a) (open-out i m e ∙ b) (open-out (i + 1) (m + 1) next ∙ c) (same d) (let x = count-out i m e in omega (arith, x, less))
-        by (piece f k p less a b c d) = piece f k p less (frame-out i m e ∙ a) (open-out i m e ∙ b) (open-out (i + 1) (m + 1) next ∙ c) (same d)
-        by (closing f p a b c d w) = closing f p (frame-out i m e ∙ a) (open-out i m e ∙ b) (open-out (i + 1) (m + 1) next ∙ c)
-            (count-out (i + 1) (m + 1) next ∙ (ap (λ c. c + 1) d ∙ ap (λ c. c + 1) (sym (count-out i m e))))
-            (within-out (i + 1) (m + 1) next ∙ (ap (λ fs. file ∷ fs) w ∙ ap (λ fs. fs ++ f ∷ []) (sym (within-out i m e))))
-        by (ending a b c d l) = ending (frame-out i m e ∙ a) (open-out i m e ∙ b) (open-out (i + 1) (m + 1) next ∙ c) (same d) (let x = laws.size file files in omega (arith, e, l, x))
+    rest-at i m e (opening f p a b c d less) =
+        let x = count-out i m e in opening f p (frame-out i m e ∙ a) (open-out i m e ∙ b) (open-out (i + 1) (m + 1) (omega (arith, e)) ∙ c) (same-out i m e d) (omega (arith, x, less))
+    rest-at i m e (piece f k p less a b c d) = piece f k p less (frame-out i m e ∙ a) (open-out i m e ∙ b) (open-out (i + 1) (m + 1) (omega (arith, e)) ∙ c) (same-out i m e d)
+    rest-at i m e (closing f p a b c d w) =
+        let next : i + 1 ≡ length file.pieces + 2 + (m + 1) = omega (arith, e) in
+        let x = count-out i m e in
+        let y = count-out (i + 1) (m + 1) next in
+        closing f p (frame-out i m e ∙ a) (open-out i m e ∙ b) (open-out (i + 1) (m + 1) next ∙ c) (omega (arith, x, y, d)) (rw (within-out (i + 1) (m + 1) next, within-out i m e, w) refl)
+    rest-at i m e (ending a b c d l) =
+        let x = laws.size file files in ending (frame-out i m e ∙ a) (open-out i m e ∙ b) (open-out (i + 1) (m + 1) (omega (arith, e)) ∙ c) (same-out i m e d) (omega (arith, e, l, x))
 
     none-within : (i : ℕ) → i ≤ length file.pieces + 1 → files_within (file ∷ files) i ≡ []
     none-within i h = ap (λ c. take c (file ∷ files)) (laws.inside file files i h)
@@ -93,26 +80,19 @@ module _ (laws : PlaceLaws) (P : File HeaderParts → Type 0) where
     at-closing : (n : ℕ) → P file → n ≡ length file.pieces → Position P (file ∷ files) (n + 1)
     at-closing n p e = closing file p (ap (λ k. frame_at (frames_of (file ∷ files)) (k + 1)) e ∙ laws.eot file files)
         (open-in (n + 1) n (omega arith) (omega (arith, e)) ∙ ap (λ k. Some (file, k)) e)
-        (open-out (n + 1 + 1) 0 (omega (arith, e)) ∙ first files)
+        (open-out (n + 1 + 1) 0 (omega (arith, e)) ∙ none-first files)
         (count-out (n + 1 + 1) 0 (omega (arith, e)) ∙ ap (λ c. c + 1) (sym (laws.inside file files (n + 1) (omega (arith, e)))))
         (within-out (n + 1 + 1) 0 (omega (arith, e)) ∙ ap (λ fs. fs ++ file ∷ []) (sym (none-within (n + 1) (omega (arith, e)))))
-      where
-        first : (fs : List (File HeaderParts)) → open_at fs 0 ≡ None
-        first [] = refl
-        first (f ∷ fs) = refl
 
   pub position : (files : List (File HeaderParts)) → All P files → (i : ℕ) → i < length (frames_of files) → Position P files i
   position [] all zero below = ending refl refl refl refl refl
   position [] all (suc i) below = absurd (omega arith)
   position (file ∷ files) all zero below = opening file (All-head P file files all) refl refl (open-in file files 1 0 refl (omega arith))
       (laws.inside file files 1 (omega arith) ∙ sym (laws.inside file files 0 (omega arith))) (let x = laws.inside file files 0 (omega arith) in omega (arith, x))
-  position (file ∷ files) all (suc n) below = subst (Position P (file ∷ files)) up
-      (choose (ordered n (length file.pieces)) (λ more. position files (All-tail P file files all) (n - (length file.pieces + 1)) (let x = laws.size file files in omega (arith, more, x, below))))
+  position (file ∷ files) all (suc n) below = subst (Position P (file ∷ files)) (add-one n)
+      (choose (cases_order n (length file.pieces)) (λ more. position files (All-tail P file files all) (n - (length file.pieces + 1)) (let x = laws.size file files in omega (arith, more, x, below))))
     where
-      up : n + 1 ≡ suc n
-      up = omega arith
-
-      choose : (n < length file.pieces) ⊎ ((n ≡ length file.pieces) ⊎ (length file.pieces < n)) → (length file.pieces < n → Position P files (n - (length file.pieces + 1))) → Position P (file ∷ files) (n + 1)
-      choose (inl less) rest = at-piece file files n (All-head P file files all) less
-      choose (inr (inl same)) rest = at-closing file files n (All-head P file files all) same
+      choose : (n ≡ length file.pieces) ⊎ ((n < length file.pieces) ⊎ (length file.pieces < n)) → (length file.pieces < n → Position P files (n - (length file.pieces + 1))) → Position P (file ∷ files) (n + 1)
+      choose (inr (inl less)) rest = at-piece file files n (All-head P file files all) less
+      choose (inl same) rest = at-closing file files n (All-head P file files all) same
       choose (inr (inr more)) rest = rest-at file files (n + 1) (n - (length file.pieces + 1)) (omega (arith, more)) (rest more)

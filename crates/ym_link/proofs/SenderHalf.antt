@@ -1,63 +1,16 @@
 -- What a sender that stands does with what came back is what the machine does.
 use Rattle.std.proofs.Common.{ℕ, ◌+◌, ◌≡◌, inl, inr, List, [], ◌∷◌, Bool, true, false, refl, sym, ap, ◌∙◌, subst, cond, nat_lt, None, Some}
-use Rattle.ym_frame.specs.declared.control.Control.{Control}
-use Rattle.ym_frame.specs.declared.control.Control.TheVariants.{Ack, Nak, Start, Can}
-use Rattle.ym_header.specs.Header.{HeaderParts}
-use Rattle.ym_machine.specs.Frames.{Frame, BlockZero, Piece, Eot as EotFrame, EndBlock, frames_of, frame_at}
-use Rattle.ym_machine.specs.State.{State, SenderEnd}
-use Rattle.ym_machine.specs.Halves.{sends, nothing_gained, running_gets, gets, back, acknowledged_at, IsRemnant}
-use Rattle.ym_core.specs.declared.place.Place.{Place}
-use Rattle.ym_core.specs.declared.place.Place.TheVariants.{Header, Block, Eot, End}
-use Rattle.ym_core.specs.declared.place.Mode.{Mode}
-use Rattle.ym_core.specs.declared.place.Mode.TheVariants.{Waiting, Sent}
-use Rattle.ym_core.specs.declared.standing.Standing.{Standing}
+use Rattle.ym_link.proofs.Names.{Control, Ack, Start, HeaderParts, Frame, BlockZero, Piece, EotFrame, EndBlock, frames_of, frame_at, State, SenderEnd, back, IsRemnant, Place, Header, Block, Eot, End, Mode, Waiting, Sent, Standing, SendState, next_of, missed, hears, hears_in, after_fill, Batch, counts_in, place_at, state_of, mode_of, farewell_of, GIVE_UP}
+use Rattle.ym_machine.specs.Halves.{sends, nothing_gained, running_gets, gets, acknowledged_at}
 use Rattle.ym_core.specs.declared.standing.SendStep.{SendStep as Step}
-use Rattle.ym_core.specs.declared.state.SendState.{SendState}
 use Rattle.ym_core.specs.declared.state.SendState.TheVariants as state
-use Rattle.ym_core.specs.Place.{next_of}
-use Rattle.ym_core.specs.Standing.{step, missed, runs, hears, hears_in, after_fill}
-use Rattle.ym_link.specs.SenderStands.{Batch, StandsAt, counts_in, place_at, state_of, mode_of, farewell_of}
+use Rattle.ym_core.specs.Standing.{step, runs}
+use Rattle.ym_link.specs.SenderStands.{StandsAt}
 use Rattle.ym_link.proofs.SenderPlaces.{SameKind, next_at, kind_at}
-use Rattle.ym_machine.specs.declared.limits.TheConstants.{GIVE_UP}
-
--- what may come back of a reply
-data Part : List Control → Type 0 where
-  nothing : Part []
-  ack : Part (Ack ∷ [])
-  ack_start : Part (Ack ∷ Start ∷ [])
-  start : Part (Start ∷ [])
-  nak : Part (Nak ∷ [])
-  can : Part (Can ∷ [])
-  can_can : Part (Can ∷ Can ∷ [])
-
-part_of : (came : List Control) → IsRemnant came → Part came
-part_of came (inl e) = subst Part (sym e) nothing
-part_of came (inr (inl e)) = subst Part (sym e) start
-part_of came (inr (inr (inl e))) = subst Part (sym e) ack
-part_of came (inr (inr (inr (inl e)))) = subst Part (sym e) ack_start
-part_of came (inr (inr (inr (inr (inl e))))) = subst Part (sym e) nak
-part_of came (inr (inr (inr (inr (inr (inl e)))))) = subst Part (sym e) can
-part_of came (inr (inr (inr (inr (inr (inr e)))))) = subst Part (sym e) can_can
 
 -- a step and what the source made of it
 abbrev pub after : Bool → Step → Standing
 after failed taken = after_fill failed taken.fills taken.standing
-
-not_finished : SenderEnd.Finished ≡ SenderEnd.Running → ⊥
-not_finished h = absurd cc
-
-not_cancelled : SenderEnd.Cancelled ≡ SenderEnd.Running → ⊥
-not_cancelled h = absurd cc
-
-not_no_reply : SenderEnd.NoReply ≡ SenderEnd.Running → ⊥
-not_no_reply h = absurd cc
-
-not_source_failed : SenderEnd.SourceFailed ≡ SenderEnd.Running → ⊥
-not_source_failed h = absurd cc
-
-no_fill : (failed : Bool) (s : Standing) → after_fill failed None s ≡ s
-no_fill true s = refl
-no_fill false s = refl
 
 module _ (files : Batch) where
   -- an end that runs
@@ -83,13 +36,24 @@ module _ (files : Batch) where
   }
 
   unfilled : (failed : Bool) (new : State) (s : Standing) → StandsAt files new s → StandsAt files new (after_fill failed None s)
-  unfilled failed new s = subst (λ (x : Standing). StandsAt files new s → StandsAt files new x) (sym (no_fill failed s)) (λ h. h)
+  unfilled true new s h = h
+  unfilled false new s h = h
+
+-- the standing of a running sender
+abbrev at : Place → Mode → ℕ → Standing
+at place mode misses = record { place = place; mode = mode; misses = misses; state = state.Running; farewell = false }
+
+module _ (files : Batch) (st : State) (running : st.sender ≡ SenderEnd.Running) where
+  -- the frame at a place becomes the sent one
+  sends_there : (failed : Bool) (p : ℕ) (f : Frame HeaderParts) (q : Place) → SameKind f q → q ≡ place_at files p → StandsAt files (sends failed f p st) (after_fill failed (Some q) (at q Sent 0))
+  sends_there true p (Piece n body) (Block i k) same is = off files _ _ (λ h. cc) refl refl is
+  sends_there true p (BlockZero h) (Header i) same is = on files _ _ running refl refl is refl refl
+  sends_there true p EotFrame (Eot i) same is = on files _ _ running refl refl is refl refl
+  sends_there true p EndBlock End same is = on files _ _ running refl refl is refl refl
+  sends_there true p _ _ same is = absurd same
+  sends_there false p f q same is = on files _ _ running refl refl is refl refl
 
 module _ (files : Batch) (st : State) (running : st.sender ≡ SenderEnd.Running) (failed : Bool) where
-  -- the standing of a running sender
-  abbrev at : Place → Mode → ℕ → Standing
-  at place mode misses = record { place = place; mode = mode; misses = misses; state = state.Running; farewell = false }
-
   missed_agrees : (m : Bool) → st.sent ≡ m → StandsAt files (nothing_gained st) (after failed (missed (at (place_at files st.acknowledged) (mode_of m) st.sender_count)))
   missed_agrees m is = by (nat_lt (st.sender_count + 1) GIVE_UP)
     where
@@ -97,36 +61,10 @@ module _ (files : Batch) (st : State) (running : st.sender ≡ SenderEnd.Running
           (after failed (cond {A = Step} b (step (at (place_at files st.acknowledged) (mode_of m) (st.sender_count + 1)))
           (step (record (at (place_at files st.acknowledged) (mode_of m) (st.sender_count + 1)) { state = state.NoReply; farewell = true }))))
       by true = unfilled files failed _ _ (on files _ _ running refl refl refl (ap mode_of (sym is)) refl)
-      by false = unfilled files failed _ _ (off files _ _ not_no_reply refl refl refl)
-
-  -- the frame at a place becomes the sent one
-  sends_there : (p : ℕ) (f : Frame HeaderParts) (q : Place) → SameKind f q → q ≡ place_at files p → StandsAt files (sends failed f p st) (after_fill failed (Some q) (at q Sent 0))
-  sends_there p f q same is = by failed f q same is
-    where
-      goes : (q : Place) → q ≡ place_at files p → StandsAt files (record st { acknowledged = p; sent = true; sender_count = 0 }) (at q Sent 0)
-      goes q is = on files _ _ running refl refl is refl refl
-
-      by : (failed : Bool) (f : Frame HeaderParts) (q : Place) → SameKind f q → q ≡ place_at files p → StandsAt files (sends failed f p st) (after_fill failed (Some q) (at q Sent 0))
-      by false f q same is = goes q is
-      by true (Piece n body) (Block i k) same is = off files _ _ not_source_failed refl refl is
-      by true (BlockZero h) (Header i) same is = goes (Header i) is
-      by true EotFrame (Eot i) same is = goes (Eot i) is
-      by true EndBlock End same is = goes End is
-      by true (BlockZero h) (Block i k) same is = absurd same
-      by true (BlockZero h) (Eot i) same is = absurd same
-      by true (BlockZero h) End same is = absurd same
-      by true (Piece n body) (Header i) same is = absurd same
-      by true (Piece n body) (Eot i) same is = absurd same
-      by true (Piece n body) End same is = absurd same
-      by true EotFrame (Header i) same is = absurd same
-      by true EotFrame (Block i k) same is = absurd same
-      by true EotFrame End same is = absurd same
-      by true EndBlock (Header i) same is = absurd same
-      by true EndBlock (Block i k) same is = absurd same
-      by true EndBlock (Eot i) same is = absurd same
+      by false = unfilled files failed _ _ (off files _ _ (λ h. cc) refl refl refl)
 
   sends_agrees : (p : ℕ) (q : Place) → q ≡ place_at files p → StandsAt files (sends failed (frame_at (frames_of files) p) p st) (after_fill failed (Some q) (at q Sent 0))
-  sends_agrees p q is = sends_there p (frame_at (frames_of files) p) q (subst (SameKind (frame_at (frames_of files) p)) (sym is) (kind_at files p)) is
+  sends_agrees p q is = sends_there files st running failed p (frame_at (frames_of files) p) q (rw is (kind_at files p)) is
 
   -- waiting at a place
   waits_agrees : (p : ℕ) (q : Place) → q ≡ place_at files p → StandsAt files (record st { acknowledged = p; sent = false; sender_count = 0 }) (after_fill failed None (at q Waiting 0))
@@ -138,46 +76,34 @@ module _ (files : Batch) (st : State) (running : st.sender ≡ SenderEnd.Running
   -- the frame was acknowledged, and a C came behind it or did not
   acknowledged : (c : Bool) (f : Frame HeaderParts) (q : Place) → SameKind f q → q ≡ place_at files st.acknowledged
       → StandsAt files (acknowledged_at (frames_of files) failed c f st) (after failed (runs (counts_in files) (at q Sent st.sender_count) (cond c (Ack ∷ Start ∷ []) (Ack ∷ []))))
-  acknowledged true (BlockZero h) (Header i) same is = sends_agrees (st.acknowledged + 1) (next_of (counts_in files) (Header i)) (next_is (Header i) is)
-  acknowledged false (BlockZero h) (Header i) same is = waits_agrees (st.acknowledged + 1) (next_of (counts_in files) (Header i)) (next_is (Header i) is)
-  acknowledged true (Piece n body) (Block i k) same is = sends_agrees (st.acknowledged + 1) (next_of (counts_in files) (Block i k)) (next_is (Block i k) is)
-  acknowledged false (Piece n body) (Block i k) same is = sends_agrees (st.acknowledged + 1) (next_of (counts_in files) (Block i k)) (next_is (Block i k) is)
-  acknowledged true EotFrame (Eot i) same is = sends_agrees (st.acknowledged + 1) (next_of (counts_in files) (Eot i)) (next_is (Eot i) is)
-  acknowledged false EotFrame (Eot i) same is = waits_agrees (st.acknowledged + 1) (next_of (counts_in files) (Eot i)) (next_is (Eot i) is)
-  acknowledged true EndBlock End same is = unfilled files failed _ _ (off files _ _ not_finished refl refl (next_is End is))
-  acknowledged false EndBlock End same is = unfilled files failed _ _ (off files _ _ not_finished refl refl (next_is End is))
-  acknowledged c (BlockZero h) (Block i k) same is = absurd same
-  acknowledged c (BlockZero h) (Eot i) same is = absurd same
-  acknowledged c (BlockZero h) End same is = absurd same
-  acknowledged c (Piece n body) (Header i) same is = absurd same
-  acknowledged c (Piece n body) (Eot i) same is = absurd same
-  acknowledged c (Piece n body) End same is = absurd same
-  acknowledged c EotFrame (Header i) same is = absurd same
-  acknowledged c EotFrame (Block i k) same is = absurd same
-  acknowledged c EotFrame End same is = absurd same
-  acknowledged c EndBlock (Header i) same is = absurd same
-  acknowledged c EndBlock (Block i k) same is = absurd same
-  acknowledged c EndBlock (Eot i) same is = absurd same
+  acknowledged true (BlockZero h) (Header i) same is = sends_agrees (st.acknowledged + 1) _ (next_is (Header i) is)
+  acknowledged false (BlockZero h) (Header i) same is = waits_agrees (st.acknowledged + 1) _ (next_is (Header i) is)
+  acknowledged true EotFrame (Eot i) same is = sends_agrees (st.acknowledged + 1) _ (next_is (Eot i) is)
+  acknowledged false EotFrame (Eot i) same is = waits_agrees (st.acknowledged + 1) _ (next_is (Eot i) is)
+  acknowledged _ (Piece n body) (Block i k) same is = sends_agrees (st.acknowledged + 1) _ (next_is (Block i k) is)
+  acknowledged _ EndBlock End same is = unfilled files failed _ _ (off files _ _ (λ h. cc) refl refl (next_is End is))
+  acknowledged _ _ _ same is = absurd same
 
   cancels : (m : Bool) → StandsAt files (record st { sender = SenderEnd.Cancelled }) (after_fill failed None (record (at (place_at files st.acknowledged) (mode_of m) st.sender_count) { state = state.Cancelled }))
-  cancels m = unfilled files failed _ _ (off files _ _ not_cancelled refl refl refl)
+  cancels m = unfilled files failed _ _ (off files _ _ (λ h. cc) refl refl refl)
 
-  running_agrees : (m : Bool) → st.sent ≡ m → (came : List Control) → Part came
+  running_agrees : (m : Bool) → st.sent ≡ m → (came : List Control) → IsRemnant came
       → StandsAt files (running_gets (frames_of files) failed m came st) (after failed (runs (counts_in files) (at (place_at files st.acknowledged) (mode_of m) st.sender_count) came))
-  running_agrees true is came nothing = missed_agrees true is
-  running_agrees true is came ack = acknowledged false (frame_at (frames_of files) st.acknowledged) (place_at files st.acknowledged) (kind_at files st.acknowledged) refl
-  running_agrees true is came ack_start = acknowledged true (frame_at (frames_of files) st.acknowledged) (place_at files st.acknowledged) (kind_at files st.acknowledged) refl
-  running_agrees true is came start = missed_agrees true is
-  running_agrees true is came nak = missed_agrees true is
-  running_agrees true is came can = missed_agrees true is
-  running_agrees true is came can_can = cancels true
-  running_agrees false is came nothing = missed_agrees false is
-  running_agrees false is came ack = missed_agrees false is
-  running_agrees false is came ack_start = sends_agrees st.acknowledged (place_at files st.acknowledged) refl
-  running_agrees false is came start = sends_agrees st.acknowledged (place_at files st.acknowledged) refl
-  running_agrees false is came nak = missed_agrees false is
-  running_agrees false is came can = missed_agrees false is
-  running_agrees false is came can_can = cancels false
+  running_agrees true is came (inl e) = rw e (missed_agrees true is)  -- nothing
+  running_agrees false is came (inl e) = rw e (missed_agrees false is)
+  running_agrees true is came (inr (inl e)) = rw e (missed_agrees true is)  -- C
+  running_agrees false is came (inr (inl e)) = rw e (sends_agrees st.acknowledged (place_at files st.acknowledged) refl)
+  running_agrees true is came (inr (inr (inl e))) =  -- ACK
+      rw e (acknowledged false (frame_at (frames_of files) st.acknowledged) (place_at files st.acknowledged) (kind_at files st.acknowledged) refl)
+  running_agrees false is came (inr (inr (inl e))) = rw e (missed_agrees false is)
+  running_agrees true is came (inr (inr (inr (inl e)))) =  -- ACK and C
+      rw e (acknowledged true (frame_at (frames_of files) st.acknowledged) (place_at files st.acknowledged) (kind_at files st.acknowledged) refl)
+  running_agrees false is came (inr (inr (inr (inl e)))) = rw e (sends_agrees st.acknowledged (place_at files st.acknowledged) refl)
+  running_agrees true is came (inr (inr (inr (inr (inl e))))) = rw e (missed_agrees true is)  -- NAK
+  running_agrees false is came (inr (inr (inr (inr (inl e))))) = rw e (missed_agrees false is)
+  running_agrees true is came (inr (inr (inr (inr (inr (inl e)))))) = rw e (missed_agrees true is)  -- CAN
+  running_agrees false is came (inr (inr (inr (inr (inr (inl e)))))) = rw e (missed_agrees false is)
+  running_agrees m is came (inr (inr (inr (inr (inr (inr e)))))) = rw e (cancels m)  -- CAN CAN
 
 standing_is : (s : Standing) (place : Place) (mode : Mode) (misses : ℕ) → s.place ≡ place → s.mode ≡ mode → s.misses ≡ misses → s.state ≡ state.Running → s.farewell ≡ false
     → s ≡ record { place = place; mode = mode; misses = misses; state = state.Running; farewell = false }
@@ -191,20 +117,15 @@ module _ (files : Batch) (st : State) (s : Standing) (failed : Bool) (came : Lis
       (sym (ap (λ x. farewell_of x new.farewell) (same ∙ is) ∙ gone)) (stands.place ∙ ap (place_at files) (sym place)))
 
   -- by how the machine's sender stands
-  abbrev At : SenderEnd → SendState → Type 0
-  At e end = StandsAt files (gets (frames_of files) failed came e st) (after failed (hears_in end (counts_in files) s came))
-
-  step_agrees : IsRemnant came → (e : SenderEnd) → st.sender ≡ e → At e (state_of e)
+  step_agrees : IsRemnant came → (e : SenderEnd) → st.sender ≡ e → StandsAt files (gets (frames_of files) failed came e st) (after failed (hears_in (state_of e) (counts_in files) s came))
   step_agrees remnant SenderEnd.Running is =
-      subst (λ (x : Standing). StandsAt files (running_gets (frames_of files) failed st.sent came st) (after failed (runs (counts_in files) x came)))
-      (sym (standing_is s (place_at files st.acknowledged) (mode_of st.sent) st.sender_count stands.place (stands.mode is) (stands.misses is) (stands.state ∙ ap state_of is)
-      (stands.farewell ∙ ap (λ x. farewell_of x st.farewell) is)))
-      (running_agrees files st is failed st.sent refl came (part_of came remnant))
-  step_agrees remnant SenderEnd.Finished is = ended_agrees SenderEnd.Finished is not_finished st refl refl refl
-  step_agrees remnant SenderEnd.Cancelled is = ended_agrees SenderEnd.Cancelled is not_cancelled st refl refl refl
-  step_agrees remnant SenderEnd.NoReply is = ended_agrees SenderEnd.NoReply is not_no_reply (record st { farewell = false }) refl refl refl
-  step_agrees remnant SenderEnd.SourceFailed is = ended_agrees SenderEnd.SourceFailed is not_source_failed (record st { farewell = false }) refl refl refl
+      rw (standing_is s (place_at files st.acknowledged) (mode_of st.sent) st.sender_count stands.place (stands.mode is) (stands.misses is) (stands.state ∙ ap state_of is)
+      (stands.farewell ∙ ap (λ x. farewell_of x st.farewell) is)) (running_agrees files st is failed st.sent refl came remnant)
+  step_agrees remnant SenderEnd.Finished is = ended_agrees SenderEnd.Finished is (λ h. cc) st refl refl refl
+  step_agrees remnant SenderEnd.Cancelled is = ended_agrees SenderEnd.Cancelled is (λ h. cc) st refl refl refl
+  step_agrees remnant SenderEnd.NoReply is = ended_agrees SenderEnd.NoReply is (λ h. cc) (record st { farewell = false }) refl refl refl
+  step_agrees remnant SenderEnd.SourceFailed is = ended_agrees SenderEnd.SourceFailed is (λ h. cc) (record st { farewell = false }) refl refl refl
 
   -- the half back, from where it stands to where the machine goes
   pub half_back : IsRemnant came → StandsAt files (back (frames_of files) failed came st) (after failed (hears (counts_in files) s came))
-  half_back remnant = subst (At st.sender) (sym stands.state) (step_agrees remnant st.sender refl)
+  half_back remnant = subst (λ (x : SendState). StandsAt files (back (frames_of files) failed came st) (after failed (hears_in x (counts_in files) s came))) (sym stands.state) (step_agrees remnant st.sender refl)

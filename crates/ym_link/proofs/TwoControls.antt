@@ -1,55 +1,28 @@
 -- What one or two controls are read as.
 use Rattle.std.proofs.Common.{ℕ, ◌≡◌, ◌≢◌, List, [], ◌∷◌, true, false, refl, ap, sym, ◌∙◌, cond}
 use Rattle.std.specs.Prelude.{is_some}
-use Rattle.ym_frame.specs.declared.control.Control.{Control}
-use Rattle.ym_frame.specs.declared.control.Control.TheVariants.{Ack, Nak, Start, Can}
-use Rattle.ym_core.specs.declared.place.Place.{Place}
-use Rattle.ym_core.specs.declared.place.Place.TheVariants.{Header, Block, Eot, End}
-use Rattle.ym_core.specs.declared.place.Mode.{Mode}
-use Rattle.ym_core.specs.declared.place.Mode.TheVariants.{Waiting, Sent}
-use Rattle.ym_core.specs.declared.reading.Reading.{Reading}
-use Rattle.ym_core.specs.Reading.{turn, reads}
+use Rattle.ym_link.proofs.Names.{Control, Ack, Can, Place, Header, Block, Eot, End, Mode, Waiting, Sent, Reading, turn, reads}
 
 pub one_control : (counts : List ℕ) (place : Place) (mode : Mode) (c : Control) → turn counts mode c place ≡ reads counts place mode (c ∷ [])
 one_control counts (Header file) Sent Ack = refl
 one_control counts (Block file k) Sent Ack = refl
 one_control counts (Eot file) Sent Ack = refl
 one_control counts End Sent Ack = refl
-one_control counts place Sent Nak = refl
-one_control counts place Sent Start = refl
-one_control counts place Sent Can = refl
 one_control counts place Waiting Ack = refl
-one_control counts place Waiting Nak = refl
-one_control counts place Waiting Start = refl
-one_control counts place Waiting Can = refl
+one_control counts place _ _ = refl
 
 module _ (counts : List ℕ) (place : Place) (mode : Mode) where
   -- one CAN is passed over
   pub behind_can : (other : Control) → other ≢ Can → turn counts mode other place ≡ reads counts place mode (Can ∷ other ∷ [])
-  behind_can Ack apart = by mode
-    where
-      by : (m : Mode) → turn counts m Ack place ≡ reads counts place m (Can ∷ Ack ∷ [])
-      by Sent = one_control counts place Sent Ack
-      by Waiting = refl
-  behind_can Nak apart = by mode
-    where
-      by : (m : Mode) → turn counts m Nak place ≡ reads counts place m (Can ∷ Nak ∷ [])
-      by Sent = refl
-      by Waiting = refl
-  behind_can Start apart = by mode
-    where
-      by : (m : Mode) → turn counts m Start place ≡ reads counts place m (Can ∷ Start ∷ [])
-      by Sent = refl
-      by Waiting = refl
   behind_can Can apart = absurd (apart refl)
+  behind_can c apart =
+      elim mode as (λ m. turn counts m c place ≡ reads counts place m (Can ∷ c ∷ [])) [ Sent ↦ one_control counts place Sent c | Waiting ↦ refl ]
 
   unrolled : (c other : Control) → c ≢ Can
       → reads counts place mode (c ∷ other ∷ [])
       ≡ cond (is_some (turn counts mode c place).stop) (turn counts mode c place) (reads counts (turn counts mode c place).place (turn counts mode c place).mode (other ∷ []))
-  unrolled Ack other apart = refl
-  unrolled Nak other apart = refl
-  unrolled Start other apart = refl
   unrolled Can other apart = absurd (apart refl)
+  unrolled _ other apart = refl
 
   by_reading : (c other : Control) (r : Reading) → c ≢ Can → r ≡ turn counts mode c place → reads counts place mode (c ∷ other ∷ []) ≡ cond (is_some r.stop) r (reads counts r.place r.mode (other ∷ []))
   by_reading c other r apart is = unrolled c other apart ∙ ap (λ (x : Reading). cond (is_some x.stop) x (reads counts x.place x.mode (other ∷ []))) (sym is)

@@ -97,7 +97,3 @@ swept zero role s events = record { answer = Ok (held_by s.heed); rest = events 
 swept (suc reads) role s events =
     if is_over s then record { answer = Ok (held_by s.heed); rest = events }
     else behind (swept reads role) (after_read role s (read_gives DELIVERY_LIMIT events)) (read_leaves DELIVERY_LIMIT events)
-
--- how many reads it takes at most
-abbrev pub most_reads : ℕ
-most_reads = 65536

@@ -62,8 +62,10 @@ fn clear_for<P: Port>(port: &mut P, talk: &Talk, clears: bool) -> Result<Held, P
 /// A port that lets the line clear before a write, where more may be under way than the answer to it: before a sender goes on to another
 /// frame, where it has written the one before more than once; before a receiver answers a frame, where it has written more than once since
 /// the last one; and where noise filled a delivery. What then comes is dropped until the line has been quiet, for a receiver as long as
-/// within a delivery, for a sender twice as long; at most 65,536 reads are made for it. CAN CAN and the end of the line are not dropped: they
-/// are heard at the next read. Where each write was answered, nothing is read and nothing waits.
+/// within a delivery, for a sender twice as long; at most [`MOST_READS`] reads are made for it. CAN CAN and the end of the line are not
+/// dropped: they are heard at the next read. Where each write was answered, nothing is read and nothing waits.
+///
+/// [`MOST_READS`]: crate::MOST_READS
 #[derive(Drop)]
 pub struct Clearing<P: Port + Drop> {
     port: P,

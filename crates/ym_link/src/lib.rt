@@ -16,7 +16,7 @@ mod sender;
 mod shaped_batch;
 mod sweep;
 
-pub use clearing::Clearing;
+pub use clearing::{Clearing, STALE_READS};
 pub use end_fault::EndFault;
 pub use event::Event;
 pub use exchange::Role;
@@ -26,6 +26,7 @@ pub use receiver::{Receiver, ReceiverInto};
 pub use script_port::ScriptPort;
 pub use send_engine::send_over;
 pub use sender::{BatchFault, Sender, SenderFrom};
+pub use sweep::MOST_READS;
 pub use ym_core::{Confirm, Heard, RecvState, SendState, heard};
 pub use ym_file::{Received, SendFile, SourceFile};
 

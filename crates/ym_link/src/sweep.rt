@@ -5,11 +5,12 @@ ghost use Rattle.ym_file.specs.Counts.{Rose};
 ghost use Rattle.ym_link.specs.Port.{Tape, read_gives, read_leaves};
 ghost use Rattle.ym_link.specs.Sweep as table;
 ghost use Rattle.ym_link.specs.declared.port.TheConstants.{DELIVERY_LIMIT};
+ghost use Rattle.ym_link.specs.declared.sweep.TheConstants.{MOST_READS};
 
 use crate::exchange::Role;
 use crate::port::{DELIVERY_LIMIT, Got, Port, PortFault, Wait};
 
-/// How many reads it takes at most: a line hands on a byte in a read of its own.
+/// For how many reads a line is let clear at most. One that never falls quiet may hand on each byte in a read of its own.
 pub const MOST_READS: u32 = 65_536;
 
 /// The byte CAN.
@@ -167,8 +168,8 @@ fn read_on<P: Port>(
 #[inline(never)]
 pub fn let_clear<P: Port>(port: &mut P, role: Role, start: Sweep) -> Result<Held, PortFault>
     ensures told { (u : Tape) → P.tells port.new u → (t : Tape) × P.tells port.old t
-        × (result ≡ (table.swept table.most_reads role start t.coming).answer)
-        × (u ≡ record t { coming = (table.swept table.most_reads role start t.coming).rest }) }
+        × (result ≡ (table.swept MOST_READS role start t.coming).answer)
+        × (u ≡ record t { coming = (table.swept MOST_READS role start t.coming).rest }) }
     ensures ok { OnOk result (P.failures port.new ≡ P.failures port.old) }
     ensures failed { OnErr result (Rose (P.failures port.old) (P.failures port.new)) }
 {

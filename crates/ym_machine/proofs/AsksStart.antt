@@ -1,13 +1,7 @@
 -- where a receiver asks for C, and that one which runs is never silent
 use Rattle.std.proofs.Common.{◌+◌, ◌≡◌, ◌≢◌, List, Bool, true, arith, add-one}
-use Rattle.ym_frame.specs.declared.control.Reply.{Reply}
-use Rattle.ym_frame.specs.declared.control.Reply.TheVariants.{Silence}
-use Rattle.ym_machine.specs.declared.confirm.Confirm.{Confirm}
+use Rattle.ym_machine.proofs.Names.{Reply, Silence, Confirm, Frame, Piece, frame_before, ReceiverEnd, State, Answer, asks_again, controls, holds_start, there, CallsForStart, CountersAgree}
 use Rattle.ym_machine.proofs.ReceiverSteps.{IsEcho, IsFault, ReceiverStep, confirmation, receiver-step}
-use Rattle.ym_machine.specs.Frames.{BlockZero, EndBlock, Eot, Frame, Piece, frame_before}
-use Rattle.ym_machine.specs.State.{ReceiverEnd, State}
-use Rattle.ym_machine.specs.Halves.{Answer, asks_again, controls, holds_start, there}
-use Rattle.ym_machine.specs.Machine.{CallsForStart, CountersAgree}
 
 -- both replies to a frame hold a C only where one is called for, and are something
 record IsReplied {H : Type 0} (frame : Frame H) (reply : Reply) : Type 0 where
@@ -16,20 +10,15 @@ record IsReplied {H : Type 0} (frame : Frame H) (reply : Reply) : Type 0 where
 
 confirmed : {H : Type 0} (frame : Frame H) → IsReplied frame (confirmation frame)
 confirmed (Piece number body) = record { calls = λ w. cc; speaks = λ w. cc }
-confirmed EndBlock = record { calls = λ w. tt; speaks = λ w. cc }
-confirmed (BlockZero header) = record { calls = λ w. tt; speaks = λ w. cc }
-confirmed Eot = record { calls = λ w. tt; speaks = λ w. cc }
+confirmed _ = record { calls = λ w. tt; speaks = λ w. cc }
 
 asked : {H : Type 0} (frame : Frame H) → IsReplied frame (asks_again frame)
 asked (Piece number body) = record { calls = λ w. cc; speaks = λ w. cc }
-asked EndBlock = record { calls = λ w. tt; speaks = λ w. cc }
-asked (BlockZero header) = record { calls = λ w. tt; speaks = λ w. cc }
-asked Eot = record { calls = λ w. tt; speaks = λ w. cc }
+asked _ = record { calls = λ w. tt; speaks = λ w. cc }
 
 module _ {H : Type 0} (frames : List (Frame H)) (confirm : Confirm) (sink whole : Bool) (st : State) where
   asks : CountersAgree confirm frames st → {answer : Answer} → ReceiverStep frames confirm sink whole st answer → holds_start (controls answer.1) ≡ true → CallsForStart (frame_before frames answer.0.taken)
   asks m (ReceiverStep.stays ended (IsEcho.repeats done sending sent at)) w = cc
-  asks m (ReceiverStep.stays ended (IsEcho.silent n)) w = cc
   asks m (ReceiverStep.faults running (IsFault.again sending sent other) few) w =
       let a = m.ahead in let at : st.taken ≡ st.acknowledged + 1 = omega arith in rw (at, add-one) ((confirmed _).calls w)
   asks m (ReceiverStep.faults running (IsFault.bad n) few) w = (asked _).calls w

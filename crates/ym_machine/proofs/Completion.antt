@@ -1,16 +1,16 @@
 -- both ends finish, and no sooner than the batch needs
-use Rattle.std.proofs.Common.{ℕ, ◌+◌, ◌-◌, ◌<◌, ◌≤◌, ◌≡◌, ◌≢◌, List, [], ◌∷◌, length, Bool, true, false, refl, ap, ◌∙◌, inl, inr, arith, cond, zero, suc}
-use Rattle.ym_machine.specs.declared.confirm.Confirm.{Confirm}
-use Rattle.ym_machine.specs.declared.limits.TheConstants.{BURST}
+use Rattle.std.proofs.Common.{ℕ, ◌+◌, ◌-◌, ◌<◌, ◌≤◌, ◌≡◌, ◌≢◌, List, [], ◌∷◌, length, Bool, true, ap, ◌∙◌, inl, inr, arith, cond}
+use Rattle.ym_machine.proofs.Names.{Confirm, BURST, EndsOnce, File, Frame, files_within, frames_of, ReceiverEnd, SenderEnd, State, start, IsDamage, NoFailure, Turn, after_turn, after_turns, is_whole, longest_bad_run, IsGoing, left, rounds_needed, IsMachine}
 use Rattle.ym_machine.proofs.Places.{all-within, frames-end}
 use Rattle.ym_machine.proofs.Remaining.{left-done, left-some, left-start}
 use Rattle.ym_machine.proofs.Rounds.{sender-is, turn-left, turn-lowered}
 use Rattle.ym_machine.proofs.ShortBursts.{IsFine, got-all, one-fine, start-fine, turns-fine, whole-fine}
-use Rattle.ym_machine.specs.Frames.{EndsOnce, File, Frame, files_within, frames_of}
-use Rattle.ym_machine.specs.State.{ReceiverEnd, SenderEnd, State, start}
-use Rattle.ym_machine.specs.Run.{AllWhole, IsDamage, NoFailure, Turn, after_turn, after_turns, is_whole, longest_bad_run, whole_turns}
-use Rattle.ym_machine.specs.Left.{CountsWithin, IsComplete, IsGoing, left, rounds_needed}
-use Rattle.ym_machine.specs.Machine.{IsMachine}
+use Rattle.ym_machine.specs.Run.{AllWhole, whole_turns}
+use Rattle.ym_machine.specs.Left.{CountsWithin, IsComplete}
+
+-- a whole turn takes one, and no turn gives one
+one-less : (whole : Bool) (turns : ℕ) {old new last : ℕ} → last ≤ new - turns → new ≤ old → (whole ≡ true → 0 < old → old ≡ new + 1) → last ≤ old - cond whole (turns + 1) turns
+one-less whole turns rest no_more fewer = grind (arith, rest, no_more, fewer)
 
 module _ {H : Type 0} (frames : List (Frame H)) (confirm : Confirm) (ends : EndsOnce frames) where
   -- each whole turn takes one from what is left
@@ -18,13 +18,10 @@ module _ {H : Type 0} (frames : List (Frame H)) (confirm : Confirm) (ends : Ends
   turns-left [] b st f few none damage = omega arith
   turns-left (turn ∷ turns) b st f few none damage =
       let one = one-fine frames confirm ends turn turns b st f few none.0 none.1 damage.0 in
-      go one.1.going (turns-left turns one.0 (after_turn frames confirm turn st) one.1 one.2 none.2 damage.1) (is_whole turn) refl (left confirm frames st) refl
-    where
-      go : IsGoing (after_turn frames confirm turn st) → left confirm frames (after_turns frames confirm turns (after_turn frames confirm turn st)) ≤ left confirm frames (after_turn frames confirm turn st) - whole_turns turns → (w : Bool) → is_whole turn ≡ w → (n : ℕ) → left confirm frames st ≡ n
-          → left confirm frames (after_turns frames confirm turns (after_turn frames confirm turn st)) ≤ left confirm frames st - cond w (whole_turns turns + 1) (whole_turns turns)
-      go after rest true e zero n = let x = turn-left frames confirm ends turn st f.machine f.going damage.0 in omega (arith, rest, x, n)
-      go after rest true e (suc k) n = let w = turn-lowered frames confirm ends turn st f.machine f.going after e (omega (arith, n)) in omega (arith, rest, w)
-      go after rest false e k n = let x = turn-left frames confirm ends turn st f.machine f.going damage.0 in omega (arith, rest, x)
+      let rest = turns-left turns one.0 (after_turn frames confirm turn st) one.1 one.2 none.2 damage.1 in
+      let no_more = turn-left frames confirm ends turn st f.machine f.going damage.0 in
+      let fewer = turn-lowered frames confirm ends turn st f.machine f.going one.1.going in
+      one-less (is_whole turn) (whole_turns turns) rest no_more fewer
 
   -- whole turns alone take exactly one each
   whole-left : (turns : List Turn) (st : State) → IsFine confirm frames 0 st → AllWhole turns → NoFailure turns → length turns ≤ left confirm frames st → left confirm frames (after_turns frames confirm turns st) + length turns ≡ left confirm frames st
@@ -49,10 +46,7 @@ module _ {H : Type 0} (files : List (File H)) (confirm : Confirm) (turns : List 
     all-going = all-fine.1.going
 
     pub all-counts : CountsWithin (BURST + 1 + BURST) (after_turns (frames_of files) confirm turns start)
-    all-counts = record {
-      sender_count = λ s. let x = all-fine.1.sender_count s in let y = all-fine.2 in omega (arith, x, y);
-      receiver_count = λ r. let x = all-fine.1.receiver_count r in let y = all-fine.2 in omega (arith, x, y);
-    }
+    all-counts = let fine = all-fine.1 in let few = all-fine.2 in grind (arith, fine, few)
 
     pub all-complete : rounds_needed confirm files ≤ whole_turns turns → IsComplete files (after_turns (frames_of files) confirm turns start)
     all-complete enough =

@@ -1,21 +1,13 @@
 -- what the receiver hears, what an ACK tells, and runs that go on
-use Rattle.std.proofs.Common.{ℕ, ◌+◌, ◌<◌, ◌≡◌, ◌≢◌, ◌⊎◌, suc, zero, List, [], ◌∷◌, ◌++◌, length, Bool, true, refl, sym, ap, ◌∙◌, subst, arith}
-use Rattle.ym_machine.specs.declared.confirm.Confirm.{Confirm}
+use Rattle.std.proofs.Common.{ℕ, ◌+◌, ◌<◌, ◌≡◌, ◌≢◌, ◌⊎◌, suc, zero, List, [], ◌∷◌, ◌++◌, length, refl, sym, ap, ◌∙◌, subst, arith}
+use Rattle.ym_machine.proofs.Names.{Confirm, EndBlock, EndsOnce, Frame, frame_before, ReceiverEnd, SenderEnd, State, said, IsDamage, Turn, after_turn, after_turns, CountersAgree}
 use Rattle.ym_machine.proofs.Places.{none_behind}
-use Rattle.ym_machine.specs.Frames.{EndBlock, EndsOnce, Frame, frame_before}
-use Rattle.ym_machine.specs.State.{FrameAt, ReceiverEnd, SenderEnd, State, said, said_by}
-use Rattle.ym_machine.specs.Run.{IsDamage, Turn, after_turn, after_turns, entries_of, entry_of}
-use Rattle.ym_machine.specs.Machine.{CountersAgree}
+use Rattle.ym_machine.specs.State.{FrameAt}
+use Rattle.ym_machine.specs.Run.{entries_of, entry_of}
 
 -- a frame is said by a Running sender that has sent
 said-running : (st : State) (i : ℕ) → said st ≡ FrameAt i → (i ≡ st.acknowledged) × (st.sender ≡ SenderEnd.Running)
-said-running st i says = go st.sender st.sent st.farewell refl says
-  where
-    go : (sender : SenderEnd) (sent farewell : Bool) → st.sender ≡ sender → said_by sender sent farewell st.acknowledged ≡ FrameAt i → (i ≡ st.acknowledged) × (st.sender ≡ SenderEnd.Running)
-    go SenderEnd.Running true _ e w = (cc, e)
-    go SenderEnd.NoReply _ true e w = cc
-    go SenderEnd.SourceFailed _ true e w = cc
-    go _ _ _ e w = cc
+said-running st i says = grind (arith, says)
 
 module _ {H : Type 0} (frames : List (Frame H)) (confirm : Confirm) (st : State) (m : CountersAgree confirm frames st) where
   pub said-place : (i : ℕ) → said st ≡ FrameAt i → (i ≡ st.acknowledged) × (i < length frames)

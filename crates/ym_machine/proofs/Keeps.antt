@@ -1,12 +1,8 @@
 -- what each half leaves alone
 use Rattle.std.proofs.Common.{◌≡◌, ◌≢◌, List, Bool, refl}
-use Rattle.ym_frame.specs.declared.control.Control.{Control}
-use Rattle.ym_machine.specs.declared.confirm.Confirm.{Confirm}
+use Rattle.ym_machine.proofs.Names.{Control, Confirm, Frame, ReceiverEnd, SenderEnd, State, Answer, KeepsReceiver, KeepsSender, SenderStays, back, there}
 use Rattle.ym_machine.proofs.ReceiverSteps.{ReceiverStep, receiver-step}
 use Rattle.ym_machine.proofs.SenderSteps.{SenderStep, sender-step}
-use Rattle.ym_machine.specs.Frames.{Frame}
-use Rattle.ym_machine.specs.State.{ReceiverEnd, SenderEnd, State}
-use Rattle.ym_machine.specs.Halves.{Answer, KeepsReceiver, KeepsSender, SenderStays, back, there}
 
 module _ {H : Type 0} (frames : List (Frame H)) (st : State) where
   keeps-sender : {confirm : Confirm} {sink whole : Bool} {answer : Answer} → ReceiverStep frames confirm sink whole st answer → KeepsSender st answer.0

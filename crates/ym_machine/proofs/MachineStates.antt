@@ -1,18 +1,11 @@
 -- each half leads from a machine state to a machine state
-use Rattle.std.proofs.Common.{ℕ, ◌+◌, ◌<◌, ◌≡◌, ◌≢◌, ◌↔◌, List, [], ◌∷◌, length, Bool, true, refl, sym, ap, ◌∙◌, subst, inl, inr, arith, add-one}
-use Rattle.ym_frame.specs.declared.control.Control.{Control}
+use Rattle.std.proofs.Common.{ℕ, ◌+◌, ◌<◌, ◌≡◌, ◌≢◌, List, [], ◌∷◌, length, Bool, true, sym, ap, ◌∙◌, subst, arith, add-one}
+use Rattle.ym_machine.proofs.Names.{Control, Confirm, EndsOnce, Eot, Frame, Piece, frame_at, frame_before, ReceiverEnd, SenderEnd, State, start, Answer, KeepsSender, asks_again, controls, is_within, there, IsDamage, IsTurnDamage, Turn, after_turn, after_turns, came_back, CallsForStart, CountersAgree, IsMachine, SenderBroke}
 use Rattle.ym_frame.specs.declared.control.Control.TheVariants as control
-use Rattle.ym_machine.specs.declared.confirm.Confirm.{Confirm}
-use Rattle.ym_machine.specs.declared.limits.TheConstants.{GIVE_UP}
 use Rattle.ym_machine.proofs.Keeps.{there-keeps}
 use Rattle.ym_machine.proofs.Places.{more_behind, none_behind}
 use Rattle.ym_machine.proofs.ReceiverSteps.{IsEcho, IsFault, ReceiverStep, receiver-step}
 use Rattle.ym_machine.proofs.SenderSteps.{IsAcknowledged, Onward, SenderStep, sender-step}
-use Rattle.ym_machine.specs.Frames.{BlockZero, EndBlock, EndsOnce, Eot, Frame, Piece, frame_at}
-use Rattle.ym_machine.specs.State.{ReceiverEnd, SenderEnd, State, start}
-use Rattle.ym_machine.specs.Halves.{Answer, KeepsSender, asks_again, controls, is_within, there}
-use Rattle.ym_machine.specs.Run.{IsDamage, IsTurnDamage, Turn, after_turn, after_turns, came_back}
-use Rattle.ym_machine.specs.Machine.{CountersAgree, IsMachine, SenderBroke}
 
 -- an ACK that can come back tells of a frame that the sender has sent and the receiver has taken
 abbrev pub IsHonest : Answer → Type 0
@@ -20,9 +13,11 @@ IsHonest answer = (came : List Control) → is_within (control.Ack ∷ came) (co
 
 asks-no-ack : {H : Type 0} (frame : Frame H) (came : List Control) → is_within (control.Ack ∷ came) (controls (asks_again frame)) ≡ true → ⊥
 asks-no-ack (Piece number body) came w = cc
-asks-no-ack (BlockZero header) came w = cc
-asks-no-ack Eot came w = cc
-asks-no-ack EndBlock came w = cc
+asks-no-ack _ came w = cc
+
+-- a Running sender has a frame yet
+pub below : {H : Type 0} {confirm : Confirm} {frames : List (Frame H)} {st : State} → CountersAgree confirm frames st → st.sender ≡ SenderEnd.Running → st.acknowledged < length frames
+below {frames} {st} m running = let open_yet : st.acknowledged ≢ length frames = λ w. let x = m.sender_done.0 w in cc in let w = m.within in let a = m.ahead in omega arith
 
 module _ {H : Type 0} (frames : List (Frame H)) (confirm : Confirm) (ends : EndsOnce frames) where
   module _ (sink whole : Bool) (st : State) (m : CountersAgree confirm frames st) where
@@ -30,11 +25,7 @@ module _ {H : Type 0} (frames : List (Frame H)) (confirm : Confirm) (ends : Ends
     less running = let open_yet : st.taken ≢ length frames = λ w. let x = m.receiver_done.0 w in cc in let w = m.within in omega arith
 
     receiver-stopped : (end : ReceiverEnd) (count : ℕ) → st.receiver ≡ ReceiverEnd.Running → end ≢ ReceiverEnd.Running → end ≢ ReceiverEnd.Finished → CountersAgree confirm frames (record st { receiver_count = count; receiver = end })
-    receiver-stopped end count running ended other =
-        let below = less running in
-        let receiver_done : (st.taken ≡ length frames) ↔ (end ≡ ReceiverEnd.Finished) = (λ w. absurd (omega arith), λ w. absurd (other w)) in
-        let receiver_count : end ≡ ReceiverEnd.Running → count < GIVE_UP = λ w. absurd (ended w) in
-        assumption
+    receiver-stopped end count running ended other = let below = less running in grind (arith, m, below, ended, other)
 
     there-counters : {answer : Answer} → ReceiverStep frames confirm sink whole st answer → CountersAgree confirm frames answer.0
     there-counters (ReceiverStep.stays ended echo) = m
@@ -42,37 +33,15 @@ module _ {H : Type 0} (frames : List (Frame H)) (confirm : Confirm) (ends : Ends
     there-counters (ReceiverStep.gives_up running fault many) = receiver-stopped ReceiverEnd.TooManyErrors (st.receiver_count + 1) running (λ w. cc) (λ w. cc)
     there-counters (ReceiverStep.takes_it fresh other eot) =
         let more = more_behind frames st.taken ends (less fresh.receiving) (λ w. other (ap (frame_at frames) (sym fresh.at) ∙ w)) in
-        record {
-          ahead = inr (ap (λ n. n + 1) fresh.at);
-          within = omega arith;
-          waiting = λ w. let x = fresh.sent in cc;
-          first_eot = λ w. cc;
-          sender_done = m.sender_done;
-          receiver_done = (λ w. absurd (omega arith), λ w. let x = fresh.receiving in cc);
-          sender_count = m.sender_count;
-          receiver_count = λ _. omega arith;
-        }
+        grind (arith, m, fresh, more)
     there-counters (ReceiverStep.confirms fresh twice eot first) =
-        record {
-          ahead = m.ahead;
-          within = m.within;
-          waiting = m.waiting;
-          first_eot = λ _. (twice, fresh.sent, fresh.at, ap (frame_at frames) fresh.at ∙ eot, less fresh.receiving);
-          sender_done = m.sender_done;
-          receiver_done = m.receiver_done;
-          sender_count = m.sender_count;
-          receiver_count = λ _. omega arith;
-        }
-    there-counters (ReceiverStep.finishes fresh is) = record {
-      ahead = inr (ap (λ n. n + 1) fresh.at);
-      within = let below = less fresh.receiving in omega arith;
-      waiting = λ w. let x = fresh.sent in cc;
-      first_eot = λ w. let x : frame_at frames st.acknowledged ≡ Eot = ap (frame_at frames) (sym fresh.at) ∙ (m.first_eot w).3 in cc;
-      sender_done = m.sender_done;
-      receiver_done = (λ _. refl, λ _. none_behind frames st.taken ends (less fresh.receiving) (ap (frame_at frames) fresh.at ∙ is));
-      sender_count = m.sender_count;
-      receiver_count = λ w. cc;
-    }
+        let is_eot = ap (frame_at frames) fresh.at ∙ eot in
+        let below = less fresh.receiving in
+        grind (arith, m, fresh, twice, is_eot, below)
+    there-counters (ReceiverStep.finishes fresh is) =
+        let last = none_behind frames st.taken ends (less fresh.receiving) (ap (frame_at frames) fresh.at ∙ is) in
+        let no_eot : st.first_eot ≡ true → ⊥ = λ w. let x : frame_at frames st.acknowledged ≡ Eot = ap (frame_at frames) (sym fresh.at) ∙ (m.first_eot w).3 in cc in
+        grind (arith, m, fresh, last, no_eot)
     there-counters (ReceiverStep.breaks fresh failed) = receiver-stopped ReceiverEnd.SinkFailed st.receiver_count fresh.receiving (λ w. cc) (λ w. cc)
     there-counters (ReceiverStep.is_cancelled running broke) = receiver-stopped ReceiverEnd.Cancelled st.receiver_count running (λ w. cc) (λ w. cc)
 
@@ -89,37 +58,19 @@ module _ {H : Type 0} (frames : List (Frame H)) (confirm : Confirm) (ends : Ends
     taken_is : {rest : List Control} → IsAcknowledged came rest st → st.sender ≡ SenderEnd.Running → st.taken ≡ st.acknowledged + 1
     taken_is is running = (told _ is.came_is running).1
 
-    below : st.sender ≡ SenderEnd.Running → st.acknowledged < length frames
-    below running = let open_yet : st.acknowledged ≢ length frames = λ w. let x = m.sender_done.0 w in cc in let w = m.within in let a = m.ahead in omega arith
-
     no-first : st.taken ≡ st.acknowledged + 1 → st.first_eot ≡ true → ⊥
     no-first at w = let x : st.taken ≡ st.acknowledged = (m.first_eot w).2 in omega arith
 
     -- where a sender that goes on is
     pub onward : {place : ℕ} → st.sender ≡ SenderEnd.Running → Onward frames came st place → (st.taken ≡ place) × (place < length frames) × (st.first_eot ≡ true → ⊥)
-    onward running (Onward.first unsent asked) = ((m.waiting unsent).0, below running, λ w. let x : st.sent ≡ true = (m.first_eot w).1 in cc)
-    onward running (Onward.next is other) = (taken_is is running, more_behind frames st.acknowledged ends (below running) other, no-first (taken_is is running))
+    onward running (Onward.first unsent asked) = ((m.waiting unsent).0, below m running, λ w. let x : st.sent ≡ true = (m.first_eot w).1 in cc)
+    onward running (Onward.next is other) = (taken_is is running, more_behind frames st.acknowledged ends (below m running) other, no-first (taken_is is running))
 
     sender-stopped : (end : SenderEnd) (count : ℕ) (farewell : Bool) → st.sender ≡ SenderEnd.Running → end ≢ SenderEnd.Running → end ≢ SenderEnd.Finished → CountersAgree confirm frames (record st { sender_count = count; sender = end; farewell = farewell })
-    sender-stopped end count farewell running ended other =
-        let less = below running in
-        let sender_done : (st.acknowledged ≡ length frames) ↔ (end ≡ SenderEnd.Finished) = (λ w. absurd (omega arith), λ w. absurd (other w)) in
-        let sender_count : end ≡ SenderEnd.Running → count < GIVE_UP = λ w. absurd (ended w) in
-        assumption
+    sender-stopped end count farewell running ended other = let less = below m running in grind (arith, m, less, ended, other)
 
     sent-on : {place : ℕ} (end : SenderEnd) (farewell : Bool) → st.sender ≡ SenderEnd.Running → end ≢ SenderEnd.Finished → Onward frames came st place → CountersAgree confirm frames (record st { acknowledged = place; sent = true; sender_count = 0; sender = end; farewell = farewell })
-    sent-on end farewell running other on =
-        let o = onward running on in
-        record {
-          ahead = inl o.0;
-          within = m.within;
-          waiting = λ w. cc;
-          first_eot = λ w. absurd (o.2 w);
-          sender_done = (λ w. absurd (let x = o.1 in omega arith), λ w. absurd (other w));
-          receiver_done = m.receiver_done;
-          sender_count = λ _. omega arith;
-          receiver_count = m.receiver_count;
-        }
+    sent-on end farewell running other on = let o = onward running on in grind (arith, m, o, other)
 
     back-counters : {new : State} → SenderStep frames source came st new → CountersAgree confirm frames new
     back-counters (SenderStep.stays farewell ended left) = assumption
@@ -127,31 +78,17 @@ module _ {H : Type 0} (frames : List (Frame H)) (confirm : Confirm) (ends : Ends
     back-counters (SenderStep.gives_up running vain many) = sender-stopped SenderEnd.NoReply (st.sender_count + 1) true running (λ w. cc) (λ w. cc)
     back-counters (SenderStep.waits running is alone other calls) =
         let at = taken_is is running in
-        let more = more_behind frames st.acknowledged ends (below running) other in
-        record {
-          ahead = inl at;
-          within = m.within;
-          waiting = λ _. (at, rw add-one calls);
-          first_eot = λ w. absurd (no-first at w);
-          sender_done = (λ w. absurd (omega arith), λ w. cc);
-          receiver_done = m.receiver_done;
-          sender_count = λ _. omega arith;
-          receiver_count = m.receiver_count;
-        }
+        let none = no-first at in
+        let more = more_behind frames st.acknowledged ends (below m running) other in
+        let asks : CallsForStart (frame_before frames (st.acknowledged + 1)) = rw add-one calls in
+        grind (arith, m, running, at, none, more, asks)
     back-counters (SenderStep.sends_it running on) = sent-on st.sender st.farewell running (λ w. cc) on
     back-counters (SenderStep.breaks running on failed piece) = sent-on SenderEnd.SourceFailed true running (λ w. cc) on
     back-counters (SenderStep.finishes running is last) =
         let at = taken_is is running in
-        record {
-          ahead = inl at;
-          within = m.within;
-          waiting = λ w. let x = is.sent in cc;
-          first_eot = λ w. absurd (no-first at w);
-          sender_done = (λ _. refl, λ _. none_behind frames st.acknowledged ends (below running) last);
-          receiver_done = m.receiver_done;
-          sender_count = λ w. cc;
-          receiver_count = m.receiver_count;
-        }
+        let none = no-first at in
+        let done = none_behind frames st.acknowledged ends (below m running) last in
+        grind (arith, m, is, at, none, done)
     back-counters (SenderStep.is_cancelled running cans) = sender-stopped SenderEnd.Cancelled st.sender_count st.farewell running (λ w. cc) (λ w. cc)
 
     -- CAN CAN is to go only of a sender that broke
@@ -196,16 +133,4 @@ module _ {H : Type 0} (frames : List (Frame H)) (confirm : Confirm) (ends : Ends
 
   -- a new machine, whose sender may even be cancelled
   pub start-machine : (sender : SenderEnd) → sender ≢ SenderEnd.Finished → IsMachine confirm frames (record start { sender = sender })
-  start-machine sender other = record {
-    counters = record {
-      ahead = inl refl;
-      within = omega arith;
-      waiting = λ _. (refl, tt);
-      first_eot = λ w. cc;
-      sender_done = (λ w. absurd (let x = ends.some in omega arith), λ w. absurd (other w));
-      receiver_done = (λ w. absurd (let x = ends.some in omega arith), λ w. cc);
-      sender_count = λ _. omega arith;
-      receiver_count = λ _. omega arith;
-    };
-    farewell = λ w. cc;
-  }
+  start-machine sender other = let some = ends.some in grind (arith, some, other)

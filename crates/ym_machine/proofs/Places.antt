@@ -1,11 +1,10 @@
 -- what stands at each place of the list of frames
-use Rattle.std.proofs.Common.{ℕ, ◌+◌, ◌%◌, ◌<◌, ◌≤◌, ◌≡◌, ◌≢◌, ◌⊎◌, inl, inr, suc, zero, List, [], ◌∷◌, ◌++◌, length, refl, sym, ap, ◌∙◌, subst, arith, add-one, add-zero, take}
+use Rattle.std.proofs.Common.{ℕ, ◌+◌, ◌%◌, ◌<◌, ◌≤◌, ◌≡◌, ◌≢◌, ◌⊎◌, inl, inr, suc, zero, List, [], ◌∷◌, ◌++◌, length, refl, sym, ap, ◌∙◌, arith, add-one, add-zero, take}
 use Rattle.std.proofs.Math.Seq.{take-length}
 use Rattle.std.proofs.lemmas.List.{length-take-le, take-take}
-use Rattle.ym_machine.specs.declared.confirm.Confirm.{Confirm}
-use Rattle.ym_machine.specs.Frames.{BlockZero, EndBlock, EndsOnce, Eot, File, Frame, IsPrefix, Piece, body_at, count_within, eots, files_within, frame_at, frames_of, numbered_from}
-use Rattle.ym_machine.specs.State.{State, committed, reported}
-use Rattle.ym_machine.specs.Machine.{IsMachine}
+use Rattle.ym_machine.proofs.Names.{Confirm, EndBlock, EndsOnce, Eot, File, Frame, Piece, files_within, frame_at, frames_of, numbered_from, State, IsMachine}
+use Rattle.ym_machine.specs.Frames.{BlockZero, IsPrefix, body_at, count_within, eots}
+use Rattle.ym_machine.specs.State.{committed, reported}
 
 -- a frame that is not the end block has another behind it
 pub more_behind : {H : Type 0} (frames : List (Frame H)) (i : ℕ) → EndsOnce frames → i < length frames → frame_at frames i ≢ EndBlock → i + 1 < length frames
@@ -17,22 +16,14 @@ none_behind frames i ends below is = let no : i + 1 < length frames → ⊥ = λ
 
 -- the frames of a batch
 cons-ends : {H : Type 0} (frame : Frame H) (frames : List (Frame H)) → frame ≢ EndBlock → EndsOnce frames → EndsOnce (frame ∷ frames)
-cons-ends frame frames other ends = record {
-  last = elim [ zero ↦ λ w. absurd (let x = ends.some in omega arith) | suc i ↦ λ w. ends.last i (omega arith) ];
-  only = elim [ zero ↦ λ w. other | suc i ↦ λ w. ends.only i (omega arith) ];
-  some = omega arith;
-}
+cons-ends frame frames other ends = grind (arith, other, ends)
 
 pieces-end : {H : Type 0} (k : ℕ) (pieces : List (List ℕ)) (frames : List (Frame H)) → EndsOnce frames → EndsOnce (numbered_from k pieces ++ frames)
 pieces-end k [] frames ends = ends
 pieces-end k (piece ∷ pieces) frames ends = cons-ends (Piece (k % 256) piece) (numbered_from (k + 1) pieces ++ frames) (λ w. cc) (pieces-end (k + 1) pieces frames ends)
 
 pub frames-end : {H : Type 0} (files : List (File H)) → EndsOnce (frames_of files)
-frames-end [] = record {
-  last = elim [ zero ↦ λ _. refl | suc i ↦ λ w. absurd (omega arith) ];
-  only = λ i w. absurd (omega arith);
-  some = omega arith;
-}
+frames-end [] = grind arith
 frames-end (file ∷ files) =
     cons-ends (BlockZero file.header) (numbered_from 1 file.pieces ++ Eot ∷ frames_of files) (λ w. cc)
     (pieces-end 1 file.pieces (Eot ∷ frames_of files) (cons-ends Eot (frames_of files) (λ w. cc) (frames-end files)))
@@ -67,10 +58,9 @@ module _ {H : Type 0} where
   eot-at file files = rw add-one (behind-pieces 1 0 (length file.pieces) file.pieces (Eot ∷ frames_of files) (omega arith))
 
   pub behind-at : (file : File H) (files : List (File H)) (n : ℕ) → frame_at (frames_of (file ∷ files)) (length file.pieces + 2 + n) ≡ frame_at (frames_of files) n
-  behind-at file files n = ap (frame_at (frames_of (file ∷ files))) up ∙ behind-pieces 1 (suc n) (length file.pieces + suc n) file.pieces (Eot ∷ frames_of files) refl
-    where
-      up : length file.pieces + 2 + n ≡ suc (length file.pieces + suc n)
-      up = omega arith
+  behind-at file files n =
+      let up : length file.pieces + 2 + n ≡ suc (length file.pieces + suc n) = omega arith in
+      ap (frame_at (frames_of (file ∷ files))) up ∙ behind-pieces 1 (suc n) (length file.pieces + suc n) file.pieces (Eot ∷ frames_of files) refl
 
   length-pieces : (k : ℕ) (pieces : List (List ℕ)) (rest : List (Frame H)) → length (numbered_from k pieces ++ rest) ≡ length pieces + length rest
   length-pieces k [] rest = omega arith
@@ -95,33 +85,25 @@ module _ {H : Type 0} where
   within-inside file files (suc n) h = eots-in 1 n file.pieces (Eot ∷ frames_of files) (omega (arith, h))
 
   pub within-behind : (file : File H) (files : List (File H)) (n : ℕ) → count_within (file ∷ files) (length file.pieces + 2 + n) ≡ count_within files n + 1
-  within-behind file files n = ap (count_within (file ∷ files)) up ∙ eots-behind 1 (suc n) (length file.pieces + suc n) file.pieces (Eot ∷ frames_of files) refl
-    where
-      up : length file.pieces + 2 + n ≡ suc (length file.pieces + suc n)
-      up = omega arith
+  within-behind file files n =
+      let up : length file.pieces + 2 + n ≡ suc (length file.pieces + suc n) = omega arith in
+      ap (count_within (file ∷ files)) up ∙ eots-behind 1 (suc n) (length file.pieces + suc n) file.pieces (Eot ∷ frames_of files) refl
 
   -- one frame more has one EOT more at most
   eots-more : (frames : List (Frame H)) (n : ℕ) → (eots (take (suc n) frames) ≡ eots (take n frames)) ⊎ (eots (take (suc n) frames) ≡ eots (take n frames) + 1)
   eots-more [] zero = inl refl
   eots-more [] (suc n) = inl refl
-  eots-more (Eot ∷ frames) zero = inr refl
-  eots-more (_ ∷ frames) zero = inl refl
-  eots-more (Eot ∷ frames) (suc n) = elim (eots-more frames n) [ inl e ↦ inl (ap (λ x. x + 1) e) | inr e ↦ inr (ap (λ x. x + 1) e) ]
-  eots-more (_ ∷ frames) (suc n) = eots-more frames n
+  eots-more (frame ∷ frames) zero = grind arith
+  eots-more (frame ∷ frames) (suc n) = let x = eots-more frames n in grind (arith, x)
 
   eots-next : (frames : List (Frame H)) (n : ℕ) → (eots (take (n + 1) frames) ≡ eots (take n frames)) ⊎ (eots (take (n + 1) frames) ≡ eots (take n frames) + 1)
-  eots-next frames n = subst (λ m. (eots (take m frames) ≡ eots (take n frames)) ⊎ (eots (take m frames) ≡ eots (take n frames) + 1)) one (eots-more frames n)
-    where
-      one : suc n ≡ n + 1
-      one = omega arith
+  eots-next frames n = rw add-one (eots-more frames n)
 
   -- and no more than all
   eots-least : (frames : List (Frame H)) (n : ℕ) → eots (take n frames) ≤ eots frames
-  eots-least [] zero = omega arith
   eots-least [] (suc n) = omega arith
-  eots-least (frame ∷ frames) zero = omega arith
-  eots-least (Eot ∷ frames) (suc n) = let x = eots-least frames n in omega (arith, x)
-  eots-least (_ ∷ frames) (suc n) = eots-least frames n
+  eots-least (frame ∷ frames) (suc n) = let x = eots-least frames n in grind (arith, x)
+  eots-least _ zero = omega arith
 
   pub counted : (files : List (File H)) (n : ℕ) → length (files_within files n) ≡ count_within files n
   counted files n = length-take-le (count_within files n) files (let x = eots-least (frames_of files) n in let y = eots-frames files in omega (arith, x, y))
@@ -132,11 +114,7 @@ module _ {H : Type 0} where
   -- the files of the machine
   module _ (files : List (File H)) (confirm : Confirm) (st : State) (m : IsMachine confirm (frames_of files) st) where
     more : (count_within files st.taken ≡ count_within files st.acknowledged) ⊎ (count_within files st.taken ≡ count_within files st.acknowledged + 1)
-    more = go m.counters.ahead
-      where
-        go : (st.taken ≡ st.acknowledged) ⊎ (st.taken ≡ st.acknowledged + 1) → (count_within files st.taken ≡ count_within files st.acknowledged) ⊎ (count_within files st.taken ≡ count_within files st.acknowledged + 1)
-        go (inl e) = inl (ap (count_within files) e)
-        go (inr e) = subst (λ n. (count_within files n ≡ count_within files st.acknowledged) ⊎ (count_within files n ≡ count_within files st.acknowledged + 1)) (sym e) (eots-next (frames_of files) st.acknowledged)
+    more = elim m.counters.ahead [ inl e ↦ inl (ap (count_within files) e) | inr e ↦ rw e (eots-next (frames_of files) st.acknowledged) ]
 
     pub one-more : (length (committed files st) ≡ length (reported files st)) ⊎ (length (committed files st) ≡ length (reported files st) + 1)
     one-more = let c = counted files st.taken in let r = counted files st.acknowledged in elim more [ inl e ↦ inl (c ∙ (e ∙ sym r)) | inr e ↦ inr (c ∙ (e ∙ ap (λ n. n + 1) (sym r))) ]

@@ -1,15 +1,10 @@
 -- every half there is one of eight steps
 use Rattle.std.proofs.Common.{◌+◌, ◌<◌, ◌≤◌, ◌≡◌, ◌≢◌, ◌==◌, List, Bool, true, false, refl, sym, ◌∙◌, subst, arith, cond, nat_lt}
 use Rattle.std.proofs.lemmas.Bool.Decides.{nat_tests}
-use Rattle.ym_frame.specs.declared.control.Reply.{Reply}
-use Rattle.ym_frame.specs.declared.control.Reply.TheVariants.{Silence, Start, Ack, AckStart, Nak, Cancel}
-use Rattle.ym_machine.specs.declared.confirm.Confirm.{Confirm}
-use Rattle.ym_machine.specs.declared.confirm.Confirm.TheVariants.{Twice, Once}
-use Rattle.ym_machine.specs.declared.limits.TheConstants.{GIVE_UP}
-use Rattle.ym_machine.specs.Frames.{BlockZero, EndBlock, Eot, Frame, Piece, frame_at, frame_before}
-use Rattle.ym_machine.specs.State.{ReceiverEnd, SenderEnd, State, said, said_by}
-use Rattle.ym_machine.specs.Halves.{Answer, At, Bad, Can, Sound, asks_again, heard, hears, hears_last, hears_next, nothing_taken, takes, there}
-use Rattle.ym_machine.specs.Machine.{SenderBroke}
+use Rattle.ym_machine.proofs.Names.{Reply, Silence, Start, Ack, AckStart, Nak, Cancel, Confirm, Twice, GIVE_UP, EndBlock, Eot, Frame, Piece, frame_at, frame_before, ReceiverEnd, SenderEnd, State, said, Answer, asks_again, there, SenderBroke}
+use Rattle.ym_machine.specs.declared.confirm.Confirm.TheVariants.{Once}
+use Rattle.ym_machine.specs.State.{said_by}
+use Rattle.ym_machine.specs.Halves.{At, Bad, Can, Sound, heard, hears, hears_last, hears_next, nothing_taken, takes}
 
 -- a choice, by its two cases
 pub on_cond : {A : Type 0} (P : A → Type 0) (b : Bool) (x y : A) → (b ≡ true → P x) → (b ≡ false → P y) → P (cond b x y)
@@ -74,10 +69,8 @@ module _ {H : Type 0} (frames : List (Frame H)) (confirm : Confirm) (sink whole 
   misses reply running fault = on_cond Steps (nat_lt (st.receiver_count + 1) GIVE_UP) _ _ (λ e. faults running fault (grind (arith, nat_tests))) (λ e. gives_up running fault (grind (arith, nat_tests)))
 
   last : st.receiver ≡ ReceiverEnd.Running → (frame : Frame H) → IsFault frames whole st (confirmation frame) → Steps (hears_last frame st)
-  last running (BlockZero header) fault = misses AckStart running fault
-  last running (Piece number body) fault = misses Ack running fault
-  last running Eot fault = misses AckStart running fault
-  last running EndBlock fault = misses Start running fault
+  last running (Piece number body) fault = misses _ running fault
+  last running _ fault = misses _ running fault
 
   taken : (failed : Bool) (frame : Frame H) → sink ≡ failed → frame_at frames st.acknowledged ≡ frame → IsFresh st → frame ≢ EndBlock → (frame ≡ Eot → confirm ≡ Twice → st.first_eot ≡ true) → Steps (takes st (confirmation frame) failed)
   taken true frame s e fresh other eot = breaks fresh s
@@ -85,11 +78,10 @@ module _ {H : Type 0} (frames : List (Frame H)) (confirm : Confirm) (sink whole 
       subst (λ f. Steps (takes st (confirmation f) false)) e (takes_it fresh (λ w. other (sym e ∙ w)) (λ w. eot (sym e ∙ w)))
 
   next : (c : Confirm) → confirm ≡ c → (frame : Frame H) → frame_at frames st.acknowledged ≡ frame → IsFresh st → Steps (hears_next c sink frame st)
-  next c is_c (BlockZero header) e fresh = taken sink (BlockZero header) refl e fresh (λ w. cc) (λ w. cc)
-  next c is_c (Piece number body) e fresh = taken sink (Piece number body) refl e fresh (λ w. cc) (λ w. cc)
   next Twice is_c Eot e fresh = on_cond Steps st.first_eot _ _ (λ f. taken sink Eot refl e fresh (λ w. cc) (λ _ _. f)) (λ f. confirms fresh is_c e f)
   next Once is_c Eot e fresh = taken sink Eot refl e fresh (λ w. cc) (λ _ w. cc)
   next c is_c EndBlock e fresh = finishes fresh e
+  next c is_c _ e fresh = taken sink _ refl e fresh (λ w. cc) (λ w. cc)
 
   go : {sound : Sound} → Hearing whole st sound → (receiver : ReceiverEnd) → st.receiver ≡ receiver → Steps (hears frames confirm sink sound receiver st)
   go (a_frame w sending sent) ReceiverEnd.Running e = on_cond Steps (st.acknowledged == st.taken) _ _
@@ -102,9 +94,7 @@ module _ {H : Type 0} (frames : List (Frame H)) (confirm : Confirm) (sink whole 
       (λ t. stays (λ r. cc) (silent (λ _ _ _ _. grind (arith, nat_tests))))
   go (call_off broke) ReceiverEnd.Finished e = stays (λ r. cc) (silent (λ _ _ s. absurd (subst SenderBroke s broke)))
   go (no_frame n) ReceiverEnd.Finished e = stays (λ r. cc) (silent (λ w _ s f. absurd (let x = n w s in cc)))
-  go _ ReceiverEnd.Cancelled e = stays (λ r. cc) (silent (λ _ w. cc))
-  go _ ReceiverEnd.TooManyErrors e = stays (λ r. cc) (silent (λ _ w. cc))
-  go _ ReceiverEnd.SinkFailed e = stays (λ r. cc) (silent (λ _ w. cc))
+  go _ _ e = stays (λ r. cc) (silent (λ _ w. cc))
 
   pub receiver-step : Steps (there frames confirm sink whole st)
   receiver-step = go (hearing whole st) st.receiver refl

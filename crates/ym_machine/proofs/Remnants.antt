@@ -1,11 +1,10 @@
 -- what can come back of a reply
 use Rattle.std.proofs.Common.{◌≡◌, ◌⊎◌, inl, inr, List, [], ◌∷◌, Bool, true, false, refl, sym, ap, subst, map, cond, arith}
-use Rattle.ym_frame.specs.declared.control.Control.{Control}
+use Rattle.ym_machine.proofs.Names.{Control, Reply, Silence, Start, Ack, AckStart, Nak, Cancel, controls, is_within}
 use Rattle.ym_frame.specs.declared.control.Control.TheVariants as control
-use Rattle.ym_frame.specs.declared.control.Reply.{Reply}
-use Rattle.ym_frame.specs.declared.control.Reply.TheVariants.{Silence, Start, Ack, AckStart, Nak, Cancel}
 use Rattle.ym_frame.specs.Control.{reply_bytes, IsSubsequence}
-use Rattle.ym_machine.specs.Halves.{IsRemnant, control_byte, controls, is_within, same_control}
+use Rattle.ym_machine.proofs.ReceiverSteps.{on_cond}
+use Rattle.ym_machine.specs.Halves.{IsRemnant, control_byte, same_control}
 
 -- of one control byte
 one-of : (c : Control) (came : List Control) → is_within came (c ∷ []) ≡ true → (came ≡ []) ⊎ (came ≡ c ∷ [])
@@ -43,22 +42,16 @@ less c (d ∷ came) (r ∷ reply) w = go (λ v. less d came reply v) (λ v. less
     go one two false false w = two w
 
 same-byte : (c r : Control) → control_byte c ≡ control_byte r → same_control c r ≡ true
-same-byte control.Ack control.Ack e = refl
-same-byte control.Nak control.Nak e = refl
-same-byte control.Start control.Start e = refl
-same-byte control.Can control.Can e = refl
-same-byte _ _ e = absurd (omega (arith, e))
+same-byte c r e = grind arith
 
 -- a subsequence of bytes is one of controls
 controls-within : (came reply : List Control) → IsSubsequence (map control_byte came) (map control_byte reply) → is_within came reply ≡ true
 controls-within [] reply s = refl
 controls-within (c ∷ came) [] s = absurd s
 controls-within (c ∷ came) (r ∷ reply) (inl s) = let e = same-byte c r s.0 in rw e (controls-within came reply s.1)
-controls-within (c ∷ came) (r ∷ reply) (inr s) = go (controls-within (c ∷ came) reply s) (same_control c r)
-  where
-    go : is_within (c ∷ came) reply ≡ true → (p : Bool) → cond p (is_within came reply) (is_within (c ∷ came) reply) ≡ true
-    go rest true = less c came reply rest
-    go rest false = rest
+controls-within (c ∷ came) (r ∷ reply) (inr s) =
+    let rest = controls-within (c ∷ came) reply s in let fewer = less c came reply rest in
+    on_cond (λ b. b ≡ true) (same_control c r) _ _ (λ _. fewer) (λ _. rest)
 
 pub bytes-of : (reply : Reply) → map control_byte (controls reply) ≡ reply_bytes reply
 bytes-of Silence = refl

@@ -1,49 +1,27 @@
 -- what a whole round lowers, and no round raises
-use Rattle.std.proofs.Common.{◌+◌, ◌<◌, ◌≤◌, ◌≡◌, ◌⊎◌, ◌&&◌, List, ◌∷◌, Bool, true, false, refl, sym, ap, ◌∙◌, subst, inl, inr, arith, Option, None, Some, is_none}
-use Rattle.ym_frame.specs.declared.control.Control.{Control}
+use Rattle.std.proofs.Common.{◌+◌, ◌<◌, ◌≤◌, ◌≡◌, ◌⊎◌, List, ◌∷◌, true, refl, sym, ap, ◌∙◌, subst, inl, inr, arith, None}
+use Rattle.ym_machine.proofs.Names.{Control, Reply, Ack, Confirm, EndsOnce, Frame, SenderEnd, State, Answer, KeepsReceiver, KeepsSender, SenderStays, controls, is_within, there, IsTurnDamage, Turn, after_turn, came_back, is_whole, IsGoing, ReceiverGoes, left, IsMachine}
 use Rattle.ym_frame.specs.declared.control.Control.TheVariants as control
-use Rattle.ym_frame.specs.declared.control.Reply.{Reply}
-use Rattle.ym_frame.specs.declared.control.Reply.TheVariants.{Ack, AckStart}
-use Rattle.ym_machine.specs.declared.confirm.Confirm.{Confirm}
 use Rattle.ym_machine.proofs.Keeps.{there-keeps, back-keeps, back-stays}
 use Rattle.ym_machine.proofs.MachineStates.{acknowledged-taken, there-machine}
 use Rattle.ym_machine.proofs.ReceiverSteps.{ReceiverStep, receiver-step}
 use Rattle.ym_machine.proofs.Remaining.{WholeThere, back-left, helped, helped-forward, kind, left-done, left-is, refused, refused-vain, taken_on, there-left, whole-there, worth}
 use Rattle.ym_machine.proofs.SenderSteps.{SenderStep, sender-step}
-use Rattle.ym_machine.specs.Frames.{EndsOnce, Frame}
-use Rattle.ym_machine.specs.State.{SenderEnd, State}
-use Rattle.ym_machine.specs.Halves.{Answer, KeepsReceiver, KeepsSender, SenderStays, controls, is_within, there}
-use Rattle.ym_machine.specs.Run.{IsTurnDamage, Turn, after_turn, came_back, is_whole}
-use Rattle.ym_machine.specs.Left.{IsGoing, ReceiverGoes, SenderGoes, left}
-use Rattle.ym_machine.specs.Machine.{IsMachine}
 
 -- what comes back whole is no damage
 pub all-of-it : (reply : Reply) → is_within (controls reply) (controls reply) ≡ true
 all-of-it Ack = refl
-all-of-it AckStart = refl
 all-of-it _ = refl
 
 -- the reply of a whole turn comes back
 pub whole-back : (turn : Turn) → is_whole turn ≡ true → (turn.whole_there ≡ true) × (turn.back ≡ None)
-whole-back turn e = go turn.whole_there turn.back e
-  where
-    go : (w : Bool) (b : Option (List Control)) → (w && is_none b) ≡ true → (w ≡ true) × (b ≡ None)
-    go true None e = (refl, refl)
-    go true (Some cs) e = cc
-    go false _ e = cc
+whole-back turn e = grind (arith, e)
 
 pub whole-came : (turn : Turn) → is_whole turn ≡ true → (reply : Reply) → came_back turn.back reply ≡ controls reply
 whole-came turn e reply = ap (λ b. came_back b reply) (whole-back turn e).1
 
 pub sender-is : (st : State) → IsGoing st → (st.sender ≡ SenderEnd.Running) ⊎ (st.sender ≡ SenderEnd.Finished)
-sender-is st going = go st.sender going.0
-  where
-    go : (s : SenderEnd) → SenderGoes s → (s ≡ SenderEnd.Running) ⊎ (s ≡ SenderEnd.Finished)
-    go SenderEnd.Running g = inl refl
-    go SenderEnd.Finished g = inr refl
-    go SenderEnd.Cancelled g = absurd g
-    go SenderEnd.NoReply g = absurd g
-    go SenderEnd.SourceFailed g = absurd g
+sender-is st going = grind (arith, going)
 
 -- a turn in its two steps
 module _ {H : Type 0} (frames : List (Frame H)) (confirm : Confirm) (ends : EndsOnce frames) (turn : Turn) (st : State) (m : IsMachine confirm frames st) where
@@ -90,22 +68,22 @@ module _ {H : Type 0} (frames : List (Frame H)) (confirm : Confirm) (ends : Ends
       omega (arith, first, second, old)
 
   pub turn-left : IsGoing st → IsTurnDamage frames confirm turn st → left confirm frames new ≤ left confirm frames st
-  turn-left going damage = by (sender-is st going)
-    where
-      by : (st.sender ≡ SenderEnd.Running) ⊎ (st.sender ≡ SenderEnd.Finished) → left confirm frames new ≤ left confirm frames st
-      by (inl running) = let x = turn-lowers running damage in omega (arith, x)
-      by (inr done) = let x = left-done confirm frames new (still-done done) in omega (arith, x)
+  turn-left going damage = elim (sender-is st going) [
+    | inl running ↦ (let x = turn-lowers running damage in omega (arith, x))
+    | inr done ↦ (let x = left-done confirm frames new (still-done done) in omega (arith, x))
+  ]
 
   -- the half there of a whole turn
   pub there-whole : is_whole turn ≡ true → st.sender ≡ SenderEnd.Running → ReceiverGoes answer.0.receiver → WholeThere frames confirm st (taken_on step_there) answer
-  there-whole whole running goes = go turn.whole_there (whole-back turn whole).0 (receiver-step frames confirm turn.sink_failed turn.whole_there st) goes
-    where
-      go : (w : Bool) → w ≡ true → {a : Answer} (step : ReceiverStep frames confirm turn.sink_failed w st a) → ReceiverGoes a.0.receiver → WholeThere frames confirm st (taken_on step) a
-      go true e step g = whole-there frames confirm ends turn.sink_failed st m.counters running step g
-      go false e step g = cc
+  there-whole whole running goes = whole-there frames confirm ends turn.sink_failed turn.whole_there (whole-back turn whole).0 st m.counters running step_there goes
 
   pub turn-lowered : IsGoing st → IsGoing new → is_whole turn ≡ true → 0 < left confirm frames st → left confirm frames st ≡ left confirm frames new + 1
-  turn-lowered going after whole some = by (sender-is st going)
+  turn-lowered going after whole some = elim (sender-is st going) [
+    | inl running ↦ (
+        let s = sum running (there-whole whole running (rw new-receiver at after.1)) in
+        let x = turn-lowers running (whole-damage whole) in omega (arith, s, x))
+    | inr done ↦ absurd (let z = left-done confirm frames st done in omega (arith, z))
+  ]
     where
       sum : st.sender ≡ SenderEnd.Running → WholeThere frames confirm st (taken_on step_there) answer → worth (kind step_back) + taken_on step_there ≡ 1
       sum running (helped h none) =
@@ -114,9 +92,3 @@ module _ {H : Type 0} (frames : List (Frame H)) (confirm : Confirm) (ends : Ends
       sum running (refused idle sent first count nak one) =
           let k = refused-vain frames turn.source_failed came answer.0 (keeps.sender ∙ running) sent (whole-came turn whole answer.1 ∙ nak) step_back in
           let w = ap worth k in omega (arith, w, one)
-
-      by : (st.sender ≡ SenderEnd.Running) ⊎ (st.sender ≡ SenderEnd.Finished) → left confirm frames st ≡ left confirm frames new + 1
-      by (inl running) =
-          let s = sum running (there-whole whole running (subst ReceiverGoes new-receiver after.1)) in
-          let x = turn-lowers running (whole-damage whole) in omega (arith, s, x)
-      by (inr done) = absurd (let z = left-done confirm frames st done in omega (arith, z))

@@ -1,14 +1,11 @@
 -- every half back is one of eight steps
 use Rattle.std.proofs.Common.{ℕ, ◌+◌, ◌<◌, ◌≤◌, ◌≡◌, ◌≢◌, List, [], ◌∷◌, Bool, true, false, refl, sym, ap, ◌∙◌, subst, arith, nat_lt}
 use Rattle.std.proofs.lemmas.Bool.Decides.{nat_tests}
-use Rattle.ym_frame.specs.declared.control.Control.{Control}
+use Rattle.ym_machine.proofs.Names.{Control, GIVE_UP, EndBlock, Frame, Piece, frame_at, SenderEnd, State, back, holds_start, CallsForStart}
 use Rattle.ym_frame.specs.declared.control.Control.TheVariants as control
-use Rattle.ym_machine.specs.declared.limits.TheConstants.{GIVE_UP}
 use Rattle.ym_machine.proofs.ReceiverSteps.{on_cond}
-use Rattle.ym_machine.specs.Frames.{BlockZero, EndBlock, Eot, Frame, Piece, frame_at}
-use Rattle.ym_machine.specs.State.{SenderEnd, State}
-use Rattle.ym_machine.specs.Halves.{acknowledged_at, back, gets, holds_start, nothing_gained, running_gets, sends}
-use Rattle.ym_machine.specs.Machine.{CallsForStart, IsPiece}
+use Rattle.ym_machine.specs.Halves.{acknowledged_at, gets, nothing_gained, running_gets, sends}
+use Rattle.ym_machine.specs.Machine.{IsPiece}
 
 -- these control bytes bring a sender, which has sent or waits, a step further
 abbrev pub helps : Bool → List Control → Bool
@@ -45,24 +42,20 @@ module _ {H : Type 0} (frames : List (Frame H)) (source : Bool) (came : List Con
 
   sent_on : st.sender ≡ SenderEnd.Running → (place : ℕ) → Onward frames came st place → (failed : Bool) → source ≡ failed → (frame : Frame H) → frame_at frames place ≡ frame → Steps (sends failed frame place st)
   sent_on running place on true s (Piece number body) e = breaks running on s (subst IsPiece (sym e) tt)
-  sent_on running place on true s _ e = sends_it running on
-  sent_on running place on false s _ e = sends_it running on
+  sent_on running place on _ s _ e = sends_it running on
 
-  acked : st.sender ≡ SenderEnd.Running → (rest : List Control) → IsAcknowledged came rest st → (frame : Frame H) → frame_at frames st.acknowledged ≡ frame → Steps (acknowledged_at frames source (holds_start rest) frame st)
-  acked running rest is frame e = go frame e
-    where
-      on : (g : Frame H) → frame_at frames st.acknowledged ≡ g → g ≢ EndBlock → Steps (sends source (frame_at frames (st.acknowledged + 1)) (st.acknowledged + 1) st)
-      on g e other = sent_on running (st.acknowledged + 1) (next is (λ w. other (sym e ∙ w))) source refl _ refl
+  on : st.sender ≡ SenderEnd.Running → {rest : List Control} → IsAcknowledged came rest st → {frame : Frame H} → frame_at frames st.acknowledged ≡ frame → frame ≢ EndBlock
+      → Steps (sends source (frame_at frames (st.acknowledged + 1)) (st.acknowledged + 1) st)
+  on running is e other = sent_on running (st.acknowledged + 1) (next is (λ w. other (sym e ∙ w))) source refl _ refl
 
-      go : (frame : Frame H) → frame_at frames st.acknowledged ≡ frame → Steps (acknowledged_at frames source (holds_start rest) frame st)
-      go (Piece number body) e = on _ e (λ w. cc)
-      go EndBlock e = finishes running is e
-      go (BlockZero header) e = on_cond Steps (holds_start rest) _ _ (λ _. on _ e (λ w. cc)) (λ c. waits running is c (λ w. cc) (subst CallsForStart (sym e) tt))
-      go Eot e = on_cond Steps (holds_start rest) _ _ (λ _. on _ e (λ w. cc)) (λ c. waits running is c (λ w. cc) (subst CallsForStart (sym e) tt))
+  acked : st.sender ≡ SenderEnd.Running → (rest : List Control) → IsAcknowledged came rest st → (frame : Frame H) → frame_at frames st.acknowledged ≡ frame
+      → Steps (acknowledged_at frames source (holds_start rest) frame st)
+  acked running rest is (Piece number body) e = on running is e (λ w. cc)
+  acked running rest is EndBlock e = finishes running is e
+  acked running rest is _ e = on_cond Steps (holds_start rest) _ _ (λ _. on running is e (λ w. cc)) (λ c. waits running is c (λ w. cc) (subst CallsForStart (sym e) tt))
 
   gets_it : st.sender ≡ SenderEnd.Running → (sent : Bool) → st.sent ≡ sent → (cs : List Control) → came ≡ cs → Steps (running_gets frames source sent cs st)
-  gets_it running true e (control.Can ∷ control.Can ∷ []) f = is_cancelled running f
-  gets_it running false e (control.Can ∷ control.Can ∷ []) f = is_cancelled running f
+  gets_it running _ e (control.Can ∷ control.Can ∷ []) f = is_cancelled running f
   gets_it running true e (control.Ack ∷ rest) f = acked running rest (record { sent = e; came_is = f }) (frame_at frames st.acknowledged) refl
   gets_it running true e _ f = missed running (rw (e, f) refl)
   gets_it running false e cs f = on_cond Steps (holds_start cs) _ _ (λ t. sent_on running st.acknowledged (first e (ap holds_start f ∙ t)) source refl _ refl) (λ t. missed running (rw (e, f) t))
@@ -71,8 +64,7 @@ module _ {H : Type 0} (frames : List (Frame H)) (source : Bool) (came : List Con
   by SenderEnd.Running e = gets_it e st.sent refl came refl
   by SenderEnd.NoReply e = stays false (λ r. cc) (λ w. cc)
   by SenderEnd.SourceFailed e = stays false (λ r. cc) (λ w. cc)
-  by SenderEnd.Finished e = stays st.farewell (λ r. cc) (λ w. w)
-  by SenderEnd.Cancelled e = stays st.farewell (λ r. cc) (λ w. w)
+  by _ e = stays st.farewell (λ r. cc) (λ w. w)
 
   pub sender-step : Steps (back frames source came st)
   sender-step = by st.sender refl

@@ -1,22 +1,14 @@
 -- neither end gives up while no bad run is longer than a burst
 use Rattle.std.proofs.Common.{ℕ, ◌+◌, ◌≤◌, ◌≡◌, ◌≢◌, ◌⊎◌, List, [], ◌∷◌, Bool, true, false, refl, sym, ◌∙◌, subst, inl, inr, arith, cond, max}
-use Rattle.ym_frame.specs.declared.control.Control.{Control}
+use Rattle.ym_machine.proofs.Names.{Control, Reply, Confirm, BURST, EndsOnce, Frame, ReceiverEnd, SenderEnd, State, start, Answer, IsDamage, IsTurnDamage, NoFailure, Turn, after_turn, after_turns, is_whole, longest_bad_run, IsGoing, ReceiverGoes, IsMachine, SenderBroke}
 use Rattle.ym_frame.specs.declared.control.Control.TheVariants as control
-use Rattle.ym_frame.specs.declared.control.Reply.{Reply}
-use Rattle.ym_machine.specs.declared.confirm.Confirm.{Confirm}
-use Rattle.ym_machine.specs.declared.limits.TheConstants.{BURST}
 use Rattle.ym_machine.proofs.Endings.{no-cans}
 use Rattle.ym_machine.proofs.MachineStates.{onward, start-machine, turn-machine}
 use Rattle.ym_machine.proofs.ReceiverSteps.{IsFault, ReceiverStep, on_cond}
-use Rattle.ym_machine.proofs.Remaining.{SenderIdle, WholeThere, forward, helped, helped-forward, kind, refused, refused-vain, taken_on, vain}
+use Rattle.ym_machine.proofs.Remaining.{SenderIdle, forward, helped, helped-forward, kind, refused, refused-vain, vain}
 use Rattle.ym_machine.proofs.Rounds.{answer, came, keeps, mid, sender-is, step_back, step_there, still-done, there-whole, told, whole-back, whole-came, whole-damage}
 use Rattle.ym_machine.proofs.SenderSteps.{Onward, SenderStep}
-use Rattle.ym_machine.specs.Frames.{EndsOnce, Frame}
-use Rattle.ym_machine.specs.State.{ReceiverEnd, SenderEnd, State, start}
-use Rattle.ym_machine.specs.Halves.{Answer, controls}
-use Rattle.ym_machine.specs.Run.{IsDamage, IsTurnDamage, NoFailure, Turn, after_turn, after_turns, is_whole, longest_bad_run}
-use Rattle.ym_machine.specs.Left.{IsGoing, ReceiverGoes, SenderGoes}
-use Rattle.ym_machine.specs.Machine.{IsMachine, SenderBroke}
+use Rattle.ym_machine.specs.Left.{SenderGoes}
 
 -- the next whole round brings the receiver nothing
 abbrev pub ReceiverIdle : State → Type 0
@@ -45,9 +37,7 @@ pub got-all : {H : Type 0} (confirm : Confirm) (frames : List (Frame H)) (st : S
 got-all confirm frames st machine done = let m = machine.counters in m.receiver_done.0 (let x = m.sender_done.1 done in let w = m.within in let a = m.ahead in omega arith)
 
 fine-done : {H : Type 0} (confirm : Confirm) (frames : List (Frame H)) (b : ℕ) (st : State) → IsMachine confirm frames st → st.sender ≡ SenderEnd.Finished → IsFine confirm frames b st
-fine-done confirm frames b st m done =
-    let got = got-all confirm frames st m done in
-    record { machine = m; going = (subst SenderGoes (sym done) tt, subst ReceiverGoes (sym got) tt); sender_count = λ w. cc; sender_idle = λ w. cc; receiver_count = λ w. cc; receiver_idle = λ w. cc }
+fine-done confirm frames b st m done = let got = got-all confirm frames st m done in grind (arith, m, got, done)
 
 module _ {H : Type 0} (frames : List (Frame H)) (confirm : Confirm) (sink whole : Bool) (b : ℕ) (st : State) (f : IsFine confirm frames b st) (running : st.sender ≡ SenderEnd.Running) where
   fault-idle : {reply : Reply} → whole ≡ true → IsFault frames whole st reply → ReceiverIdle st
@@ -56,20 +46,12 @@ module _ {H : Type 0} (frames : List (Frame H)) (confirm : Confirm) (sink whole 
 
   -- no bad run is longer than a burst: of a bad round it is not the last
   there-fine : (b + 1 ≤ BURST) ⊎ ((whole ≡ true) × (b ≤ BURST)) → sink ≡ false → {answer : Answer} → ReceiverStep frames confirm sink whole st answer → IsMiddle confirm frames b whole answer.0
-  there-fine room sound (ReceiverStep.stays ended echo) = record { goes = f.going.1; sender_count = f.sender_count running; sender_idle = f.sender_idle running; receiver_count = λ r. absurd (ended r); receiver_idle = λ r. absurd (ended r); whole_count = λ _ r. absurd (ended r) }
-  there-fine room sound (ReceiverStep.faults r fault few) = record {
-    goes = f.going.1;
-    sender_count = f.sender_count running;
-    sender_idle = λ i. f.sender_idle running (assumption);
-    receiver_count = λ _. let x = f.receiver_count r in omega (arith, x);
-    receiver_idle = λ _ i. let x = f.receiver_idle r i in omega (arith, x);
-    whole_count = λ w _. let x = f.receiver_idle r (fault-idle w fault) in omega (arith, x);
-  }
-  there-fine (inl short) sound (ReceiverStep.gives_up r fault many) = absurd (let x = f.receiver_count r in omega (arith, x, short, many))
-  there-fine (inr e) sound (ReceiverStep.gives_up r fault many) = absurd (let x = f.receiver_idle r (fault-idle e.0 fault) in let y = e.1 in omega (arith, x, y, many))
-  there-fine room sound (ReceiverStep.takes_it fresh other eot) = record { goes = f.going.1; sender_count = f.sender_count running; sender_idle = λ i. absurd (let x = i.at in let y = fresh.at in omega (arith, x, y)); receiver_count = λ _. omega arith; receiver_idle = λ _ _. omega arith; whole_count = λ _ _. omega arith }
-  there-fine room sound (ReceiverStep.confirms fresh twice eot first) = record { goes = f.going.1; sender_count = f.sender_count running; sender_idle = λ i. absurd (let x = i.first in cc); receiver_count = λ _. omega arith; receiver_idle = λ _ _. omega arith; whole_count = λ _ _. omega arith }
-  there-fine room sound (ReceiverStep.finishes fresh is) = record { goes = tt; sender_count = f.sender_count running; sender_idle = λ i. absurd (let x = i.at in let y = fresh.at in omega (arith, x, y)); receiver_count = λ r. cc; receiver_idle = λ r. cc; whole_count = λ _ r. cc }
+  there-fine room sound (ReceiverStep.stays ended echo) = grind (arith, f, running, ended)
+  there-fine room sound (ReceiverStep.faults r fault few) = let idle = λ (w : whole ≡ true). fault-idle w fault in grind (arith, f, r, running, idle)
+  there-fine room sound (ReceiverStep.gives_up r fault many) = let idle = λ (w : whole ≡ true). fault-idle w fault in grind (arith, f, r, running, idle, room, many)
+  there-fine room sound (ReceiverStep.takes_it fresh other eot) = grind (arith, f, running, fresh)
+  there-fine room sound (ReceiverStep.confirms fresh twice eot first) = grind (arith, f, running, fresh)
+  there-fine room sound (ReceiverStep.finishes fresh is) = grind (arith, f, running, fresh)
   there-fine room sound (ReceiverStep.breaks fresh failed) = cc
   there-fine room sound (ReceiverStep.is_cancelled r broke) = absurd (subst SenderBroke running broke)
 
@@ -85,17 +67,10 @@ module _ {H : Type 0} (frames : List (Frame H)) (confirm : Confirm) (ends : Ends
   -- of a bad round
   back-bad : b + 1 ≤ BURST → came ≢ control.Can ∷ control.Can ∷ [] → {new : State} → IsMachine confirm frames new → SenderStep frames source came st new → IsFine confirm frames (b + 1) new
   back-bad short other m (SenderStep.stays farewell ended w) = absurd (ended running)
-  back-bad short other m (SenderStep.misses r unhelped few) = record {
-    machine = m;
-    going = going;
-    sender_count = λ _. let x = f.sender_count in omega (arith, x);
-    sender_idle = λ _ i. let x = f.sender_idle (assumption) in omega (arith, x);
-    receiver_count = λ r. let x = f.receiver_count r in omega (arith, x);
-    receiver_idle = λ r i. f.receiver_idle r i;
-  }
+  back-bad short other m (SenderStep.misses r unhelped few) = grind (arith, m, going, f)
   back-bad short other m (SenderStep.gives_up r unhelped many) = absurd (let x = f.sender_count in omega (arith, x, short, many))
-  back-bad short other m (SenderStep.waits r is alone o calls) = record { machine = m; going = going; sender_count = λ _. omega arith; sender_idle = λ _ _. omega arith; receiver_count = λ r. let x = f.receiver_count r in omega (arith, x); receiver_idle = λ r _. f.receiver_idle r (inr (told _ is.came_is running).1) }
-  back-bad short other m (SenderStep.sends_it r on) = record { machine = m; going = going; sender_count = λ _. omega arith; sender_idle = λ _ _. omega arith; receiver_count = λ r. let x = f.receiver_count r in omega (arith, x); receiver_idle = λ r _. f.receiver_idle r (onward-idle on) }
+  back-bad short other m (SenderStep.waits r is alone o calls) = let idle : ReceiverIdle st = inr (told _ is.came_is running).1 in grind (arith, m, going, f, idle)
+  back-bad short other m (SenderStep.sends_it r on) = let idle = onward-idle on in grind (arith, m, going, f, idle)
   back-bad short other m (SenderStep.breaks r on failed piece) = cc
   back-bad short other m (SenderStep.finishes r is last) = fine-done confirm frames (b + 1) _ m refl
   back-bad short other m (SenderStep.is_cancelled r cans) = absurd (other cans)
@@ -104,67 +79,56 @@ module _ {H : Type 0} (frames : List (Frame H)) (confirm : Confirm) (ends : Ends
   back-helped : whole ≡ true → b ≤ BURST → {new : State} → IsMachine confirm frames new → (step : SenderStep frames source came st new) → kind step ≡ forward → IsFine confirm frames 0 new
   back-helped w few m (SenderStep.sends_it r on) k =
       let o = onward frames confirm ends source came st machine.counters told running on in
-      record {
-        machine = m;
-        going = going;
-        sender_count = λ _. omega arith;
-        sender_idle = λ _ _. omega arith;
-        receiver_count = λ r. let x = f.whole_count w r in omega (arith, x, few);
-        receiver_idle = λ r i. absurd (elim i [ inl e ↦ cc | inr e ↦ (let x = o.0 in omega (arith, x, e)) ]);
-      }
+      grind (arith, m, going, f, o, w, few)
   back-helped w few m (SenderStep.breaks r on failed piece) k = cc
   back-helped w few m (SenderStep.finishes r is last) k = fine-done confirm frames 0 _ m refl
   back-helped w few m _ k = cc
 
   back-refused : b ≤ BURST → st.sender_count ≤ b → st.first_eot ≡ true → st.receiver_count ≡ 0 → {new : State} → IsMachine confirm frames new → (step : SenderStep frames source came st new) → kind step ≡ vain → IsFine confirm frames 0 new
-  back-refused few idle first count m (SenderStep.misses r unhelped more) k = record { machine = m; going = going; sender_count = λ _. omega (arith, few, idle); sender_idle = λ _ i. absurd (let x = i.first in cc); receiver_count = λ _. omega (arith, count); receiver_idle = λ _ _. omega (arith, count) }
+  back-refused few idle first count m (SenderStep.misses r unhelped more) k = grind (arith, m, going, f, few, idle, first, count)
   back-refused few idle first count m (SenderStep.gives_up r unhelped many) k = absurd (omega (arith, many, few, idle))
   back-refused few idle first count m _ k = cc
 
 -- one turn
 module _ {H : Type 0} (frames : List (Frame H)) (confirm : Confirm) (ends : EndsOnce frames) (turn : Turn) (b : ℕ) (st : State) (f : IsFine confirm frames b st) (sink : turn.sink_failed ≡ false) (source : turn.source_failed ≡ false) where
   bad-fine : b + 1 ≤ BURST → IsTurnDamage frames confirm turn st → IsFine confirm frames (b + 1) (after_turn frames confirm turn st)
-  bad-fine short damage = by (sender-is st f.going)
-    where
-      m : IsMachine confirm frames (after_turn frames confirm turn st)
-      m = turn-machine frames confirm ends turn st f.machine damage
-
-      by : (st.sender ≡ SenderEnd.Running) ⊎ (st.sender ≡ SenderEnd.Finished) → IsFine confirm frames (b + 1) (after_turn frames confirm turn st)
-      by (inl running) =
-          let middle = there-fine frames confirm turn.sink_failed turn.whole_there b st f running (inl short) sink (step_there frames confirm ends turn st f.machine) in
-          back-bad frames confirm ends turn.source_failed (came frames confirm ends turn st f.machine) b turn.whole_there _ (mid frames confirm ends turn st f.machine) middle ((keeps frames confirm ends turn st f.machine).sender ∙ running) source
-          (told frames confirm ends turn st f.machine damage) short (no-cans frames confirm turn.sink_failed turn.whole_there st middle.goes (came frames confirm ends turn st f.machine) damage) m (step_back frames confirm ends turn st f.machine)
-      by (inr done) = fine-done confirm frames (b + 1) _ m (still-done frames confirm ends turn st f.machine done)
+  bad-fine short damage =
+      let m = turn-machine frames confirm ends turn st f.machine damage in
+      let told = told frames confirm ends turn st f.machine damage in
+      let cs = came frames confirm ends turn st f.machine in
+      elim (sender-is st f.going) [
+        | inl running ↦ (
+            let middle = there-fine frames confirm turn.sink_failed turn.whole_there b st f running (inl short) sink (step_there frames confirm ends turn st f.machine) in
+            let runs = (keeps frames confirm ends turn st f.machine).sender ∙ running in
+            let none = no-cans frames confirm turn.sink_failed turn.whole_there st middle.goes cs damage in
+            back-bad frames confirm ends turn.source_failed cs b turn.whole_there _ (mid frames confirm ends turn st f.machine) middle runs source told short none m (step_back frames confirm ends turn st f.machine))
+        | inr done ↦ fine-done confirm frames (b + 1) _ m (still-done frames confirm ends turn st f.machine done)
+      ]
 
   pub whole-fine : b ≤ BURST → is_whole turn ≡ true → IsFine confirm frames 0 (after_turn frames confirm turn st)
-  whole-fine few whole = by (sender-is st f.going)
-    where
-      damage : IsTurnDamage frames confirm turn st
-      damage = whole-damage frames confirm ends turn st f.machine whole
-
-      m : IsMachine confirm frames (after_turn frames confirm turn st)
-      m = turn-machine frames confirm ends turn st f.machine damage
-
-      by : (st.sender ≡ SenderEnd.Running) ⊎ (st.sender ≡ SenderEnd.Finished) → IsFine confirm frames 0 (after_turn frames confirm turn st)
-      by (inl running) = finish (there-whole frames confirm ends turn st f.machine whole running middle.goes)
-        where
-          middle : IsMiddle confirm frames b turn.whole_there (answer frames confirm ends turn st f.machine).0
-          middle = there-fine frames confirm turn.sink_failed turn.whole_there b st f running (inr ((whole-back turn whole).0, few)) sink (step_there frames confirm ends turn st f.machine)
-
-          runs : (answer frames confirm ends turn st f.machine).0.sender ≡ SenderEnd.Running
-          runs = (keeps frames confirm ends turn st f.machine).sender ∙ running
-
-          is : came frames confirm ends turn st f.machine ≡ controls (answer frames confirm ends turn st f.machine).1
-          is = whole-came turn whole (answer frames confirm ends turn st f.machine).1
-
-          finish : WholeThere frames confirm st (taken_on (step_there frames confirm ends turn st f.machine)) (answer frames confirm ends turn st f.machine) → IsFine confirm frames 0 (after_turn frames confirm turn st)
-          finish (helped h none) =
-              back-helped frames confirm ends turn.source_failed (came frames confirm ends turn st f.machine) b turn.whole_there _ (mid frames confirm ends turn st f.machine) middle runs source (told frames confirm ends turn st f.machine damage) (whole-back turn whole).0 few m
-              (step_back frames confirm ends turn st f.machine) (helped-forward frames turn.source_failed _ _ runs (rw is h) (step_back frames confirm ends turn st f.machine))
-          finish (refused idle sent first count nak one) =
-              back-refused frames confirm ends turn.source_failed (came frames confirm ends turn st f.machine) b turn.whole_there _ (mid frames confirm ends turn st f.machine) middle runs source (told frames confirm ends turn st f.machine damage)
-              few (let x = f.sender_idle running idle in let k = (keeps frames confirm ends turn st f.machine).sender_count in omega (arith, x, k)) first count m (step_back frames confirm ends turn st f.machine) (refused-vain frames turn.source_failed _ _ runs sent (is ∙ nak) (step_back frames confirm ends turn st f.machine))
-      by (inr done) = fine-done confirm frames 0 _ m (still-done frames confirm ends turn st f.machine done)
+  whole-fine few whole =
+      let damage = whole-damage frames confirm ends turn st f.machine whole in
+      let m = turn-machine frames confirm ends turn st f.machine damage in
+      let told = told frames confirm ends turn st f.machine damage in
+      let cs = came frames confirm ends turn st f.machine in
+      let all = (whole-back turn whole).0 in
+      let is = whole-came turn whole (answer frames confirm ends turn st f.machine).1 in
+      let mid = mid frames confirm ends turn st f.machine in
+      let step = step_back frames confirm ends turn st f.machine in
+      elim (sender-is st f.going) [
+        | inl running ↦ (
+            let middle = there-fine frames confirm turn.sink_failed turn.whole_there b st f running (inr (all, few)) sink (step_there frames confirm ends turn st f.machine) in
+            let keeps = keeps frames confirm ends turn st f.machine in
+            let runs = keeps.sender ∙ running in
+            elim (there-whole frames confirm ends turn st f.machine whole running middle.goes) [
+              | helped h none ↦ back-helped frames confirm ends turn.source_failed cs b turn.whole_there _ mid middle runs source told all few m step (helped-forward frames turn.source_failed _ _ runs (rw is h) step)
+              | refused idle sent first count nak one ↦ (
+                  let missed : (answer frames confirm ends turn st f.machine).0.sender_count ≤ b = let x = f.sender_idle running idle in let k = keeps.sender_count in omega (arith, x, k) in
+                  let vain = refused-vain frames turn.source_failed _ _ runs sent (is ∙ nak) step in
+                  back-refused frames confirm ends turn.source_failed cs b turn.whole_there _ mid middle runs source told few missed first count m step vain)
+            ])
+        | inr done ↦ fine-done confirm frames 0 _ m (still-done frames confirm ends turn st f.machine done)
+      ]
 
 -- the run that is on is no longer than the longest
 longest-least : (b : ℕ) (turns : List Turn) → b ≤ longest_bad_run b turns
@@ -191,11 +155,4 @@ module _ {H : Type 0} (frames : List (Frame H)) (confirm : Confirm) (ends : Ends
       turns-fine turns one.0 (after_turn frames confirm turn st) one.1 one.2 none.2 damage.1
 
   pub start-fine : IsFine confirm frames 0 start
-  start-fine = record {
-    machine = start-machine frames confirm ends SenderEnd.Running (λ w. cc);
-    going = (tt, tt);
-    sender_count = λ _. omega arith;
-    sender_idle = λ _ _. omega arith;
-    receiver_count = λ _. omega arith;
-    receiver_idle = λ _ _. omega arith;
-  }
+  start-fine = let machine = start-machine frames confirm ends SenderEnd.Running (λ w. cc) in grind (arith, machine)

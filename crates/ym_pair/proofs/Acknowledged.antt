@@ -1,34 +1,20 @@
 -- A sender goes past a frame only where it wrote it, and then read an ACK.
-use Rattle.std.proofs.Common.{◌≡◌, ◌∙◌, ◌-◌, ◌<◌, slice_set, ◌⊎◌, inl, inr, ℕ, Bool, true, false, List, [], ◌∷◌, ◌++◌, length, Option, None, Some, IfSome, refl, sym, ap, subst, append_assoc, append-nil}
+use Rattle.std.proofs.Common.{◌≡◌, ◌∙◌, ◌-◌, ◌<◌, slice_set, ◌⊎◌, inl, inr, ℕ, Bool, true, false, List, [], ◌∷◌, ◌++◌, length, Option, Some, IfSome, refl, sym, ap, subst, append_assoc, append-nil}
 use Rattle.std.proofs.lemmas.Bool.{cases_eq}
 use Rattle.std.proofs.lemmas.List.{length-map, get_or-set_same, get_or-set_other}
-use Rattle.ym_header.specs.Header.{HeaderParts}
+use Rattle.ym_pair.proofs.Names.{HeaderParts, Shape, Item, AreAcknowledged, block_places, files_places, places_before, Spoke, spoke_in, spoke_along, count_at, IsFrameAt, SenderHears, sender_none, sender_more, Tape, controls_in, SenderParts, IsSender, IsStep, IsFilled, counts, spoken, written_for, FileParts, counts_of, file_at, hears, Place, Header, Block, Eot, End, Sent, Standing, Running, Finished}
 use Rattle.ym_header.specs.Text.{text}
 use Rattle.ym_file.specs.Plan.{piece_at, size_at}
-use Rattle.ym_file.specs.declared.plan.Shape.{Shape}
-use Rattle.ym_frame.specs.declared.frame.Item.{Item}
 use Rattle.ym_frame.specs.declared.frame.Item.TheVariants as item
-use Rattle.ym_pair.specs.AnyPeer.{AreAcknowledged, batch_places, block_places, files_places, places_before}
-use Rattle.ym_pair.specs.Logs.{Spoke, spoke_in, spoke_along}
-use Rattle.ym_core.specs.Place.{count_at, first_of, done_at}
-use Rattle.ym_link.specs.FrameAt.{IsFrameAt, IsItemAt}
-use Rattle.ym_link.specs.Course.{SenderHears, sender_none, sender_more}
-use Rattle.ym_link.specs.Port.{Tape}
-use Rattle.ym_core.specs.Reading.{controls_in}
-use Rattle.ym_link.specs.Sender.{SenderParts, IsSender, IsStep, IsFilled, FilledAt, FailedAt, counts, spoken, spoken_in}
-use Rattle.ym_link.specs.SendOver.{Outcome, Sends, ended, unwritten, unread, heard, written_for}
-use Rattle.ym_file.specs.SourceFile.{FileParts, counts_of, file_at, filled, no_file}
-use Rattle.ym_core.specs.Standing.{hears, new_standing}
-use Rattle.ym_core.specs.declared.place.Place.{Place}
-use Rattle.ym_core.specs.declared.place.Place.TheVariants.{Header, Block, Eot, End}
-use Rattle.ym_core.specs.declared.place.Mode.{Mode}
-use Rattle.ym_core.specs.declared.place.Mode.TheVariants.{Sent}
-use Rattle.ym_core.specs.declared.standing.Standing.{Standing}
-use Rattle.ym_core.specs.declared.state.SendState.{SendState}
-use Rattle.ym_core.specs.declared.state.SendState.TheVariants.{Running, Finished}
+use Rattle.ym_pair.specs.AnyPeer.{batch_places}
+use Rattle.ym_core.specs.Place.{first_of, done_at}
+use Rattle.ym_link.specs.FrameAt.{IsItemAt}
+use Rattle.ym_link.specs.SendOver.{Outcome, Sends, heard}
+use Rattle.ym_file.specs.SourceFile.{filled, no_file}
+use Rattle.ym_core.specs.Standing.{new_standing}
 use Rattle.ym_link.proofs.Files.{filled_counts}
 use Rattle.ym_link.proofs.Steps.{IsBefore}
-use Rattle.ym_pair.proofs.Moving.{Moves, before-next, step-moves, step-finishes}
+use Rattle.ym_pair.proofs.Moving.{before-next, step-moves, step-finishes}
 
 -- ---- The files, apart from their counts
 
@@ -47,30 +33,16 @@ changed-files : (at : ℕ) (changed : FileParts) (old new : List FileParts) → 
 changed-files at changed old new within after same_file i = elim (cases_eq i at) [
   | inl same ↦
       let set_is : file_at new at ≡ changed = ap (λ l. file_at l at) after ∙ get_or-set_same old at _ no_file within in
-      subst (λ j. SameFile (file_at old j) (file_at new j)) (sym same) (subst (SameFile (file_at old at)) (sym set_is) same_file)
+      rw (same, set_is) same_file
   | inr other ↦ same-file (file_at old i) (file_at new i) (ap (λ l. file_at l i) after ∙ get_or-set_other old at i _ no_file other)
 ]
 
-filled-files : (at : ℕ) (old new : List FileParts) → FilledAt at old new → SameFiles old new
-filled-files at old new asked = changed-files at (filled (file_at old at)) old new asked.within asked.after (record { header = refl; bytes = refl })
-
-failed-files : (at : ℕ) (old new : List FileParts) → FailedAt at old new → SameFiles old new
-failed-files at old new failed = changed-files at (record (filled (file_at old at)) { failures = failed.failures }) old new failed.within failed.after (record { header = refl; bytes = refl })
-
-still-files : (old new : List FileParts) → new ≡ old → SameFiles old new
-still-files old new same i = same-file (file_at old i) (file_at new i) (ap (λ l. file_at l i) same)
-
 filled-same : (failed : Bool) (fills : Option Place) (old new : List FileParts) → IsFilled failed fills old new → SameFiles old new
-filled-same false (Some (Block file k)) old new asked = filled-files file old new asked
-filled-same false (Some (Header file)) old new same = still-files old new same
-filled-same false (Some (Eot file)) old new same = still-files old new same
-filled-same false (Some End) old new same = still-files old new same
-filled-same false None old new same = still-files old new same
-filled-same true (Some (Block file k)) old new failed = failed-files file old new failed
-filled-same true (Some (Header file)) old new failed = absurd failed
-filled-same true (Some (Eot file)) old new failed = absurd failed
-filled-same true (Some End) old new failed = absurd failed
-filled-same true None old new failed = absurd failed
+filled-same false (Some (Block file k)) old new asked = changed-files file (filled (file_at old file)) old new asked.within asked.after (record { header = refl; bytes = refl })
+filled-same true (Some (Block file k)) old new failed =
+    changed-files file (record (filled (file_at old file)) { failures = failed.failures }) old new failed.within failed.after (record { header = refl; bytes = refl })
+filled-same false _ old new same = λ i. same-file (file_at old i) (file_at new i) (ap (λ l. file_at l i) same)
+filled-same true _ old new failed = absurd failed
 
 item-same : (shape : Shape) (old new : List FileParts) (place : Place) (i : Item) → SameFiles old new → IsItemAt shape new place i → IsItemAt shape old place i
 item-same shape old new (Header file) i same is = is ∙ ap (λ (h : HeaderParts). item.Block (record { number = 0; body = text h })) (same file).header
@@ -83,13 +55,11 @@ item-same shape old new (Block file k) i same is = (
     body = subst (λ (bytes : Option (List ℕ)). IfSome bytes (λ all. is.0.body ≡ piece_at shape all k)) (same file).bytes is.2.body;
   },
 )
-item-same shape old new (Eot file) i same is = is
-item-same shape old new End i same is = is
+item-same shape old new _ i same is = is
 
 frame-same : (shape late : Shape) (old new : List FileParts) (place : Place) (bytes : List ℕ) → late ≡ shape → SameFiles old new → IsFrameAt late new place bytes → IsFrameAt shape old place bytes
 frame-same shape late old new place bytes shape_is same is =
-    let there : IsItemAt shape new place is.item = subst (λ s. IsItemAt s new place is.item) shape_is is.there in
-    record { item = is.item; there = item-same shape old new place is.item same there; frame = is.frame }
+    record { item = is.item; there = item-same shape old new place is.item same (rw shape_is at is.there); frame = is.frame }
 
 acknowledged-same : (shape late : Shape) (old new : List FileParts) (places : List Place) (all : List Spoke) → late ≡ shape → SameFiles old new →
     AreAcknowledged late new places all → AreAcknowledged shape old places all
@@ -122,10 +92,6 @@ acknowledged-append shape files (place ∷ first) later (one ∷ front) all (inr
 
 -- ---- A run
 
--- what was written is the frame
-spoken-frame : (now : SendState) (mode : Mode) (farewell : Bool) (frame : List ℕ) → now ≡ Running → mode ≡ Sent → written_for (spoken_in now mode farewell frame) ≡ frame
-spoken-frame now mode farewell frame on sent = ap (λ s. written_for (spoken_in s mode farewell frame)) on ∙ ap (λ m. written_for (spoken_in Running m farewell frame)) sent
-
 -- Where it has finished: it has heard nothing, or the end block was acknowledged behind the frames passed.
 record Ends (s : SenderParts) (all : List Spoke) (new : SenderParts) (more : List Place) : Type 0 where
   place : new.standing.place ≡ End
@@ -157,73 +123,53 @@ passes-none s = record {
 
 passes-one : (s new : SenderParts) (one : Spoke) (failed : Bool) → IsSender s → s.standing.state ≡ Running → one.wrote ≡ written_for (spoken s) →
     IsStep s (hears (counts s) s.standing (controls_in one.came)) failed new → Passes s (one ∷ []) new
-passes-one s new one failed is on wrote step = by (step-moves s (controls_in one.came) failed new on step)
-  where
-    fills : Option Place
-    fills = (hears (counts s) s.standing (controls_in one.came)).fills
-
-    same_files : SameFiles s.files new.files
-    same_files = filled-same failed fills s.files new.files step.files
-
-    counts_same : counts new ≡ counts s
-    counts_same = ap (λ shape. counts_of shape new.files) step.shape ∙ filled_counts s.shape failed fills s.files new.files step.files
-
-    held : s.standing.mode ≡ Sent → one.wrote ≡ s.frame
-    held sent = wrote ∙ spoken-frame s.standing.state s.standing.mode s.standing.farewell s.frame on sent
-
-    ends : new.standing.state ≡ Finished → Ends s (one ∷ []) new []
-    ends over =
-        let at = step-finishes s (controls_in one.came) failed new on step over in
-        let frame : IsFrameAt s.shape s.files End s.frame = subst (λ place. IsFrameAt s.shape s.files place s.frame) at.place (is.frame on at.mode) in
-        record { place = at.after; acknowledged = inl (subst (IsFrameAt s.shape s.files End) (sym (held at.mode)) frame, at.ack, tt) }
-
-    by : Moves (counts s) s.standing.place s.standing.mode (controls_in one.came) new.standing.place → Passes s (one ∷ []) new
-    by (inl stayed) = record {
-      more = [];
-      finished = λ over. inr (ends over);
-      acknowledged = tt;
-      before = ap (places_before (counts s)) stayed ∙ sym (append-nil (places_before (counts s) s.standing.place));
-      shape = step.shape;
-      same = same_files;
-      counted = counts_same;
-    }
-    by (inr moved) =
-        record {
-          more = s.standing.place ∷ [];
-          finished = λ over. absurd (subst IsBefore (step-finishes s (controls_in one.came) failed new on step over).place moved.1);
-          acknowledged = inl (subst (IsFrameAt s.shape s.files s.standing.place) (sym (held moved.0)) (is.frame on moved.0), moved.2, tt);
-          before = ap (places_before (counts s)) moved.3 ∙ sym (before-next (counts s) s.standing.place is.place moved.1);
-          shape = step.shape;
-          same = same_files;
-          counted = counts_same;
-        }
+passes-one s new one failed is on wrote step =
+    let fills : Option Place = (hears (counts s) s.standing (controls_in one.came)).fills in
+    let same_files : SameFiles s.files new.files = filled-same failed fills s.files new.files step.files in
+    let counts_same : counts new ≡ counts s = ap (λ shape. counts_of shape new.files) step.shape ∙ filled_counts s.shape failed fills s.files new.files step.files in
+    let held : s.standing.mode ≡ Sent → IsFrameAt s.shape s.files s.standing.place one.wrote = λ sent. rw (wrote, on, sent) (is.frame on sent) in
+    elim (step-moves s (controls_in one.came) failed new on step) [
+      | inl stayed ↦ record {
+        more = [];
+        finished = λ over.
+            let at = step-finishes s (controls_in one.came) failed new on step over in
+            inr (record { place = at.after; acknowledged = inl (rw at.place at (held at.mode), at.ack, tt) });
+        acknowledged = tt;
+        before = ap (places_before (counts s)) stayed ∙ sym (append-nil (places_before (counts s) s.standing.place));
+        shape = step.shape;
+        same = same_files;
+        counted = counts_same;
+      }
+      | inr moved ↦ record {
+        more = s.standing.place ∷ [];
+        finished = λ over. absurd (subst IsBefore (step-finishes s (controls_in one.came) failed new on step over).place moved.1);
+        acknowledged = inl (held moved.0, moved.2, tt);
+        before = ap (places_before (counts s)) moved.3 ∙ sym (before-next (counts s) s.standing.place is.place moved.1);
+        shape = step.shape;
+        same = same_files;
+        counted = counts_same;
+      }
+    ]
 
 ends-early : (s between new : SenderParts) (first later : List Spoke) (one more : List Place) → new ≡ between → more ≡ [] → EndsOr s first between one → EndsOr s (first ++ later) new (one ++ more)
-ends-early s between new first later one more same none (inl early) = inl (same ∙ early.0, ap (λ front. front ++ more) early.1 ∙ none)
+ends-early s between new first later one more same none (inl early) = inl (same ∙ early.0, rw early.1 none)
 ends-early s between new first later one more same none (inr ends) =
-    let longer : (one ++ more) ++ End ∷ [] ≡ (one ++ End ∷ []) ++ [] =
-    ap (λ rest. (one ++ rest) ++ End ∷ []) none ∙ (ap (λ front. front ++ End ∷ []) (append-nil one) ∙ sym (append-nil (one ++ End ∷ []))) in
     inr (record {
       place = ap (λ (x : SenderParts). x.standing.place) same ∙ ends.place;
-      acknowledged = subst (λ places. AreAcknowledged s.shape s.files places (first ++ later)) (sym longer) (acknowledged-append s.shape s.files (one ++ End ∷ []) [] first later ends.acknowledged tt);
+      acknowledged = rw (none, append-nil one) (rw (append-nil (one ++ End ∷ [])) at (acknowledged-append s.shape s.files (one ++ End ∷ []) [] first later ends.acknowledged tt));
     })
 
 ends-then : (s between new : SenderParts) (first later : List Spoke) (one : Passes s first between) (more : List Place) → new.standing.state ≡ Finished → EndsOr between later new more →
     EndsOr s (first ++ later) new (one.more ++ more)
 ends-then s between new first later one more over (inl early) =
-    ends-early s between new first later one.more more early.0 early.1 (one.finished (subst (λ (x : SenderParts). x.standing.state ≡ Finished) early.0 over))
+    ends-early s between new first later one.more more early.0 early.1 (one.finished (rw early.0 at over))
 ends-then s between new first later one more over (inr ends) =
     let rest = acknowledged-same s.shape between.shape s.files between.files (more ++ End ∷ []) later one.shape one.same ends.acknowledged in
-    inr (record {
-      place = ends.place;
-      acknowledged = subst (λ places. AreAcknowledged s.shape s.files places (first ++ later)) (sym (append_assoc one.more more (End ∷ [])))
-          (acknowledged-append s.shape s.files one.more (more ++ End ∷ []) first later one.acknowledged rest);
-    })
+    inr (record { place = ends.place; acknowledged = rw append_assoc (acknowledged-append s.shape s.files one.more (more ++ End ∷ []) first later one.acknowledged rest) })
 
 passes-then : (s between new : SenderParts) (first later : List Spoke) → Passes s first between → Passes between later new → Passes s (first ++ later) new
 passes-then s between new first later one rest =
-    let behind : places_before (counts s) new.standing.place ≡ places_before (counts s) between.standing.place ++ rest.more =
-    subst (λ c. places_before c new.standing.place ≡ places_before c between.standing.place ++ rest.more) one.counted rest.before in
+    let behind = subst (λ c. places_before c new.standing.place ≡ places_before c between.standing.place ++ rest.more) one.counted rest.before in
     record {
       more = one.more ++ rest.more;
       finished = λ over. ends-then s between new first later one rest.more over (rest.finished over);
@@ -236,12 +182,10 @@ passes-then s between new first later one rest =
     }
 
 passes : (s : SenderParts) (t : Tape) (out : Outcome) (run : Sends s t out) → Passes s (spoke_in s t out run) out.sender
-passes s t out (ended _ _ over) = passes-none s
-passes s t out (unwritten _ _ is some) = passes-none s
-passes s t out (unread _ _ f is on none) = passes-none s
 passes s t out (heard _ _ bytes new _ is on some gives later) =
     let one : Spoke = record { wrote = written_for (spoken s); came = bytes } in
     passes-then s new out.sender (one ∷ []) (spoke_in new _ out later) (passes-one s new one gives.0 is on refl gives.1) (passes new _ out later)
+passes s t out _ = passes-none s
 
 passes-along : (s : SenderParts) (deliveries : List (List ℕ)) (progress : ℕ) (new : SenderParts) (hears : SenderHears s deliveries progress new) → Passes s (spoke_along s deliveries progress new hears) new
 passes-along s deliveries progress new (sender_none _) = passes-none s
@@ -265,25 +209,18 @@ done-front counts files End same = ([], ap (files_places counts) (sym same) ∙ 
 passed-before : (s new : SenderParts) (all : List Spoke) → s.standing ≡ new_standing (counts s) → Passes s all new → AreAcknowledged s.shape s.files (places_before (counts s) new.standing.place) all
 passed-before s new all fresh passed =
     let first : places_before (counts s) s.standing.place ≡ [] = ap (λ (x : Standing). places_before (counts s) x.place) fresh ∙ none-before (counts s) in
-    subst (λ places. AreAcknowledged s.shape s.files places all) (sym (passed.before ∙ ap (λ front. front ++ passed.more) first)) passed.acknowledged
+    rw (passed.before, first) passed.acknowledged
 
 passed-done : (s new : SenderParts) (all : List Spoke) → s.standing ≡ new_standing (counts s) → Passes s all new →
     AreAcknowledged s.shape s.files (files_places (counts s) (done_at (length s.files) new.standing.place)) all
 passed-done s new all fresh passed =
-    let long : length s.files ≡ length (counts s) = sym (length-map s.files _) in
-    let front = done-front (counts s) (length s.files) new.standing.place long in
+    let front = done-front (counts s) (length s.files) new.standing.place (sym (length-map s.files _)) in
     acknowledged-front s.shape s.files (files_places (counts s) (done_at (length s.files) new.standing.place)) front.0 all
-    (subst (λ places. AreAcknowledged s.shape s.files places all) front.1 (passed-before s new all fresh passed))
-
-fresh-runs : (s : SenderParts) → s.standing ≡ new_standing (counts s) → s.standing.state ≡ Running
-fresh-runs s fresh = ap (λ (x : Standing). x.state) fresh
-
-ended-fresh : Finished ≡ Running → ⊥
-ended-fresh same = absurd cc
+    (rw front.1 at (passed-before s new all fresh passed))
 
 passed-all : (s new : SenderParts) (all : List Spoke) → s.standing ≡ new_standing (counts s) → new.standing.state ≡ Finished → Passes s all new → AreAcknowledged s.shape s.files (batch_places (counts s)) all
 passed-all s new all fresh over passed = elim (passed.finished over) [
-  | inl none ↦ absurd (ended-fresh (sym over ∙ (ap (λ (x : SenderParts). x.standing.state) none.0 ∙ fresh-runs s fresh)))
+  | inl none ↦ let clash : Finished ≡ Running = sym over ∙ (ap (λ (x : SenderParts). x.standing.state) none.0 ∙ ap (λ (x : Standing). x.state) fresh) in absurd (cc)
   | inr ends ↦
       let first : places_before (counts s) s.standing.place ≡ [] = ap (λ (x : Standing). places_before (counts s) x.place) fresh ∙ none-before (counts s) in
       let whole : files_places (counts s) (length (counts s)) ≡ passed.more = ap (places_before (counts s)) (sym ends.place) ∙ (passed.before ∙ ap (λ front. front ++ passed.more) first) in

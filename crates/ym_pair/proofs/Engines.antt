@@ -1,33 +1,18 @@
 -- Two engines whose deliveries pair up stand where the machine goes, round for round; and where one has returned, the other goes on alone.
 use Rattle.std.proofs.Common.{◌≡◌, ◌∙◌, ◌⊎◌, ◌+◌, nat_lt, inl, inr, ℕ, Bool, false, List, [], ◌∷◌, All, refl, sym, ap, subst, Ok}
 use Rattle.std.proofs.lemmas.Bool.{cond_both}
-use Rattle.ym_frame.specs.declared.control.Reply.{Reply}
-use Rattle.ym_header.specs.Header.{HeaderParts}
-use Rattle.ym_machine.specs.declared.confirm.Confirm.{Confirm}
-use Rattle.ym_machine.specs.declared.limits.TheConstants.{GIVE_UP}
-use Rattle.ym_machine.specs.Frames.{Frame, frames_of, count_within, IsPrefix}
+use Rattle.ym_pair.proofs.Names.{Reply, HeaderParts, Confirm, GIVE_UP, frames_of, State, start, committed, reported, after_turn, Heard, controls_in, ReceiverParts, HearsGives, SenderParts, IsSender, Batch, IsFile, AreNew, Pair, sent_by, seen_of, PairStands, CommitsFirst, Delivery, Lost, Round, Spoke, Answered, ArrivesThere, ArrivesBack, SenderAlone, PairUp, ends, up_to_start}
+use Rattle.ym_machine.specs.Frames.{Frame, count_within, IsPrefix}
 use Rattle.ym_machine.specs.Halves as machine
-use Rattle.ym_machine.specs.Machine.{State, start, IsMachine, Answer, there, back, committed, reported}
+use Rattle.ym_machine.specs.Machine.{IsMachine, Answer, there, back}
 use Rattle.ym_machine.specs.State.{ReceiverEnd}
-use Rattle.ym_machine.specs.Run.{after_turn}
-use Rattle.ym_core.specs.declared.delivery.Heard.{Heard}
-use Rattle.ym_core.specs.Reading.{controls_in}
-use Rattle.ym_link.specs.ReceiverInto.{ReceiverParts, HearsGives}
 use Rattle.ym_link.specs.ReceiverStands.{KeepsFirst}
 use Rattle.ym_link.specs.ReceiverStands as receiver
-use Rattle.ym_link.specs.Sender.{SenderParts, IsSender}
-use Rattle.ym_link.specs.SenderStands.{Batch, SenderStands, AllTold}
-use Rattle.ym_file.specs.SourceFile.{IsFile}
-use Rattle.ym_line.specs.Promise.{AreNew, CommitsAPrefix}
-use Rattle.ym_line.specs.Rounds.{Pair, sent_by, seen_of}
-use Rattle.ym_line.specs.Turns.{PairStands, CommitsFirst}
-use Rattle.ym_line.specs.declared.delivery.Delivery.{Delivery}
-use Rattle.ym_line.specs.declared.delivery.Delivery.TheVariants.{Lost}
-use Rattle.ym_line.specs.declared.delivery.Round.{Round}
+use Rattle.ym_link.specs.SenderStands.{SenderStands, AllTold}
+use Rattle.ym_line.specs.Promise.{CommitsAPrefix}
 use Rattle.ym_line.proofs.Halves.{Laws, sender-still, still-told, source-truth, half-turn, goes-turn}
 use Rattle.ym_line.proofs.Promised as promised
-use Rattle.ym_pair.specs.Logs.{Spoke, Answered}
-use Rattle.ym_pair.specs.Pairing.{ArrivesThere, ArrivesBack, SenderAlone, ReceiverAlone, PairUp, ends, up_to_start}
+use Rattle.ym_pair.specs.Pairing.{ReceiverAlone}
 use Rattle.ym_pair.proofs.Paired.{Computed, HearsControls, SpeaksTo, IsWritten, AnswersTo, Leaves, there-of, nothing-back, paired-half, paired-round}
 
 -- ---- What the laws say
@@ -60,10 +45,7 @@ alone-at confirm files st s r stands = record {
 -- no frame is taken where none is heard
 bad-takes : (frames : List (Frame HeaderParts)) (confirm : Confirm) (end : ReceiverEnd) (st : State) → (machine.hears frames confirm false machine.Bad end st).0.taken ≡ st.taken
 bad-takes frames confirm ReceiverEnd.Running st = cond_both (nat_lt (st.receiver_count + 1) GIVE_UP) _ _ (λ (a : Answer). a.0.taken ≡ st.taken) (λ e. refl) (λ e. refl)
-bad-takes frames confirm ReceiverEnd.Finished st = refl
-bad-takes frames confirm ReceiverEnd.Cancelled st = refl
-bad-takes frames confirm ReceiverEnd.TooManyErrors st = refl
-bad-takes frames confirm ReceiverEnd.SinkFailed st = refl
+bad-takes frames confirm _ st = refl
 
 alone-hears : Endings → (confirm : Confirm) (files : Batch) (st : State) (s next : SenderParts) (r : ReceiverParts) →
     StandsAlone confirm files st s r → HearsControls s [] next → (st_new : State) × StandsAlone confirm files st_new next r
@@ -73,8 +55,7 @@ alone-hears endings confirm files st s next r stands heard =
     let half : State = (there frames confirm false false st).0 in
     let failed : Bool = heard.0 in
     let new : State = back frames failed [] half in
-    let keeps_receiver = laws.keeps_receiver files failed [] half in
-    let taken : new.taken ≡ st.taken = keeps_receiver.taken ∙ bad-takes frames confirm st.receiver st in (
+    let taken : new.taken ≡ st.taken = (laws.keeps_receiver files failed [] half).taken ∙ bad-takes frames confirm st.receiver st in (
       new,
       record {
         machine = laws.machine_back files confirm false false failed [] st stands.machine refl;
@@ -90,11 +71,9 @@ sender-alone : Endings → (confirm : Confirm) (files : Batch) (st : State) (s n
 sender-alone endings confirm files st s new r [] rounds stands speaks pairs = (st, subst (λ x. StandsAlone confirm files st x r) (sym speaks) stands)
 sender-alone endings confirm files st s new r (one ∷ spoke) [] stands speaks pairs = absurd pairs
 sender-alone endings confirm files st s new r (one ∷ spoke) (round ∷ rounds) stands speaks pairs =
-    let laws : Laws = endings.laws in
-    let next : SenderParts = speaks.0 in
-    let nothing : up_to_start (controls_in one.came) ≡ [] = nothing-back laws.within laws.whole round.back one.came pairs.1 in
-    let first = alone-hears endings confirm files st s next r stands (subst (λ controls. HearsControls s controls next) nothing speaks.4) in
-    sender-alone endings confirm files first.0 next new r spoke rounds first.1 speaks.5 pairs.2
+    let nothing : up_to_start (controls_in one.came) ≡ [] = nothing-back endings.laws.within endings.laws.whole round.back one.came pairs.1 in
+    let first = alone-hears endings confirm files st s speaks.0 r stands (subst (λ controls. HearsControls s controls speaks.0) nothing speaks.4) in
+    sender-alone endings confirm files first.0 speaks.0 new r spoke rounds first.1 speaks.5 pairs.2
 
 -- ---- A receiver alone
 
@@ -133,12 +112,10 @@ pub engines-stand : Endings → (confirm : Confirm) (files : Batch) (st : State)
     PairStands confirm files st (ends s r) → SpeaksTo s spoke new → Leaves new last → AnswersTo false r answered end → PairUp spoke last answered rounds →
     (st_new : State) × StandsAlone confirm files st_new new end
 engines-stand endings confirm files st s new r end [] last answered rounds stands speaks leaves answers pairs =
-    let stands_new : PairStands confirm files st (ends new r) = subst (λ x. PairStands confirm files st (ends x r)) (sym speaks) stands in
-    let behind = receiver-alone endings confirm files st new r end last answered rounds stands_new leaves answers pairs in
+    let behind = receiver-alone endings confirm files st new r end last answered rounds (subst (λ x. PairStands confirm files st (ends x r)) (sym speaks) stands) leaves answers pairs in
     (behind.0, alone-at confirm files behind.0 new end behind.1)
 engines-stand endings confirm files st s new r end (one ∷ spoke) last [] rounds stands speaks leaves answers pairs =
-    let stands_end : PairStands confirm files st (ends s end) = subst (λ x. PairStands confirm files st (ends s x)) (sym answers) stands in
-    sender-alone endings confirm files st s new end (one ∷ spoke) rounds (alone-at confirm files st s end stands_end) speaks pairs
+    sender-alone endings confirm files st s new end (one ∷ spoke) rounds (alone-at confirm files st s end (subst (λ x. PairStands confirm files st (ends s x)) (sym answers) stands)) speaks pairs
 engines-stand endings confirm files st s new r end (one ∷ spoke) last (answer ∷ answered) [] stands speaks leaves answers pairs = absurd pairs
 engines-stand endings confirm files st s new r end (one ∷ spoke) last (answer ∷ answered) (round ∷ rounds) stands speaks leaves answers (there_pairs, inl (back_pairs, later)) =
     let next : SenderParts = speaks.0 in
@@ -178,8 +155,8 @@ engines-commit endings laws s new r end spoke last answered rounds fresh within 
     let confirm : Confirm = promised.confirm_of old in
     let files : Batch = promised.batch_to_send old in
     let behind = engines-stand endings confirm files start s new r end spoke last answered rounds (promised.new-stands laws.new_stand old fresh within) speaks leaves answers pairs in
-    let first : CommitsFirst files behind.0 (ends new (with_end behind.0 end)) = alone-commits endings confirm files behind.0 new end behind.1 in
-    let commits : CommitsAPrefix s.files (ends new (with_end behind.0 end)) = promised.commits-prefix laws s.shape s.files behind.0 (ends new (with_end behind.0 end)) within fresh.tells first in
+    let first = alone-commits endings confirm files behind.0 new end behind.1 in
+    let commits = promised.commits-prefix laws s.shape s.files behind.0 (ends new (with_end behind.0 end)) within fresh.tells first in
     record {
       number = commits.number;
       within = commits.within;

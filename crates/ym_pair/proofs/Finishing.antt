@@ -2,42 +2,22 @@
 use Rattle.std.proofs.Common.{◌≡◌, ◌≢◌, ◌∙◌, ◌≤◌, inl, inr, ℕ, true, false, List, [], ◌∷◌, length, map, Ok, Result, All, refl, sym, ap, subst, arith}
 use Rattle.std.proofs.lemmas.List.{length-map}
 use Rattle.std.proofs.lemmas.Simd.{map-map}
-use Rattle.ym_frame.specs.declared.control.Reply.{Reply}
-use Rattle.ym_frame.specs.declared.control.Reply.TheVariants.{Silence}
-use Rattle.ym_header.specs.Header.{HeaderParts}
-use Rattle.ym_header.specs.declared.fault.HeaderFault.{HeaderFault}
-use Rattle.ym_header.specs.declared.reading.Zero.{Zero}
+use Rattle.ym_pair.proofs.Names.{Silence, HeaderParts, HeaderFault, Zero, Confirm, BURST, frames_of, State, start, committed, reported, Receiver, Step, No_call, hears_at, Bad, RecvState, ReceiverParts, HearsGives, called, SenderParts, Batch, IsFile, longest_bad_run, AreNew, Pair, sent_by, seen_of, CommitsFirst, Lost, Round, Spoke, Answered, SenderAlone, PairUp, ends}
 use Rattle.ym_header.specs.declared.reading.Zero.TheVariants.{End}
-use Rattle.ym_file.specs.declared.plan.Shape.{Shape}
-use Rattle.ym_machine.specs.declared.confirm.Confirm.{Confirm}
-use Rattle.ym_machine.specs.declared.limits.TheConstants.{BURST}
-use Rattle.ym_machine.specs.Frames.{File, frames_of, files_within}
-use Rattle.ym_machine.specs.Machine.{State, start, committed, reported}
+use Rattle.ym_machine.specs.Frames.{File, files_within}
 use Rattle.ym_machine.proofs.Places.{all-within, frames-end}
 use Rattle.ym_machine.proofs.ShortBursts.{got-all, start-fine}
-use Rattle.ym_core.specs.Receiver.{Receiver, Step, No_call, hears_at}
-use Rattle.ym_core.specs.declared.delivery.Heard.TheVariants.{Bad}
-use Rattle.ym_core.specs.declared.state.RecvState.{RecvState}
 use Rattle.ym_core.specs.declared.state.RecvState.TheVariants as recv_state
 use Rattle.ym_core.specs.declared.state.SendState.TheVariants as send_state
-use Rattle.ym_link.specs.ReceiverInto.{ReceiverParts, HearsGives, called}
 use Rattle.ym_link.specs.ReceiverStands.{bytes_of}
 use Rattle.ym_link.specs.ReceiverStands as receiver
-use Rattle.ym_link.specs.Sender.{SenderParts}
-use Rattle.ym_link.specs.SenderStands.{Batch, file_of}
-use Rattle.ym_file.specs.SourceFile.{IsFile}
-use Rattle.ym_line.specs.Completion.{NoneRose, longest_bad_run}
-use Rattle.ym_line.specs.Promise.{AreNew}
-use Rattle.ym_line.specs.Rounds.{Pair, sent_by, seen_of}
-use Rattle.ym_line.specs.Turns.{CommitsFirst}
-use Rattle.ym_line.specs.declared.delivery.Delivery.TheVariants.{Lost}
-use Rattle.ym_line.specs.declared.delivery.Round.{Round}
+use Rattle.ym_link.specs.SenderStands.{file_of}
+use Rattle.ym_line.specs.Completion.{NoneRose}
 use Rattle.ym_line.proofs.Completing.{sender-going, sender-finished}
 use Rattle.ym_line.proofs.Halves.{source-truth}
 use Rattle.ym_line.proofs.Promised.{Laws, all-bytes, batch_to_send, confirm_of, known, new-stands}
 use Rattle.ym_line.proofs.Truths.{sink-true, source-true}
-use Rattle.ym_pair.specs.Logs.{Spoke, Answered}
-use Rattle.ym_pair.specs.Pairing.{ArrivesThere, ArrivesBack, SenderAlone, PairUp, HaveBothFinished, ends}
+use Rattle.ym_pair.specs.Pairing.{HaveBothFinished}
 use Rattle.ym_pair.proofs.Fronts.{TurnLaws, Front, Onward, IsShort, IsCalm, front-goes, front-is, answers-grew, speaks-grew, calm-there, calm-back, turns-longest}
 use Rattle.ym_pair.proofs.Ghosts.{Comes, ghost, comes-along, comes-waiting}
 use Rattle.ym_pair.proofs.Paired.{SpeaksTo, AnswersTo, bad-lost, paired-round}
@@ -46,19 +26,12 @@ use Rattle.ym_pair.proofs.Paired.{SpeaksTo, AnswersTo, bad-lost, paired-round}
 
 silent-step : (now : RecvState) (r : Receiver) (zero : Result Zero HeaderFault) → now ≢ recv_state.Running → hears_at now r zero Bad ≡ record { receiver = r; reply = Silence; call = No_call }
 silent-step recv_state.Running r zero over = absurd (over refl)
-silent-step recv_state.Finished r zero over = refl
-silent-step recv_state.TooManyErrors r zero over = refl
-silent-step recv_state.Cancelled r zero over = refl
-silent-step recv_state.OutOfStep r zero over = refl
-silent-step (recv_state.BadHeader fault) r zero over = refl
-silent-step recv_state.TooManyFiles r zero over = refl
-silent-step recv_state.SinkFailed r zero over = refl
+silent-step _ r zero over = refl
 
 silent : (r : ReceiverParts) → r.receiver.state ≢ recv_state.Running → HearsGives r Bad (Ok Silence) r
 silent r over =
-    let zero : Result Zero HeaderFault = Ok End in
-    let same = silent-step r.receiver.state r.receiver zero over in (
-      zero,
+    let same = silent-step r.receiver.state r.receiver (Ok End) over in (
+      Ok End,
       λ block on. absurd (over on),
       (
         false,
@@ -71,12 +44,6 @@ silent r over =
         },
       ),
     )
-
-nothing-lost : (wrote : List ℕ) → ArrivesThere Lost wrote Bad
-nothing-lost wrote = bad-lost wrote Bad refl
-
-reply-lost : (reply : Reply) → ArrivesBack Lost reply []
-reply-lost reply = record { shows = tt; short = tt; heard_is = refl }
 
 -- ---- Round for round
 
@@ -96,13 +63,13 @@ module _ (laws : TurnLaws) (confirm : Confirm) (files : Batch) where
       let next : SenderParts = speaks.0 in
       let comes : Comes front.misses s _ next = comes-along front.misses s _ next front.few speaks.2 speaks.4 in
       let made : Round = record { there = Lost; back = round.back } in
-      let goes = paired-round laws.computed (ghost front.misses s) comes.new end end one.came Bad Silence Lost round.back (front-is confirm files on.before s end front speaks.1) comes.heard (silent end over) (nothing-lost (sent_by s)) pairs.1 in
-      let truth = source-truth speaks.4.0 _ s.files next.files speaks.4.1.files in
+      let goes = paired-round laws.computed (ghost front.misses s) comes.new end end one.came Bad Silence Lost round.back (front-is confirm files on.before s end front speaks.1)
+      comes.heard (silent end over) (bad-lost (sent_by s) Bad refl) pairs.1 in
       let onward : Onward confirm files rounds next end = front-goes laws confirm files on.before made rounds s next end end _ (seen_of made (ghost front.misses s) Silence) front comes goes
       (λ failed tells. sink-true failed end.failures end.failures end.failures tells (omega arith) calm.sink)
       (λ failed found. source-true failed s.files next.files new.files found (speaks-grew next new spoke speaks.5) calm.sources)
       (subst (λ there. IsShort on.before (record { there = there; back = round.back } ∷ rounds)) pairs.0 on.short) in
-      sender-reaches next new end spoke rounds onward speaks.5 over pairs.2 (calm-back s next new end end speaks.4.0 calm truth)
+      sender-reaches next new end spoke rounds onward speaks.5 over pairs.2 (calm-back s next new end end speaks.4.0 calm (source-truth speaks.4.0 _ s.files next.files speaks.4.1.files))
 
   -- the sender has ended: where it has finished, so has the receiver
   all-heard : (s : SenderParts) (r end : ReceiverParts) (before : ℕ) (answered : List Answered) → Front confirm files before s r → s.standing.state ≢ send_state.Running → AnswersTo true r answered end → Reached confirm files s end
@@ -128,26 +95,23 @@ module _ (laws : TurnLaws) (confirm : Confirm) (files : Batch) where
       let front : Front confirm files on.before s r = on.front in
       let next : SenderParts = speaks.0 in
       let after : ReceiverParts = answers.0 in
-      let reply : Reply = answers.1 in
       let comes : Comes front.misses s _ next = comes-along front.misses s _ next front.few speaks.2 speaks.4 in
-      let goes = paired-round laws.computed (ghost front.misses s) comes.new r after one.came answer.heard reply round.there round.back (front-is confirm files on.before s r front speaks.1) comes.heard answers.3
-      (subst (λ wrote. ArrivesThere round.there wrote answer.heard) speaks.3 there_pairs) (subst (λ wrote. ArrivesBack round.back wrote one.came) answers.4 back_pairs) in
-      let truth = source-truth speaks.4.0 _ s.files next.files speaks.4.1.files in
-      let onward : Onward confirm files rounds next after = front-goes laws confirm files on.before round rounds s next r after _ (seen_of round (ghost front.misses s) reply) front comes goes
+      let goes = paired-round laws.computed (ghost front.misses s) comes.new r after one.came answer.heard answers.1 round.there round.back (front-is confirm files on.before s r front speaks.1) comes.heard answers.3
+      (rw speaks.3 at there_pairs) (rw answers.4 at back_pairs) in
+      let onward : Onward confirm files rounds next after = front-goes laws confirm files on.before round rounds s next r after _ (seen_of round (ghost front.misses s) answers.1) front comes goes
       (λ failed tells. sink-true failed r.failures after.failures end.failures tells (answers-grew after end answered answers.5) calm.sink)
       (λ failed found. source-true failed s.files next.files new.files found (speaks-grew next new spoke speaks.5) calm.sources)
       on.short in
       reaches-end next new after end spoke last answered rounds onward speaks.5 answers.5 over ended later
-      (calm-there next new r after end answers.3.2.0 (calm-back s next new r end speaks.4.0 calm truth) answers.3.2.1.truth)
+      (calm-there next new r after end answers.3.2.0 (calm-back s next new r end speaks.4.0 calm (source-truth speaks.4.0 _ s.files next.files speaks.4.1.files)) answers.3.2.1.truth)
   reaches-end s new r end (one ∷ spoke) last (answer ∷ answered) (round ∷ rounds) on speaks answers over ended (there_pairs, inr (lost, later)) calm =
       let front : Front confirm files on.before s r = on.front in
       let after : ReceiverParts = answers.0 in
-      let reply : Reply = answers.1 in
       let made : Round = record { there = round.there; back = Lost } in
       let comes : Comes front.misses s [] s = comes-waiting front.misses s front.few speaks.2 in
-      let goes = paired-round laws.computed (ghost front.misses s) comes.new r after [] answer.heard reply round.there Lost (front-is confirm files on.before s r front speaks.1) comes.heard answers.3
-      (subst (λ wrote. ArrivesThere round.there wrote answer.heard) speaks.3 there_pairs) (reply-lost reply) in
-      let onward : Onward confirm files rounds s after = front-goes laws confirm files on.before made rounds s s r after [] (seen_of made (ghost front.misses s) reply) front comes goes
+      let goes = paired-round laws.computed (ghost front.misses s) comes.new r after [] answer.heard answers.1 round.there Lost (front-is confirm files on.before s r front speaks.1) comes.heard answers.3
+      (rw speaks.3 at there_pairs) (record { shows = tt; short = tt; heard_is = refl }) in
+      let onward : Onward confirm files rounds s after = front-goes laws confirm files on.before made rounds s s r after [] (seen_of made (ghost front.misses s) answers.1) front comes goes
       (λ failed tells. sink-true failed r.failures after.failures end.failures tells (answers-grew after end answered answers.5) calm.sink)
       (λ failed found. source-true failed s.files s.files new.files found (speaks-grew s new (one ∷ spoke) speaks) calm.sources)
       (subst (λ back. IsShort on.before (record { there = round.there; back = back } ∷ rounds)) lost on.short) in
@@ -162,7 +126,6 @@ engines-finish laws turns s new r end spoke last answered rounds fresh within sp
     let old : Pair = ends s r in
     let confirm : Confirm = confirm_of old in
     let files : Batch = batch_to_send old in
-    let shape : Shape = s.shape in
     let first : Front confirm files 0 s r = record {
       st = start;
       misses = s.standing.misses;
@@ -178,16 +141,14 @@ engines-finish laws turns s new r end spoke last answered rounds fresh within sp
     let send : new.standing.state ≡ send_state.Finished = elim (sender-going st.sender new.standing.state front.stands.sender.standing.state front.fine.going.0) [ inl runs ↦ absurd (over runs) | inr done ↦ done ] in
     let sent = sender-finished st.sender (sym front.stands.sender.standing.state ∙ send) in
     let took = got-all confirm (frames_of files) st front.fine.machine sent in
-    let all_sent : st.acknowledged ≡ length (frames_of files) = front.fine.machine.counters.sender_done.1 sent in
-    let all_taken : st.taken ≡ length (frames_of files) = front.fine.machine.counters.receiver_done.1 took in
-    let reported_is : reported files st ≡ files = ap (files_within files) all_sent ∙ all-within files in
-    let committed_is : committed files st ≡ files = ap (files_within files) all_taken ∙ all-within files in
+    let reported_is : reported files st ≡ files = ap (files_within files) (front.fine.machine.counters.sender_done.1 sent) ∙ all-within files in
+    let committed_is : committed files st ≡ files = ap (files_within files) (front.fine.machine.counters.receiver_done.1 took) ∙ all-within files in
     record {
       send = send;
       recv = commits.recv_is ∙ ap receiver.state_of took;
-      done = commits.done_is ∙ (ap length reported_is ∙ length-map s.files (file_of shape));
-      files = commits.files_is ∙ (ap length committed_is ∙ length-map s.files (file_of shape));
-      headers = commits.headers ∙ (ap (map (λ (f : File HeaderParts). f.header)) committed_is ∙ map-map (λ (f : File HeaderParts). f.header) (file_of shape) s.files);
+      done = commits.done_is ∙ (ap length reported_is ∙ length-map s.files (file_of s.shape));
+      files = commits.files_is ∙ (ap length committed_is ∙ length-map s.files (file_of s.shape));
+      headers = commits.headers ∙ (ap (map (λ (f : File HeaderParts). f.header)) committed_is ∙ map-map (λ (f : File HeaderParts). f.header) (file_of s.shape) s.files);
       bytes = λ told told_is. ap (map known) (commits.bytes told told_is ∙ ap (map bytes_of) committed_is)
-          ∙ (ap (map known) (map-map bytes_of (file_of shape) s.files) ∙ (map-map known (λ f. bytes_of (file_of shape f)) s.files ∙ all-bytes laws shape s.files within fresh.tells));
+          ∙ (ap (map known) (map-map bytes_of (file_of s.shape) s.files) ∙ (map-map known (λ f. bytes_of (file_of s.shape f)) s.files ∙ all-bytes laws s.shape s.files within fresh.tells));
     }

@@ -1,31 +1,18 @@
 -- Where no bad run is longer than a burst, and no failure count rises, each round of a pair that has not given up leads to one that has not.
 use Rattle.std.proofs.Common.{◌≡◌, ◌≢◌, ◌∙◌, ◌≤◌, ◌<◌, ◌+◌, ◌⊎◌, inl, inr, ℕ, Bool, true, false, List, [], ◌∷◌, length, refl, sym, ap, subst, arith}
-use Rattle.ym_frame.specs.declared.control.Control.{Control}
+use Rattle.ym_pair.proofs.Names.{Control, Confirm, BURST, frames_of, State, after_turn, SendState, ReceiverParts, SenderParts, IsSender, Batch, FileParts, file_at, longest_bad_run, Pair, Goes, PairStands, Round, Spoke, Answered, ends}
 use Rattle.ym_file.specs.Counts.{Rose}
-use Rattle.ym_machine.specs.declared.confirm.Confirm.{Confirm}
-use Rattle.ym_machine.specs.declared.limits.TheConstants.{BURST}
-use Rattle.ym_machine.specs.Frames.{frames_of}
-use Rattle.ym_machine.specs.Machine.{State}
-use Rattle.ym_machine.specs.Run.{Turn, IsDamage, after_turn}
+use Rattle.ym_machine.specs.Run.{Turn, IsDamage}
 use Rattle.ym_machine.specs.Run as machine
 use Rattle.ym_machine.proofs.Places.{frames-end}
 use Rattle.ym_machine.proofs.ShortBursts.{IsFine, one-fine}
-use Rattle.ym_core.specs.declared.state.SendState.{SendState}
 use Rattle.ym_core.specs.declared.state.SendState.TheVariants as send_state
-use Rattle.ym_link.specs.ReceiverInto.{ReceiverParts, Tells}
-use Rattle.ym_link.specs.Sender.{SenderParts, IsSender}
-use Rattle.ym_link.specs.SenderStands.{Batch}
-use Rattle.ym_file.specs.SourceFile.{FileParts, file_at}
-use Rattle.ym_line.specs.Completion.{longest_bad_run}
-use Rattle.ym_line.specs.Rounds.{Pair, Goes}
-use Rattle.ym_line.specs.Turns.{AreTurns, IsTurn, IsSourceTruth, PairStands, TakesATurn, turn_of}
-use Rattle.ym_line.specs.declared.delivery.Round.{Round}
+use Rattle.ym_link.specs.ReceiverInto.{Tells}
+use Rattle.ym_line.specs.Turns.{AreTurns, IsTurn, IsSourceTruth, TakesATurn, turn_of}
 use Rattle.ym_line.specs.declared.trace.Seen.{Seen}
 use Rattle.ym_line.proofs.Completing.{sender-going, sender-runs}
 use Rattle.ym_line.proofs.Halves.{source-truth}
 use Rattle.ym_line.proofs.Truths.{rose-behind, sources-grew, sources-long, tells-grew, whole-turn}
-use Rattle.ym_pair.specs.Logs.{Spoke, Answered}
-use Rattle.ym_pair.specs.Pairing.{ends}
 use Rattle.ym_pair.proofs.Ghosts.{Comes, ghost}
 use Rattle.ym_pair.proofs.Paired.{Computed, SpeaksTo, AnswersTo}
 

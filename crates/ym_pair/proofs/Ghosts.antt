@@ -1,20 +1,12 @@
 -- A sender and one that is like it but has missed more: they hear alike, until that one gives up.
 use Rattle.std.proofs.Common.{◌≡◌, ◌≢◌, ◌∙◌, ◌+◌, ◌<◌, ◌≤◌, ◌⊎◌, inl, inr, ℕ, Bool, true, false, nat_lt, List, [], Option, None, Some, refl, sym, ap, subst, arith}
 use Rattle.std.proofs.lemmas.Bool.{cond_both, ltb-true, ltb-false}
-use Rattle.ym_frame.specs.declared.control.Control.{Control}
-use Rattle.ym_machine.specs.declared.limits.TheConstants.{GIVE_UP}
-use Rattle.ym_core.specs.Reading.{reads}
-use Rattle.ym_core.specs.Standing.{missed, read_through, after_reading, after_fill, hears, hears_in, step}
-use Rattle.ym_core.specs.declared.place.Mode.{Mode}
-use Rattle.ym_core.specs.declared.place.Mode.TheVariants.{Waiting, Sent}
-use Rattle.ym_core.specs.declared.place.Place.{Place}
-use Rattle.ym_core.specs.declared.reading.Reading.{Reading}
-use Rattle.ym_core.specs.declared.reading.Stop.{Stop}
-use Rattle.ym_core.specs.declared.reading.Stop.TheVariants.{Sends, Again, Finishes, Cancels}
-use Rattle.ym_core.specs.declared.standing.Standing.{Standing}
+use Rattle.ym_pair.proofs.Names.{Control, GIVE_UP, reads, missed, read_through, after_reading, after_fill, hears, hears_in, Mode, Waiting, Sent, Place, Reading, Stop, Again, Finishes, Standing, Running, SenderParts, IsStep, IsFilled, counts}
+use Rattle.ym_core.specs.Standing.{step}
+use Rattle.ym_core.specs.declared.reading.Stop.TheVariants.{Sends, Cancels}
 use Rattle.ym_core.specs.declared.standing.SendStep.{SendStep as Step}
-use Rattle.ym_core.specs.declared.state.SendState.TheVariants.{Running, NoReply}
-use Rattle.ym_link.specs.Sender.{SenderParts, IsHeld, IsStep, IsFilled, counts}
+use Rattle.ym_core.specs.declared.state.SendState.TheVariants.{NoReply}
+use Rattle.ym_link.specs.Sender.{IsHeld}
 use Rattle.ym_pair.proofs.Paired.{HearsControls}
 
 -- ---- Standings that differ in the misses alone
@@ -70,8 +62,7 @@ missed-alike failed s m few = elim (missed-is (with_misses m s)) [
 through-alike : (failed : Bool) (s : Standing) (m : ℕ) (place : Place) (old new : Mode) → s.misses ≤ m → Alike failed (read_through (with_misses m s) place old new) (read_through s place old new)
 through-alike failed s m place Sent Sent few = missed-alike failed s m few
 through-alike failed s m place Waiting Waiting few = missed-alike failed s m few
-through-alike failed s m place Sent Waiting few = step-alike failed _ _ (same-like _)
-through-alike failed s m place Waiting Sent few = step-alike failed _ _ (same-like _)
+through-alike failed s m place _ _ few = step-alike failed _ _ (same-like _)
 
 reading-alike : (failed : Bool) (s : Standing) (m : ℕ) (place : Place) (mode : Mode) (stop : Option Stop) → s.misses ≤ m → Alike failed (after_reading (with_misses m s) place mode stop) (after_reading s place mode stop)
 reading-alike failed s m place mode None few = through-alike failed s m place s.mode mode few
@@ -89,15 +80,12 @@ hears-alike failed counts s m cs few on =
 through-fills : (s : Standing) (m : ℕ) (place : Place) (old new : Mode) → (read_through (with_misses m s) place old new).fills ≡ (read_through s place old new).fills
 through-fills s m place Sent Sent = missed-fills (with_misses m s) ∙ sym (missed-fills s)
 through-fills s m place Waiting Waiting = missed-fills (with_misses m s) ∙ sym (missed-fills s)
-through-fills s m place Sent Waiting = refl
-through-fills s m place Waiting Sent = refl
+through-fills s m place _ _ = refl
 
 reading-fills : (s : Standing) (m : ℕ) (place : Place) (mode : Mode) (stop : Option Stop) → (after_reading (with_misses m s) place mode stop).fills ≡ (after_reading s place mode stop).fills
 reading-fills s m place mode None = through-fills s m place s.mode mode
 reading-fills s m place mode (Some Again) = missed-fills (with_misses m s) ∙ sym (missed-fills s)
-reading-fills s m place mode (Some Sends) = refl
-reading-fills s m place mode (Some Finishes) = refl
-reading-fills s m place mode (Some Cancels) = refl
+reading-fills s m place mode (Some _) = refl
 
 hears-fills : (counts : List ℕ) (s : Standing) (m : ℕ) (cs : List Control) → s.state ≡ Running → (hears counts (with_misses m s) cs).fills ≡ (hears counts s cs).fills
 hears-fills counts s m cs on =
@@ -141,8 +129,7 @@ comes-along m s cs next few on heard =
       );
       files = refl;
       goes_on = λ other.
-          let like : IsLike (behind failed x) (behind failed y) = hears-alike failed (counts s) s.standing m cs few on other in
-          let there : IsLike (behind failed x) next.standing = subst (IsLike (behind failed x)) (sym heard.1.standing) like in
+          let there : IsLike (behind failed x) next.standing = subst (IsLike (behind failed x)) (sym heard.1.standing) (hears-alike failed (counts s) s.standing m cs few on other) in
           (there.0, there.1, ap (λ standing. record next { standing = standing }) there.2);
     }
 

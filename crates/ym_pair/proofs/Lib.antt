@@ -1,3 +1,4 @@
+mod Names
 pub mod Acknowledged
 pub mod Engines
 pub mod Finishing

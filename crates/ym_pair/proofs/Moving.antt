@@ -1,44 +1,18 @@
 -- What a delivery does to the place of a sender: it stays, or goes past a frame that was sent and acknowledged; and so it finishes behind the end block.
-use Rattle.std.proofs.Common.{◌≡◌, ◌∙◌, ◌+◌, ◌-◌, ◌≤◌, ◌⊎◌, inl, inr, ℕ, zero, suc, Bool, true, false, nat_lt, List, [], ◌∷◌, ◌++◌, length, Option, None, Some, refl, sym, ap, subst, arith, add-one, append_assoc}
+use Rattle.std.proofs.Common.{◌≡◌, ◌∙◌, ◌+◌, ◌-◌, ◌≤◌, ◌⊎◌, inl, inr, ℕ, zero, suc, Bool, true, nat_lt, List, [], ◌∷◌, ◌++◌, length, Option, None, Some, refl, sym, ap, subst, arith, add-one, append_assoc}
 use Rattle.std.proofs.lemmas.Bool.{cond_both, ltb-false}
-use Rattle.ym_frame.specs.declared.control.Control.{Control}
-use Rattle.ym_frame.specs.declared.control.Control.TheVariants.{Ack, Nak, Start, Can}
-use Rattle.ym_pair.specs.AnyPeer.{SaysAck, block_places, files_places, places_before}
-use Rattle.ym_core.specs.Place.{IsPlace, count_at, next_of}
-use Rattle.ym_core.specs.Reading.{reads}
-use Rattle.ym_link.specs.Sender.{SenderParts, IsStep, counts}
-use Rattle.ym_core.specs.Standing.{missed, read_through, after_reading, after_fill, hears, hears_in}
-use Rattle.ym_core.specs.declared.place.Place.{Place}
-use Rattle.ym_core.specs.declared.place.Place.TheVariants.{Header, Block, Eot, End}
-use Rattle.ym_core.specs.declared.place.Mode.{Mode}
-use Rattle.ym_core.specs.declared.place.Mode.TheVariants.{Waiting, Sent}
-use Rattle.ym_core.specs.declared.reading.Reading.{Reading}
-use Rattle.ym_core.specs.declared.reading.Stop.{Stop}
-use Rattle.ym_core.specs.declared.reading.Stop.TheVariants.{Sends as Stop_sends, Again, Finishes, Cancels}
-use Rattle.ym_core.specs.declared.standing.Standing.{Standing}
+use Rattle.ym_pair.proofs.Names.{Control, Ack, Can, block_places, files_places, places_before, IsPlace, count_at, next_of, reads, SenderParts, IsStep, counts, missed, read_through, after_reading, after_fill, hears, hears_in, Place, Header, Block, Eot, End, Mode, Waiting, Sent, Reading, Stop, Again, Finishes, Standing, Running, Finished, GIVE_UP}
+use Rattle.ym_pair.specs.AnyPeer.{SaysAck}
 use Rattle.ym_core.specs.declared.standing.SendStep.{SendStep as Step}
-use Rattle.ym_core.specs.declared.state.SendState.TheVariants.{Running, Finished}
 use Rattle.ym_link.proofs.Steps.{IsBefore, Reaches, stays, cancels, again, finishes, sends, waits_next, sends_next, cancels_next, reaches}
-use Rattle.ym_machine.specs.declared.limits.TheConstants.{GIVE_UP}
 
 -- ---- One place more
 
-before-block : (counts : List ℕ) (file k : ℕ) → 1 ≤ k → places_before counts (Block file k) ++ Block file k ∷ [] ≡ places_before counts (Block file (k + 1))
-before-block counts file zero least = absurd (omega arith)
-before-block counts file (suc j) least =
+before-block : (counts : List ℕ) (file k n : ℕ) → 1 ≤ k → k ≡ n → places_before counts (Block file k) ++ Block file k ∷ [] ≡ files_places counts file ++ (Header file ∷ block_places file n)
+before-block counts file zero n least last = absurd (omega arith)
+before-block counts file (suc j) n least last =
     let less : suc j - 1 ≡ j = omega arith in
-    let more : suc j + 1 - 1 ≡ suc j = omega arith in
-    append_assoc (files_places counts file) (Header file ∷ block_places file (suc j - 1)) (Block file (suc j) ∷ [])
-    ∙ (ap (λ n. files_places counts file ++ (Header file ∷ (block_places file n ++ Block file (suc j) ∷ []))) less
-    ∙ ap (λ n. files_places counts file ++ (Header file ∷ block_places file n)) (sym more))
-
-before-eot : (counts : List ℕ) (file k : ℕ) → 1 ≤ k → k ≡ count_at counts file → places_before counts (Block file k) ++ Block file k ∷ [] ≡ places_before counts (Eot file)
-before-eot counts file zero least last = absurd (omega arith)
-before-eot counts file (suc j) least last =
-    let less : suc j - 1 ≡ j = omega arith in
-    append_assoc (files_places counts file) (Header file ∷ block_places file (suc j - 1)) (Block file (suc j) ∷ [])
-    ∙ (ap (λ n. files_places counts file ++ (Header file ∷ (block_places file n ++ Block file (suc j) ∷ []))) less
-    ∙ ap (λ n. files_places counts file ++ (Header file ∷ block_places file n)) last)
+    rw (append_assoc, less) (ap (λ n. files_places counts file ++ (Header file ∷ block_places file n)) last)
 
 before-file : (counts : List ℕ) (file : ℕ) → places_before counts (Eot file) ++ Eot file ∷ [] ≡ files_places counts (file + 1)
 before-file counts file =
@@ -52,8 +26,8 @@ before-next counts (Header file) within before =
     (λ e. let none = ltb-false 0 (count_at counts file) e in let zero_is : 0 ≡ count_at counts file = omega (arith, none) in ap (λ n. files_places counts file ++ (Header file ∷ block_places file n)) zero_is)
 before-next counts (Block file k) within before =
     cond_both (nat_lt k (count_at counts file)) (Block file (k + 1)) (Eot file) (λ p. places_before counts (Block file k) ++ Block file k ∷ [] ≡ places_before counts p)
-    (λ e. before-block counts file k within.1)
-    (λ e. let most = ltb-false k (count_at counts file) e in let last = within.2 in before-eot counts file k within.1 (omega (arith, most, last)))
+    (λ e. before-block counts file k (k + 1 - 1) within.1 (omega arith))
+    (λ e. let most = ltb-false k (count_at counts file) e in let last = within.2 in before-block counts file k (count_at counts file) within.1 (omega (arith, most, last)))
 before-next counts (Eot file) within before =
     cond_both (nat_lt (file + 1) (length counts)) (Header (file + 1)) End (λ p. places_before counts (Eot file) ++ Eot file ∷ [] ≡ places_before counts p)
     (λ e. before-file counts file)
@@ -67,15 +41,9 @@ abbrev pub Moves : List ℕ → Place → Mode → List Control → Place → Ty
 Moves counts place mode cs new = (new ≡ place) ⊎ ((mode ≡ Sent) × IsBefore place × SaysAck cs × (new ≡ next_of counts place))
 
 acked : (counts : List ℕ) (place : Place) (cs : List Control) → ((reads counts place Sent cs).place ≡ place) ⊎ SaysAck cs
-acked counts place [] = inl refl
 acked counts place (Ack ∷ cs) = inr tt
-acked counts place (Nak ∷ cs) = inl refl
-acked counts place (Start ∷ cs) = inl refl
-acked counts place (Can ∷ []) = inl refl
-acked counts place (Can ∷ Can ∷ cs) = inl refl
 acked counts place (Can ∷ Ack ∷ cs) = inr tt
-acked counts place (Can ∷ Nak ∷ cs) = inl refl
-acked counts place (Can ∷ Start ∷ cs) = inl refl
+acked counts place _ = inl refl
 
 moves-next : (counts : List ℕ) (place : Place) (mode : Mode) (cs : List Control) → mode ≡ Sent → IsBefore place → (reads counts place mode cs).place ≡ next_of counts place →
     Moves counts place mode cs (reads counts place mode cs).place
@@ -101,24 +69,18 @@ missed-place s = cond_both (nat_lt (s.misses + 1) GIVE_UP) _ _ (λ (x : Step). x
 through-place : (s : Standing) (place : Place) (old new : Mode) → ((read_through s place old new).standing.place ≡ s.place) ⊎ ((read_through s place old new).standing.place ≡ place)
 through-place s place Sent Sent = inl (missed-place s)
 through-place s place Waiting Waiting = inl (missed-place s)
-through-place s place Sent Waiting = inr refl
-through-place s place Waiting Sent = inr refl
+through-place s place _ _ = inr refl
 
 reading-place : (s : Standing) (place : Place) (mode : Mode) (stop : Option Stop) →
     ((after_reading s place mode stop).standing.place ≡ s.place) ⊎ ((after_reading s place mode stop).standing.place ≡ place)
 reading-place s place mode None = through-place s place s.mode mode
 reading-place s place mode (Some Again) = inl (missed-place s)
-reading-place s place mode (Some Stop_sends) = inr refl
 reading-place s place mode (Some Finishes) = inl refl
-reading-place s place mode (Some Cancels) = inr refl
+reading-place s place mode (Some _) = inr refl
 
 fill-place : (failed : Bool) (fills : Option Place) (s : Standing) → (after_fill failed fills s).place ≡ s.place
-fill-place false fills s = refl
-fill-place true None s = refl
-fill-place true (Some (Header file)) s = refl
 fill-place true (Some (Block file k)) s = refl
-fill-place true (Some (Eot file)) s = refl
-fill-place true (Some End) s = refl
+fill-place _ _ s = refl
 
 hears-move : (counts : List ℕ) (s : Standing) (cs : List Control) → s.state ≡ Running → Moves counts s.place s.mode cs (hears counts s cs).standing.place
 hears-move counts s cs on =
@@ -138,9 +100,6 @@ step-moves s cs failed new on step =
 
 -- ---- The end
 
-is-sent : Waiting ≡ Sent → ⊥
-is-sent same = absurd cc
-
 -- a reading that finishes began behind a frame that was sent
 finishes-sent : (counts : List ℕ) (place : Place) (mode : Mode) (r : Reading) → Reaches counts place mode r → r.stop ≡ Some Finishes → mode ≡ Sent
 finishes-sent counts place mode r (stays e) stop = absurd cc
@@ -153,25 +112,15 @@ finishes-sent counts place mode r (sends_next m before e) stop = m
 finishes-sent counts place mode r (cancels_next m before e) stop = m
 
 waiting-stays : (counts : List ℕ) (place : Place) (cs : List Control) → (reads counts place Waiting cs).stop ≡ Some Finishes → ⊥
-waiting-stays counts place cs stop = is-sent (finishes-sent counts place Waiting (reads counts place Waiting cs) (reaches counts place Waiting cs) stop)
+waiting-stays counts place cs stop = let same = finishes-sent counts place Waiting (reads counts place Waiting cs) (reaches counts place Waiting cs) stop in absurd cc
 
 -- and that frame was the end block, behind which an ACK was read
 acked-end : (counts : List ℕ) (place : Place) (cs : List Control) → (reads counts place Sent cs).stop ≡ Some Finishes → (place ≡ End) × SaysAck cs
-acked-end counts place [] stop = absurd cc
-acked-end counts (Header file) (Ack ∷ cs) stop = absurd (waiting-stays counts (next_of counts (Header file)) cs stop)
 acked-end counts (Block file k) (Ack ∷ cs) stop = absurd cc
-acked-end counts (Eot file) (Ack ∷ cs) stop = absurd (waiting-stays counts (next_of counts (Eot file)) cs stop)
 acked-end counts End (Ack ∷ cs) stop = (refl, tt)
-acked-end counts place (Nak ∷ cs) stop = absurd cc
-acked-end counts place (Start ∷ cs) stop = absurd cc
-acked-end counts place (Can ∷ []) stop = absurd cc
-acked-end counts place (Can ∷ Can ∷ cs) stop = absurd cc
-acked-end counts (Header file) (Can ∷ Ack ∷ cs) stop = absurd (waiting-stays counts (next_of counts (Header file)) cs stop)
-acked-end counts (Block file k) (Can ∷ Ack ∷ cs) stop = absurd cc
-acked-end counts (Eot file) (Can ∷ Ack ∷ cs) stop = absurd (waiting-stays counts (next_of counts (Eot file)) cs stop)
-acked-end counts End (Can ∷ Ack ∷ cs) stop = (refl, tt)
-acked-end counts place (Can ∷ Nak ∷ cs) stop = absurd cc
-acked-end counts place (Can ∷ Start ∷ cs) stop = absurd cc
+acked-end counts place (Ack ∷ cs) stop = absurd (waiting-stays counts (next_of counts place) cs stop)
+acked-end counts place (Can ∷ Ack ∷ cs) stop = acked-end counts place (Ack ∷ cs) stop
+acked-end counts place _ stop = absurd cc
 
 missed-goes : (s : Standing) → s.state ≡ Running → (missed s).standing.state ≡ Finished → ⊥
 missed-goes s on = cond_both (nat_lt (s.misses + 1) GIVE_UP) _ _ (λ (x : Step). x.standing.state ≡ Finished → ⊥) (λ e over. absurd cc) (λ e over. absurd cc)
@@ -179,24 +128,18 @@ missed-goes s on = cond_both (nat_lt (s.misses + 1) GIVE_UP) _ _ (λ (x : Step).
 through-goes : (s : Standing) (place : Place) (old new : Mode) → s.state ≡ Running → (read_through s place old new).standing.state ≡ Finished → ⊥
 through-goes s place Sent Sent on over = missed-goes s on over
 through-goes s place Waiting Waiting on over = missed-goes s on over
-through-goes s place Sent Waiting on over = absurd cc
-through-goes s place Waiting Sent on over = absurd cc
+through-goes s place _ _ on over = absurd cc
 
 finished-stop : (s : Standing) (place : Place) (mode : Mode) (stop : Option Stop) → s.state ≡ Running → (after_reading s place mode stop).standing.state ≡ Finished →
     (stop ≡ Some Finishes) × ((after_reading s place mode stop).standing.place ≡ s.place)
 finished-stop s place mode None on over = absurd (through-goes s place s.mode mode on over)
 finished-stop s place mode (Some Again) on over = absurd (missed-goes s on over)
-finished-stop s place mode (Some Stop_sends) on over = absurd cc
 finished-stop s place mode (Some Finishes) on over = (refl, refl)
-finished-stop s place mode (Some Cancels) on over = absurd cc
+finished-stop s place mode (Some _) on over = absurd cc
 
 fill-finished : (failed : Bool) (fills : Option Place) (s : Standing) → (after_fill failed fills s).state ≡ Finished → s.state ≡ Finished
-fill-finished false fills s over = over
-fill-finished true None s over = over
-fill-finished true (Some (Header file)) s over = over
 fill-finished true (Some (Block file k)) s over = absurd cc
-fill-finished true (Some (Eot file)) s over = over
-fill-finished true (Some End) s over = over
+fill-finished _ _ s over = over
 
 -- a delivery at which a sender finishes
 pub record FinishesAt (s : Standing) (cs : List Control) (new : Place) : Type 0 where

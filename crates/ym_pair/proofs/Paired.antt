@@ -1,80 +1,44 @@
 -- The runs of two engines, step by step: a round in which their deliveries pair up is a round of the pair.
 use Rattle.std.proofs.Common.{◌≡◌, ◌≢◌, ◌∙◌, ◌⊎◌, ◌+◌, inl, inr, nat_lt, ℕ, Bool, true, false, List, [], ◌∷◌, ◌++◌, length, Option, None, Some, Result, Ok, Err, unwrap_or, refl, sym, ap, subst, arith}
 use Rattle.std.proofs.lemmas.Bool.{cond_both, ltb-true}
-use Rattle.ym_frame.specs.Frame.{IsBytes, IsVerdict, HasFrame, verdict_of}
-use Rattle.ym_frame.specs.declared.control.Control.{Control}
-use Rattle.ym_frame.specs.declared.control.Control.TheVariants.{Ack, Nak, Start, Can}
-use Rattle.ym_frame.specs.declared.control.Reply.{Reply}
-use Rattle.ym_frame.specs.declared.control.Reply.TheVariants.{Silence}
-use Rattle.ym_frame.specs.declared.frame.Item.{Item}
+use Rattle.ym_pair.proofs.Names.{verdict_of, Control, Ack, Can, Reply, Silence, Item, IsPlace, count_at, next_of, controls_in, reads, after_reading, hears, hears_in, Heard, Bad, Mode, Waiting, Sent, Place, Header, Block, Eot, End, Reading, Standing, SendState, SenderHears, sender_none, sender_more, ReceiverHears, receiver_none, receiver_more, Tape, ReceiverParts, HearsGives, SenderParts, IsSender, IsStep, counts, spoken, written_for, counts_of, Goes, sent_by, seen_of, Delivery, Lost, Spoke, Answered, spoke_in, spoke_along, last_words, answered_in, ArrivesThere, ArrivesBack, ends, up_to_start}
+use Rattle.ym_frame.specs.Frame.{IsBytes, IsVerdict, HasFrame}
+use Rattle.ym_frame.specs.declared.control.Control.TheVariants.{Nak}
 use Rattle.ym_frame.specs.declared.frame.Broken.{Broken}
 use Rattle.ym_machine.specs.Halves as machine
 use Rattle.ym_machine.specs.Run.{came_back}
 use Rattle.ym_core.specs.Hearing.{heard_at}
-use Rattle.ym_core.specs.Place.{IsPlace, count_at, next_of}
-use Rattle.ym_core.specs.Reading.{controls_in, reads}
-use Rattle.ym_core.specs.Standing.{after_reading, hears, hears_in}
-use Rattle.ym_core.specs.declared.delivery.Heard.{Heard}
-use Rattle.ym_core.specs.declared.delivery.Heard.TheVariants.{Bad}
-use Rattle.ym_core.specs.declared.place.Mode.{Mode}
-use Rattle.ym_core.specs.declared.place.Mode.TheVariants.{Waiting, Sent}
-use Rattle.ym_core.specs.declared.place.Place.{Place}
-use Rattle.ym_core.specs.declared.place.Place.TheVariants.{Header, Block, Eot, End}
-use Rattle.ym_core.specs.declared.reading.Reading.{Reading}
-use Rattle.ym_core.specs.declared.standing.Standing.{Standing}
-use Rattle.ym_core.specs.declared.state.SendState.{SendState}
 use Rattle.ym_core.specs.declared.state.SendState.TheVariants as send_state
 use Rattle.ym_core.specs.declared.state.RecvState.TheVariants as recv_state
-use Rattle.ym_link.specs.Course.{SenderHears, sender_none, sender_more, ReceiverHears, receiver_none, receiver_more}
-use Rattle.ym_link.specs.Port.{Tape}
 use Rattle.ym_link.specs.ReceiveOver as receiving
-use Rattle.ym_link.specs.ReceiverInto.{ReceiverParts, HearsGives}
-use Rattle.ym_link.specs.Sender.{SenderParts, IsSender, IsStep, counts, spoken}
 use Rattle.ym_link.specs.SendOver as sending
-use Rattle.ym_link.specs.SendOver.{written_for}
-use Rattle.ym_file.specs.SourceFile.{counts_of}
 use Rattle.ym_link.proofs.Files.{filled_counts, filled_files}
 use Rattle.ym_line.specs.Damage.{arrives, IsHeardBad, ShowsThere}
-use Rattle.ym_line.specs.Rounds.{Goes, GoesThere, sent_by, seen_of}
+use Rattle.ym_line.specs.Rounds.{GoesThere}
 use Rattle.ym_line.specs.Turns.{came_of}
-use Rattle.ym_line.specs.declared.delivery.Delivery.{Delivery}
-use Rattle.ym_line.specs.declared.delivery.Delivery.TheVariants.{Whole, Lost, Damaged}
+use Rattle.ym_line.specs.declared.delivery.Delivery.TheVariants.{Damaged}
 use Rattle.ym_line.proofs.Turns.{WithinReply, came-within, controls-arrive}
-use Rattle.ym_pair.specs.Logs.{Spoke, Answered, spoke_in, spoke_along, last_words, answered_in, answered_along}
-use Rattle.ym_pair.specs.Pairing.{AreBytes, ArrivesThere, ArrivesBack, ends, up_to_start}
+use Rattle.ym_pair.specs.Logs.{answered_along}
+use Rattle.ym_pair.specs.Pairing.{AreBytes}
 use Rattle.ym_pair.proofs.Moving.{Moves, step-moves}
 
 -- ---- Nothing is read behind the first C
 
 reads-up : (counts : List ℕ) (place : Place) (mode : Mode) (cs : List Control) → reads counts place mode cs ≡ reads counts place mode (up_to_start cs)
-reads-up counts place mode [] = refl
-reads-up counts place Sent (Start ∷ cs) = refl
-reads-up counts place Waiting (Start ∷ cs) = refl
-reads-up counts place Sent (Nak ∷ cs) = refl
 reads-up counts place Waiting (Nak ∷ cs) = reads-up counts place Waiting cs
 reads-up counts (Header file) Sent (Ack ∷ cs) = reads-up counts (next_of counts (Header file)) Waiting cs
-reads-up counts (Block file k) Sent (Ack ∷ cs) = refl
 reads-up counts (Eot file) Sent (Ack ∷ cs) = reads-up counts (next_of counts (Eot file)) Waiting cs
-reads-up counts End Sent (Ack ∷ cs) = refl
 reads-up counts place Waiting (Ack ∷ cs) = reads-up counts place Waiting cs
-reads-up counts place mode (Can ∷ []) = refl
-reads-up counts place mode (Can ∷ Can ∷ cs) = refl
-reads-up counts place Sent (Can ∷ Start ∷ cs) = refl
-reads-up counts place Waiting (Can ∷ Start ∷ cs) = refl
-reads-up counts place Sent (Can ∷ Ack ∷ cs) = reads-up counts place Sent (Ack ∷ cs)
-reads-up counts place Waiting (Can ∷ Ack ∷ cs) = reads-up counts place Waiting (Ack ∷ cs)
-reads-up counts place Sent (Can ∷ Nak ∷ cs) = refl
+reads-up counts place mode (Can ∷ Ack ∷ cs) = reads-up counts place mode (Ack ∷ cs)
 reads-up counts place Waiting (Can ∷ Nak ∷ cs) = reads-up counts place Waiting (Nak ∷ cs)
+reads-up counts place mode _ = refl
 
 hears-up : (counts : List ℕ) (s : Standing) (cs : List Control) → hears counts s cs ≡ hears counts s (up_to_start cs)
 hears-up counts s cs = by s.state
   where
     by : (now : SendState) → hears_in now counts s cs ≡ hears_in now counts s (up_to_start cs)
     by send_state.Running = ap (λ (r : Reading). after_reading s r.place r.mode r.stop) (reads-up counts s.place s.mode cs)
-    by send_state.Finished = refl
-    by send_state.NoReply = refl
-    by send_state.Cancelled = refl
-    by send_state.SourceFailed = refl
+    by _ = refl
 
 -- ---- The runs as steps
 
@@ -108,17 +72,13 @@ hears-step : (s new : SenderParts) (came : List ℕ) → HearsControls s (contro
 hears-step s new came heard = (heard.0, subst (λ step. IsStep s step heard.0 new) (hears-up (counts s) s.standing (controls_in came)) heard.1)
 
 pub speaks : (s : SenderParts) (t : Tape) (out : sending.Outcome) (run : sending.Sends s t out) → SpeaksTo s (spoke_in s t out run) out.sender
-speaks s t out (sending.ended _ _ over) = refl
-speaks s t out (sending.unwritten _ _ is some) = refl
-speaks s t out (sending.unread _ _ f is on none) = refl
 speaks s t out (sending.heard _ _ bytes new _ is on some gives later) = (new, is, on, written-sent (spoken s), hears-step s new bytes gives, speaks new _ out later)
+speaks s t out _ = refl
 
 pub answers : (r : ReceiverParts) (t : Tape) (out : receiving.Outcome) (run : receiving.Receives r t out) → AnswersTo false r (answered_in r t out run) out.receiver
-answers r t out (receiving.ended _ _ over) = refl
-answers r t out (receiving.unread _ _ f is on none) = refl
-answers r t out (receiving.unheard _ _ h e is on some gives) = refl
 answers r t out (receiving.unwritten _ _ h reply new is on some gives spoken) = (new, reply, on, gives, inr refl, refl)
 answers r t out (receiving.heard _ _ h reply new _ is on some gives later) = (new, reply, on, gives, inl refl, answers new _ out later)
+answers r t out _ = refl
 
 -- along a course
 speaks-more : (s between new : SenderParts) (spoke : List Spoke) (one : Spoke) → SpeaksTo s spoke between → IsSender between → between.standing.state ≡ send_state.Running → one.wrote ≡ sent_by between →
@@ -152,19 +112,16 @@ answers-along all r deliveries progress new (receiver_more _ before steps betwee
 -- Where a call answers Ok, its end has ended; and of a receiver's each reply was written.
 pub sent-over : (s : SenderParts) (t : Tape) (out : sending.Outcome) (run : sending.Sends s t out) → out.answer ≡ Ok tt → out.sender.standing.state ≢ send_state.Running
 sent-over s t out (sending.ended _ _ over) ok = over
-sent-over s t out (sending.unwritten _ _ is some) ok = absurd (cc)
-sent-over s t out (sending.unread _ _ f is on none) ok = absurd (cc)
 sent-over s t out (sending.heard _ _ bytes new _ is on some gives later) ok = sent-over new _ out later ok
+sent-over s t out _ ok = absurd (cc)
 
 pub answers-all : (r : ReceiverParts) (t : Tape) (out : receiving.Outcome) (run : receiving.Receives r t out) → out.answer ≡ Ok tt →
     AnswersTo true r (answered_in r t out run) out.receiver × (out.receiver.receiver.state ≢ recv_state.Running)
 answers-all r t out (receiving.ended _ _ over) ok = (refl, over)
-answers-all r t out (receiving.unread _ _ f is on none) ok = absurd (cc)
-answers-all r t out (receiving.unheard _ _ h e is on some gives) ok = absurd (cc)
-answers-all r t out (receiving.unwritten _ _ h reply new is on some gives spoken) ok = absurd (cc)
 answers-all r t out (receiving.heard _ _ h reply new _ is on some gives later) ok =
     let rest = answers-all new _ out later ok in
     ((new, reply, on, gives, refl, rest.0), rest.1)
+answers-all r t out _ ok = absurd (cc)
 
 -- ---- A sender that has ended
 
@@ -177,8 +134,8 @@ next-place counts (Eot file) within = cond_both (nat_lt (file + 1) (length count
 next-place counts End within = tt
 
 moved-place : (counts : List ℕ) (place new : Place) (mode : Mode) (cs : List Control) → IsPlace counts place → Moves counts place mode cs new → IsPlace counts new
-moved-place counts place new mode cs within (inl same) = subst (IsPlace counts) (sym same) within
-moved-place counts place new mode cs within (inr moved) = subst (IsPlace counts) (sym moved.3) (next-place counts place within)
+moved-place counts place new mode cs within (inl same) = rw same within
+moved-place counts place new mode cs within (inr moved) = rw moved.3 (next-place counts place within)
 
 -- it keeps to what each sender keeps to
 ended-is : (s new : SenderParts) (cs : List Control) → IsSender s → s.standing.state ≡ send_state.Running → HearsControls s cs new → new.standing.state ≢ send_state.Running → IsSender new
@@ -215,16 +172,14 @@ verdict-bad bytes (Err broken) is shows = refl
 
 -- damage that shows is heard as bad
 pub heard-bad : Computed → (delivery : Delivery) → AreBytes delivery → ShowsThere delivery → IsHeardBad delivery
-heard-bad computed Whole are shows = tt
-heard-bad computed Lost are shows = tt
 heard-bad computed (Damaged bytes) are shows = verdict-bad bytes (verdict_of bytes) (computed bytes are) shows
+heard-bad computed _ are shows = tt
 
 -- of nothing the receiver hears nothing
 nothing-there : Computed → (delivery : Delivery) (h : Heard) → ArrivesThere delivery [] h → h ≡ Bad
 unfolding verdict_of
-nothing-there computed Whole h there = there.heard_is
-nothing-there computed Lost h there = there.heard_is
 nothing-there computed (Damaged bytes) h there = there.heard_is ∙ heard-bad computed (Damaged bytes) there.bytes there.shows
+nothing-there computed _ h there = there.heard_is
 
 pub bad-lost : (wrote : List ℕ) (h : Heard) → h ≡ Bad → ArrivesThere Lost wrote h
 unfolding verdict_of
@@ -233,9 +188,8 @@ bad-lost wrote h bad = record { bytes = tt; shows = tt; short = tt; heard_is = b
 -- the delivery there, of what there was to send: where it was not written, it is lost
 pub there-of : Computed → (s : SenderParts) (wrote : List ℕ) (delivery : Delivery) (h : Heard) → (wrote ≡ sent_by s) ⊎ (wrote ≡ []) → ArrivesThere delivery wrote h →
     (there : Delivery) × ArrivesThere there (sent_by s) h
-there-of computed s wrote delivery h (inl same) arrives = (delivery, subst (λ w. ArrivesThere delivery w h) same arrives)
-there-of computed s wrote delivery h (inr none) arrives =
-    (Lost, bad-lost (sent_by s) h (nothing-there computed delivery h (subst (λ w. ArrivesThere delivery w h) none arrives)))
+there-of computed s wrote delivery h (inl same) arrives = (delivery, rw same at arrives)
+there-of computed s wrote delivery h (inr none) arrives = (Lost, bad-lost (sent_by s) h (nothing-there computed delivery h (rw none at arrives)))
 
 none-within : (came : List Control) → machine.is_within came [] ≡ true → came ≡ []
 none-within [] within = refl
@@ -245,8 +199,7 @@ none-within (c ∷ came) within = absurd (cc)
 pub nothing-back : WithinReply → ((r : Reply) → machine.is_within (machine.controls r) (machine.controls r) ≡ true) →
     (delivery : Delivery) (came : List ℕ) → ArrivesBack delivery Silence came → up_to_start (controls_in came) ≡ []
 nothing-back within whole delivery came back =
-    let left : List Control = came_back (came_of delivery) Silence in
-    back.heard_is ∙ (controls-arrive delivery Silence ∙ none-within left (came-within within whole delivery Silence back.shows))
+    back.heard_is ∙ (controls-arrive delivery Silence ∙ none-within (came_back (came_of delivery) Silence) (came-within within whole delivery Silence back.shows))
 
 -- ---- A round
 

@@ -4,47 +4,32 @@ use Rattle.std.specs.Prelude.{option_to_list}
 use Rattle.std.proofs.lemmas.Bool.{cond_both}
 use Rattle.std.proofs.lemmas.List.{length-take, map-append}
 use Rattle.std.proofs.lemmas.List.Elements.{All-append, All-cons}
-use Rattle.ym_frame.specs.declared.control.Reply.{Reply}
-use Rattle.ym_frame.specs.declared.frame.Item.{Item}
+use Rattle.ym_pair.proofs.Names.{Reply, Item, HeaderParts, File, Kept, Confirm, Twice, block, eots, spelling, Heard, OpenFile, Stage, AwaitHeader, InFile, RecvState, Receiver, No_call, Step, called, GIVE_UP}
 use Rattle.ym_frame.specs.declared.frame.Item.TheVariants as item
-use Rattle.ym_header.specs.Header.{HeaderParts, length_limit}
+use Rattle.ym_header.specs.Header.{length_limit}
 use Rattle.ym_header.specs.Reading.{Reads}
-use Rattle.ym_header.specs.declared.reading.Zero.TheVariants.{File}
 use Rattle.ym_file.specs.Collecting.{keep, keep_all}
-use Rattle.ym_file.specs.Kept.{Kept, Told, told_begun, told_added, told_committed}
-use Rattle.ym_machine.specs.declared.confirm.Confirm.{Confirm}
-use Rattle.ym_machine.specs.declared.confirm.Confirm.TheVariants.{Twice}
-use Rattle.ym_pair.specs.AnyPeer.{FileHeard, bytes_heard, header_heard, block, blocks_from, eots, items_of, spelling, IsSpelled}
-use Rattle.ym_core.specs.declared.delivery.Heard.{Heard}
+use Rattle.ym_file.specs.Kept.{Told, told_begun, told_added, told_committed}
+use Rattle.ym_pair.specs.AnyPeer.{FileHeard, bytes_heard, header_heard, blocks_from, items_of, IsSpelled}
 use Rattle.ym_core.specs.declared.delivery.Heard.TheVariants as heard
-use Rattle.ym_core.specs.declared.stage.OpenFile.{OpenFile}
-use Rattle.ym_core.specs.declared.stage.Stage.{Stage}
-use Rattle.ym_core.specs.declared.stage.Stage.TheVariants.{AwaitHeader, InFile}
-use Rattle.ym_core.specs.declared.state.RecvState.{RecvState}
-use Rattle.ym_core.specs.Receiver.{Receiver, No_call, Begins, Adds, Step, goes_on, stays, ends, opened, commits}
-use Rattle.ym_link.specs.ReceiverInto.{called}
-use Rattle.ym_machine.specs.declared.limits.TheConstants.{GIVE_UP}
+use Rattle.ym_core.specs.Receiver.{Begins, Adds, goes_on, stays, ends, opened, commits}
 
 -- ---- What a sink tells
-
-abbrev IsNone : Option Told → Type 0
-IsNone None = Unit {0}
-IsNone (Some t) = ⊥
 
 abbrev told_in : Told → Option Told → Told
 told_in d None = d
 told_in d (Some t) = t
 
 told-begun : (o : Option Told) (P : Told → Type 0) → ((t : Told) → o ≡ Some t → P (record { open_bytes = []; files = t.files })) → (new : Told) → told_begun o ≡ Some new → P new
-told-begun None P f new e = absurd (subst IsNone e tt)
+told-begun None P f new e = absurd cc
 told-begun (Some t) P f new e = subst P (ap (told_in t) e) (f t refl)
 
 told-added : (bytes : List ℕ) (o : Option Told) (P : Told → Type 0) → ((t : Told) → o ≡ Some t → P (record { open_bytes = t.open_bytes ++ bytes; files = t.files })) → (new : Told) → told_added bytes o ≡ Some new → P new
-told-added bytes None P f new e = absurd (subst IsNone e tt)
+told-added bytes None P f new e = absurd cc
 told-added bytes (Some t) P f new e = subst P (ap (told_in t) e) (f t refl)
 
 told-committed : (o : Option Told) (P : Told → Type 0) → ((t : Told) → o ≡ Some t → P (record { open_bytes = []; files = t.files ++ t.open_bytes ∷ [] })) → (new : Told) → told_committed o ≡ Some new → P new
-told-committed None P f new e = absurd (subst IsNone e tt)
+told-committed None P f new e = absurd cc
 told-committed (Some t) P f new e = subst P (ap (told_in t) e) (f t refl)
 
 -- ---- What a receiver keeps, spelled
@@ -128,6 +113,11 @@ module _ (confirm : Confirm) (items : List Item) (h : Heard) (kept : Kept) where
       (λ e. record { confirm_is = same; more = []; heard_as = tt; holds = nothing r.stage holds })
       (λ e. record { confirm_is = same; more = []; heard_as = tt; holds = nothing r.stage holds })
 
+  -- the committed files stay, and this is in hand
+  keeps : {stage new : Stage} {all : List Item} {later : Kept} (holds : Holds confirm items stage kept) → later.headers ≡ kept.headers →
+      ((told : Told) → later.told ≡ Some told → told.files ≡ map bytes_heard holds.files) → OpenHolds confirm all (spelling confirm holds.files) new later → Holds confirm all new later
+  keeps holds same bytes in_hand = record { files = holds.files; spelled = holds.spelled; headers = same ∙ holds.headers; bytes = bytes; in_hand = in_hand }
+
   -- a block 0 begins a file
   pub after-begins : (r : Receiver) (header : HeaderParts) (body : List ℕ) (reply : Reply) → r.confirm ≡ confirm → Holds confirm items AwaitHeader kept → Reads length_limit body (File header) →
       h ≡ heard.Item (block 0 body) → After confirm items h kept (goes_on (record r { stage = InFile (opened header) }) reply (Begins header))
@@ -135,25 +125,19 @@ module _ (confirm : Confirm) (items : List Item) (h : Heard) (kept : Kept) where
     confirm_is = same;
     more = block 0 body ∷ [];
     heard_as = was;
-    holds = record {
-      files = holds.files;
-      spelled = holds.spelled;
-      headers = holds.headers;
-      bytes = told-begun kept.told (λ t. t.files ≡ map bytes_heard holds.files) holds.bytes;
-      in_hand = (
-        record { header = header; zero = body; bodies = [] },
-        record {
-          reads = reads;
-          opened = refl;
-          size = refl;
-          taken = refl;
-          bytes = told-begun kept.told (λ t. t.open_bytes ≡ []) (λ t is. refl);
-          blocks = λ less. refl;
-          first = λ e. absurd (cc);
-          items_are = ap (λ all. all ++ block 0 body ∷ []) holds.in_hand;
-        },
-      );
-    };
+    holds = keeps holds refl (told-begun kept.told (λ t. t.files ≡ map bytes_heard holds.files) holds.bytes) (
+      record { header = header; zero = body; bodies = [] },
+      record {
+        reads = reads;
+        opened = refl;
+        size = refl;
+        taken = refl;
+        bytes = told-begun kept.told (λ t. t.open_bytes ≡ []) (λ t is. refl);
+        blocks = λ less. refl;
+        first = λ e. absurd (cc);
+        items_are = ap (λ all. all ++ block 0 body ∷ []) holds.in_hand;
+      },
+    );
   }
 
   -- the next block is added
@@ -166,41 +150,31 @@ module _ (confirm : Confirm) (items : List Item) (h : Heard) (kept : Kept) where
       let adds : List ℕ = take (file.length - file.taken) body in
       let grown : FileHeard = record { header = in_hand.header; zero = in_hand.zero; bodies = in_hand.bodies ++ body ∷ [] } in
       let room : file.length - file.taken ≡ in_hand.header.length - length (bytes_heard in_hand) = ap (λ n. n - file.taken) is.size ∙ ap (λ n. in_hand.header.length - n) is.taken in
-      let bytes : bytes_heard grown ≡ bytes_heard in_hand ++ adds =
-      keep-snoc in_hand.header.length [] in_hand.bodies body ∙ ap (λ n. bytes_heard in_hand ++ take n body) (sym room) in
-      let blocks : file.blocks ≡ length in_hand.bodies = is.blocks less in
+      let bytes : bytes_heard grown ≡ bytes_heard in_hand ++ adds = keep-snoc in_hand.header.length [] in_hand.bodies body ∙ ap (λ n. bytes_heard in_hand ++ take n body) (sym room) in
+      let blocks = is.blocks less in
       let no_eot : file.first_eot ≡ false = not-true file.first_eot (λ e. let over = (is.first e).1 in omega (arith, over, less)) in
       let count : (file.blocks + 1) % 256 ≡ (1 + length in_hand.bodies) % 256 = ap (λ n. n % 256) (omega (arith, blocks)) in
       let new : Item = block ((1 + length in_hand.bodies) % 256) body in
       let named : block number body ≡ new = ap (λ n. block n body) (numbered ∙ count) in
-      let before : items ≡ spelling confirm holds.files ++ (block 0 in_hand.zero ∷ blocks_from 1 in_hand.bodies) =
-      is.items_are ∙ ap (λ rest. spelling confirm holds.files ++ (block 0 in_hand.zero ∷ rest)) (ap (λ b. blocks_from 1 in_hand.bodies ++ first_eots b) no_eot ∙ append-nil (blocks_from 1 in_hand.bodies)) in
-      let behind : blocks_from 1 in_hand.bodies ++ new ∷ [] ≡ blocks_from 1 grown.bodies ++ first_eots file.first_eot =
-      sym (blocks-snoc 1 in_hand.bodies body) ∙ (sym (append-nil (blocks_from 1 grown.bodies)) ∙ ap (λ b. blocks_from 1 grown.bodies ++ first_eots b) (sym no_eot)) in
+      let before : items ≡ spelling confirm holds.files ++ (block 0 in_hand.zero ∷ blocks_from 1 in_hand.bodies) = rw (no_eot, append-nil) at is.items_are in
       record {
         confirm_is = same;
         more = new ∷ [];
         heard_as = was ∙ ap heard.Item named;
-        holds = record {
-          files = holds.files;
-          spelled = holds.spelled;
-          headers = holds.headers;
-          bytes = told-added adds kept.told (λ t. t.files ≡ map bytes_heard holds.files) holds.bytes;
-          in_hand = (
-            grown,
-            record {
-              reads = is.reads;
-              opened = is.opened;
-              size = is.size;
-              taken = ap (λ n. n + min (file.length - file.taken) (length body)) is.taken
-                  ∙ (ap (λ n. length (bytes_heard in_hand) + n) (sym (length-take (file.length - file.taken) body)) ∙ (sym (length-append (bytes_heard in_hand) adds) ∙ ap length (sym bytes)));
-              bytes = told-added adds kept.told (λ t. t.open_bytes ≡ bytes_heard grown) (λ t told. ap (λ b. b ++ adds) (is.bytes t told) ∙ sym bytes);
-              blocks = λ more. let long = length-append in_hand.bodies (body ∷ []) in omega (arith, blocks, long);
-              first = λ e. absurd (cc);
-              items_are = ap (λ all. all ++ new ∷ []) before ∙ (append_assoc (spelling confirm holds.files) (block 0 in_hand.zero ∷ blocks_from 1 in_hand.bodies) (new ∷ []) ∙ ap (λ rest. spelling confirm holds.files ++ (block 0 in_hand.zero ∷ rest)) behind);
-            },
-          );
-        };
+        holds = keeps holds refl (told-added adds kept.told (λ t. t.files ≡ map bytes_heard holds.files) holds.bytes) (
+          grown,
+          record {
+            reads = is.reads;
+            opened = is.opened;
+            size = is.size;
+            taken = ap (λ n. n + min (file.length - file.taken) (length body)) is.taken
+                ∙ (ap (λ n. length (bytes_heard in_hand) + n) (sym (length-take (file.length - file.taken) body)) ∙ (sym (length-append (bytes_heard in_hand) adds) ∙ ap length (sym bytes)));
+            bytes = told-added adds kept.told (λ t. t.open_bytes ≡ bytes_heard grown) (λ t told. ap (λ b. b ++ adds) (is.bytes t told) ∙ sym bytes);
+            blocks = λ more. let long = length-append in_hand.bodies (body ∷ []) in omega (arith, blocks, long);
+            first = λ e. absurd (cc);
+            items_are = rw (before, append_assoc, no_eot, append-nil, blocks-snoc);
+          },
+        );
       }
 
   -- a block past the length is dropped
@@ -208,25 +182,19 @@ module _ (confirm : Confirm) (items : List Item) (h : Heard) (kept : Kept) where
       After confirm items h kept (stays (record r { stage = InFile (record file { blocks = file.blocks + 1 }) }) reply)
   after-drops r file reply same holds over =
       let is : IsOpen confirm items (spelling confirm holds.files) file kept holds.in_hand.0 = holds.in_hand.1 in
-      after-stays (record r { stage = InFile (record file { blocks = file.blocks + 1 }) }) reply same (record {
-        files = holds.files;
-        spelled = holds.spelled;
-        headers = holds.headers;
-        bytes = holds.bytes;
-        in_hand = (
-          holds.in_hand.0,
-          record {
-            reads = is.reads;
-            opened = is.opened;
-            size = is.size;
-            taken = is.taken;
-            bytes = is.bytes;
-            blocks = λ less. absurd (over less);
-            first = is.first;
-            items_are = is.items_are;
-          },
-        );
-      })
+      after-stays (record r { stage = InFile (record file { blocks = file.blocks + 1 }) }) reply same (keeps holds refl holds.bytes (
+        holds.in_hand.0,
+        record {
+          reads = is.reads;
+          opened = is.opened;
+          size = is.size;
+          taken = is.taken;
+          bytes = is.bytes;
+          blocks = λ less. absurd (over less);
+          first = is.first;
+          items_are = is.items_are;
+        },
+      ))
 
   -- a first EOT is taken
   pub after-first : (r : Receiver) (file : OpenFile) (reply : Reply) → r.confirm ≡ confirm → confirm ≡ Twice → Holds confirm items (InFile file) kept → h ≡ heard.Item item.Eot →
@@ -234,32 +202,24 @@ module _ (confirm : Confirm) (items : List Item) (h : Heard) (kept : Kept) where
   after-first r file reply same twice holds was no_eot over =
       let in_hand : FileHeard = holds.in_hand.0 in
       let is : IsOpen confirm items (spelling confirm holds.files) file kept in_hand = holds.in_hand.1 in
-      let front : List Item = spelling confirm holds.files in
-      let before : items ≡ front ++ (block 0 in_hand.zero ∷ blocks_from 1 in_hand.bodies) =
-      is.items_are ∙ ap (λ rest. front ++ (block 0 in_hand.zero ∷ rest)) (ap (λ b. blocks_from 1 in_hand.bodies ++ first_eots b) no_eot ∙ append-nil (blocks_from 1 in_hand.bodies)) in
+      let before : items ≡ spelling confirm holds.files ++ (block 0 in_hand.zero ∷ blocks_from 1 in_hand.bodies) = rw (no_eot, append-nil) at is.items_are in
       record {
         confirm_is = same;
         more = item.Eot ∷ [];
         heard_as = was;
-        holds = record {
-          files = holds.files;
-          spelled = holds.spelled;
-          headers = holds.headers;
-          bytes = holds.bytes;
-          in_hand = (
-            in_hand,
-            record {
-              reads = is.reads;
-              opened = is.opened;
-              size = is.size;
-              taken = is.taken;
-              bytes = is.bytes;
-              blocks = is.blocks;
-              first = λ e. (twice, over);
-              items_are = ap (λ all. all ++ item.Eot ∷ []) before ∙ append_assoc front (block 0 in_hand.zero ∷ blocks_from 1 in_hand.bodies) (item.Eot ∷ []);
-            },
-          );
-        };
+        holds = keeps holds refl holds.bytes (
+          in_hand,
+          record {
+            reads = is.reads;
+            opened = is.opened;
+            size = is.size;
+            taken = is.taken;
+            bytes = is.bytes;
+            blocks = is.blocks;
+            first = λ e. (twice, over);
+            items_are = rw (before, append_assoc);
+          },
+        );
       }
 
   -- the file is committed
@@ -268,7 +228,6 @@ module _ (confirm : Confirm) (items : List Item) (h : Heard) (kept : Kept) where
   after-commits r file same holds was all_eots over within =
       let in_hand : FileHeard = holds.in_hand.0 in
       let is : IsOpen confirm items (spelling confirm holds.files) file kept in_hand = holds.in_hand.1 in
-      let front : List Item = spelling confirm holds.files in
       let size : file.length ≡ in_hand.header.length = is.size in
       let long : file.taken ≡ length (bytes_heard in_hand) = is.taken in
       let here : IsSpelled in_hand = record { reads = is.reads; covered = omega (arith, size, long, over, within) } in
@@ -282,8 +241,6 @@ module _ (confirm : Confirm) (items : List Item) (h : Heard) (kept : Kept) where
           headers = ap (λ o. kept.headers ++ option_to_list o) is.opened ∙ (ap (λ hs. hs ++ in_hand.header ∷ []) holds.headers ∙ sym (map-append header_heard holds.files (in_hand ∷ [])));
           bytes = told-committed kept.told (λ t. t.files ≡ map bytes_heard (holds.files ++ in_hand ∷ []))
               (λ t told. ap (λ b. t.files ++ b ∷ []) (is.bytes t told) ∙ (ap (λ fs. fs ++ bytes_heard in_hand ∷ []) (holds.bytes t told) ∙ sym (map-append bytes_heard holds.files (in_hand ∷ []))));
-          in_hand = ap (λ all. all ++ item.Eot ∷ []) is.items_are ∙ (append_assoc front (block 0 in_hand.zero ∷ (blocks_from 1 in_hand.bodies ++ first_eots file.first_eot)) (item.Eot ∷ [])
-              ∙ (ap (λ rest. front ++ (block 0 in_hand.zero ∷ rest)) (append_assoc (blocks_from 1 in_hand.bodies) (first_eots file.first_eot) (item.Eot ∷ []) ∙ ap (λ rest. blocks_from 1 in_hand.bodies ++ rest) all_eots)
-              ∙ sym (spelling-snoc confirm holds.files in_hand)));
+          in_hand = rw (is.items_are, append_assoc, append_assoc, all_eots, spelling-snoc);
         };
       }

@@ -1,20 +1,12 @@
 -- Whatever comes, what a receiver has committed was spelled by what it heard in the call.
-use Rattle.std.proofs.Common.{◌≡◌, inl, inr, ℕ, List, [], ◌∷◌, ◌++◌, refl, sym, ap, subst, arith, append_assoc, append-nil}
-use Rattle.ym_frame.specs.declared.frame.Item.{Item}
-use Rattle.ym_file.specs.Kept.{Kept, IsNew, TellsNone}
-use Rattle.ym_machine.specs.declared.confirm.Confirm.{Confirm}
-use Rattle.ym_pair.specs.AnyPeer.{CommitsTheHeard, AreAmong, spelling}
-use Rattle.ym_pair.specs.Logs.{heard_in}
-use Rattle.ym_core.specs.declared.delivery.Heard.{Heard}
+use Rattle.std.proofs.Common.{◌≡◌, inl, inr, ℕ, List, [], ◌∷◌, ◌++◌, refl, ap, subst, arith, append_assoc, append-nil}
+use Rattle.ym_pair.proofs.Names.{Item, Kept, Confirm, AreAmong, spelling, heard_in, Heard, Stage, AwaitHeader, InFile, Receiver, ReceiverParts, Tape, ReceiverHears, receiver_none, receiver_more}
+use Rattle.ym_file.specs.Kept.{IsNew, TellsNone}
+use Rattle.ym_pair.specs.AnyPeer.{CommitsTheHeard}
 use Rattle.ym_core.specs.declared.delivery.Heard.TheVariants as heard
-use Rattle.ym_core.specs.declared.stage.Stage.{Stage}
-use Rattle.ym_core.specs.declared.stage.Stage.TheVariants.{AwaitHeader, InFile}
-use Rattle.ym_core.specs.Receiver.{Receiver, new_receiver}
-use Rattle.ym_link.specs.ReceiverInto.{ReceiverParts}
-use Rattle.ym_link.specs.Port.{Tape}
-use Rattle.ym_link.specs.ReceiveOver.{Outcome, Receives, ended, unread, unheard, unwritten, heard_at, delivery_at}
+use Rattle.ym_core.specs.Receiver.{new_receiver}
+use Rattle.ym_link.specs.ReceiveOver.{Outcome, Receives, unwritten}
 use Rattle.ym_link.specs.ReceiveOver as receiving
-use Rattle.ym_link.specs.Course.{ReceiverHears, receiver_none, receiver_more}
 use Rattle.ym_pair.proofs.Spelling.{Holds, OpenHolds, IsHeardAs, nothing}
 use Rattle.ym_pair.proofs.SpellingTable.{Behind, hears-holds}
 
@@ -40,14 +32,8 @@ record Spelt (confirm : Confirm) (items : List Item) (all : List Heard) (new : R
   among : AreAmong more all
   holds : Holds confirm (items ++ more) new.receiver.stage new.kept
 
-spelt-none : (confirm : Confirm) (items : List Item) (all : List Heard) (r : ReceiverParts) → Holds confirm items r.receiver.stage r.kept → Spelt confirm items all r
-spelt-none confirm items all r holds = record { more = []; among = tt; holds = nothing confirm items heard.Bad r.kept r.receiver.stage holds }
-
 run-spelt : (r : ReceiverParts) (t : Tape) (out : Outcome) (run : Receives r t out) (confirm : Confirm) (items : List Item) → r.receiver.confirm ≡ confirm → Holds confirm items r.receiver.stage r.kept →
     Spelt confirm items (heard_in r t out run) out.receiver
-run-spelt r t out (ended _ _ over) confirm items same holds = spelt-none confirm items [] r holds
-run-spelt r t out (unread _ _ f is on none) confirm items same holds = spelt-none confirm items [] r holds
-run-spelt r t out (unheard _ _ h e is on some gives) confirm items same holds = spelt-none confirm items [] r holds
 run-spelt r t out (unwritten _ _ h reply new is on some gives spoken) confirm items same holds =
     let behind : Behind confirm items h new = hears-holds confirm items r h reply new is on same holds gives in
     record {
@@ -63,6 +49,7 @@ run-spelt r t out (receiving.heard _ _ h reply new _ is on some gives later) con
       among = among-more h behind.more rest.more (heard_in new _ out later) behind.heard_as rest.among;
       holds = subst (λ x. Holds confirm x out.receiver.receiver.stage out.receiver.kept) (append_assoc items behind.more rest.more) rest.holds;
     }
+run-spelt r t out _ confirm items same holds = record { more = []; among = tt; holds = nothing confirm items heard.Bad r.kept r.receiver.stage holds }
 
 -- the same along a course, whose last delivery stands last
 among-snoc : (h : Heard) (items more : List Item) (all : List Heard) → AreAmong items all → IsHeardAs h more → AreAmong (items ++ more) (all ++ h ∷ [])
@@ -102,14 +89,13 @@ front-among confirm items front (InFile file) kept all in_hand among = among-fro
 starts : (r : ReceiverParts) → r.receiver ≡ new_receiver r.receiver.confirm → IsNew r.kept → Holds r.receiver.confirm [] r.receiver.stage r.kept
 starts r fresh new =
     let awaits : r.receiver.stage ≡ AwaitHeader = ap (λ (x : Receiver). x.stage) fresh in
-    let start : Holds r.receiver.confirm [] AwaitHeader r.kept = record {
+    rw awaits (record {
       files = [];
       spelled = λ k d less. absurd (omega (arith, less));
       headers = new.headers;
       bytes = λ told is. (subst TellsNone is new.told).1;
       in_hand = refl;
-    } in
-    subst (λ s. Holds r.receiver.confirm [] s r.kept) (sym awaits) start
+    })
 
 held-commits : (confirm : Confirm) (items : List Item) (all : List Heard) (stage : Stage) (kept : Kept) → AreAmong items all → Holds confirm items stage kept → CommitsTheHeard confirm all kept
 held-commits confirm items all stage kept among holds = record {

@@ -2,26 +2,16 @@
 use Rattle.std.proofs.Common.{◌≡◌, ◌∙◌, ◌+◌, ◌%◌, ◌≤◌, ℕ, Bool, true, false, nat_lt, List, [], ◌∷◌, ◌++◌, Result, Ok, Err, refl, sym, ap, subst, arith}
 use Rattle.std.specs.Prelude.{◌==◌}
 use Rattle.std.proofs.lemmas.Bool.{ltb-true, ltb-false, eqb-true}
+use Rattle.ym_pair.proofs.Names.{Reply, Silence, Item, HeaderFault, Zero, File, Kept, Confirm, Twice, block, eots, Heard, OpenFile, Stage, AwaitHeader, InFile, Receiver, Step, hears_at, ReceiverParts, HearsGives}
 use Rattle.ym_frame.specs.Block.{BlockParts}
-use Rattle.ym_frame.specs.declared.control.Reply.{Reply}
-use Rattle.ym_frame.specs.declared.control.Reply.TheVariants.{AckStart, Ack, Nak, Start, Cancel, Silence}
-use Rattle.ym_frame.specs.declared.frame.Item.{Item}
+use Rattle.ym_frame.specs.declared.control.Reply.TheVariants.{AckStart, Ack, Nak, Start, Cancel}
 use Rattle.ym_frame.specs.declared.frame.Item.TheVariants as item
-use Rattle.ym_header.specs.declared.fault.HeaderFault.{HeaderFault}
-use Rattle.ym_header.specs.declared.reading.Zero.{Zero}
-use Rattle.ym_header.specs.declared.reading.Zero.TheVariants.{File, End}
-use Rattle.ym_file.specs.Kept.{Kept}
-use Rattle.ym_machine.specs.declared.confirm.Confirm.{Confirm}
-use Rattle.ym_machine.specs.declared.confirm.Confirm.TheVariants.{Twice, Once}
-use Rattle.ym_pair.specs.AnyPeer.{block, eots}
-use Rattle.ym_core.specs.declared.delivery.Heard.{Heard}
+use Rattle.ym_header.specs.declared.reading.Zero.TheVariants.{End}
+use Rattle.ym_machine.specs.declared.confirm.Confirm.TheVariants.{Once}
 use Rattle.ym_core.specs.declared.delivery.Heard.TheVariants as heard
-use Rattle.ym_core.specs.declared.stage.OpenFile.{OpenFile}
-use Rattle.ym_core.specs.declared.stage.Stage.{Stage}
-use Rattle.ym_core.specs.declared.stage.Stage.TheVariants.{AwaitHeader, InFile}
 use Rattle.ym_core.specs.declared.state.RecvState.TheVariants as state
-use Rattle.ym_core.specs.Receiver.{Receiver, Step, zero_heard, awaiting_hears, block_heard, covered_eot, in_file_hears, running_hears, hears_at, hears}
-use Rattle.ym_link.specs.ReceiverInto.{ReceiverParts, IsReceiver, HearsGives, IsOpenFile, outcome}
+use Rattle.ym_core.specs.Receiver.{zero_heard, awaiting_hears, block_heard, covered_eot, in_file_hears, running_hears, hears}
+use Rattle.ym_link.specs.ReceiverInto.{IsReceiver, IsOpenFile, outcome}
 use Rattle.ym_core.specs.Step.{StandsFor}
 use Rattle.ym_pair.proofs.Spelling.{Holds, IsHeardAs, After, first_eots, not-true, either, after-ends, after-stays, after-begins, after-adds, after-drops, after-first, after-commits}
 use Rattle.ym_machine.specs.declared.limits.TheConstants.{MOST_FILES}
@@ -34,14 +24,11 @@ record Runs (confirm : Confirm) (items : List Item) (stage : Stage) (r : Receive
   stage_is : r.stage ≡ stage
   here : Holds confirm items r.stage kept
 
-there-holds : (confirm : Confirm) (items : List Item) (stage : Stage) (r : Receiver) (kept : Kept) → Runs confirm items stage r kept → Holds confirm items stage kept
-there-holds confirm items stage r kept runs = subst (λ s. Holds confirm items s kept) runs.stage_is runs.here
-
 zero-after : (confirm : Confirm) (items : List Item) (h : Heard) (kept : Kept) (r : Receiver) (body : List ℕ) (zero : Result Zero HeaderFault) → Runs confirm items AwaitHeader r kept →
     StandsFor body zero → h ≡ heard.Item (block 0 body) → After confirm items h kept (zero_heard r zero)
 zero-after confirm items h kept r body (Ok (File header)) runs reads was =
     either confirm items h kept (nat_lt r.files MOST_FILES) _ _
-    (λ e. after-begins confirm items h kept r header body AckStart runs.same (there-holds confirm items AwaitHeader r kept runs) reads was)
+    (λ e. after-begins confirm items h kept r header body AckStart runs.same (rw runs.stage_is at runs.here) reads was)
     (λ e. after-ends confirm items h kept r state.TooManyFiles Cancel runs.same runs.here)
 zero-after confirm items h kept r body (Ok End) runs reads was = after-ends confirm items h kept r state.Finished Ack runs.same runs.here
 zero-after confirm items h kept r body (Err fault) runs reads was = after-ends confirm items h kept r (state.BadHeader fault) Cancel runs.same runs.here
@@ -64,7 +51,7 @@ block-after : (confirm : Confirm) (items : List Item) (kept : Kept) (r : Receive
     After confirm items (heard.Item (block number body)) kept (block_heard r file number body)
 block-after confirm items kept r file number body runs =
     let h : Heard = heard.Item (block number body) in
-    let holds : Holds confirm items (InFile file) kept = there-holds confirm items (InFile file) r kept runs in
+    let holds : Holds confirm items (InFile file) kept = rw runs.stage_is at runs.here in
     either confirm items h kept (number == (file.blocks + 1) % 256) _ _
     (λ e. either confirm items h kept (nat_lt file.taken file.length) _ _
     (λ less. after-adds confirm items h kept r file number body Ack runs.same holds (eqb-true number ((file.blocks + 1) % 256) e) refl (ltb-true file.taken file.length less))
@@ -78,12 +65,12 @@ block-after confirm items kept r file number body runs =
 covered-after : (confirm how : Confirm) (items : List Item) (kept : Kept) (r : Receiver) (file : OpenFile) (eot : Bool) → Runs confirm items (InFile file) r kept → how ≡ confirm → file.first_eot ≡ eot →
     file.length ≤ file.taken → file.taken ≤ file.length → After confirm items (heard.Item item.Eot) kept (covered_eot r how file eot)
 covered-after confirm Twice items kept r file false runs how first over within =
-    after-first confirm items (heard.Item item.Eot) kept r file Nak runs.same (sym how) (there-holds confirm items (InFile file) r kept runs) refl first over
+    after-first confirm items (heard.Item item.Eot) kept r file Nak runs.same (sym how) (rw runs.stage_is at runs.here) refl first over
 covered-after confirm Twice items kept r file true runs how first over within =
-    after-commits confirm items (heard.Item item.Eot) kept r file runs.same (there-holds confirm items (InFile file) r kept runs) refl
+    after-commits confirm items (heard.Item item.Eot) kept r file runs.same (rw runs.stage_is at runs.here) refl
     (ap (λ b. first_eots b ++ item.Eot ∷ []) first ∙ ap eots how) over within
 covered-after confirm Once items kept r file eot runs how first over within =
-    let holds : Holds confirm items (InFile file) kept = there-holds confirm items (InFile file) r kept runs in
+    let holds : Holds confirm items (InFile file) kept = rw runs.stage_is at runs.here in
     let no_eot : file.first_eot ≡ false = not-true file.first_eot (λ e. let twice : Once ≡ Twice = how ∙ (holds.in_hand.1.first e).0 in absurd (cc)) in
     after-commits confirm items (heard.Item item.Eot) kept r file runs.same holds refl (ap (λ b. first_eots b ++ item.Eot ∷ []) no_eot ∙ ap eots how) over within
 
@@ -126,13 +113,12 @@ hears-holds confirm items old h reply new is on same holds gives =
     let zero : Result Zero HeaderFault = gives.0 in
     let table : After confirm items h old.kept (running_hears r r.stage zero h) =
     running-after confirm items h old.kept r r.stage zero (record { same = same; stage_is = refl; here = holds }) is.open_file (λ awaits b was first. gives.1 b on awaits was first) in
-    let step : After confirm items h old.kept (hears r zero h) = subst (λ now. After confirm items h old.kept (hears_at now r zero h)) (sym on) table in
-    let after : After confirm items h old.kept (outcome gives.2.0 r (hears r zero h)) = outcome-after confirm items h old.kept r gives.2.0 (hears r zero h) same holds step in
+    let after : After confirm items h old.kept (outcome gives.2.0 r (hears r zero h)) = outcome-after confirm items h old.kept r gives.2.0 (hears r zero h) same holds
+    (subst (λ now. After confirm items h old.kept (hears_at now r zero h)) (sym on) table) in
     let receiver_is = gives.2.1.receiver_is in
     record {
       confirm_is = ap (λ (x : Receiver). x.confirm) receiver_is ∙ after.confirm_is;
       more = after.more;
       heard_as = after.heard_as;
-      holds = subst (λ (x : Receiver). Holds confirm (items ++ after.more) x.stage new.kept) (sym receiver_is)
-          (subst (λ kept. Holds confirm (items ++ after.more) (outcome gives.2.0 r (hears r zero h)).receiver.stage kept) (sym gives.2.1.kept_is) after.holds);
+      holds = rw (receiver_is, gives.2.1.kept_is) after.holds;
     }

@@ -9,8 +9,6 @@ use Rattle.ym_play.specs.Play.{PlayGives}
 use Rattle.ym_play.specs.Session.{fault_status}
 use Rattle.ym_play.specs.declared.fault.PlayFault.{PlayFault}
 use Rattle.ym_play.specs.declared.fault.PlayFault.TheVariants as play
-use Rattle.ym_play.specs.declared.input.InputFault.{InputFault}
-use Rattle.ym_play.specs.declared.input.InputFault.TheVariants as input
 use Rattle.ym_play.specs.declared.limits.TheConstants.{MOST_SCRIPT_BYTES}
 use Rattle.ym_play.specs.declared.play.Played.{Played}
 use Rattle.ym_play.specs.declared.sessions.SessionFault.{SessionFault}

@@ -1,6 +1,5 @@
 //! The ends over sockets, both of one connection in one test.
 
-use super::fixtures::with_file;
 use std::io;
 use std::io::{Read, Write};
 use std::net::{TcpListener, TcpStream};
@@ -41,8 +40,7 @@ fn a_stray_byte_in_the_way(rt: HostRuntime) -> Result<(), Fail> {
     let (mut near, far) = pair(&rt)?;
     near.write_all(&[0])?;
     let mut carrier = SocketCarrier::new(near, far);
-    let script = with_file(&rt, "ok 6\n")?;
-    match play_script(rt.alloc(), script.as_bytes(), &mut carrier) {
+    match play_script(rt.alloc(), b"file a -\nok 3\n", &mut carrier) {
         Err(fault) => assert_eq!(rt; fault, PlayFault::Line(LineFault::Carrier)),
         Ok(_) => return Err(Fail::new("played")),
     }

@@ -4,8 +4,8 @@ use super::scripted::same;
 use crate::{BatchFault, SendFile, SendState, Sender, SenderFrom, SourceFile};
 use std::alloc::Global;
 use std::test::Fail;
-use ym_file::{MemSource, Shape, Source, SourceFault};
-use ym_header::{HeaderFault, Stamp};
+use ym_file::{MemSource, Shape, Source};
+use ym_header::Stamp;
 
 const C: u8 = 0x43;
 
@@ -26,35 +26,6 @@ fn one_file(alloc: Global, length: usize, failing: Option<u64>) -> Result<Sender
     let mut batch = Vec::new(alloc);
     batch.push(file)?;
     Ok(SenderFrom::new(batch, Shape::Short).map_err(|_| "batch")?)
-}
-
-/// So many bytes 00, of which contracts are told nothing.
-#[derive(Drop)]
-struct Zeros {
-    length: u64,
-    fills: u64,
-}
-
-impl Source for Zeros {
-    ghost use Rattle.std.specs.Prelude.{None};
-
-    ghost size = { λ s. s.length };
-
-    ghost bytes = { λ s. None };
-
-    ghost failures = { λ s. 0 };
-
-    ghost fills = { λ s. s.fills };
-
-    fn length(&self) -> u64 {
-        self.length
-    }
-
-    fn fill(&mut self, _at: u64, into: &mut [u8]) -> Result<(), SourceFault> {
-        self.fills = self.fills.saturating_add(1);
-        into.fill(0);
-        Ok(())
-    }
 }
 
 /// A delivery, and then the sender's state, how many files are done, how long the frame to be sent is (0: there is none), and how it
@@ -223,23 +194,6 @@ fn too_many_files_are_handed_back(rt: HostRuntime) -> Result<(), Fail> {
     }
 }
 
-/// A file `zeros` of so many bytes 00.
-fn file_of_zeros(alloc: Global, length: u64, stamp: Stamp) -> Result<SourceFile<Zeros>, Fail> {
-    let source = Zeros { length, fills: 0 };
-    Ok(SourceFile::from_source(alloc, "zeros", source, stamp).map_err(|_| "file")?)
-}
-
-/// Whether the header of a file says this.
-fn is_headed<S: Source>(file: &SourceFile<S>, name: &str, length: u64, stamp: Stamp) -> bool {
-    let header = file.header();
-    header.name() == name && header.length() == length && header.stamp() == stamp
-}
-
-/// Whether a file has so many data blocks.
-fn has_blocks(file: &SourceFile<Zeros>, mixed: u64, short: u64) -> bool {
-    file.blocks(Shape::Mixed) == mixed && file.blocks(Shape::Short) == short
-}
-
 /// A sender of this file.
 fn sender_of<S: Source + Drop>(alloc: Global, file: SourceFile<S>) -> Result<SenderFrom<S>, Fail> {
     let mut batch = Vec::new(alloc);
@@ -247,42 +201,14 @@ fn sender_of<S: Source + Drop>(alloc: Global, file: SourceFile<S>) -> Result<Sen
     Ok(SenderFrom::new(batch, Shape::Mixed).map_err(|_| "batch")?)
 }
 
-const ZEROS: [Turn; 3] = [
+const IN_MEMORY: [Turn; 2] = [
     (
         &[C],
         SendState::Running,
         0,
         133,
-        b"\x01\x00\xffzeros\x001025 ",
+        b"\x01\x00\xffa.txt\x003 0\x00",
     ),
-    (&[ACK, C], SendState::Running, 0, 1029, b"\x02\x01\xfe\x00"),
-    (&[ACK], SendState::Running, 0, 133, b"\x01\x02\xfd\x00\x1a"),
-];
-
-#[test]
-fn a_source_of_any_kind(rt: HostRuntime) -> Result<(), Fail> {
-    let stamp = Stamp::TimeMode(12, 0o644);
-    let file = file_of_zeros(rt.alloc(), 1025, stamp)?;
-    assert!(rt; is_headed(&file, "zeros", 1025, stamp));
-    assert!(rt; has_blocks(&file, 2, 9));
-    let mut sender = sender_of(rt.alloc(), file)?;
-    assert!(rt; follows(&mut sender, &ZEROS));
-    Ok(())
-}
-
-#[test]
-fn a_source_that_is_too_long(rt: HostRuntime) -> Result<(), Fail> {
-    let source = Zeros {
-        length: 1 << 63,
-        fills: 0,
-    };
-    let refused = SourceFile::from_source(rt.alloc(), "zeros", source, Stamp::Nothing);
-    assert!(rt; matches!(refused, Err(HeaderFault::LengthLarge)));
-    Ok(())
-}
-
-const IN_MEMORY: [Turn; 2] = [
-    (&[C], SendState::Running, 0, 133, b"\x01\x00\xffa.txt\x003 "),
     (
         &[ACK, C],
         SendState::Running,
@@ -302,16 +228,8 @@ fn a_file_in_memory(rt: HostRuntime) -> Result<(), Fail> {
     let alloc = rt.alloc();
     let bytes = b"one".as_slice().to_vec(alloc)?;
     let file = SendFile::new(alloc, "a.txt", bytes, Stamp::Time(0)).map_err(|_| "file")?;
-    assert!(rt; has_bytes(&file, b"one") && is_headed(&file, "a.txt", 3, Stamp::Time(0)));
+    assert!(rt; has_bytes(&file, b"one"));
     let mut sender = sender_of(alloc, file)?;
     assert!(rt; follows(&mut sender, &IN_MEMORY));
-    Ok(())
-}
-
-#[test]
-fn a_file_without_a_name(rt: HostRuntime) -> Result<(), Fail> {
-    let alloc = rt.alloc();
-    let nameless = SendFile::new(alloc, "", Vec::new(alloc), Stamp::Nothing);
-    assert!(rt; matches!(nameless, Err(HeaderFault::NameEmpty)));
     Ok(())
 }

@@ -1,7 +1,6 @@
-use Rattle.std.specs.Prelude.{◌≡◌, ℕ, List, take}
-use Rattle.std.proofs.Common.{◌∙◌, ap, subst, sym}
+use Rattle.std.specs.Prelude.{◌≡◌, take}
+use Rattle.std.proofs.Common.{◌∙◌, ap, sym}
 use Rattle.std.proofs.lemmas.List.{take_at}
-use Rattle.ym_frame.specs.Seal.{IsBlockFrame}
 use Rattle.ym_header.specs.Text.{text}
 use Rattle.ym_c.proofs.sender.seal_header.Goals as goal
 
@@ -10,5 +9,4 @@ returns-clause-frame c =
     let size = c.write_body-size.result in
     let body = c.write_body-size.new.body in
     let whole : take size body ≡ text c.args.header.now = ap (take size) c.write_body-size.ensures.written ∙ take_at (text c.args.header.now) _ size (sym c.write_body-size.ensures.size) in
-    let P : List ℕ → Type 0 = λ b. IsBlockFrame 0 b (take c.seal_body.result c.seal_body.new.frame) in
-    subst P whole c.seal_body.ensures.frame
+    rw whole at c.seal_body.ensures.frame

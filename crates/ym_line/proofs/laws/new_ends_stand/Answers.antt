@@ -1,4 +1,4 @@
-use Rattle.ym_link.specs.SenderStands.{batch_of}
+use Rattle.ym_line.proofs.Names.{batch_of}
 use Rattle.ym_line.proofs.Starts.{batch-is}
 use Rattle.ym_line.proofs.laws.new_ends_stand.Goals as goal
 

@@ -1,4 +1,4 @@
-use Rattle.ym_machine.specs.Frames.{frames_of}
+use Rattle.ym_line.proofs.Names.{frames_of}
 use Rattle.ym_line.proofs.Halves.{Laws, goes-turn, run-turns}
 use Rattle.ym_line.proofs.Stops.{run-stops}
 use Rattle.ym_line.proofs.laws.rounds_are_turns.Goals as goal

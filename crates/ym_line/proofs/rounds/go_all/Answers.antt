@@ -1,7 +1,7 @@
 use Rattle.std.proofs.Common.{◌≡◌, ◌++◌, ◌∷◌, [], ◌<◌, take, length, inl, inr, refl, ◌+◌, arith, subst}
 use Rattle.std.proofs.lemmas.List.{take_more}
 use Rattle.std.proofs.lemmas.Result.{err_from_is_err_and}
-use Rattle.ym_line.specs.Rounds.{Pair, Stops}
+use Rattle.ym_line.proofs.Names.{Pair, Stops}
 use Rattle.ym_line.proofs.Runs.{GoOn-append, StopsIn-at}
 use Rattle.ym_line.proofs.rounds.go_all.Goals as goal
 

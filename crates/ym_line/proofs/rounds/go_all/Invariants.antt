@@ -1,6 +1,6 @@
 -- The rounds so far have gone, with what was seen of each.
 use Rattle.std.proofs.Common.{take}
-use Rattle.ym_line.specs.Rounds.{GoOn}
+use Rattle.ym_line.proofs.Names.{GoOn}
 use Rattle.ym_line.proofs.rounds.go_all.Given as goal
 
 abbrev pub invariant-loop-i : goal.invariant-loop-i

@@ -1,5 +1,5 @@
 -- Both halves, with the pair between them.
-use Rattle.ym_line.specs.Rounds.{Pair}
+use Rattle.ym_line.proofs.Names.{Pair}
 use Rattle.ym_line.proofs.Runs.{seen-parts}
 use Rattle.ym_line.proofs.rounds.go_round.Goals as goal
 

@@ -1,7 +1,7 @@
 -- The law of a round, and that of a fault, for what the round answers.
 use Rattle.std.specs.Prelude.{[], ◌∷◌}
-use Rattle.ym_line.specs.Rounds.{Pair}
-use Rattle.ym_line.specs.Turns.{StopsWithMachine, TakesATurn}
+use Rattle.ym_line.proofs.Names.{Pair, StopsWithMachine}
+use Rattle.ym_line.specs.Turns.{TakesATurn}
 use Rattle.ym_line.proofs.Runs.{round-gives, round-stops-in}
 use Rattle.ym_line.proofs.rounds.round.Goals as goal
 

@@ -1,9 +1,5 @@
 -- The laws of runs, for what the run answers.
-use Rattle.ym_line.specs.Completion.{AreGoing, HaveFinished}
-use Rattle.ym_line.specs.Promise.{ReportsCommitted}
-use Rattle.ym_line.specs.Rounds.{Pair}
-use Rattle.ym_line.specs.Turns.{FollowsMachine, StopsWithMachine}
-use Rattle.ym_line.specs.declared.trace.Trace.{Trace}
+use Rattle.ym_line.proofs.Names.{AreGoing, HaveFinished, ReportsCommitted, Pair, FollowsMachine, StopsWithMachine, Trace}
 use Rattle.ym_core.specs.declared.state.SendState.TheVariants as send_state
 use Rattle.std.specs.Prelude.{◌≢◌}
 use Rattle.ym_line.proofs.Runs.{fault-gives, trace-gives}

@@ -1,12 +1,9 @@
 -- What was taken so far is what the delivery begins with, and does not end it.
 use Rattle.std.proofs.Common.{◌-◌, ◌≡◌, ◌≤◌, ◌⊎◌, List, [], take, length, false}
-use Rattle.ym_link.specs.Port.{Tape}
-use Rattle.ym_link.specs.Delivery.{taken}
-use Rattle.ym_link.specs.declared.port.Wait.{Wait}
+use Rattle.ym_link.proofs.Names.{Tape, taken, Wait, DELIVERY_LIMIT}
 use Rattle.ym_link.proofs.Courses.{Reading}
 use Rattle.ym_link.proofs.Taking.{onward}
 use Rattle.ym_link.proofs.delivery.take_delivery.Given as goal
-use Rattle.ym_link.specs.declared.port.TheConstants.{DELIVERY_LIMIT}
 
 abbrev pub invariant-loop-len : goal.invariant-loop-len
 invariant-loop-len g l = record {

@@ -1,12 +1,7 @@
 -- However the call may end from here, it may end so from the start.
 use Rattle.std.proofs.Common.{◌≡◌, ◌≢◌, ℕ, List, length}
 use Rattle.ym_core.specs.declared.state.RecvState.TheVariants as state
-use Rattle.ym_core.specs.declared.delivery.Heard.{Heard}
-use Rattle.ym_link.specs.Course.{Asks, ReceiverHears}
-use Rattle.ym_link.specs.Port.{Tape}
-use Rattle.ym_link.specs.declared.port.Wait.{Wait}
-use Rattle.ym_link.specs.ReceiveOver.{Receives, Outcome}
-use Rattle.ym_link.specs.Deliveries.{receiver_deliveries}
+use Rattle.ym_link.proofs.Names.{Heard, Asks, ReceiverHears, Tape, Wait, Receives, Outcome, receiver_deliveries}
 use Rattle.ym_link.proofs.receive_engine.receive_over.Given as goal
 
 abbrev pub invariant-loop-buf : goal.invariant-loop-buf

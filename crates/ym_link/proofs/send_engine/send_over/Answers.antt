@@ -1,19 +1,12 @@
 -- Each way out is a rule of `Sends`, behind the rules of the deliveries before.
-use Rattle.std.proofs.Common.{◌≡◌, ◌≢◌, ◌≤◌, ◌+◌, ◌++◌, ◌∷◌, [], length, arith, None, Result, Ok, Err, take, true, false, is_ok, rules, refl, sym, ◌∙◌}
+use Rattle.std.proofs.Common.{◌≡◌, ◌≢◌, ◌≤◌, ◌+◌, ◌++◌, ◌∷◌, [], length, arith, None, Result, Ok, Err, take, is_ok, rules, refl, sym, ◌∙◌}
 use Rattle.std.proofs.lemmas.List.{length-take}
-use Rattle.ym_link.specs.Port.{Tape, after_write}
-use Rattle.ym_link.specs.Sender.{SenderParts, IsSender, spoken}
-use Rattle.ym_link.specs.SendOver.{Sends, ended, unwritten, unread, heard, written_for, said, behind, delivery_to}
-use Rattle.ym_link.specs.declared.end_fault.EndFault.{EndFault}
+use Rattle.ym_link.proofs.Names.{Tape, after_write, SenderParts, IsSender, spoken, Sends, heard, EndFault, Running, sender_progress_at, sender_none, sender_more, DELIVERY_LIMIT}
+use Rattle.ym_link.specs.SendOver.{ended, unwritten, unread, written_for, said, behind, delivery_to}
 use Rattle.ym_link.specs.declared.end_fault.EndFault.TheVariants as fault
-use Rattle.ym_core.specs.declared.state.SendState.TheVariants.{Running}
-use Rattle.ym_link.specs.Bound.{sender_progress_at}
-use Rattle.ym_link.specs.Course.{sender_none, sender_more}
 use Rattle.ym_link.proofs.Courses.{asks-none, asks-more, asks-behind}
-use Rattle.ym_link.proofs.SenderBound.{course-is, course-none}
-use Rattle.ym_link.proofs.SenderDeliveries.{step-fewer}
+use Rattle.ym_link.proofs.SenderBound.{course-is, course-none, step-fewer}
 use Rattle.ym_link.proofs.send_engine.send_over.Goals as goal
-use Rattle.ym_link.specs.declared.port.TheConstants.{DELIVERY_LIMIT}
 
 -- the last write
 finishes : (s : SenderParts) (u new : Tape) (result : Result Unit EndFault) → IsSender s → s.standing.state ≢ Running
@@ -41,11 +34,9 @@ pub returns-in_err-write_frame-clause-told : goal.returns-in_err-write_frame-cla
 returns-in_err-write_frame-clause-told g c ran u e =
     let wrote = c.write_frame.ensures.told u e in
     let inv = c.loop-buf.invariant.told wrote.0 wrote.1 in
-    let failed : is_ok c.write_frame.result ≡ false = rw c.in_err-write_frame.was refl in
-    let same : u ≡ wrote.0 = rw failed at wrote.2 in
+    let same = rw c.in_err-write_frame.was at wrote.2 in
     let device = c.write_frame.ensures.device c.in_err-write_frame.field-0.0 c.in_err-write_frame.was in
-    let is_device : c.in_err-write_frame.field-0.0 ≡ fault.Device = device.0 in
-    let answer : c.from_residual.result ≡ Err fault.Device = search (rules, is_device) in
+    let answer : c.from_residual.result ≡ Err fault.Device = search (rules, device.0) in
     (inv.0, inv.1, rw answer (at _ _ _ _ _ _ same (inv.2 _ (unwritten c.loop-buf.sender wrote.0 c.write_frame.ensures.sender device.1))))
 
 pub returns-in_err-len-clause-told : goal.returns-in_err-len-clause-told
@@ -54,8 +45,7 @@ returns-in_err-len-clause-told g c ran u e =
     let wrote = c.write_frame.ensures.told got.0 got.1 in
     let inv = c.loop-buf.invariant.told wrote.0 wrote.1 in
     let on : c.loop-buf.sender.standing.state ≡ Running = search rules in
-    let went : is_ok c.write_frame.result ≡ true = rw c.in_ok-write_frame.was refl in
-    let spoke : got.0 ≡ said c.loop-buf.sender wrote.0 = rw went at wrote.2 in
+    let spoke = rw c.in_ok-write_frame.was at wrote.2 in
     let answer : c.from_residual-in_err-len.result ≡ Err c.in_err-len.field-0.0 = search rules in
     let none : (delivery_to c.loop-buf.sender wrote.0).delivery ≡ Err c.in_err-len.field-0.0 = rw spoke at (sym got.2) ∙ rw c.in_err-len.was refl in
     let left : u ≡ behind c.loop-buf.sender (said c.loop-buf.sender wrote.0) = rw spoke at got.3 in
@@ -74,8 +64,7 @@ loop-buf-preserved g c = record {
       let wrote = c.write_frame.ensures.told got.0 got.1 in
       let inv = c.loop-buf.invariant.told wrote.0 wrote.1 in
       let on : c.loop-buf.sender.standing.state ≡ Running = search rules in
-      let went : is_ok c.write_frame.result ≡ true = rw c.in_ok-write_frame.was refl in
-      let spoke : got.0 ≡ said c.loop-buf.sender wrote.0 = rw went at wrote.2 in
+      let spoke = rw c.in_ok-write_frame.was at wrote.2 in
       let whole : (delivery_to c.loop-buf.sender wrote.0).delivery ≡ Ok (take c.in_ok-len.len c.take_delivery.new.buf) = rw spoke at (sym got.2) ∙ rw c.in_ok-len.was refl in
       let left : u ≡ behind c.loop-buf.sender (said c.loop-buf.sender wrote.0) = rw spoke at got.3 in (
         inv.0,

@@ -1,11 +1,7 @@
 -- However the call may end from here, it may end so from the start.
 use Rattle.std.proofs.Common.{◌≡◌, ℕ, List, length}
-use Rattle.ym_core.specs.declared.state.SendState.TheVariants.{Running}
-use Rattle.ym_link.specs.Course.{Asks, SenderHears}
-use Rattle.ym_link.specs.Port.{Tape}
-use Rattle.ym_link.specs.declared.port.Wait.{Wait}
-use Rattle.ym_link.specs.SendOver.{Sends, Outcome}
-use Rattle.ym_link.specs.Deliveries.{sender_deliveries}
+use Rattle.ym_link.proofs.Names.{Running, Asks, SenderHears, Tape, Wait, Sends, sender_deliveries}
+use Rattle.ym_link.specs.SendOver.{Outcome}
 use Rattle.ym_link.proofs.send_engine.send_over.Given as goal
 
 abbrev pub invariant-loop-buf : goal.invariant-loop-buf

@@ -2,7 +2,7 @@ use Rattle.std.proofs.Common.{subst}
 use Rattle.std.specs.Prelude.{All}
 use Rattle.std.proofs.lemmas.List.{take_all}
 use Rattle.std.proofs.lemmas.List.Elements.{All-more}
-use Rattle.ym_file.specs.SourceFile.{IsFile}
+use Rattle.ym_link.proofs.Names.{IsFile}
 use Rattle.ym_link.proofs.sender.look_at.Goals as goal
 
 pub loop-file-preserved : goal.loop-file-preserved

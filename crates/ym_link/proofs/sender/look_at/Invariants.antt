@@ -1,5 +1,5 @@
 use Rattle.std.specs.Prelude.{All, take}
-use Rattle.ym_file.specs.SourceFile.{IsFile}
+use Rattle.ym_link.proofs.Names.{IsFile}
 use Rattle.ym_link.proofs.sender.look_at.Given as goal
 
 abbrev pub invariant-loop-file : goal.invariant-loop-file

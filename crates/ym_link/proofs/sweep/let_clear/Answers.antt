@@ -1,6 +1,6 @@
 -- Each way out of the loop is what the definition says there.
-use Rattle.std.proofs.Common.{◌≡◌, ◌-◌, ◌+◌, true, false, None, Some, Ok, Err, rules, refl, sym, ◌∙◌, ap}
-use Rattle.ym_link.specs.Port.{Tape}
+use Rattle.std.proofs.Common.{◌≡◌, ◌-◌, ◌+◌, arith, true, false, None, Some, Ok, Err, rules, refl, sym, ◌∙◌, ap}
+use Rattle.ym_link.proofs.Names.{Tape, MOST_READS}
 use Rattle.ym_link.specs.Sweep as table
 use Rattle.ym_link.specs.declared.sweep.Held.TheVariants as held
 use Rattle.ym_link.proofs.Sweeping.{swept-over, swept-out, swept-read, sweep-out}
@@ -10,8 +10,9 @@ pub returns-then-is_over-clause-told : goal.returns-then-is_over-clause-told
 returns-then-is_over-clause-told g c u e =
     let inv = c.loop-done.invariant.told u e in
     let over : table.is_over c.loop-done.sweep ≡ true = sym c.is_over.ensures ∙ c.if-is_over.true in
+    let more = c.loop-done-test.true in
     let out = sweep-out inv.0 u u _ (Ok (table.held_by c.loop-done.sweep.heed)) u.coming
-    (inv.3 ∙ swept-over 65536 c.loop-done._done c.args.role c.loop-done.sweep u.coming c.loop-done-test.true over) inv.2 refl in
+    (inv.3 ∙ swept-over (MOST_READS - c.loop-done._done) (MOST_READS - (c.loop-done._done + 1)) c.args.role c.loop-done.sweep u.coming (omega (arith, more)) over) inv.2 refl in
     (inv.0, inv.1, ap Ok c.held.ensures ∙ out.0, out.1)
 
 pub returns-in_err-next-clause-told : goal.returns-in_err-next-clause-told
@@ -21,7 +22,7 @@ returns-in_err-next-clause-told g c u e =
     let on : table.is_over c.loop-done.sweep ≡ false = sym c.is_over.ensures ∙ c.if-is_over.false in
     let answer : c.from_residual.result ≡ Err c.in_err-next.field-0.0 = search rules in
     let out = sweep-out inv.0 got.0 u _ (Err c.in_err-next.field-0.0) _
-    (swept-read 65536 c.loop-done._done c.args.role c.loop-done.sweep got.0.coming (Err c.in_err-next.field-0.0) _ c.loop-done-test.true on (sym c.in_err-next.was ∙ got.2) inv.3) inv.2 got.3 in
+    (swept-read MOST_READS c.loop-done._done c.args.role c.loop-done.sweep got.0.coming (Err c.in_err-next.field-0.0) _ c.loop-done-test.true on (sym c.in_err-next.was ∙ got.2) inv.3) inv.2 got.3 in
     (inv.0, inv.1, answer ∙ out.0, out.1)
 
 pub returns-in-None-clause-told : goal.returns-in-None-clause-told
@@ -31,7 +32,7 @@ returns-in-None-clause-told g c u e =
     let on : table.is_over c.loop-done.sweep ≡ false = sym c.is_over.ensures ∙ c.if-is_over.false in
     let none : c.read_on.result ≡ Ok None = c.in_ok-next.was ∙ ap Ok c.in-None.is in
     let out = sweep-out inv.0 got.0 u _ (Ok held.Closed) _
-    (swept-read 65536 c.loop-done._done c.args.role c.loop-done.sweep got.0.coming (Ok None) _ c.loop-done-test.true on (sym none ∙ got.2) inv.3) inv.2 got.3 in
+    (swept-read MOST_READS c.loop-done._done c.args.role c.loop-done.sweep got.0.coming (Ok None) _ c.loop-done-test.true on (sym none ∙ got.2) inv.3) inv.2 got.3 in
     (inv.0, inv.1, out.0, out.1)
 
 pub loop-done-preserved : goal.loop-done-preserved
@@ -44,8 +45,8 @@ loop-done-preserved g c = record {
         inv.0,
         inv.1,
         ap (λ (x : Tape). x.written) got.3 ∙ inv.2,
-        swept-read 65536 c.loop-done._done c.args.role c.loop-done.sweep got.0.coming (Ok (Some c.in-Some.next)) _ c.loop-done-test.true on (sym some ∙ got.2) inv.3
-            ∙ ap (λ (x : Tape). table.swept (65536 - (c.loop-done._done + 1)) c.args.role c.in-Some.next x.coming) (sym got.3),
+        swept-read MOST_READS c.loop-done._done c.args.role c.loop-done.sweep got.0.coming (Ok (Some c.in-Some.next)) _ c.loop-done-test.true on (sym some ∙ got.2) inv.3
+            ∙ ap (λ (x : Tape). table.swept (MOST_READS - (c.loop-done._done + 1)) c.args.role c.in-Some.next x.coming) (sym got.3),
       );
   calm = search rules;
 }
@@ -54,5 +55,5 @@ pub returns-clause-told : goal.returns-clause-told
 returns-clause-told g c u e =
     let inv = c.loop-done.invariant.told u e in
     let out = sweep-out inv.0 u u _ (Ok (table.held_by c.loop-done.sweep.heed)) u.coming
-    (inv.3 ∙ swept-out 65536 c.loop-done._done c.args.role c.loop-done.sweep u.coming c.loop-done-test.false) inv.2 refl in
+    (inv.3 ∙ swept-out MOST_READS c.loop-done._done c.args.role c.loop-done.sweep u.coming c.loop-done-test.false) inv.2 refl in
     (inv.0, inv.1, ap Ok c.held-2.ensures ∙ out.0, out.1)

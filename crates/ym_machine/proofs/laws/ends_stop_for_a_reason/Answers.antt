@@ -3,8 +3,7 @@ use Rattle.ym_machine.proofs.Endings.{half-there, start-endings, turn-endings, t
 use Rattle.ym_machine.proofs.MachineStates.{start-machine}
 use Rattle.ym_machine.proofs.Places.{frames-end}
 use Rattle.ym_machine.proofs.laws.ends_stop_for_a_reason.Goals as goal
-use Rattle.ym_machine.specs.Frames.{frames_of}
-use Rattle.ym_machine.specs.State.{SenderEnd, start}
+use Rattle.ym_machine.proofs.Names.{frames_of, SenderEnd, start}
 
 pub returns-clause-half_there : goal.returns-clause-half_there
 returns-clause-half_there g c files confirm sink whole st m ends = half-there (frames_of files) confirm sink whole st m ends

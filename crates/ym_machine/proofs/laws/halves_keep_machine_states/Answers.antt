@@ -2,8 +2,7 @@ use Rattle.std.specs.Prelude.{Some}
 use Rattle.ym_machine.proofs.MachineStates.{start-machine, there-machine, turn-machine, turns-machine}
 use Rattle.ym_machine.proofs.Places.{frames-end}
 use Rattle.ym_machine.proofs.laws.halves_keep_machine_states.Goals as goal
-use Rattle.ym_machine.specs.Frames.{frames_of}
-use Rattle.ym_machine.specs.State.{SenderEnd}
+use Rattle.ym_machine.proofs.Names.{frames_of, SenderEnd}
 
 pub returns-clause-at_start : goal.returns-clause-at_start
 returns-clause-at_start g c files confirm = start-machine (frames_of files) confirm (frames-end files) SenderEnd.Running (λ w. cc)

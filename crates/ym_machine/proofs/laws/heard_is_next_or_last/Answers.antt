@@ -1,7 +1,7 @@
 use Rattle.ym_machine.proofs.Places.{frames-end}
 use Rattle.ym_machine.proofs.Heard.{said-place, said-next-or-last, last-is-no-end}
 use Rattle.ym_machine.proofs.laws.heard_is_next_or_last.Goals as goal
-use Rattle.ym_machine.specs.Frames.{frames_of}
+use Rattle.ym_machine.proofs.Names.{frames_of}
 
 pub returns-clause-place : goal.returns-clause-place
 returns-clause-place g c files confirm st i m says = said-place (frames_of files) confirm st m.counters i says

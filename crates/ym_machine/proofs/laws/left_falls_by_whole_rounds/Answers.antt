@@ -2,7 +2,7 @@ use Rattle.ym_machine.proofs.Places.{frames-end}
 use Rattle.ym_machine.proofs.Remaining.{left-start}
 use Rattle.ym_machine.proofs.Rounds.{turn-left, turn-lowered}
 use Rattle.ym_machine.proofs.laws.left_falls_by_whole_rounds.Goals as goal
-use Rattle.ym_machine.specs.Frames.{frames_of}
+use Rattle.ym_machine.proofs.Names.{frames_of}
 
 pub returns-clause-never_raised : goal.returns-clause-never_raised
 returns-clause-never_raised g c files confirm turn st m going after damage = turn-left (frames_of files) confirm (frames-end files) turn st m going damage

@@ -1,7 +1,7 @@
 -- By what a read does to known bytes.
 use Rattle.std.proofs.Common.{◌≡◌, ◌≤◌, ◌<◌, ◌+◌, ◌++◌, [], length, take, arith, refl}
 use Rattle.std.proofs.lemmas.Grind.{common_steps}
-use Rattle.ym_play.proofs.BytesLemmas.{one_read, all_read, cut_off, within-read, within-failed}
+use Rattle.ym_play.proofs.BytesLemmas.{consumed, kept, one_read, all_read, cut_off}
 use Rattle.ym_play.specs.declared.limits.TheConstants.{MOST_SCRIPT_BYTES}
 use Rattle.ym_play.proofs.input.take_script.Goals as goal
 
@@ -10,25 +10,26 @@ returns-in-Ok-eq0-clause-taken g c = (
   grind (arith, common_steps),
   λ text e.
       let inv = c.loop-buffer.invariant.told text e in
-      let read = rw (c.in-Ok-eq0.is, c.in-Ok-eq0.field-0-test) at c.read_some.ensures.bytes in
+      let read = rw (c.in-Ok-eq0.is, c.in-Ok-eq0.field-0-test, inv.1) at c.read_some.ensures.bytes in
       let room : 0 < length c.read_some.new.buf = grind (arith, common_steps) in
       let short : length c.loop-buffer.bytes.items ≤ MOST_SCRIPT_BYTES + 1 = grind (arith, common_steps) in
-      all_read (g.I.Input.remaining c.loop-buffer.input) (g.I.Input.remaining c.read_some.new.self) text c.loop-buffer.bytes.items inv.0 _ short inv.1 inv.2 read.0 (read.1 refl room),
+      all_read (g.I.Input.remaining c.read_some.new.self) text c.loop-buffer.bytes.items inv.0 _ short inv.2 read.0 (read.1 refl room),
 )
 
 pub returns-in-Ok-eq0-clause-within : goal.returns-in-Ok-eq0-clause-within
 returns-in-Ok-eq0-clause-within g c text e =
     let inv = c.loop-buffer.invariant.told text e in
-    let read = rw (c.in-Ok-eq0.is, c.in-Ok-eq0.field-0-test) at c.read_some.ensures.bytes in
-    let short : length c.loop-buffer.bytes.items + 0 ≤ MOST_SCRIPT_BYTES + 1 = grind (arith, common_steps) in
-    within-read (MOST_SCRIPT_BYTES + 1) (g.I.Input.remaining c.loop-buffer.input) (g.I.Input.remaining c.read_some.new.self) text c.loop-buffer.bytes.items inv.0 [] inv.1 inv.2 read.0 short
+    let read = rw (c.in-Ok-eq0.is, c.in-Ok-eq0.field-0-test, inv.1) at c.read_some.ensures.bytes in
+    let left = consumed (g.I.Input.remaining c.read_some.new.self) inv.0 [] read.0 in
+    let short : length c.loop-buffer.bytes.items ≤ MOST_SCRIPT_BYTES + 1 = grind (arith, common_steps) in
+    (c.loop-buffer.bytes.items, left.0, rw left.2 at inv.2, left.1, short)
 
 pub returns-in-Err-clause-within : goal.returns-in-Err-clause-within
 returns-in-Err-clause-within g c text e =
     let inv = c.loop-buffer.invariant.told text e in
-    let read = rw c.in-Err.is at c.read_some.ensures.bytes in
+    let read = rw (c.in-Err.is, inv.1) at c.read_some.ensures.bytes in
     let short : length c.loop-buffer.bytes.items ≤ MOST_SCRIPT_BYTES + 1 = grind (arith, common_steps) in
-    within-failed (MOST_SCRIPT_BYTES + 1) (g.I.Input.remaining c.loop-buffer.input) (g.I.Input.remaining c.read_some.new.self) text c.loop-buffer.bytes.items inv.0 inv.1 inv.2 read short
+    (c.loop-buffer.bytes.items, inv.0, inv.2, kept (g.I.Input.remaining c.read_some.new.self) inv.0 read, short)
 
 pub returns-clause-taken : goal.returns-clause-taken
 returns-clause-taken g c = (
@@ -51,7 +52,7 @@ loop-buffer-preserved g c = record {
   calm = grind (arith, common_steps);
   told = λ text e.
       let inv = c.loop-buffer.invariant.told text e in
-      let read = rw c.in-Ok.is at c.read_some.ensures.bytes in
+      let read = rw (c.in-Ok.is, inv.1) at c.read_some.ensures.bytes in
       let added : c.extend_from_slice.new.self.items ≡ c.loop-buffer.bytes.items ++ take c.in-Ok.count c.read_some.new.buf = grind (arith, common_steps) in
-      rw added (one_read (g.I.Input.remaining c.loop-buffer.input) (g.I.Input.remaining c.read_some.new.self) text c.loop-buffer.bytes.items inv.0 (take c.in-Ok.count c.read_some.new.buf) inv.1 inv.2 read.0);
+      rw added (one_read (g.I.Input.remaining c.read_some.new.self) text c.loop-buffer.bytes.items inv.0 (take c.in-Ok.count c.read_some.new.buf) inv.2 read.0);
 }

@@ -1,7 +1,7 @@
 use Rattle.std.proofs.Common.{◌≡◌, ◌∙◌, sym, rules, arith, true, inl, inr}
 use Rattle.std.specs.Str.{all_ascii_digits}
 use Rattle.std.proofs.lemmas.Str.Parse.{parse_digits}
-use Rattle.ym_words.proofs.JobLemmas.{own, ne_zero, not_empty}
+use Rattle.ym_words.proofs.JobLemmas.{own, not_empty}
 use Rattle.std.proofs.lemmas.Bool.{cases_lt}
 use Rattle.ym_words.specs.Port.{read_on}
 use Rattle.ym_words.proofs.port.port_number.Goals as goal
@@ -15,7 +15,7 @@ pub returns-else-port-eq0 : goal.returns-else-port-eq0
 returns-else-port-eq0 c =
     let digits : all_ascii_digits c.args.text.now ≡ true = sym c.is_digits.ensures ∙ search rules in
     let h = rw c.in-Ok.is at (parse_digits own 16 c.args.text.now c.parse.result c.parse.ensures.value.0 digits) in
-    (digits, h.1, ne_zero c.in-Ok.port c.if-port-eq0.false, let below = h.0.1 in omega (arith, below, h.1))
+    (digits, h.1, omega (arith, c.if-port-eq0.false), let below = h.0.1 in omega (arith, below, h.1))
 
 pub returns-in-Err : goal.returns-in-Err
 returns-in-Err c = λ digits some.

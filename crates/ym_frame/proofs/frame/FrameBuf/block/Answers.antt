@@ -1,8 +1,7 @@
 use Rattle.std.proofs.Common.{◌≡◌, ◌∙◌, sym, ap, arith, refl, take, drop, List, ℕ}
 use Rattle.std.proofs.lemmas.List.{get_or-take}
 use Rattle.std.specs.Prelude.{slice_index}
-use Rattle.ym_frame.specs.Block.{BlockParts, length_of}
-use Rattle.ym_frame.specs.Frame.{body_of}
+use Rattle.ym_frame.proofs.Names.{BlockParts, length_of, body_of}
 use Rattle.ym_frame.proofs.Beginnings.{body_held, first_within}
 use Rattle.ym_frame.proofs.frame.FrameBuf.block.Goals as goal
 

@@ -1,7 +1,7 @@
-use Rattle.std.proofs.Common.{arith, refl, sym, ap, subst, ◌≡◌, ◌∙◌, ◌+◌, ◌-◌, get_or, length, length-drop, take, drop, None}
+use Rattle.std.proofs.Common.{arith, refl, sym, ap, ◌≡◌, ◌∙◌, ◌+◌, ◌-◌, get_or, length, length-drop, take, drop, None}
 use Rattle.std.proofs.lemmas.List.{take_all}
-use Rattle.ym_frame.specs.Reading.{Reading, reading_after, item_of}
-use Rattle.ym_frame.specs.Reader.{held_by, IsHeld, CompletesIn}
+use Rattle.ym_frame.proofs.Names.{reading_after, item_of}
+use Rattle.ym_frame.specs.Reader.{held_by}
 use Rattle.ym_frame.specs.WholeFrame.{item_in}
 use Rattle.ym_frame.proofs.ReaderLemmas.{loop_turn, loop_done}
 use Rattle.ym_frame.proofs.reader.FrameReader.advance.Goals as goal
@@ -32,5 +32,4 @@ returns-in-Some c =
     let now = c.loop-used.self in
     let item = item_in c.in-Some.whole (held_by now) in
     let done = loop_done c.args.self.now now c.args.piece.now c.loop-used.used (get_or c.args.piece.now c.loop-used.used 0) item c.loop-used-test.true refl c.loop-used.invariant.none_yet c.loop-used.invariant.so_far c.in-Some.ensures.whole in
-    let T : Reading → Type 0 = λ r. IsHeld r c.in-Some.whole × CompletesIn c.args.self.now c.args.piece.now (item_in c.in-Some.whole (held_by r)) (c.loop-used.used + 1) in
-    subst T (sym c.in-Some.ensures.same) (c.in-Some.ensures.held, done)
+    rw c.in-Some.ensures.same (c.in-Some.ensures.held, done)

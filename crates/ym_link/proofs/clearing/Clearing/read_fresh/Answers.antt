@@ -1,12 +1,7 @@
 -- Each way out of the loop is what the definition says there.
 use Rattle.std.proofs.Common.{◌≡◌, ◌-◌, ◌+◌, ◌++◌, ◌∷◌, [], List, true, false, length, rules, sym, ◌∙◌, ap, append_assoc}
 use Rattle.std.proofs.lemmas.List.{append-nil}
-use Rattle.ym_link.specs.Clearing.{fresh}
-use Rattle.ym_link.specs.Exchange.{is_stale, after_seen}
-use Rattle.ym_link.specs.Port.{Tape, seen_of, read_gives}
-use Rattle.ym_link.specs.declared.clearing.TheConstants.{STALE_READS}
-use Rattle.ym_link.specs.declared.port.Wait.{Wait}
-use Rattle.ym_link.specs.declared.port.Wait.TheVariants.{Within}
+use Rattle.ym_link.proofs.Names.{fresh, is_stale, after_seen, Tape, seen_of, read_gives, STALE_READS, Wait, Within}
 use Rattle.ym_link.proofs.Fresh.{fresh-on, fresh-over, fresh-out, read-of, stale-calm, talk-after}
 use Rattle.ym_link.proofs.clearing.Clearing.read_fresh.Goals as goal
 
@@ -33,8 +28,7 @@ pub loop-done-preserved : goal.loop-done-preserved
 loop-done-preserved g c =
     let same = c.loop-done.invariant.talk in
     let sized : length c.loop-done.buf ≡ length c.args.buf.now = c.loop-done.invariant.sized in
-    let stale_here : is_stale c.loop-done.self.talk.role c.loop-done.self.talk.exchange (seen_of c.read-got.result c.read-got.new.buf) ≡ true = sym c.is_stale.ensures ∙ c.if-not-is_stale.false in
-    let stale : is_stale c.args.self.now.talk.role c.args.self.now.talk.exchange (seen_of c.read-got.result c.read-got.new.buf) ≡ true = rw same at stale_here in
+    let stale : is_stale c.args.self.now.talk.role c.args.self.now.talk.exchange (seen_of c.read-got.result c.read-got.new.buf) ≡ true = rw same at (sym c.is_stale.ensures ∙ c.if-not-is_stale.false) in
     record {
       some = search rules;
       sized = search rules;
@@ -61,8 +55,7 @@ pub returns-then-not-is_stale-clause-exact : goal.returns-then-not-is_stale-clau
 returns-then-not-is_stale-clause-exact g c u e =
     let same = c.loop-done.invariant.talk in
     let sized : length c.loop-done.buf ≡ length c.args.buf.now = c.loop-done.invariant.sized in
-    let new_here : is_stale c.loop-done.self.talk.role c.loop-done.self.talk.exchange (seen_of c.read-got.result c.read-got.new.buf) ≡ false = sym c.is_stale.ensures ∙ c.if-not-is_stale.true in
-    let new : is_stale c.args.self.now.talk.role c.args.self.now.talk.exchange (seen_of c.read-got.result c.read-got.new.buf) ≡ false = rw same at new_here in
+    let new : is_stale c.args.self.now.talk.role c.args.self.now.talk.exchange (seen_of c.read-got.result c.read-got.new.buf) ≡ false = rw same at (sym c.is_stale.ensures ∙ c.if-not-is_stale.true) in
     let got = c.read-got.ensures.told u e in
     let inv = c.loop-done.invariant.told got.0 got.1 in
     let seen : seen_of c.read-got.result c.read-got.new.buf ≡ read_gives (length c.args.buf.now) got.0.coming = rw sized at got.2 in

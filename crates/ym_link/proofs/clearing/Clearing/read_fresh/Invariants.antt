@@ -1,9 +1,6 @@
 -- What is left to read behind what was passed over is what all of it comes to.
 use Rattle.std.proofs.Common.{◌≡◌, ◌<◌, ◌-◌, ◌++◌, List, length}
-use Rattle.ym_link.specs.Clearing.{fresh}
-use Rattle.ym_link.specs.Port.{Tape}
-use Rattle.ym_link.specs.declared.clearing.TheConstants.{STALE_READS}
-use Rattle.ym_link.specs.declared.port.Wait.{Wait}
+use Rattle.ym_link.proofs.Names.{fresh, Tape, STALE_READS, Wait}
 use Rattle.ym_link.proofs.clearing.Clearing.read_fresh.Given as goal
 
 abbrev pub invariant-loop-done : goal.invariant-loop-done

@@ -1,9 +1,7 @@
 -- What passes goes on passing, whether the write was made or not.
 use Rattle.std.proofs.Common.{◌≡◌, is_ok, false, rules, refl, sym, ◌∙◌, ap}
-use Rattle.ym_link.specs.Clearing.{said}
-use Rattle.ym_link.specs.Exchange.{front_of, must_clear}
-use Rattle.ym_link.specs.declared.clearing.Talk.{Talk}
-use Rattle.ym_link.specs.declared.exchange.Exchange.{Exchange}
+use Rattle.ym_link.proofs.Names.{said, front_of, Talk, Exchange}
+use Rattle.ym_link.specs.Exchange.{must_clear}
 use Rattle.ym_link.proofs.Passing.{write-passes, clear-fails, tape_of}
 use Rattle.ym_link.proofs.clearing.ClearingPort.write.Goals as goal
 

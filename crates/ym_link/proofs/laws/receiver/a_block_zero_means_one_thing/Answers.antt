@@ -1,5 +1,5 @@
 use Rattle.std.proofs.Common.{arith}
-use Rattle.ym_header.specs.Header.{length_limit}
+use Rattle.ym_link.proofs.Names.{length_limit}
 use Rattle.ym_link.proofs.OneStep.{some_meaning, one_meaning}
 use Rattle.ym_link.proofs.laws.receiver.a_block_zero_means_one_thing.Goals as goal
 

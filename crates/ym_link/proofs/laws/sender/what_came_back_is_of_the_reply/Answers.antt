@@ -1,6 +1,6 @@
 use Rattle.std.proofs.Common.{subst, sym}
-use Rattle.ym_frame.specs.Control.{IsSubsequence, reply_bytes}
-use Rattle.ym_core.specs.Reading.{controls_in}
+use Rattle.ym_link.proofs.Names.{reply_bytes, controls_in}
+use Rattle.ym_frame.specs.Control.{IsSubsequence}
 use Rattle.ym_link.proofs.Controls.{control_bytes, reply_is_whole}
 use Rattle.ym_link.proofs.laws.sender.what_came_back_is_of_the_reply.Goals as goal
 

@@ -1,15 +1,11 @@
 use Rattle.std.proofs.Common.{◌≡◌, Some, take, true, subst, sym, refl}
-use Rattle.ym_core.specs.Place.{IsPlace}
-use Rattle.ym_core.specs.Reading.{controls_in}
-use Rattle.ym_core.specs.Standing.{hears}
-use Rattle.ym_link.specs.Sender.{SenderParts, IsStep, counts}
+use Rattle.ym_link.proofs.Names.{IsPlace, controls_in, hears, SenderParts, IsStep, counts}
 use Rattle.ym_link.proofs.Kept.{failed_hears, failed_sender, unfilled_sender, filled_sender}
 use Rattle.ym_link.proofs.sender.SenderFrom.hear_found.Goals as goal
 
 pub invariant_of-self-in-Err : goal.invariant_of-self-in-Err
 invariant_of-self-in-Err g c =
     let s = c.self.inside in
-    let step_is = subst (λ (o : SenderParts). c.step_at-step.result ≡ hears (counts o) o.standing (controls_in c.args.bytes.now)) (sym c.self.view_is) c.step_at-step.ensures.step in
     let within = subst (λ (o : SenderParts). IsPlace (counts o) c.step_at-step.result.standing.place) (sym c.self.view_is) c.step_at-step.ensures.within in (
       c.self.invariant.0,
       failed_sender s.shape (take s.len c.frame_at.new.buffer) s.batch.items s.batch.items refl c.frame_at.new.files.items (Some c.in-Some.place)
@@ -40,7 +36,6 @@ pub returns-in-Err : goal.returns-in-Err
 returns-in-Err g c =
     let s = c.self.inside in
     let step_is = subst (λ (o : SenderParts). c.step_at-step.result ≡ hears (counts o) o.standing (controls_in c.args.bytes.now)) (sym c.self.view_is) c.step_at-step.ensures.step in
-    let within = subst (λ (o : SenderParts). IsPlace (counts o) c.step_at-step.result.standing.place) (sym c.self.view_is) c.step_at-step.ensures.within in
     let left : SenderParts = record { standing = c.source_failed-self-inside.result; shape = s.shape; files = c.frame_at.new.files.items; frame = take s.len c.frame_at.new.buffer } in (
       true,
       subst (λ (o : SenderParts). IsStep o (hears (counts o) o.standing (controls_in c.args.bytes.now)) true left) c.self.view_is

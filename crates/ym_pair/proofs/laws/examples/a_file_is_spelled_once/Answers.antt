@@ -1,9 +1,7 @@
 use Rattle.std.proofs.Common.{◌≡◌, ◌++◌, ℕ, List, [], ◌∷◌, codes, inl, inr, refl, ap, arith}
-use Rattle.ym_frame.specs.declared.frame.Item.{Item}
+use Rattle.ym_pair.proofs.Names.{Item, Heard, AreAmong, block}
 use Rattle.ym_frame.specs.declared.frame.Item.TheVariants as item
-use Rattle.ym_core.specs.declared.delivery.Heard.{Heard}
 use Rattle.ym_core.specs.declared.delivery.Heard.TheVariants as heard
-use Rattle.ym_pair.specs.AnyPeer.{AreAmong, block}
 use Rattle.ym_pair.specs.Examples.{block_again, block_skipped}
 use Rattle.ym_pair.proofs.laws.examples.a_file_is_spelled_once.Goals as goal
 

@@ -1,11 +1,7 @@
 use Rattle.std.proofs.Common.{◌≡◌, ℕ, List, [], ◌∷◌, length, inl, inr, refl, ap, subst, arith}
+use Rattle.ym_pair.proofs.Names.{Shape, Eot, IsFrameAt, FileParts, AreAcknowledged}
 use Rattle.ym_frame.specs.Frame.{IsFrame}
 use Rattle.ym_frame.specs.declared.frame.Item.TheVariants as item
-use Rattle.ym_file.specs.declared.plan.Shape.{Shape}
-use Rattle.ym_core.specs.declared.place.Place.TheVariants.{Eot}
-use Rattle.ym_link.specs.FrameAt.{IsFrameAt}
-use Rattle.ym_file.specs.SourceFile.{FileParts}
-use Rattle.ym_pair.specs.AnyPeer.{AreAcknowledged}
 use Rattle.ym_pair.specs.Examples.{eot_and_start, another_frame}
 use Rattle.ym_pair.proofs.laws.examples.an_ack_is_of_the_frame_before_it.Goals as goal
 

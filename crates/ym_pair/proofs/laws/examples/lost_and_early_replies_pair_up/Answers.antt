@@ -1,5 +1,5 @@
 use Rattle.std.proofs.Common.{inl, inr, refl}
-use Rattle.ym_frame.specs.Frame.{verdict_of}
+use Rattle.ym_pair.proofs.Names.{verdict_of}
 use Rattle.ym_pair.proofs.laws.examples.lost_and_early_replies_pair_up.Goals as goal
 
 pub returns-clause-again : goal.returns-clause-again

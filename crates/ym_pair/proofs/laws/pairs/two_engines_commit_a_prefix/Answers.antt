@@ -1,8 +1,5 @@
 use Rattle.std.proofs.Common.{ap, false, inl}
-use Rattle.ym_machine.specs.Frames.{frames_of}
-use Rattle.ym_core.specs.declared.standing.Standing.{Standing}
-use Rattle.ym_link.specs.Sender.{spoken}
-use Rattle.ym_link.specs.SendOver.{written_for}
+use Rattle.ym_pair.proofs.Names.{frames_of, Standing, spoken, written_for}
 use Rattle.ym_line.proofs.Halves.{Laws}
 use Rattle.ym_line.proofs.Promised as promised
 use Rattle.ym_pair.proofs.Engines.{Endings, engines-commit, files-within}

@@ -1,7 +1,5 @@
 use Rattle.std.proofs.Common.{ap, inl, true}
-use Rattle.ym_core.specs.declared.standing.Standing.{Standing}
-use Rattle.ym_link.specs.Sender.{spoken}
-use Rattle.ym_link.specs.SendOver.{written_for}
+use Rattle.ym_pair.proofs.Names.{Standing, spoken, written_for}
 use Rattle.ym_line.proofs.Promised.{Laws}
 use Rattle.ym_pair.proofs.Engines.{files-within}
 use Rattle.ym_pair.proofs.Finishing.{engines-finish}
