@@ -2,8 +2,8 @@
 # make build             proves and builds the program
 # make check             while you write: proves what changed, and tries the tests of the crates that changed since the last green run
 # make layout            whether each source is laid out as `rt fmt` does it, which the gate wants: a second
-# make test              everything that is checked before a change lands: the program on sockets and files, what is shipped beside it,
-#                        want of memory, and then the gate, whose last line is 'N passed, M failed'
+# make test              everything that is checked before a change lands: want of memory, and the gate, whose last line is 'N passed, M failed',
+#                        with the program that it proved on sockets and files, what is shipped beside it, the library and the page
 # make memory            each growth of memory refused in turn, alone
 # make interop           the program against lrzsz, which has to be installed
 # make install           puts the program, ymodem-tty, the manual pages and the completion below $(DESTDIR)$(PREFIX)
@@ -33,12 +33,9 @@ layout:
 	    | xargs -0 "$$(dirname "$$(readlink -f "$$(command -v rt)")")/rattle" fmt --check \
 	    || { echo "run rt fmt in the folder of its crate" >&2; exit 1; }
 
-test: layout build replay
-	tests/transfer.py
-	tests/shipped.py
+test: layout lib web
 	tests/memory.py
-	@tests/counts.py
-	rt ci
+	@tools/gate.py
 
 # The program that plays recorded reads to the engines, for tests/transfer.py.
 replay:
@@ -90,8 +87,6 @@ lib:
 	    install -D -m 644 crates/ym_c/out/libym_c.a out/lib/$$target/libymodem.a || exit 1; \
 	done
 
-test: test-lib
-
 test-lib: build
 	@$(MAKE) --no-print-directory lib
 	tests/library.py
@@ -122,8 +117,6 @@ web:
 
 web-serve: web
 	cd out/web && python3 -m http.server --bind 127.0.0.1 $(PORT)
-
-test: test-web
 
 test-web: build web
 	tests/web.py

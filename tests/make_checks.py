@@ -1,5 +1,6 @@
-"""What `make play`, `make build` and `make check` show, with a stand-in for `rt` that proves nothing and says what `rt` says."""
+"""What `make play`, `make build`, `make check` and the gate show, with a stand-in for `rt` that proves nothing and says what `rt` says."""
 
+import contextlib
 import os
 import signal
 
@@ -7,6 +8,7 @@ from program import ROOT
 from telling import wants
 from terminal import UnderTerminal
 from tree import session, tree
+from waits import wait_until
 
 NOT_PROVED = "this run is not proved: make build proves it (minutes the first time)\n"
 
@@ -115,6 +117,52 @@ def layout():
         wants("calls of rt", it.called(), [])
 
 
+# In place of each program of tests: it tells its name and the program that it was given. Where the file `fails` is there it fails.
+TEST = """#!/bin/sh
+echo "$(basename "$0" .py) $YMODEM" >> "$CALLED/called"
+[ ! -e "$CALLED/fails" ]
+"""
+TESTS = ["transfer", "shipped", "library", "bare", "uboot", "web", "counts"]
+
+
+@contextlib.contextmanager
+def tree_with_gate():
+    with tree() as it:
+        for name in TESTS:
+            it.write("tests/%s.py" % name, TEST)
+        yield it
+
+
+def gate():
+    """The tests get the program that the gate has built, and what the gate said comes last."""
+    with tree_with_gate() as it:
+        status, out, err = it.run("tools/gate.py")
+        wants("its status", (status, err), (0, ""))
+        wants("its calls", it.called(), ["ci", *("%s %s/out/tried/ymodem" % (name, it.top) for name in TESTS)])
+        wants("its last line", out.splitlines()[-1], "18 passed, 0 failed")
+        has(out, "gate, 0:0", " min: rt: ymodem proved\n", "tests/transfer.py\n")
+
+
+def gate_that_refuses():
+    with tree_with_gate() as it:
+        it.mark("wrong")
+        status, out, _ = it.run("tools/gate.py")
+        wants("its status and its last line", (status, out.splitlines()[-1]), (1, "17 passed, 1 failed"))
+
+
+def gate_behind_a_test_that_fails():
+    """The gate is stopped, with all that it started, and the last line is no verdict."""
+    with tree_with_gate() as it:
+        it.mark("fails")
+        it.mark("slow")
+        status, out, _ = it.run("tools/gate.py")
+        wants("its status and its last line", (status, out.splitlines()[-1]), (1, "tests/transfer.py failed"))
+        wants("its calls", it.called(), ["ci", "transfer %s/out/tried/ymodem" % it.top])
+        with open(os.path.join(it.calls, "process"), encoding="utf-8") as told:
+            process = int(told.read())
+        wait_until(lambda: not os.path.exists("/proc/%d" % process), "the gate had ended")
+
+
 CHECKS = [
     ("make play, before and after a build", play),
     ("make play of a tree that is wrong", play_that_fails),
@@ -122,4 +170,7 @@ CHECKS = [
     ("make build under a terminal, and interrupted", build_under_terminal),
     ("make check tries what changed", check),
     ("make layout of sources that are not laid out", layout),
+    ("the gate, and beside it the tests of what it proved", gate),
+    ("the gate where an edit is not refused", gate_that_refuses),
+    ("the gate where a test fails", gate_behind_a_test_that_fails),
 ]

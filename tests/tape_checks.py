@@ -19,7 +19,7 @@ from tracing import calls_of, strace
 from transfer_checks import few_files
 from transfers import carried
 
-REPLAY = os.path.join(ROOT, "crates", "replay", "out", "replay")
+REPLAY = os.path.abspath(os.environ.get("REPLAY", os.path.join(ROOT, "crates", "replay", "out", "replay")))
 CALLS = "connect,accept,accept4,recvfrom,sendto,read,write,dup,fcntl"
 DATA = re.compile(r'(\d+), ("(?:\\x[0-9a-f]{2})*")')
 

@@ -9,7 +9,7 @@ import tempfile
 from program import PROGRAM, ROOT
 from skipping import needs
 
-# It tells what it was called with in the file `called`. Where the file `slow` is there, `rt run` waits for its end.
+# It tells what it was called with in the file `called`. Where the file `slow` is there, `rt run` and `rt ci` wait for their end.
 STAND_IN = r"""#!/bin/sh
 echo "$*" >> "$CALLED/called"
 case $1 in
@@ -25,6 +25,15 @@ run)
     ;;
 lib)
     mkdir -p out && echo "$*" > out/libym_c.a
+    ;;
+ci)
+    for name in replay ymodem; do
+        mkdir -p "crates/$name/out" && cp "$YMODEM" "crates/$name/out/$name"
+        echo "rt: $name proved"
+    done
+    [ ! -e "$CALLED/slow" ] || { echo $$ > "$CALLED/process"; sleep 1000; }
+    [ ! -e "$CALLED/wrong" ] || { echo "rt: FAILED: ym_check/check.add.byte_shifted_in.edit"; echo "17 passed, 1 failed"; exit 1; }
+    echo "18 passed, 0 failed"
     ;;
 try)
     [ ! -e "$CALLED/wrong" ] || { echo "src/check.rt:1:1: error: not so" >&2; exit 2; }
@@ -73,6 +82,12 @@ class Tree:
         """A command in the tree: its status, and what it wrote."""
         ran = subprocess.run(words, cwd=self.top, env=self.environment, capture_output=True, text=True, check=False, **self.how)
         return ran.returncode, ran.stdout, ran.stderr
+
+    def write(self, name, text):
+        """A script of the tree, in place of the one that is there."""
+        with open(os.path.join(self.top, name), "w", encoding="utf-8") as it:
+            it.write(text)
+        os.chmod(it.name, 0o755)
 
     def mark(self, name):
         with open(os.path.join(self.calls, name), "w", encoding="utf-8"):
