@@ -45,7 +45,7 @@ pub fn halves_keep_the_other_end<B: Batch>()
 {}
 
 /// The ends of a run that began new have stopped for a reason: an end gave up at its tenth delivery without progress, a source failed at a
-/// data block, and an end is cancelled only where the other one gave up, or its sink or source failed. Other machine states need not be so:
+/// data block, and an end is cancelled only where the other one gave up, or its sink or source failed. Other states of the invariant need not be so:
 /// one of them has a sender that was cancelled while the receiver runs.
 pub fn ends_stop_for_a_reason<B: Batch>()
     ensures run { (files : List (File B.Header)) (confirm : Confirm) (turns : List Turn) →
