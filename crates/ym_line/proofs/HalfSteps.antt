@@ -70,10 +70,10 @@ still-told true old new truth told =
 -- ---- The receiver step
 
 -- It leads from the state that a pair refined to where the machine's step leads, and its reply is the machine's.
-pub receiver-half : Laws → (confirm : Confirm) (files : Batch) (st : State) (delivery : Delivery) (old : Pair) (reply : Reply) (new : Pair) →
+pub receiver-step : Laws → (confirm : Confirm) (files : Batch) (st : State) (delivery : Delivery) (old : Pair) (reply : Reply) (new : Pair) →
     PairRefines confirm files st old → GoesThere delivery old reply new →
     (half : IsReceiverStep confirm files st delivery old reply new) × (reply ≡ (receiver_step (frames_of files) confirm half.sink_failed (is_whole delivery) st).1)
-receiver-half laws confirm files st delivery old reply new refines goes =
+receiver-step laws confirm files st delivery old reply new refines goes =
     let whole = is_whole delivery in
     let says = laws.says files st old.sender refines.sender goes.keeps refines.told in
     let heard = said-heard laws.found files (said st) old.sender delivery says goes.bad in
@@ -102,7 +102,7 @@ pub goes-turn : Laws → (confirm : Confirm) (files : Batch) (st : State) (round
     PairRefines confirm files st old → Goes round old seen new → (turn : Turn) × IsTurn confirm files st round turn old seen new
 goes-turn laws confirm files st round old new seen refines goes =
     let between = goes.between in
-    let both = receiver-half laws confirm files st round.there old seen.reply between refines goes.there in
+    let both = receiver-step laws confirm files st round.there old seen.reply between refines goes.there in
     let half = both.0 in
     let answer = receiver_step (frames_of files) confirm half.sink_failed (is_whole round.there) st in
     let came = came_back (came_of round.back) answer.1 in

@@ -10,7 +10,7 @@ use Rattle.ym_link.specs.ReceiverRefines.{KeepsFirst}
 use Rattle.ym_link.specs.ReceiverRefines as receiver
 use Rattle.ym_link.specs.SenderRefines.{SenderRefines, AllTold}
 use Rattle.ym_line.specs.Promise.{CommitsAPrefix}
-use Rattle.ym_line.proofs.HalfSteps.{Laws, sender-still, still-told, source-truth, receiver-half, goes-turn}
+use Rattle.ym_line.proofs.HalfSteps.{Laws, sender-still, still-told, source-truth, receiver-step, goes-turn}
 use Rattle.ym_line.proofs.Promised as promised
 use Rattle.ym_pair.specs.Pairing.{ReceiverAlone}
 use Rattle.ym_pair.proofs.Paired.{Computed, HearsControls, SpeaksTo, IsWritten, AnswersTo, Leaves, there-of, nothing-back, paired-half, paired-round}
@@ -83,7 +83,7 @@ half-paired : Endings → (confirm : Confirm) (files : Batch) (st : State) (s : 
     (st_new : State) × PairRefines confirm files st_new (ends s next)
 half-paired endings confirm files st s r next wrote h delivery reply refines is spoken arrives gives =
     let there = there-of endings.computed s wrote delivery h spoken arrives in
-    let half = receiver-half endings.laws confirm files st there.0 (ends s r) reply (ends s next) refines (paired-half endings.computed s r next h reply there.0 is there.1 gives) in
+    let half = receiver-step endings.laws confirm files st there.0 (ends s r) reply (ends s next) refines (paired-half endings.computed s r next h reply there.0 is there.1 gives) in
     (_, half.0.refines)
 
 receiver-alone : Endings → (confirm : Confirm) (files : Batch) (st : State) (s : SenderParts) (r end : ReceiverParts) (last : List ℕ) (answered : List Answered) (rounds : List Round) →
