@@ -45,7 +45,7 @@ typedef struct ym_stand {
     uint32_t fault;     /* at YM_BAD_HEADER: enum ym_fault */
     uint32_t in_file;   /* 1 while a file is taken */
     uint32_t first_eot; /* 1 where its first EOT has come */
-    uint32_t count;     /* deliveries in a row without progress; the tenth ends it */
+    uint32_t retries;   /* deliveries in a row without progress; the tenth ends it */
     uint32_t confirm;   /* 0: the first EOT of a file is questioned; 1: it is not */
 } ym_stand;
 
@@ -66,7 +66,7 @@ typedef struct ym_ask {
     uint32_t at;
     uint32_t stamp;     /* YM_BEGIN: 0 none, 1 a time, 2 a time and a mode */
     uint32_t mode;      /* YM_BEGIN, where stamp is 2 */
-    uint32_t bad;       /* 1: no frame was heard. Where bytes came (len is not 0), and bad or the receiver's stand.count is not 0, read on until the line
+    uint32_t bad;       /* 1: no frame was heard. Where bytes came (len is not 0), and bad or the receiver's stand.retries is not 0, read on until the line
                            has been quiet for a second, and then answer */
 } ym_ask;
 
@@ -103,9 +103,9 @@ typedef struct ym_sender {
     uint32_t len;       /* how many bytes the frame has */
     uint32_t place;     /* 0 block 0, 1 a data block, 2 EOT, 3 the end block */
     uint32_t mode;      /* 0 it waits for C, 1 the frame is out */
-    uint32_t misses;    /* deliveries in a row without progress; the tenth ends it */
+    uint32_t retries;   /* deliveries in a row without progress; the tenth ends it */
     uint32_t state;     /* enum ym_send_state */
-    uint32_t farewell;  /* 1 where CAN CAN is still to go */
+    uint32_t cancel_pending; /* 1 where CAN CAN is still to go */
     uint8_t frame[1029];
 } ym_sender;
 

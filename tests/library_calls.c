@@ -67,7 +67,7 @@ static void any_stand(ym_stand *stand) {
         stand->confirm = (uint32_t)below(2);
         stand->in_file = (uint32_t)below(2);
         stand->first_eot = (uint32_t)below(2);
-        stand->count = (uint32_t)below(12);
+        stand->retries = (uint32_t)below(12);
         stand->state = (uint32_t)(below(3) ? 0 : below(9));
         stand->fault = (uint32_t)below(7);
     }
@@ -130,7 +130,7 @@ static void send(ym_sender *sender, ym_fill *fill) {
         sender->file = (uint32_t)below(5);
         sender->place = (uint32_t)below(5);
         sender->mode = (uint32_t)below(3);
-        sender->misses = (uint32_t)below(12);
+        sender->retries = (uint32_t)below(12);
         sender->state = (uint32_t)(below(3) ? 0 : below(6));
         sender->number = below(2) ? number() : 1;
     }

@@ -80,7 +80,7 @@ static void receive(void) {
         ym_receiver_hear(&receiver, &ask);
         uint32_t done = act(&ask);
         /* More may be coming behind what is no frame, and where this loader has asked more than once: each C may be answered. */
-        if (receiver.len && (ask.bad || receiver.stand.count)) clear();
+        if (receiver.len && (ask.bad || receiver.stand.retries)) clear();
         uart_write(reply, ym_receiver_answer(&receiver, done, reply, sizeof reply));
     }
 }

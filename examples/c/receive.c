@@ -72,7 +72,7 @@ int main(int count, char **words) {
         ym_receiver_hear(&receiver, &ask);
         int done = act(&receiver, &ask);
         /* More may be coming behind what is no frame, and where this receiver has asked more than once: each C may be answered. */
-        if (receiver.len && (ask.bad || receiver.stand.count) && !clear(QUIET)) break;
+        if (receiver.len && (ask.bad || receiver.stand.retries) && !clear(QUIET)) break;
         size_t len = ym_receiver_answer(&receiver, (uint32_t)done, reply, sizeof reply);
         if (!put(1, reply, len)) break;
     }

@@ -70,14 +70,14 @@ struct copies {
 /* Takes that a reply was heard. 0 where the line had to clear before the next frame, and is closed. */
 static int heard(struct copies *out, const ym_sender *sender, int late) {
     int several = out->of_frame > 1;
-    if (sender->misses) return 1;
+    if (sender->retries) return 1;
     out->prompt = !late && !several;
     out->of_frame = 0;
     return !several || clear(CLEAR);
 }
 
 static void sent(struct copies *out, const ym_sender *sender, int late) {
-    int confirms = sender->len == 1 && sender->misses == 1 && !late && out->prompt;
+    int confirms = sender->len == 1 && sender->retries == 1 && !late && out->prompt;
     if (!confirms) out->of_frame++;
 }
 

@@ -5,10 +5,10 @@
 ghost use Rattle.std.specs.Prelude.{◌≡◌, ◌↔◌, ◌≤◌, ℕ, Ok, IfSome, IsSome, is_some, length};
 ghost use Rattle.ym_frame.specs.Block.{BlockParts};
 ghost use Rattle.ym_frame.specs.Frame.{verdict_of, IsFrame};
-ghost use Rattle.ym_frame.specs.Reading.{used_by, item_of};
+ghost use Rattle.ym_frame.specs.Pieces.{used_by, item_of};
 ghost use Rattle.ym_frame.specs.declared.frame.Item.TheVariants as item;
 ghost use Rattle.ym_header.specs.Header.{length_limit};
-ghost use Rattle.ym_header.specs.Reading.{ReadsHeader};
+ghost use Rattle.ym_header.specs.HeaderReading.{ReadsHeader};
 
 use ym_frame::{Block, FrameBuf, FrameReader, Item, ItemRef, encode, verdict};
 use ym_header::{HeaderRef, ZeroRef, read_borrowed};

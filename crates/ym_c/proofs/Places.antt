@@ -19,14 +19,14 @@ use Rattle.ym_machine.specs.declared.confirm.Confirm.TheVariants.{Twice}
 use Rattle.ym_machine.specs.declared.limits.TheConstants.{GIVE_UP, MOST_FILES}
 use Rattle.ym_core.specs.Receiver.{Receiver, Call, No_call, Begins, Adds, Commits, Step, stays, hears, hears_at, running_hears, zero_heard, next_block, covered_eot}
 use Rattle.ym_core.specs.Hearing.{heard_at, heard_of}
-use Rattle.ym_core.specs.Step.{Means, StandsFor}
+use Rattle.ym_core.specs.Step.{Means, ReadsAs}
 use Rattle.ym_core.specs.declared.delivery.Heard.TheVariants as heard
 use Rattle.ym_core.specs.declared.stage.OpenFile.{OpenFile}
 use Rattle.ym_core.specs.declared.stage.Stage.{Stage}
 use Rattle.ym_core.specs.declared.stage.Stage.TheVariants.{AwaitHeader, InFile}
 use Rattle.ym_core.specs.declared.state.RecvState.{RecvState}
 use Rattle.ym_core.specs.declared.state.RecvState.TheVariants as state
-use Rattle.ym_c.specs.Receiving.{IsAsk, IsPlaced}
+use Rattle.ym_c.specs.ReceiverInC.{IsAsk, IsPlaced}
 use Rattle.ym_c.specs.declared.receiver.YmAsk.{YmAsk}
 use Rattle.ym_c.proofs.Fronts.{Found, found_at}
 
@@ -56,11 +56,11 @@ either true a b held p q = p refl
 either false a b held p q = q
 
 stays_no : (r : Receiver) (reply : Reply) (held : List ℕ) → Behind (stays r reply).call held
-stays_no r reply held = either (nat_lt (r.count + 1) GIVE_UP) _ _ held (λ e. tt) tt
+stays_no r reply held = either (nat_lt (r.retries + 1) GIVE_UP) _ _ held (λ e. tt) tt
 
 -- ---- A block
 
-zero_behind : (r : Receiver) (zero : Result Zero HeaderFault) (held : List ℕ) (b : BlockParts) → Found held b → StandsFor b.body zero → Behind (zero_heard r zero).call held
+zero_behind : (r : Receiver) (zero : Result Zero HeaderFault) (held : List ℕ) (b : BlockParts) → Found held b → ReadsAs b.body zero → Behind (zero_heard r zero).call held
 zero_behind r (Ok (File header)) held b f reads =
     either (nat_lt r.files MOST_FILES) _ _ held (λ e. front_of held b (position_or_len is_zero b.body) header.name f reads.name) tt
 zero_behind r zero held b f reads = tt
@@ -81,7 +81,7 @@ twice_no t r one other held = either t _ _ held (λ e. stays_no r one held) (sta
 -- ---- All of it
 
 running : (stage : Stage) (r : Receiver) (zero : Result Zero HeaderFault) (held : List ℕ) (v : Result (Item × ℕ) Broken) → verdict_of held ≡ v
-    → ((b : BlockParts) → stage ≡ AwaitHeader → heard_at v ≡ heard.Item (item.Block b) → b.number ≡ 0 → StandsFor b.body zero) → Behind (running_hears r stage zero (heard_at v)).call held
+    → ((b : BlockParts) → stage ≡ AwaitHeader → heard_at v ≡ heard.Item (item.Block b) → b.number ≡ 0 → ReadsAs b.body zero) → Behind (running_hears r stage zero (heard_at v)).call held
 running AwaitHeader r zero held (Ok (item.Block b, len)) e means =
     either (b.number == 0) _ _ held (λ w. zero_behind r zero held b (found_at held b len e) (means b refl refl (eqb-true b.number 0 w))) tt
 running (InFile file) r zero held (Ok (item.Block b, len)) e means =
@@ -95,7 +95,7 @@ running (InFile file) r zero held (Err broken) e means = twice_no (file.blocks =
 running stage r zero held v e means = tt
 
 by_state : (s : RecvState) (r : Receiver) (zero : Result Zero HeaderFault) (held : List ℕ)
-    → ((b : BlockParts) → s ≡ state.Running → r.stage ≡ AwaitHeader → heard_of held ≡ heard.Item (item.Block b) → b.number ≡ 0 → StandsFor b.body zero)
+    → ((b : BlockParts) → s ≡ state.Running → r.stage ≡ AwaitHeader → heard_of held ≡ heard.Item (item.Block b) → b.number ≡ 0 → ReadsAs b.body zero)
     → Behind (hears_at s r zero (heard_of held)).call held
 by_state state.Running r zero held means = running r.stage r zero held (verdict_of held) refl (λ b. means b refl)
 by_state s r zero held means = tt

@@ -1,7 +1,7 @@
 -- What stands at the front of some bytes, and headers, as C sees them.
 use Rattle.std.specs.Prelude.{ℕ, ◌≡◌, ◌≤◌, ◌++◌, List, length, take, drop, Result, Ok, Err, ◌==◌, if◌then◌else◌}
 use Rattle.ym_frame.specs.Frame.{verdict_of, is_cut}
-use Rattle.ym_frame.specs.Reading.{Reading, partial, refused}
+use Rattle.ym_frame.specs.Pieces.{Reading, partial, refused}
 use Rattle.ym_frame.specs.declared.frame.Item.{Item}
 use Rattle.ym_frame.specs.declared.frame.Item.TheVariants.{Block, Eot, Cancel}
 use Rattle.ym_frame.specs.declared.frame.Broken.{Broken}

@@ -1,7 +1,7 @@
 pub mod Codes
 pub mod Stands
 pub mod Feeding
-pub mod Receiving
-pub mod Sending
+pub mod ReceiverInC
+pub mod SenderInC
 pub mod Fronts
 pub mod Headers

@@ -17,7 +17,7 @@ pub record Keeps (kept : YmStand) (core : Receiver) : Type 0 where
   pub confirm : kept.confirm ≡ confirm_code core.confirm
   pub stage : KeepsStage kept core.stage
   pub files : kept.files ≡ core.files
-  pub count : kept.count ≡ core.count
+  pub retries : kept.retries ≡ core.retries
   pub state : kept.state ≡ state_code core.state
   pub fault : kept.fault ≡ fault_code core.state
   pub stands : IsCore core

@@ -2,7 +2,7 @@
 
 ghost use Rattle.std.specs.Prelude.{◌≡◌, ◌≢◌, ◌<◌, ◌≤◌, ◌⊎◌, ◌↔◌, length as list_length, take, IfOk, IfErr, Result, Ok, Err};
 ghost use Rattle.ym_header.specs.Header.{IsUnfit, length_limit};
-ghost use Rattle.ym_header.specs.Reading.{IsBorrowedAnswer};
+ghost use Rattle.ym_header.specs.HeaderReading.{IsBorrowedAnswer};
 ghost use Rattle.ym_header.specs.Text.{text};
 ghost use Rattle.ym_header.specs.declared.fault.HeaderFault.{HeaderFault as Fault};
 ghost use Rattle.ym_header.specs.declared.reading.ZeroRef.{ZeroRef as Zero};

@@ -2,7 +2,7 @@
 
 ghost use Rattle.std.specs.Prelude.{◌≡◌, ◌≤◌, [], take};
 ghost use Rattle.ym_frame.specs.Frame.{verdict_of};
-ghost use Rattle.ym_frame.specs.Reading.{Reading, partial, reading_left, item_found, reading_after, item_of};
+ghost use Rattle.ym_frame.specs.Pieces.{Reading, partial, reading_left, item_found, reading_after, item_of};
 ghost use Rattle.ym_c.specs.Fronts.{KeepsReading, Takes, IsFound, IsRead, why_code};
 
 use crate::feeding::take_bytes;

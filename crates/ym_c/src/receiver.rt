@@ -12,7 +12,7 @@ ghost use Rattle.ym_core.specs.HeardRef.{owned_heard};
 ghost use Rattle.ym_c.specs.Codes.{confirm_of, reply_code};
 ghost use Rattle.ym_c.specs.Stands.{Keeps};
 ghost use Rattle.ym_c.specs.Feeding.{Feeds};
-ghost use Rattle.ym_c.specs.Receiving.{Holds, Awaits, IsAsk, IsPlaced, IsStamped, bad_code, outcome};
+ghost use Rattle.ym_c.specs.ReceiverInC.{Holds, Awaits, IsAsk, IsPlaced, IsStamped, bad_code, outcome};
 
 use crate::codes::{code_of_reply, reply_of};
 use crate::feeding::{take_bytes, wanted};

@@ -13,7 +13,7 @@ ghost use Rattle.ym_header.specs.Text.{text, end_text};
 ghost use Rattle.ym_c.specs.Codes.{bool_code};
 ghost use Rattle.ym_c.specs.Fronts.{stamp_of};
 ghost use Rattle.ym_c.specs.Headers.{IsRefusal};
-ghost use Rattle.ym_c.specs.Sending.{FitsC, KeepsPlace, send_code, KeepsStanding, Stands, IsFill, IsFilled, out_code};
+ghost use Rattle.ym_c.specs.SenderInC.{FitsC, KeepsPlace, send_code, KeepsStanding, Stands, IsFill, IsFilled, out_code};
 ghost use Rattle.ym_machine.specs.declared.limits.TheConstants.{GIVE_UP};
 
 use crate::codes::code_of_fault;
@@ -37,11 +37,11 @@ pub struct YmSender {
     /// 0: it waits for C; 1: the frame is out.
     pub mode: u32,
     /// Deliveries in a row without progress.
-    pub misses: u32,
+    pub retries: u32,
     /// 0: it runs; else how it has ended.
     pub state: u32,
     /// Whether CAN CAN is still to go.
-    pub farewell: u32,
+    pub cancel_pending: u32,
     /// The frame.
     pub frame: [u8; 1029],
 }
@@ -83,9 +83,9 @@ fn ended() -> Standing
     Standing {
         place: Place::End,
         mode: Mode::Waiting,
-        misses: 0,
+        retries: 0,
         state: SendState::NoReply,
-        farewell: false,
+        cancel_pending: false,
     }
 }
 
@@ -127,7 +127,7 @@ fn state_of(state: u32) -> Option<SendState>
 fn load(kept: &YmSender, blocks: &[u64]) -> Standing
     ensures kept { (s : Stood) → KeepsStanding kept.now s → Stands blocks.now s → result ≡ s }
     ensures place { IsPlace blocks.now result.place }
-    ensures misses { result.state ≡ Running → result.misses < GIVE_UP }
+    ensures retries { result.state ≡ Running → result.retries < GIVE_UP }
 {
     let Some(place) = place_of(kept, blocks) else {
         return ended();
@@ -135,8 +135,8 @@ fn load(kept: &YmSender, blocks: &[u64]) -> Standing
     let Some(state) = state_of(kept.state) else {
         return ended();
     };
-    let misses = u8::try_from(kept.misses).unwrap_or(u8::MAX);
-    if state == SendState::Running && misses >= GIVE_UP {
+    let retries = u8::try_from(kept.retries).unwrap_or(u8::MAX);
+    if state == SendState::Running && retries >= GIVE_UP {
         return ended();
     }
     Standing {
@@ -146,9 +146,9 @@ fn load(kept: &YmSender, blocks: &[u64]) -> Standing
         } else {
             Mode::Sent
         },
-        misses,
+        retries,
         state,
-        farewell: kept.farewell != 0,
+        cancel_pending: kept.cancel_pending != 0,
     }
 }
 
@@ -171,7 +171,7 @@ fn store(kept: &mut YmSender, standing: Standing)
         Mode::Waiting => 0,
         Mode::Sent => 1,
     };
-    kept.misses = u32::from(standing.misses);
+    kept.retries = u32::from(standing.retries);
     kept.state = match standing.state {
         SendState::Running => 0,
         SendState::Finished => 1,
@@ -179,7 +179,7 @@ fn store(kept: &mut YmSender, standing: Standing)
         SendState::Cancelled => 3,
         SendState::SourceFailed => 4,
     };
-    kept.farewell = if standing.farewell { 1 } else { 0 };
+    kept.cancel_pending = if standing.cancel_pending { 1 } else { 0 };
 }
 
 /// Makes a sender that waits at the first frame of a batch, of which each file has so many data blocks.
@@ -345,7 +345,7 @@ pub extern "C" fn ym_sender_block(sender: &mut YmSender, body: &[u8]) -> u32
 #[unsafe(no_mangle)]
 pub extern "C" fn ym_sender_failed(sender: &mut YmSender, blocks: &[u64])
     ensures ends { (s : Stood) → KeepsStanding sender.old s → Stands blocks.now s →
-        KeepsStanding sender.new (record s { state = SendState.SourceFailed; farewell = true }) }
+        KeepsStanding sender.new (record s { state = SendState.SourceFailed; cancel_pending = true }) }
     ensures frame { (sender.new.len ≡ sender.old.len) × (sender.new.frame ≡ sender.old.frame) }
 {
     let standing = load(sender, blocks).source_failed();
@@ -363,7 +363,9 @@ pub extern "C" fn ym_sender_out(sender: &YmSender, blocks: &[u64]) -> u32
             Mode::Sent => 1,
             Mode::Waiting => 0,
         },
-        SendState::NoReply | SendState::SourceFailed => { if standing.farewell { 2 } else { 0 } }
+        SendState::NoReply | SendState::SourceFailed => {
+            if standing.cancel_pending { 2 } else { 0 }
+        }
         _ => 0,
     }
 }

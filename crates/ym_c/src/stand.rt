@@ -27,7 +27,7 @@ pub struct YmStand {
     /// Whether a first EOT was accepted.
     pub first_eot: u32,
     /// Deliveries in a row without progress.
-    pub count: u32,
+    pub retries: u32,
     /// 0: a first EOT is questioned; 1: it is not.
     pub confirm: u32,
 }
@@ -68,7 +68,7 @@ pub fn load(kept: &YmStand) -> ReceiverCore
         confirm,
         stage: stage_of(kept),
         files: kept.files as usize,
-        count: u8::try_from(kept.count).unwrap_or(u8::MAX),
+        retries: u8::try_from(kept.retries).unwrap_or(u8::MAX),
         state,
     };
     match ReceiverCore::at(stand) {
@@ -85,7 +85,7 @@ pub fn store(kept: &mut YmStand, core: ReceiverCore)
     let (state, fault) = codes_of_state(stand.state);
     kept.state = state;
     kept.fault = fault;
-    kept.count = u32::from(stand.count);
+    kept.retries = u32::from(stand.retries);
     kept.files = u32::try_from(stand.files).unwrap_or(u32::MAX);
     kept.confirm = match stand.confirm {
         Confirm::Twice => 0,

@@ -11,7 +11,7 @@ use Rattle.ym_core.specs.declared.place.Mode.{Mode}
 use Rattle.ym_core.specs.declared.place.Mode.TheVariants.{Waiting, Sent}
 use Rattle.ym_core.specs.declared.reading.Reading.{Reading}
 use Rattle.ym_core.specs.declared.reading.Stop.TheVariants.{Cancels}
-use Rattle.ym_core.specs.Reading.{controls_in, turn, reads}
+use Rattle.ym_core.specs.Reading.{controls_in, reads_control, reads}
 
 -- a CAN that was passed over stands before what is left
 abbrev pub pending : Bool → List Control → List Control
@@ -27,7 +27,7 @@ module _ (counts : List ℕ) (place : Place) (mode : Mode) where
   -- a control that is no CAN
   one : (c : Control) (more : List Control) → c ≢ Can
       → reads counts place mode (c ∷ more)
-      ≡ cond (is_some (turn counts mode c place).stop) (turn counts mode c place) (reads counts (turn counts mode c place).place (turn counts mode c place).mode more)
+      ≡ cond (is_some (reads_control counts mode c place).stop) (reads_control counts mode c place) (reads counts (reads_control counts mode c place).place (reads_control counts mode c place).mode more)
   one Can more other = absurd (other refl)
   one c more other = refl
 
@@ -62,15 +62,15 @@ module _ (counts : List ℕ) (place : Place) (mode : Mode) (after_can : Bool) (b
       → reads counts place mode (pending after_can (controls_in (drop i bytes))) ≡ record { place = place; mode = mode; stop = Some Cancels }
   cancels is second = rw (at (Some Can) is, second) refl
 
-  turned : (c : Control) (r : Reading) → control_at (get_or bytes i d) ≡ Some c → c ≢ Can → r ≡ turn counts mode c place
+  turned : (c : Control) (r : Reading) → control_at (get_or bytes i d) ≡ Some c → c ≢ Can → r ≡ reads_control counts mode c place
       → reads counts place mode (pending after_can (controls_in (drop i bytes))) ≡ cond (is_some r.stop) r (reads counts r.place r.mode (controls_in (drop (i + 1) bytes)))
   turned c r is other e =
       rw e (at (Some c) is ∙ (passed counts place mode after_can c (controls_in (drop (i + 1) bytes)) other ∙ one counts place mode c (controls_in (drop (i + 1) bytes)) other))
 
-  pub goes_on : (c : Control) (r : Reading) → control_at (get_or bytes i d) ≡ Some c → c ≢ Can → r ≡ turn counts mode c place → is_some r.stop ≡ false
+  pub goes_on : (c : Control) (r : Reading) → control_at (get_or bytes i d) ≡ Some c → c ≢ Can → r ≡ reads_control counts mode c place → is_some r.stop ≡ false
       → reads counts place mode (pending after_can (controls_in (drop i bytes))) ≡ reads counts r.place r.mode (pending false (controls_in (drop (i + 1) bytes)))
   goes_on c r is other e on = rw (turned c r is other e, on) refl
 
-  pub stops_at : (c : Control) (r : Reading) → control_at (get_or bytes i d) ≡ Some c → c ≢ Can → r ≡ turn counts mode c place → is_some r.stop ≡ true
+  pub stops_at : (c : Control) (r : Reading) → control_at (get_or bytes i d) ≡ Some c → c ≢ Can → r ≡ reads_control counts mode c place → is_some r.stop ≡ true
       → reads counts place mode (pending after_can (controls_in (drop i bytes))) ≡ r
   stops_at c r is other e on = rw (turned c r is other e, on) refl

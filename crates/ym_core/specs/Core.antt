@@ -14,8 +14,8 @@ LengthFits (InFile file) = (file.taken ≤ file.length) × (file.length ≤ MOST
 
 -- a block adds a byte, or is dropped and counted
 abbrev pub BlocksFit : Stage → ℕ → Type 0
-BlocksFit AwaitHeader count = Unit {0}
-BlocksFit (InFile file) count = (file.taken < file.length → file.blocks ≤ file.taken) × (file.blocks ≤ file.taken + count + (if file.first_eot then GIVE_UP else 0)) × (file.first_eot ≡ true → file.length ≤ file.taken) × (file.taken ≤ 1024 * file.blocks)
+BlocksFit AwaitHeader retries = Unit {0}
+BlocksFit (InFile file) retries = (file.taken < file.length → file.blocks ≤ file.taken) × (file.blocks ≤ file.taken + retries + (if file.first_eot then GIVE_UP else 0)) × (file.first_eot ≡ true → file.length ≤ file.taken) × (file.taken ≤ 1024 * file.blocks)
 
 -- a batch has no more files than one may have
 abbrev pub FilesFit : Stage → ℕ → Type 0
@@ -24,7 +24,7 @@ FilesFit (InFile file) files = files < MOST_FILES
 
 pub record IsCore (r : Receiver) : Type 0 where
   pub taken : LengthFits r.stage
-  pub blocks : BlocksFit r.stage r.count
+  pub blocks : BlocksFit r.stage r.retries
   pub few : FilesFit r.stage r.files
-  pub count : r.count ≤ GIVE_UP
-  pub runs : r.state ≡ state.Running → r.count < GIVE_UP
+  pub retries : r.retries ≤ GIVE_UP
+  pub runs : r.state ≡ state.Running → r.retries < GIVE_UP

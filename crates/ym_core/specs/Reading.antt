@@ -28,22 +28,22 @@ abbrev pub stops : Place → Mode → Stop → Reading
 stops place mode stop = record { place = place; mode = mode; stop = Some stop }
 
 -- One control, by the mode and the place at which it is read. A CAN that begins no CAN CAN is passed over.
-abbrev pub turn : List ℕ → Mode → Control → Place → Reading
-turn counts Sent Ack (Block file k) = stops (next_of counts (Block file k)) Sent Sends  -- the next frame is sent at once
-turn counts Sent Ack (Header file) = goes_on (next_of counts (Header file)) Waiting  -- the next frame waits for C
-turn counts Sent Ack (Eot file) = goes_on (next_of counts (Eot file)) Waiting  -- so it does, and one more file is done
-turn counts Sent Ack End = stops End Sent Finishes
-turn counts Sent Nak place = stops place Sent Again
-turn counts Sent Start place = stops place Sent Again
-turn counts Waiting Start place = stops place Sent Sends
-turn counts Waiting Ack place = goes_on place Waiting
-turn counts Waiting Nak place = goes_on place Waiting
-turn counts mode Can place = goes_on place mode
+abbrev pub reads_control : List ℕ → Mode → Control → Place → Reading
+reads_control counts Sent Ack (Block file k) = stops (next_of counts (Block file k)) Sent Sends  -- the next frame is sent at once
+reads_control counts Sent Ack (Header file) = goes_on (next_of counts (Header file)) Waiting  -- the next frame waits for C
+reads_control counts Sent Ack (Eot file) = goes_on (next_of counts (Eot file)) Waiting  -- so it does, and one more file is done
+reads_control counts Sent Ack End = stops End Sent Finishes
+reads_control counts Sent Nak place = stops place Sent Again
+reads_control counts Sent Start place = stops place Sent Again
+reads_control counts Waiting Start place = stops place Sent Sends
+reads_control counts Waiting Ack place = goes_on place Waiting
+reads_control counts Waiting Nak place = goes_on place Waiting
+reads_control counts mode Can place = goes_on place mode
 
 -- the controls in order, until one stops the reading; two CAN in a row cancel
 abbrev pub reads : List ℕ → Place → Mode → List Control → Reading
 reads counts place mode [] = goes_on place mode
 reads counts place mode (Can ∷ Can ∷ more) = stops place mode Cancels
 reads counts place mode (control ∷ more) =
-    if is_some (turn counts mode control place).stop then turn counts mode control place
-    else reads counts (turn counts mode control place).place (turn counts mode control place).mode more
+    if is_some (reads_control counts mode control place).stop then reads_control counts mode control place
+    else reads counts (reads_control counts mode control place).place (reads_control counts mode control place).mode more

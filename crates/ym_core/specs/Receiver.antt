@@ -29,7 +29,7 @@ pub record Receiver : Type 0 where
   pub confirm : Confirm
   pub stage : Stage
   pub files : ℕ  -- how many it has committed
-  pub count : ℕ  -- how many deliveries in a row brought no progress
+  pub retries : ℕ  -- how many deliveries in a row brought no progress
   pub state : RecvState
 
 -- the call that a step makes of the sink
@@ -48,14 +48,14 @@ pub record Step : Type 0 where
 
 -- progress
 abbrev pub goes_on : Receiver → Reply → Call → Step
-goes_on r reply call = record { receiver = record r { count = 0 }; reply = reply; call = call }
+goes_on r reply call = record { receiver = record r { retries = 0 }; reply = reply; call = call }
 
 -- no progress; the last of so many in a row ends it
 abbrev pub stays : Receiver → Reply → Step
 stays r reply =
-    if nat_lt (r.count + 1) GIVE_UP
-    then record { receiver = record r { count = r.count + 1 }; reply = reply; call = No_call }
-    else record { receiver = record r { count = r.count + 1; state = state.TooManyErrors }; reply = Cancel; call = No_call }
+    if nat_lt (r.retries + 1) GIVE_UP
+    then record { receiver = record r { retries = r.retries + 1 }; reply = reply; call = No_call }
+    else record { receiver = record r { retries = r.retries + 1; state = state.TooManyErrors }; reply = Cancel; call = No_call }
 
 -- the end
 abbrev pub ends : Receiver → RecvState → Reply → Step
@@ -147,4 +147,4 @@ hears r zero h = hears_at r.state r zero h
 
 -- a new receiver
 abbrev pub new_receiver : Confirm → Receiver
-new_receiver confirm = record { confirm = confirm; stage = AwaitHeader; files = 0; count = 0; state = state.Running }
+new_receiver confirm = record { confirm = confirm; stage = AwaitHeader; files = 0; retries = 0; state = state.Running }

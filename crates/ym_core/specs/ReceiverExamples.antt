@@ -27,16 +27,16 @@ block number body = heard.Item (item.Block (record { number = number; body = bod
 
 -- a receiver of a file of 3 bytes, of which so many have come in so many blocks, after so many deliveries without progress
 abbrev taking : Confirm → ℕ → ℕ → Bool → ℕ → Receiver
-taking confirm taken blocks first_eot count = record {
+taking confirm taken blocks first_eot retries = record {
   confirm = confirm;
   stage = InFile (record { length = 3; taken = taken; blocks = blocks; first_eot = first_eot });
   files = 0;
-  count = count;
+  retries = retries;
   state = state.Running;
 }
 
 -- an EOT before the first file asks for a block 0
-first_eot : hears (new_receiver Twice) no_meaning (heard.Item item.Eot) ≡ record { receiver = record (new_receiver Twice) { count = 1 }; reply = Start; call = No_call }
+first_eot : hears (new_receiver Twice) no_meaning (heard.Item item.Eot) ≡ record { receiver = record (new_receiver Twice) { retries = 1 }; reply = Start; call = No_call }
 first_eot = refl
 
 header : hears (new_receiver Twice) (Ok (File a_header)) (block 0 []) ≡ record { receiver = taking Twice 0 0 false 0; reply = AckStart; call = Begins a_header }
@@ -81,7 +81,7 @@ confirmed_eot = refl
 single_eot : hears (taking Once 3 1 false 0) no_meaning (heard.Item item.Eot) ≡ record { receiver = record (new_receiver Once) { files = 1 }; reply = AckStart; call = Commits }
 single_eot = refl
 
-tenth_without_progress : hears (record (new_receiver Twice) { count = 9 }) no_meaning heard.Bad ≡ record { receiver = record (new_receiver Twice) { count = 10; state = state.TooManyErrors }; reply = Cancel; call = No_call }
+tenth_without_progress : hears (record (new_receiver Twice) { retries = 9 }) no_meaning heard.Bad ≡ record { receiver = record (new_receiver Twice) { retries = 10; state = state.TooManyErrors }; reply = Cancel; call = No_call }
 tenth_without_progress = refl
 
 end_again : hears (record (new_receiver Twice) { state = state.Finished }) no_meaning (block 0 (0 ∷ [])) ≡ record { receiver = record (new_receiver Twice) { state = state.Finished }; reply = Ack; call = No_call }

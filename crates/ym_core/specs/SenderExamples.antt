@@ -16,7 +16,7 @@ two_blocks = 2 ∷ []
 
 -- the sender at a place
 abbrev at : Place → Mode → Standing
-at place mode = record { place = place; mode = mode; misses = 0; state = Running; farewell = false }
+at place mode = record { place = place; mode = mode; retries = 0; state = Running; cancel_pending = false }
 
 -- what a delivery of these bytes does to it
 abbrev after : Place → Mode → List ℕ → Step
@@ -28,7 +28,7 @@ sends place = record { standing = at place Sent; fills = Some place }
 
 -- one more delivery without progress
 abbrev missed_at : Place → Mode → Step
-missed_at place mode = step (record (at place mode) { misses = 1 })
+missed_at place mode = step (record (at place mode) { retries = 1 })
 
 start_asks : after (Header 0) Waiting (0x43 ∷ []) ≡ sends (Header 0)
 start_asks = refl
@@ -62,8 +62,8 @@ parted : after (Eot 0) Waiting (0x18 ∷ 0x15 ∷ 0x18 ∷ []) ≡ missed_at (Eo
 parted = refl
 
 -- the tenth delivery without progress
-gives_up : hears two_blocks (record (at (Block 0 2) Sent) { misses = 9 }) (controls_in (0x15 ∷ []))
-    ≡ step (record (at (Block 0 2) Sent) { misses = 10; state = NoReply; farewell = true })
+gives_up : hears two_blocks (record (at (Block 0 2) Sent) { retries = 9 }) (controls_in (0x15 ∷ []))
+    ≡ step (record (at (Block 0 2) Sent) { retries = 10; state = NoReply; cancel_pending = true })
 gives_up = refl
 
 -- ACK of a block 0 is not settled: C may follow

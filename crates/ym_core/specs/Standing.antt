@@ -17,7 +17,7 @@ use Rattle.ym_core.specs.declared.state.SendState.TheVariants.{Running, Finished
 
 -- waiting at the first frame
 abbrev pub new_standing : List ℕ → Standing
-new_standing counts = record { place = first_of counts; mode = Waiting; misses = 0; state = Running; farewell = false }
+new_standing counts = record { place = first_of counts; mode = Waiting; retries = 0; state = Running; cancel_pending = false }
 
 -- no frame is filled
 abbrev pub step : Standing → Step
@@ -27,12 +27,12 @@ step s = record { standing = s; fills = None }
 -- (reference, "XMODEM Protocol Overview": errors are retried 10 times)
 abbrev pub missed : Standing → Step
 missed s =
-    if nat_lt (s.misses + 1) GIVE_UP then step (record s { misses = s.misses + 1 })
-    else step (record s { misses = s.misses + 1; state = NoReply; farewell = true })
+    if nat_lt (s.retries + 1) GIVE_UP then step (record s { retries = s.retries + 1 })
+    else step (record s { retries = s.retries + 1; state = NoReply; cancel_pending = true })
 
 -- progress: the place or the mode changed
 abbrev pub moved : Standing → Place → Mode → Standing
-moved s place mode = record s { place = place; mode = mode; misses = 0 }
+moved s place mode = record s { place = place; mode = mode; retries = 0 }
 
 -- at the same place, in the same mode
 pub record IsSame (old new : Standing) : Type 0 where
@@ -60,7 +60,7 @@ runs counts s controls =
 -- a sender that has ended hears no more, and has said its CAN CAN
 abbrev pub hears_in : SendState → List ℕ → Standing → List Control → Step
 hears_in Running counts s controls = runs counts s controls
-hears_in ended counts s controls = step (record s { farewell = false })
+hears_in ended counts s controls = step (record s { cancel_pending = false })
 
 abbrev pub hears : List ℕ → Standing → List Control → Step
 hears counts s controls = hears_in s.state counts s controls
@@ -75,5 +75,5 @@ is_settled counts s controls = is_settled_in s.state counts s controls
 
 -- Only a data block is filled from a source. Where that fails, the place has moved and the sender has ended, with CAN CAN to go.
 abbrev pub after_fill : Bool → Option Place → Standing → Standing
-after_fill true (Some (Block file k)) s = record s { state = SourceFailed; farewell = true }
+after_fill true (Some (Block file k)) s = record s { state = SourceFailed; cancel_pending = true }
 after_fill failed fills s = s

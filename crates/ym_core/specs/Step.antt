@@ -3,7 +3,7 @@ use Rattle.std.specs.Prelude.{ℕ, ◌≡◌, ◌<◌, ◌≤◌, ◌-◌, ◌+�
 use Rattle.ym_frame.specs.Block.{BlockParts}
 use Rattle.ym_frame.specs.declared.frame.Item.TheVariants as item
 use Rattle.ym_header.specs.Header.{length_limit}
-use Rattle.ym_header.specs.Reading.{Reads, IsFault}
+use Rattle.ym_header.specs.HeaderReading.{Reads, IsFault}
 use Rattle.ym_header.specs.declared.fault.HeaderFault.{HeaderFault}
 use Rattle.ym_header.specs.declared.reading.Zero.{Zero}
 use Rattle.ym_core.specs.declared.delivery.Heard.{Heard}
@@ -17,13 +17,13 @@ use Rattle.ym_core.specs.declared.ask.Step.{Step}
 use Rattle.ym_core.specs.Receiver as table
 
 -- what a body stands for: the end, a header or a fault, and one of them alone
-abbrev pub StandsFor : List ℕ → Result Zero HeaderFault → Type 0
-StandsFor body (Ok zero) = Reads length_limit body zero
-StandsFor body (Err fault) = IsFault length_limit body fault
+abbrev pub ReadsAs : List ℕ → Result Zero HeaderFault → Type 0
+ReadsAs body (Ok zero) = Reads length_limit body zero
+ReadsAs body (Err fault) = IsFault length_limit body fault
 
 -- a running receiver that awaits a header reads the body of a block 0
 abbrev pub Means : table.Receiver → Heard → Result Zero HeaderFault → Type 0
-Means r h zero = (block : BlockParts) → r.state ≡ state.Running → r.stage ≡ AwaitHeader → h ≡ heard.Item (item.Block block) → block.number ≡ 0 → StandsFor block.body zero
+Means r h zero = (block : BlockParts) → r.state ≡ state.Running → r.stage ≡ AwaitHeader → h ≡ heard.Item (item.Block block) → block.number ≡ 0 → ReadsAs block.body zero
 
 -- the table's call
 abbrev pub call_of : Ask → table.Call

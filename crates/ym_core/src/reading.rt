@@ -35,7 +35,7 @@ pub struct Reading {
 /// The frame that is out was acknowledged.
 fn acknowledged<B: Batch>(batch: &B, place: Place) -> Reading
     requires { IsPlace (B.counts batch.now) place }
-    ensures turn { result ≡ table.turn (B.counts batch.now) Mode.Sent Control.Ack place }
+    ensures reads { result ≡ table.reads_control (B.counts batch.now) Mode.Sent Control.Ack place }
     ensures within { IsPlace (B.counts batch.now) result.place }
 {
     let next = next_place(batch, place);
@@ -59,9 +59,9 @@ fn acknowledged<B: Batch>(batch: &B, place: Place) -> Reading
 }
 
 /// Reads one control that begins no CAN CAN.
-fn turn<B: Batch>(batch: &B, place: Place, mode: Mode, control: Control) -> Reading
+fn read_control<B: Batch>(batch: &B, place: Place, mode: Mode, control: Control) -> Reading
     requires { IsPlace (B.counts batch.now) place }
-    ensures turn { result ≡ table.turn (B.counts batch.now) mode control place }
+    ensures reads { result ≡ table.reads_control (B.counts batch.now) mode control place }
     ensures within { IsPlace (B.counts batch.now) result.place }
 {
     match (mode, control) {
@@ -106,7 +106,7 @@ pub fn read_delivery<B: Batch>(batch: &B, place: Place, mode: Mode, bytes: &[u8]
                 }
                 after_can = true;
             } else {
-                read = turn(batch, read.place, read.mode, control);
+                read = read_control(batch, read.place, read.mode, control);
                 if read.stop.is_some() {
                     return read;
                 }

@@ -24,7 +24,7 @@ pub struct ReceiverCore {
     confirm: Confirm,
     stage: Stage,
     files: usize,
-    count: u8,
+    retries: u8,
     state: RecvState,
 }
 
@@ -34,16 +34,16 @@ impl Model for ReceiverCore {
 
     ghost Value = { Receiver };
 
-    ghost view = { λ r. record { confirm = r.confirm; stage = r.stage; files = r.files; count = r.count; state = r.state } };
+    ghost view = { λ r. record { confirm = r.confirm; stage = r.stage; files = r.files; retries = r.retries; state = r.state } };
 
-    ghost inverse = { λ r. record { confirm = r.confirm; stage = r.stage; files = r.files; count = r.count; state = r.state } };
+    ghost inverse = { λ r. record { confirm = r.confirm; stage = r.stage; files = r.files; retries = r.retries; state = r.state } };
 
-    ghost invariant = { λ r. IsCore (record { confirm = r.confirm; stage = r.stage; files = r.files; count = r.count; state = r.state }) };
+    ghost invariant = { λ r. IsCore (record { confirm = r.confirm; stage = r.stage; files = r.files; retries = r.retries; state = r.state }) };
 }
 
 /// Whether what is known of a file fits, behind so many deliveries without progress.
-fn file_fits(file: OpenFile, count: u8) -> bool
-    ensures { IsTrue result ↔ (LengthFits (Stage.InFile file) × BlocksFit (Stage.InFile file) count) }
+fn file_fits(file: OpenFile, retries: u8) -> bool
+    ensures { IsTrue result ↔ (LengthFits (Stage.InFile file) × BlocksFit (Stage.InFile file) retries) }
 {
     let OpenFile {
         length,
@@ -52,7 +52,7 @@ fn file_fits(file: OpenFile, count: u8) -> bool
         first_eot,
     } = file;
     // no sum here is above MOST_LENGTH + 265
-    let drops = u64::from(count) + u64::from(if first_eot { GIVE_UP } else { 0 });
+    let drops = u64::from(retries) + u64::from(if first_eot { GIVE_UP } else { 0 });
     taken <= length
         && length <= MOST_LENGTH
         && (taken == length || blocks <= taken)
@@ -62,12 +62,12 @@ fn file_fits(file: OpenFile, count: u8) -> bool
 }
 
 /// Whether a receiver may stand there.
-fn stage_fits(stage: Stage, files: usize, count: u8) -> bool
-    ensures { IsTrue result ↔ (LengthFits stage × BlocksFit stage count × FilesFit stage files) }
+fn stage_fits(stage: Stage, files: usize, retries: u8) -> bool
+    ensures { IsTrue result ↔ (LengthFits stage × BlocksFit stage retries × FilesFit stage files) }
 {
     match stage {
         Stage::AwaitHeader => files <= MOST_FILES,
-        Stage::InFile(file) => files < MOST_FILES && file_fits(file, count),
+        Stage::InFile(file) => files < MOST_FILES && file_fits(file, retries),
     }
 }
 
@@ -80,7 +80,7 @@ impl ReceiverCore {
             confirm,
             stage: Stage::AwaitHeader,
             files: 0,
-            count: 0,
+            retries: 0,
             state: RecvState::Running,
         }
     }
@@ -93,20 +93,20 @@ impl ReceiverCore {
             confirm,
             stage,
             files,
-            count,
+            retries,
             state,
         } = stand;
-        if !stage_fits(stage, files, count) || count > GIVE_UP {
+        if !stage_fits(stage, files, retries) || retries > GIVE_UP {
             return None;
         }
-        if state == RecvState::Running && count >= GIVE_UP {
+        if state == RecvState::Running && retries >= GIVE_UP {
             return None;
         }
         Some(ReceiverCore {
             confirm,
             stage,
             files,
-            count,
+            retries,
             state,
         })
     }
@@ -120,14 +120,14 @@ impl ReceiverCore {
             confirm,
             stage,
             files,
-            count,
+            retries,
             state,
         } = *self;
         Stand {
             confirm,
             stage,
             files,
-            count,
+            retries,
             state,
         }
     }

@@ -16,7 +16,7 @@ pub struct Stand {
     /// Files committed.
     pub files: usize,
     /// Deliveries in a row without progress.
-    pub count: u8,
+    pub retries: u8,
     /// Whether it runs, or how it has ended.
     pub state: RecvState,
 }
@@ -26,7 +26,7 @@ impl Model for Stand {
 
     ghost Value = { Receiver };
 
-    ghost view = { λ r. record { confirm = r.confirm; stage = r.stage; files = r.files; count = r.count; state = r.state } };
+    ghost view = { λ r. record { confirm = r.confirm; stage = r.stage; files = r.files; retries = r.retries; state = r.state } };
 
-    ghost inverse = { λ r. record { confirm = r.confirm; stage = r.stage; files = r.files; count = r.count; state = r.state } };
+    ghost inverse = { λ r. record { confirm = r.confirm; stage = r.stage; files = r.files; retries = r.retries; state = r.state } };
 }

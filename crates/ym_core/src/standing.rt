@@ -20,11 +20,11 @@ pub struct Standing {
     /// Whether that frame is out.
     pub mode: Mode,
     /// Deliveries in a row without progress.
-    pub misses: u8,
+    pub retries: u8,
     /// Whether it runs, or how it has ended.
     pub state: SendState,
     /// CAN CAN is still to go.
-    pub farewell: bool,
+    pub cancel_pending: bool,
 }
 
 /// What a delivery leads to.
@@ -39,31 +39,31 @@ pub struct SendStep {
 impl Standing {
     /// Waiting at the first frame of a batch.
     pub fn new(first: Place) -> Standing
-        ensures { result ≡ record { place = first; mode = Mode.Waiting; misses = 0; state = SendState.Running; farewell = false } }
+        ensures { result ≡ record { place = first; mode = Mode.Waiting; retries = 0; state = SendState.Running; cancel_pending = false } }
     {
         Standing {
             place: first,
             mode: Mode::Waiting,
-            misses: 0,
+            retries: 0,
             state: SendState::Running,
-            farewell: false,
+            cancel_pending: false,
         }
     }
 
     /// After a delivery without progress.
     fn missed(self) -> Standing
-        requires { self.misses < GIVE_UP }
+        requires { self.retries < GIVE_UP }
         ensures step { result ≡ (table.missed self).standing }
-        ensures misses { result.state ≡ SendState.Running → result.misses < GIVE_UP }
+        ensures retries { result.state ≡ SendState.Running → result.retries < GIVE_UP }
     {
-        let misses = self.misses + 1;
-        if misses < GIVE_UP {
-            Standing { misses, ..self }
+        let retries = self.retries + 1;
+        if retries < GIVE_UP {
+            Standing { retries, ..self }
         } else {
             Standing {
-                misses,
+                retries,
                 state: SendState::NoReply,
-                farewell: true,
+                cancel_pending: true,
                 ..self
             }
         }
@@ -76,18 +76,18 @@ impl Standing {
         Standing {
             place,
             mode,
-            misses: 0,
+            retries: 0,
             ..self
         }
     }
 
     /// After the source of the frame to be sent has failed.
     pub fn source_failed(self) -> Standing
-        ensures { result ≡ record self { state = SendState.SourceFailed; farewell = true } }
+        ensures { result ≡ record self { state = SendState.SourceFailed; cancel_pending = true } }
     {
         Standing {
             state: SendState::SourceFailed,
-            farewell: true,
+            cancel_pending: true,
             ..self
         }
     }
@@ -95,10 +95,10 @@ impl Standing {
     /// After a delivery that a running sender has read, by `read_delivery` from its place and mode on: what `after` gives on its
     /// bytes, without reading them again.
     pub fn after_reading(self, read: Reading) -> SendStep
-        requires { self.misses < GIVE_UP }
+        requires { self.retries < GIVE_UP }
         ensures step { result ≡ table.after_reading self read.place read.mode read.stop }
         ensures within { (counts : List ℕ) → IsPlace counts self.place → IsPlace counts read.place → IsPlace counts result.standing.place }
-        ensures misses { result.standing.state ≡ SendState.Running → result.standing.misses < GIVE_UP }
+        ensures retries { result.standing.state ≡ SendState.Running → result.standing.retries < GIVE_UP }
     {
         let standing = match read.stop {
             Some(Stop::Sends) => {
@@ -136,17 +136,17 @@ impl Standing {
     /// it to send it again; where it cannot make that frame, it keeps `source_failed`.
     pub fn after<B: Batch>(self, batch: &B, bytes: &[u8]) -> SendStep
         requires place { IsPlace (B.counts batch.now) self.place }
-        requires misses { self.state ≡ SendState.Running → self.misses < GIVE_UP }
+        requires retries { self.state ≡ SendState.Running → self.retries < GIVE_UP }
         ensures step { result ≡ table.hears (B.counts batch.now) self (controls_in bytes.now) }
         ensures within { IsPlace (B.counts batch.now) result.standing.place }
-        ensures runs { result.standing.state ≡ SendState.Running → result.standing.misses < GIVE_UP }
+        ensures runs { result.standing.state ≡ SendState.Running → result.standing.retries < GIVE_UP }
     {
         if self.state == SendState::Running {
             self.after_reading(read_delivery(batch, self.place, self.mode, bytes))
         } else {
             SendStep {
                 standing: Standing {
-                    farewell: false,
+                    cancel_pending: false,
                     ..self
                 },
                 fills: None,

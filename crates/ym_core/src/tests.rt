@@ -99,7 +99,10 @@ fn stands(rt: HostRuntime) -> Result<(), Fail> {
     let stand = core.stand();
     let again = ReceiverCore::at(stand).ok_or("a new receiver")?;
     assert_eq!(rt; again.stand(), stand);
-    let past = Stand { count: 10, ..stand };
+    let past = Stand {
+        retries: 10,
+        ..stand
+    };
     assert!(rt; ReceiverCore::at(past).is_none());
     let file = OpenFile {
         length: 1,

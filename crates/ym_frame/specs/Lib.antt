@@ -2,9 +2,9 @@ pub use Rattle.ym_check.specs.Check
 pub mod Block
 pub mod Frame
 pub mod WholeFrame
-pub mod Reading
+pub mod Pieces
 pub mod Reader
 pub mod Control
-pub mod Words
+pub mod FaultWords
 pub mod Seal
 pub mod ItemRef

@@ -9,7 +9,7 @@ use Rattle.std.proofs.lemmas.Bool.{cases_lt, cases_Bool, both_ways}
 use Rattle.ym_header.proofs.Names.{Stamp, Nothing, Time, TimeMode, NameEmpty, NameLong, NameUnsafe, NoLength, LengthLarge, MOST_NAME_BYTES, Zero, File, End, HeaderParts, IsName, IsSafe, IsStamp, IsHeader, name_in, field_in, behind_field, HasField, HasNoField, ReadsStamp, Reads, ReadsHeader, IsFault}
 use Rattle.ym_header.specs.declared.fault.HeaderFault.{HeaderFault}
 use Rattle.ym_header.specs.declared.fault.HeaderFault.TheVariants.{Memory}
-use Rattle.ym_header.specs.Reading.{length_in, behind_length}
+use Rattle.ym_header.specs.HeaderReading.{length_in, behind_length}
 
 -- ---- Tests
 

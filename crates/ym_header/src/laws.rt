@@ -2,7 +2,7 @@
 
 ghost use Rattle.std.specs.Prelude.{◌≡◌, ◌≢◌, ◌⊎◌, ◌<◌, ◌≤◌, ◌^◌, ◌++◌, List, ℕ, slice_index, length};
 ghost use Rattle.ym_header.specs.Header.{HeaderParts, IsName, IsHeader, length_limit};
-ghost use Rattle.ym_header.specs.Reading.{Reads, IsFault};
+ghost use Rattle.ym_header.specs.HeaderReading.{Reads, IsFault};
 ghost use Rattle.ym_header.specs.Text.{text, end_text};
 ghost use Rattle.ym_header.specs.declared.fault.HeaderFault.{HeaderFault};
 ghost use Rattle.ym_header.specs.declared.reading.Zero.{Zero};

@@ -4,7 +4,7 @@ use Rattle.ym_header.specs.Header.{HeaderParts}
 use Rattle.ym_header.specs.Text.{octal}
 use Rattle.ym_header.specs.declared.stamp.Stamp.{Stamp}
 use Rattle.ym_header.specs.declared.stamp.Stamp.TheVariants as stamp
-use Rattle.ym_line.specs.Text.{sender_words, receiver_words}
+use Rattle.ym_line.specs.TraceText.{sender_words, receiver_words}
 use Rattle.ym_core.specs.declared.state.RecvState.{RecvState}
 use Rattle.ym_core.specs.declared.state.SendState.{SendState}
 

@@ -3,21 +3,21 @@ use Rattle.std.proofs.Common.{◌≡◌, ◌≢◌, ◌∙◌, ◌≤◌, ◌<�
 use Rattle.std.proofs.lemmas.List.{length-map}
 use Rattle.std.proofs.lemmas.List.Sums.{sum_by-cons}
 use Rattle.std.proofs.lemmas.Simd.{map-map}
-use Rattle.ym_line.proofs.Names.{HeaderParts, pieces_of, Shape, Confirm, File, frames_of, Turn, NoFailure, IsDamage, after_turns, bytes_of, Batch, AllTold, file_of, told_pieces, FileParts, IsFile, SendState, Round, Seen, Trace, AllWhole, AreGoing, HaveFinished, NoneRose, whole_rounds, AreNew, Pair, IsTrace, AreTurns, CommitsFirst, PairStands, Reports}
+use Rattle.ym_line.proofs.Names.{HeaderParts, pieces_of, Shape, Confirm, File, frames_of, Turn, NoFailure, IsDamage, after_turns, bytes_of, Batch, AllTold, file_of, told_pieces, FileParts, IsFile, SendState, Round, Seen, Trace, AllWhole, AreGoing, HaveFinished, NoneRose, whole_rounds, AreNew, Pair, IsTrace, AreTurns, CommitsFirst, PairRefines, Reports}
 use Rattle.ym_file.specs.Plan.{count_of}
 use Rattle.ym_machine.specs.declared.limits.TheConstants.{BURST}
-use Rattle.ym_machine.specs.Left.{SenderGoes, ReceiverGoes, IsGoing, CountsWithin, IsComplete, needed_by, rounds_needed}
+use Rattle.ym_machine.specs.RoundsRemaining.{SenderGoes, ReceiverGoes, IsGoing, CountsWithin, IsComplete, needed_by, rounds_needed}
 use Rattle.ym_machine.specs.Run as machine
 use Rattle.ym_machine.specs.State.{SenderEnd, ReceiverEnd, State, start}
-use Rattle.ym_link.specs.ReceiverStands as receiver
-use Rattle.ym_link.specs.SenderStands as sender
+use Rattle.ym_link.specs.ReceiverRefines as receiver
+use Rattle.ym_link.specs.SenderRefines as sender
 use Rattle.ym_file.specs.SourceFile.{blocks_of}
 use Rattle.ym_core.specs.declared.state.SendState.TheVariants as send_state
 use Rattle.ym_core.specs.declared.state.RecvState.{RecvState}
 use Rattle.ym_core.specs.declared.state.RecvState.TheVariants as recv_state
 use Rattle.ym_line.specs.Completion.{BringsShortBadRuns, rounds_for}
 use Rattle.ym_line.specs.Needed.{others_of}
-use Rattle.ym_line.proofs.Promised.{Laws, SameEnds, all-bytes, batch_to_send, confirm_of, known, run-of, run-stands, trace-heard}
+use Rattle.ym_line.proofs.Promised.{Laws, SameEnds, all-bytes, batch_to_send, confirm_of, known, run-of, run-refines, trace-heard}
 use Rattle.ym_line.proofs.Truths.{SameTurns, same-turns, no-failure}
 
 -- ---- What the laws say
@@ -92,21 +92,21 @@ record Ran (rounds : List Round) (old : Pair) (trace : Trace) (new : Pair) : Typ
   damage : IsDamage (frames_of (batch_to_send old)) (confirm_of old) turns start
   same : SameTurns rounds turns
   none : NoFailure turns
-  stands : PairStands (confirm_of old) (batch_to_send old) (after old turns) new
+  refines : PairRefines (confirm_of old) (batch_to_send old) (after old turns) new
   commits : CommitsFirst (batch_to_send old) (after old turns) new
   reports : Reports (batch_to_send old) (after old turns) trace
 
 ran : Laws → Completion → (rounds : List Round) (old new : Pair) (trace : Trace) → IsTrace rounds old trace new → AreNew old → All IsFile old.sender.files → NoneRose old new → Ran rounds old trace new
 ran laws completion rounds old new trace gives fresh files none =
     let runs = run-of laws rounds old new trace gives fresh files in
-    let stands : PairStands (confirm_of old) (batch_to_send old) (after old runs.turns) new = run-stands laws rounds old new trace fresh files runs in
+    let refines : PairRefines (confirm_of old) (batch_to_send old) (after old runs.turns) new = run-refines laws rounds old new trace fresh files runs in
     record {
       turns = runs.turns;
       damage = completion.damage (confirm_of old) (batch_to_send old) start rounds runs.turns old new trace.rounds.items runs.are_turns;
       same = same-turns (confirm_of old) (batch_to_send old) rounds runs.turns start old new trace.rounds.items runs.are_turns;
       none = no-failure (confirm_of old) (batch_to_send old) rounds runs.turns start old new trace.rounds.items runs.are_turns none;
-      stands = stands;
-      commits = laws.first (confirm_of old) (batch_to_send old) (after old runs.turns) new stands;
+      refines = refines;
+      commits = laws.first (confirm_of old) (batch_to_send old) (after old runs.turns) new refines;
       reports = runs.reports;
     }
 
@@ -121,8 +121,8 @@ still-going rounds old new trace gives fresh same =
     record {
       send = inl (still-send rounds old new trace gives fresh same);
       recv = inl (rw (gives.recv, same.receiver, fresh.receiver) refl);
-      sender_count = λ _. rw (same.sender, fresh.sender) (omega arith);
-      receiver_count = λ _. rw (same.receiver, fresh.receiver) (omega arith);
+      sender_retries = λ _. rw (same.sender, fresh.sender) (omega arith);
+      receiver_retries = λ _. rw (same.receiver, fresh.receiver) (omega arith);
     }
 
 -- and every batch needs some
@@ -143,8 +143,8 @@ run-going laws completion rounds old new trace gives brings = elim (trace-heard 
       record {
         send = sender-going st.sender trace.send ran_so.reports.send goes.0;
         recv = receiver-going st.receiver trace.recv ran_so.reports.recv goes.1;
-        sender_count = λ running. let runs = sender-runs st.sender (sym ran_so.reports.send ∙ running) in rw (ran_so.stands.sender.standing.misses runs) (counts.sender_count runs);
-        receiver_count = λ running. let runs = receiver-runs st.receiver (sym ran_so.reports.recv ∙ running) in rw (ran_so.stands.receiver.running runs) (counts.receiver_count runs);
+        sender_retries = λ running. let runs = sender-runs st.sender (sym ran_so.reports.send ∙ running) in rw (ran_so.refines.sender.standing.retries runs) (counts.sender_retries runs);
+        receiver_retries = λ running. let runs = receiver-runs st.receiver (sym ran_so.reports.recv ∙ running) in rw (ran_so.refines.receiver.running runs) (counts.receiver_retries runs);
       }
 ]
 

@@ -17,14 +17,14 @@ pub use Rattle.ym_core.specs.Place.{done_at}
 pub use Rattle.ym_core.specs.Reading.{controls_in}
 pub use Rattle.ym_core.specs.declared.place.Place.{Place}
 pub use Rattle.ym_core.specs.declared.state.SendState.{SendState}
-pub use Rattle.ym_link.specs.ReceiverStands.{IsBatch, bytes_of}
+pub use Rattle.ym_link.specs.ReceiverRefines.{IsBatch, bytes_of}
 pub use Rattle.ym_link.specs.Sender.{IsSender, SenderParts, spoken}
-pub use Rattle.ym_link.specs.SenderStands.{AllTold, Batch, IsSaid, batch_of, file_of, told_pieces}
+pub use Rattle.ym_link.specs.SenderRefines.{AllTold, Batch, IsSaid, batch_of, file_of, told_pieces}
 pub use Rattle.ym_line.specs.Completion.{AllWhole, AreGoing, HaveFinished, NoneRose, whole_rounds}
 pub use Rattle.ym_line.specs.Damage.{ShowsBack, arrives}
 pub use Rattle.ym_line.specs.Promise.{AreNew, ReportsCommitted}
 pub use Rattle.ym_line.specs.Rounds.{GoOn, Goes, IsTrace, Pair, RunGives, Stops, StopsIn, sent_by}
-pub use Rattle.ym_line.specs.Turns.{AreTurns, CommitsFirst, FollowsMachine, IsSourceTruth, PairStands, Reports, RunsAsMachine, StopsWithMachine, came_of, is_whole, turn_of}
+pub use Rattle.ym_line.specs.Turns.{AreTurns, CommitsFirst, FollowsMachine, IsSourceTruth, PairRefines, Reports, RunsAsMachine, StopsWithMachine, came_of, is_whole, turn_of}
 pub use Rattle.ym_line.specs.What.{what_of}
 pub use Rattle.ym_line.specs.declared.delivery.Delivery.{Delivery}
 pub use Rattle.ym_line.specs.declared.delivery.Delivery.TheVariants.{Whole}

@@ -1,8 +1,8 @@
--- What a pair that stands has committed, in words of the two ends.
+-- What a pair that refines a state of the machine has committed, in words of the two ends.
 use Rattle.std.proofs.Common.{◌≡◌, ◌∙◌, ◌≤◌, ◌⊎◌, ℕ, min, suc, List, [], ◌∷◌, length, map, take, Option, None, Some, IfSome, IsSome, All, false, Result, Ok, Err, refl, sym, ap, subst, inl, inr, arith}
 use Rattle.std.proofs.lemmas.List.{length-map, length-take, take-map}
 use Rattle.std.proofs.lemmas.Simd.{map-map}
-use Rattle.ym_line.proofs.Names.{HeaderParts, IsHeader, length_limit, Kept, IsPieces, pieces_of, Shape, Confirm, File, frames_of, MOST_FILES, State, Turn, after_turns, done_at, Place, bytes_of, Batch, AllTold, batch_of, file_of, told_pieces, FileParts, IsFile, Round, LineFault, Seen, Trace, AreNew, ReportsCommitted, Pair, GoOn, StopsIn, IsTrace, RunGives, AreTurns, CommitsFirst, FollowsMachine, PairStands, RunsAsMachine, StopsWithMachine}
+use Rattle.ym_line.proofs.Names.{HeaderParts, IsHeader, length_limit, Kept, IsPieces, pieces_of, Shape, Confirm, File, frames_of, MOST_FILES, State, Turn, after_turns, done_at, Place, bytes_of, Batch, AllTold, batch_of, file_of, told_pieces, FileParts, IsFile, Round, LineFault, Seen, Trace, AreNew, ReportsCommitted, Pair, GoOn, StopsIn, IsTrace, RunGives, AreTurns, CommitsFirst, FollowsMachine, PairRefines, RunsAsMachine, StopsWithMachine}
 use Rattle.ym_file.specs.Kept.{Told, IsNew, TellsNone}
 use Rattle.ym_machine.specs.Frames.{IsPrefix}
 use Rattle.ym_machine.specs.Machine.{start, committed, reported}
@@ -15,7 +15,7 @@ use Rattle.ym_file.specs.SourceFile.{counts_of}
 use Rattle.ym_core.specs.Standing.{new_standing}
 use Rattle.ym_line.specs.declared.delivery.Handed.{Handed}
 use Rattle.ym_line.specs.Promise.{CommitsAPrefix, first_place}
-use Rattle.ym_line.proofs.Stops.{Same, half-same, stopped-stands, unchanged}
+use Rattle.ym_line.proofs.Stops.{Same, half-same, stopped-refines, unchanged}
 
 -- ---- What the laws say
 
@@ -23,10 +23,10 @@ abbrev pub PlannedBytes : Type 0
 PlannedBytes = (shape : Shape) (header : HeaderParts) (bytes : List ℕ) (pieces : List (List ℕ)) →
     IsHeader length_limit header → header.length ≡ length bytes → IsPieces shape bytes pieces → bytes_of (record { header = header; pieces = pieces }) ≡ bytes
 
-abbrev pub NewStand : Type 0
-NewStand = (confirm : Confirm) (shape : Shape) (sources : List FileParts) (frame : List ℕ) (kept : Kept) (sink_failures : ℕ) (told : Option (List Handed)) (failures : ℕ) →
+abbrev pub NewRefines : Type 0
+NewRefines = (confirm : Confirm) (shape : Shape) (sources : List FileParts) (frame : List ℕ) (kept : Kept) (sink_failures : ℕ) (told : Option (List Handed)) (failures : ℕ) →
     All IsFile sources → AllTold sources → length sources ≤ MOST_FILES → IsNew kept →
-    PairStands confirm (batch_of shape sources) start (record {
+    PairRefines confirm (batch_of shape sources) start (record {
       sender = record { standing = new_standing (counts_of shape sources); shape = shape; files = sources; frame = frame };
       receiver = record { receiver = new_receiver confirm; kept = kept; failures = sink_failures };
       told = told;
@@ -39,9 +39,9 @@ pub record Laws : Type 0 where
   pub go_on : (rounds : List Round) (old new : Pair) (trace : Trace) → IsTrace rounds old trace new → FollowsMachine rounds old trace new
   pub stop : (n : ℕ) (rounds : List Round) (old new : Pair) (fault : LineFault) → StopsIn n rounds old fault new → StopsWithMachine n rounds old fault new
   pub stand : (confirm : Confirm) (files : Batch) (st : State) (rounds : List Round) (turns : List Turn) (old new : Pair) (all : List Seen) →
-      AreTurns confirm files st rounds turns old all new → PairStands confirm files st old → PairStands confirm files (after_turns (frames_of files) confirm turns st) new
-  pub first : (confirm : Confirm) (files : Batch) (st : State) (pair : Pair) → PairStands confirm files st pair → CommitsFirst files st pair
-  pub new_stand : NewStand
+      AreTurns confirm files st rounds turns old all new → PairRefines confirm files st old → PairRefines confirm files (after_turns (frames_of files) confirm turns st) new
+  pub first : (confirm : Confirm) (files : Batch) (st : State) (pair : Pair) → PairRefines confirm files st pair → CommitsFirst files st pair
+  pub new_stand : NewRefines
 
 -- ---- New ends
 
@@ -60,10 +60,10 @@ first-is shape [] = refl
 first-is shape (source ∷ sources) = refl
 
 abbrev waiting_at : Place → Standing
-waiting_at place = record { place = place; mode = Waiting; misses = 0; state = Running; farewell = false }
+waiting_at place = record { place = place; mode = Waiting; retries = 0; state = Running; cancel_pending = false }
 
-pub new-stands : NewStand → (pair : Pair) → AreNew pair → All IsFile pair.sender.files → PairStands (confirm_of pair) (batch_to_send pair) start pair
-new-stands stand pair new files =
+pub new-refines : NewRefines → (pair : Pair) → AreNew pair → All IsFile pair.sender.files → PairRefines (confirm_of pair) (batch_to_send pair) start pair
+new-refines stand pair new files =
     let made = stand (confirm_of pair) pair.sender.shape pair.sender.files pair.sender.frame pair.receiver.kept pair.receiver.failures pair.told pair.failures files new.tells new.few new.sink in
     let standing : pair.sender.standing ≡ new_standing (counts_of pair.sender.shape pair.sender.files) = new.sender ∙ sym (ap waiting_at (first-is pair.sender.shape pair.sender.files)) in
     rw (← standing, ← new.receiver) at made
@@ -163,31 +163,31 @@ commits-prefix laws shape sources st pair files tells commits =
 
 pub run-of : Laws → (rounds : List Round) (old new : Pair) (trace : Trace) → IsTrace rounds old trace new → AreNew old → All IsFile old.sender.files →
     RunsAsMachine (confirm_of old) (batch_to_send old) start rounds old trace new
-run-of laws rounds old new trace gives fresh files = laws.go_on rounds old new trace gives (confirm_of old) (batch_to_send old) start (new-stands laws.new_stand old fresh files)
+run-of laws rounds old new trace gives fresh files = laws.go_on rounds old new trace gives (confirm_of old) (batch_to_send old) start (new-refines laws.new_stand old fresh files)
 
-pub run-stands : Laws → (rounds : List Round) (old new : Pair) (trace : Trace) (fresh : AreNew old) (files : All IsFile old.sender.files) →
+pub run-refines : Laws → (rounds : List Round) (old new : Pair) (trace : Trace) (fresh : AreNew old) (files : All IsFile old.sender.files) →
     (runs : RunsAsMachine (confirm_of old) (batch_to_send old) start rounds old trace new) →
-    PairStands (confirm_of old) (batch_to_send old) (after_turns (frames_of (batch_to_send old)) (confirm_of old) runs.turns start) new
-run-stands laws rounds old new trace fresh files runs =
-    laws.stand (confirm_of old) (batch_to_send old) start rounds runs.turns old new trace.rounds.items runs.are_turns (new-stands laws.new_stand old fresh files)
+    PairRefines (confirm_of old) (batch_to_send old) (after_turns (frames_of (batch_to_send old)) (confirm_of old) runs.turns start) new
+run-refines laws rounds old new trace fresh files runs =
+    laws.stand (confirm_of old) (batch_to_send old) start rounds runs.turns old new trace.rounds.items runs.are_turns (new-refines laws.new_stand old fresh files)
 
--- a pair that stands somewhere
-standing-commits : Laws → (old new : Pair) (st : State) → AreNew old → All IsFile old.sender.files → PairStands (confirm_of old) (batch_to_send old) st new → CommitsAPrefix old.sender.files new
-standing-commits laws old new st fresh files stands =
-    commits-prefix laws old.sender.shape old.sender.files st new files fresh.tells (laws.first (confirm_of old) (batch_to_send old) st new stands)
+-- a pair that refines some state
+standing-commits : Laws → (old new : Pair) (st : State) → AreNew old → All IsFile old.sender.files → PairRefines (confirm_of old) (batch_to_send old) st new → CommitsAPrefix old.sender.files new
+standing-commits laws old new st fresh files refines =
+    commits-prefix laws old.sender.shape old.sender.files st new files fresh.tells (laws.first (confirm_of old) (batch_to_send old) st new refines)
 
 pub run-commits : Laws → (rounds : List Round) (old new : Pair) (result : Result Trace LineFault) → RunGives rounds old result new → AreNew old → CommitsAPrefix old.sender.files new
 run-commits laws rounds old new (Ok trace) gives fresh = elim (trace-heard rounds old new trace.rounds.items gives.goes_on) [
   | inl same ↦ same-commits old new fresh same.1
   | inr files ↦
       let runs = run-of laws rounds old new trace gives fresh files in
-      standing-commits laws old new _ fresh files (run-stands laws rounds old new trace fresh files runs)
+      standing-commits laws old new _ fresh files (run-refines laws rounds old new trace fresh files runs)
 ]
 run-commits laws rounds old new (Err fault) gives fresh = elim (fault-heard 1 rounds old new fault gives) [
   | inl same ↦ same-commits old new fresh same
   | inr files ↦
-      let begins = new-stands laws.new_stand old fresh files in
-      let last = stopped-stands (confirm_of old) (batch_to_send old) rounds 1 start old new fault begins (laws.stop 1 rounds old new fault gives (confirm_of old) (batch_to_send old) start begins) in
+      let begins = new-refines laws.new_stand old fresh files in
+      let last = stopped-refines (confirm_of old) (batch_to_send old) rounds 1 start old new fault begins (laws.stop 1 rounds old new fault gives (confirm_of old) (batch_to_send old) start begins) in
       standing-commits laws old new last.0 fresh files last.1
 ]
 

@@ -3,7 +3,7 @@ use Rattle.std.proofs.Common.{◌≡◌, ◌≤◌, ℕ, List, length, Option, N
 use Rattle.std.proofs.lemmas.List.{length-map}
 use Rattle.std.proofs.lemmas.List.Elements.{All-map}
 use Rattle.ym_line.proofs.Names.{MOST_FILES, HeaderParts, IsHeader, length_limit, IsPieces, pieces_of, Shape, IsBatch, AllTold, batch_of, file_of, told_pieces, FileParts, IsFile}
-use Rattle.ym_link.specs.ReceiverStands.{IsSent}
+use Rattle.ym_link.specs.ReceiverRefines.{IsSent}
 
 -- a file that is cut by a plan is sent whole
 abbrev pub PlannedIsSent : Type 0

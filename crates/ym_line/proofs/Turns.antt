@@ -9,12 +9,12 @@ use Rattle.ym_frame.specs.declared.control.Reply.TheVariants as reply
 use Rattle.ym_frame.specs.declared.frame.Item.{Item}
 use Rattle.ym_frame.specs.declared.frame.Item.TheVariants as item
 use Rattle.ym_machine.specs.Frames.{Frame, BlockZero, frame_at}
-use Rattle.ym_machine.specs.Halves as machine
+use Rattle.ym_machine.specs.Steps as machine
 use Rattle.ym_machine.specs.Machine.{Speech, Nothing, FrameAt, CanCan}
 use Rattle.ym_core.specs.Hearing.{heard_of, heard_at}
 use Rattle.ym_core.specs.declared.delivery.Heard.TheVariants as heard
-use Rattle.ym_link.specs.ReceiverStands as receiver
-use Rattle.ym_link.specs.SenderStands.{item_of}
+use Rattle.ym_link.specs.ReceiverRefines as receiver
+use Rattle.ym_link.specs.SenderRefines.{item_of}
 use Rattle.ym_core.specs.declared.place.Mode.{Mode}
 use Rattle.ym_core.specs.declared.place.Mode.TheVariants.{Sent}
 use Rattle.ym_core.specs.declared.state.SendState.TheVariants as sender
@@ -70,10 +70,10 @@ what-frame (item.Block block) frame is = elim is [ inl short ↦ rw (short.1, sh
 what-frame _ frame is = rw is refl
 
 -- what a sender has to send, by its first bytes
-words-shown : FrameFound → (state : SendState) (mode : Mode) (farewell : Bool) (frame : List ℕ) → (state ≡ sender.Running → mode ≡ Sent → (i : Item) × IsFrame i frame) →
-    what_of (unwrap_or (spoken_in state mode farewell frame) []) ≡ what_heard (heard_of (unwrap_or (spoken_in state mode farewell frame) []))
+words-shown : FrameFound → (state : SendState) (mode : Mode) (cancel_pending : Bool) (frame : List ℕ) → (state ≡ sender.Running → mode ≡ Sent → (i : Item) × IsFrame i frame) →
+    what_of (unwrap_or (spoken_in state mode cancel_pending frame) []) ≡ what_heard (heard_of (unwrap_or (spoken_in state mode cancel_pending frame) []))
 unfolding verdict_of
-words-shown found sender.Running Sent farewell frame holds =
+words-shown found sender.Running Sent cancel_pending frame holds =
     let held = holds refl refl in
     what-frame held.0 frame held.1 ∙ sym (ap what_heard (frame-heard found held.0 frame held.1))
 words-shown found sender.NoReply mode true frame holds = refl
@@ -81,7 +81,7 @@ words-shown found sender.SourceFailed mode true frame holds = refl
 words-shown found _ _ _ frame holds = refl
 
 pub sent-shown : FrameFound → (s : SenderParts) → IsSender s → what_of (sent_by s) ≡ what_heard (heard_of (sent_by s))
-sent-shown found s is = words-shown found s.standing.state s.standing.mode s.standing.farewell s.frame (λ runs sent. let held = is.frame runs sent in (held.item, held.frame))
+sent-shown found s is = words-shown found s.standing.state s.standing.mode s.standing.cancel_pending s.frame (λ runs sent. let held = is.frame runs sent in (held.item, held.frame))
 
 -- both ends have one item of a frame
 same-item : (frame : Frame HeaderParts) → receiver.item_of frame ≡ item_of frame

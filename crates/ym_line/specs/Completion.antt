@@ -47,12 +47,12 @@ pub record NoneRose (old new : Pair) : Type 0 where
 abbrev pub rounds_for : Pair → ℕ
 rounds_for pair = rounds_of pair.sender.shape pair.receiver.receiver.confirm pair.sender.files
 
--- neither end gave up, was cancelled or has failed, and the count of one that runs is at most that of a burst, one round and a burst again
+-- neither end gave up, was cancelled or has failed, and the retries of one that runs are at most those of a burst, one round and a burst again
 pub record AreGoing (trace : Trace) (pair : Pair) : Type 0 where
   pub send : (trace.send ≡ sender.Running) ⊎ (trace.send ≡ sender.Finished)
   pub recv : (trace.recv ≡ receiver.Running) ⊎ (trace.recv ≡ receiver.Finished)
-  pub sender_count : trace.send ≡ sender.Running → pair.sender.standing.misses ≤ BURST + 1 + BURST
-  pub receiver_count : trace.recv ≡ receiver.Running → pair.receiver.receiver.count ≤ BURST + 1 + BURST
+  pub sender_retries : trace.send ≡ sender.Running → pair.sender.standing.retries ≤ BURST + 1 + BURST
+  pub receiver_retries : trace.recv ≡ receiver.Running → pair.receiver.receiver.retries ≤ BURST + 1 + BURST
 
 -- both ends have finished, and the whole batch is committed and reported
 pub record HaveFinished (batch : List FileParts) (trace : Trace) (pair : Pair) : Type 0 where

@@ -2,11 +2,11 @@ pub mod Carried
 pub mod Completion
 pub mod Damage
 pub mod Direct
-pub mod Examples
-pub mod Fault
+pub mod TraceExamples
+pub mod LineFault
 pub mod Needed
 pub mod Promise
 pub mod Rounds
-pub mod Text
+pub mod TraceText
 pub mod Turns
 pub mod What

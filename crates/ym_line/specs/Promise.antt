@@ -22,7 +22,7 @@ first_place (file ∷ files) = Header 0
 -- New ends: a sender that waits at the first frame of a batch of no more files than one may have, whose sources tell their bytes, and a receiver that
 -- awaits its first header, into a sink that has no file.
 pub record AreNew (pair : Pair) : Type 0 where
-  pub sender : pair.sender.standing ≡ record { place = first_place pair.sender.files; mode = Waiting; misses = 0; state = Running; farewell = false }
+  pub sender : pair.sender.standing ≡ record { place = first_place pair.sender.files; mode = Waiting; retries = 0; state = Running; cancel_pending = false }
   pub tells : All (λ (f : FileParts). IsSome f.bytes) pair.sender.files
   pub few : length pair.sender.files ≤ MOST_FILES
   pub receiver : pair.receiver.receiver ≡ new_receiver pair.receiver.receiver.confirm

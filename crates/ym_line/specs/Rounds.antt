@@ -40,7 +40,7 @@ handed way bytes pair = record pair { told = told_more way bytes pair.told }
 abbrev pub sent_by : SenderParts → List ℕ
 sent_by parts = unwrap_or (spoken parts) []
 
--- ---- The half there
+-- ---- The half there, to the receiver
 
 -- the receiver has heard what arrived, and gave this reply
 pub record GoesThere (delivery : Delivery) (old : Pair) (reply : Reply) (new : Pair) : Type 0 where
@@ -67,7 +67,7 @@ abbrev pub ThereGives : ℕ → Delivery → Pair → Result Reply LineFault →
 ThereGives n delivery old (Ok reply) new = GoesThere delivery old reply new
 ThereGives n delivery old (Err fault) new = StopsThere n delivery old fault new
 
--- ---- The half back
+-- ---- The half back, to the sender
 
 -- the sender has heard what arrived of the reply
 pub record GoesBack (delivery : Delivery) (reply : Reply) (old new : Pair) : Type 0 where

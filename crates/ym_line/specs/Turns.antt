@@ -4,19 +4,19 @@ use Rattle.ym_frame.specs.declared.control.Control.{Control}
 use Rattle.ym_frame.specs.declared.control.Reply.{Reply}
 use Rattle.ym_machine.specs.declared.confirm.Confirm.{Confirm}
 use Rattle.ym_machine.specs.Frames.{File, frames_of, IsPrefix}
-use Rattle.ym_machine.specs.Machine.{State, IsMachine, said, there, committed, reported}
+use Rattle.ym_machine.specs.Machine.{State, Invariant, said, receiver_step, committed, reported}
 use Rattle.ym_machine.specs.Run.{Turn, answer_of, after_turn, after_turns}
 use Rattle.ym_header.specs.Header.{HeaderParts}
 use Rattle.ym_core.specs.Reading.{controls_in}
 use Rattle.ym_link.specs.ReceiverInto.{Tells}
-use Rattle.ym_link.specs.ReceiverStands.{IsBatch, ReceiverStands, bytes_of}
-use Rattle.ym_link.specs.ReceiverStands as receiver
-use Rattle.ym_link.specs.SenderStands as sender
+use Rattle.ym_link.specs.ReceiverRefines.{IsBatch, ReceiverRefines, bytes_of}
+use Rattle.ym_link.specs.ReceiverRefines as receiver
+use Rattle.ym_link.specs.SenderRefines as sender
 use Rattle.ym_core.specs.Place.{done_at}
 use Rattle.ym_file.specs.Kept.{Told}
 use Rattle.ym_link.specs.Sender.{FilledAt, FailedAt, spoken}
 use Rattle.ym_file.specs.SourceFile.{FileParts}
-use Rattle.ym_link.specs.SenderStands.{Batch, SenderStands, AllTold, IsSaid}
+use Rattle.ym_link.specs.SenderRefines.{Batch, SenderRefines, AllTold, IsSaid}
 use Rattle.ym_line.specs.declared.delivery.Delivery.{Delivery}
 use Rattle.ym_line.specs.declared.delivery.Delivery.TheVariants.{Whole, Lost, Damaged}
 use Rattle.ym_line.specs.declared.delivery.Round.{Round}
@@ -31,12 +31,12 @@ use Rattle.ym_line.specs.Rounds.{Pair, Goes, GoesThere, StopsHalf, handed, sent_
 -- ---- A pair at a state of the machine
 
 -- The files are the batch, whose bytes the sources tell.
-pub record PairStands (confirm : Confirm) (files : Batch) (st : State) (pair : Pair) : Type 0 where
-  pub machine : IsMachine confirm (frames_of files) st
+pub record PairRefines (confirm : Confirm) (files : Batch) (st : State) (pair : Pair) : Type 0 where
+  pub machine : Invariant confirm (frames_of files) st
   pub batch : IsBatch files
   pub told : AllTold pair.sender.files
-  pub sender : SenderStands files st pair.sender
-  pub receiver : ReceiverStands confirm files st pair.receiver.receiver pair.receiver.kept
+  pub sender : SenderRefines files st pair.sender
+  pub receiver : ReceiverRefines confirm files st pair.receiver.receiver pair.receiver.kept
 
 -- ---- A round as a turn
 
@@ -59,8 +59,8 @@ abbrev pub IsSourceTruth : Bool → List FileParts → List FileParts → Type 0
 IsSourceTruth false old new = (new ≡ old) ⊎ ((file : ℕ) × FilledAt file old new)
 IsSourceTruth true old new = (file : ℕ) × FailedAt file old new
 
--- What a round leaves, of a pair that stood at a state: both ends have gone by their tables, the sender had to send what the machine's has to say, the
--- reply is the machine's, and the pair stands where the machine's turn leads. The two truths are those of the failure counts.
+-- What a round leaves, of a pair that refined a state: both ends have gone by their tables, the sender had to send what the machine's has to say, the
+-- reply is the machine's, and the pair refines the state that the machine's turn leads to. The two truths are those of the failure counts.
 pub record IsTurn (confirm : Confirm) (files : Batch) (st : State) (round : Round) (turn : Turn) (old : Pair) (seen : Seen) (new : Pair) : Type 0 where
   pub goes : Goes round old seen new
   pub says : IsSaid files (said st) (spoken old.sender)
@@ -68,7 +68,7 @@ pub record IsTurn (confirm : Confirm) (files : Batch) (st : State) (round : Roun
   pub turn_is : turn ≡ turn_of round turn.sink_failed turn.source_failed
   pub sink : Tells turn.sink_failed old.receiver.failures new.receiver.failures
   pub source : IsSourceTruth turn.source_failed old.sender.files new.sender.files
-  pub stands : PairStands confirm files (after_turn (frames_of files) confirm turn st) new
+  pub refines : PairRefines confirm files (after_turn (frames_of files) confirm turn st) new
 
 -- ---- A run as turns
 
@@ -94,31 +94,31 @@ pub record RunsAsMachine (confirm : Confirm) (files : Batch) (st : State) (round
 
 -- wherever the pair stood
 abbrev pub FollowsMachine : List Round → Pair → Trace → Pair → Type 0
-FollowsMachine rounds old trace new = (confirm : Confirm) (files : Batch) (st : State) → PairStands confirm files st old → RunsAsMachine confirm files st rounds old trace new
+FollowsMachine rounds old trace new = (confirm : Confirm) (files : Batch) (st : State) → PairRefines confirm files st old → RunsAsMachine confirm files st rounds old trace new
 
 abbrev pub TakesATurn : Round → Pair → Seen → Pair → Type 0
-TakesATurn round old seen new = (confirm : Confirm) (files : Batch) (st : State) → PairStands confirm files st old → (turn : Turn) × IsTurn confirm files st round turn old seen new
+TakesATurn round old seen new = (confirm : Confirm) (files : Batch) (st : State) → PairRefines confirm files st old → (turn : Turn) × IsTurn confirm files st round turn old seen new
 
 -- ---- A run that met a fault
 
--- The half there of a turn, taken alone: the sender had to send what the machine's has to say, and the receiver stands where the machine's half leads.
-pub record IsHalfTurn (confirm : Confirm) (files : Batch) (st : State) (delivery : Delivery) (old : Pair) (reply : Reply) (new : Pair) : Type 0 where
+-- The receiver step of a turn, taken alone: the sender had to send what the machine's has to say, and the pair refines the state that the machine's step leads to.
+pub record IsReceiverStep (confirm : Confirm) (files : Batch) (st : State) (delivery : Delivery) (old : Pair) (reply : Reply) (new : Pair) : Type 0 where
   pub goes : GoesThere delivery old reply new
   pub says : IsSaid files (said st) (spoken old.sender)
   pub sink_failed : Bool
   pub sink : Tells sink_failed old.receiver.failures new.receiver.failures
-  pub stands : PairStands confirm files (there (frames_of files) confirm sink_failed (is_whole delivery) st).0 new
+  pub refines : PairRefines confirm files (receiver_step (frames_of files) confirm sink_failed (is_whole delivery) st).0 new
 
--- What round n with a fault leaves: the ends as they were, where there was no memory for its entry in the trace, or the half there met the fault; so
--- too where the delivery there was handed on and the receiver wanted memory for it; or the half there, where the half back met the fault.
+-- What round n with a fault leaves: the ends as they were, where there was no memory for its entry in the trace, or the receiver step met the fault; so
+-- too where the delivery there was handed on and the receiver wanted memory for it; or the receiver step, where the sender step met the fault.
 pub data StopsInTurn (confirm : Confirm) (files : Batch) (st : State) (n : ℕ) (round : Round) (old : Pair) (fault : LineFault) (new : Pair) : Type 0 where
   unseen : fault ≡ Memory → new ≡ old → StopsInTurn confirm files st n round old fault new
   nothing : StopsHalf n (ShowsThere round.there) (IsShort round.there) old fault new → StopsInTurn confirm files st n round old fault new
   unheard : fault ≡ Memory → IsSaid files (said st) (spoken old.sender) → new ≡ handed There (arrives round.there (sent_by old.sender)) old → StopsInTurn confirm files st n round old fault new
-  half : (between : Pair) (reply : Reply) → IsHalfTurn confirm files st round.there old reply between → StopsHalf n (ShowsBack reply round.back) (IsShort round.back) between fault new → StopsInTurn confirm files st n round old fault new
+  half : (between : Pair) (reply : Reply) → IsReceiverStep confirm files st round.there old reply between → StopsHalf n (ShowsBack reply round.back) (IsShort round.back) between fault new → StopsInTurn confirm files st n round old fault new
 
--- A run that met a fault, of which the first round is number n: the rounds before are turns, and of the round with the fault at most the half there
--- was taken.
+-- A run that met a fault, of which the first round is number n: the rounds before are turns, and of the round with the fault at most the receiver
+-- step was taken.
 abbrev pub StopsAsMachine : Confirm → Batch → State → ℕ → List Round → Pair → LineFault → Pair → Type 0
 StopsAsMachine confirm files st n [] old fault new = ⊥
 StopsAsMachine confirm files st n (round ∷ rounds) old fault new =
@@ -127,9 +127,9 @@ StopsAsMachine confirm files st n (round ∷ rounds) old fault new =
 
 -- wherever the pair stood; the first round has this number
 abbrev pub StopsWithMachine : ℕ → List Round → Pair → LineFault → Pair → Type 0
-StopsWithMachine first rounds old fault new = (confirm : Confirm) (files : Batch) (st : State) → PairStands confirm files st old → StopsAsMachine confirm files st first rounds old fault new
+StopsWithMachine first rounds old fault new = (confirm : Confirm) (files : Batch) (st : State) → PairRefines confirm files st old → StopsAsMachine confirm files st first rounds old fault new
 
--- ---- What a pair that stands has committed and reports
+-- ---- What a pair that refines a state of the machine has committed and reports
 
 -- The files that the receiver has committed are the first ones of the batch, with their headers and, where the sink tells them, their bytes.
 -- The files that the sender reports are among them, and both ends have ended as the machine's have.

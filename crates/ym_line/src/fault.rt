@@ -1,7 +1,7 @@
 //! Why a round was not finished.
 
 ghost use Rattle.std.specs.Prelude.{◌≡◌};
-ghost use Rattle.ym_line.specs.Fault.{fault_of};
+ghost use Rattle.ym_line.specs.LineFault.{fault_of};
 ghost use Rattle.ym_line.specs.declared.fault.LineFault.TheVariants.{Memory};
 
 use crate::carrier::CarryFault;

@@ -12,7 +12,7 @@ ghost use Rattle.ym_core.specs.Receiver.{new_receiver};
 ghost use Rattle.ym_core.specs.declared.state.SendState.TheVariants as SendState;
 ghost use Rattle.ym_file.specs.SourceFile.{FileParts, IsFile, counts_of};
 ghost use Rattle.ym_core.specs.Standing.{new_standing};
-ghost use Rattle.ym_link.specs.SenderStands.{Batch, AllTold, batch_of};
+ghost use Rattle.ym_link.specs.SenderRefines.{Batch, AllTold, batch_of};
 ghost use Rattle.ym_line.specs.declared.delivery.Handed.{Handed};
 ghost use Rattle.ym_line.specs.declared.delivery.Round.{Round};
 ghost use Rattle.ym_line.specs.declared.fault.LineFault.{LineFault};
@@ -21,7 +21,7 @@ ghost use Rattle.ym_line.specs.declared.trace.Trace.{Trace};
 ghost use Rattle.ym_line.specs.Completion.{AllWhole, AreGoing, BringsShortBadRuns, HaveFinished, NoneRose, rounds_for, whole_rounds};
 ghost use Rattle.ym_line.specs.Promise.{AreNew, CommitsAPrefix, ReportsCommitted};
 ghost use Rattle.ym_line.specs.Rounds.{Pair, Goes, StopsIn, IsTrace, RunGives};
-ghost use Rattle.ym_line.specs.Turns.{AreTurns, CommitsFirst, FollowsMachine, PairStands, StopsWithMachine, TakesATurn};
+ghost use Rattle.ym_line.specs.Turns.{AreTurns, CommitsFirst, FollowsMachine, PairRefines, StopsWithMachine, TakesATurn};
 
 use ym_file::laws::one_pieces;
 use ym_frame::laws::frame_found;
@@ -36,7 +36,7 @@ use ym_machine::laws::{
 
 /// Rounds of two ends that stand at a state of the machine of two counters are turns of that machine, whatever is lost or damaged in them: the
 /// ends stand where the turns lead, and the trace reports that state. Where a round meets a fault, those before it are turns, and the ends stand
-/// behind them, or behind the half there of that round.
+/// behind them, or behind the receiver step of that round.
 pub fn rounds_are_turns()
     ensures go { (round : Round) (old new : Pair) (seen : Seen) → Goes round old seen new → TakesATurn round old seen new }
     ensures go_on { (rounds : List Round) (old new : Pair) (trace : Trace) → IsTrace rounds old trace new → FollowsMachine rounds old trace new }
@@ -51,20 +51,20 @@ pub fn rounds_are_turns()
     a_standing_receiver_follows_the_machine();
 }
 
-/// Turns of a pair that stands lead to where it stands behind them, and their damage is that of a run of the machine.
+/// Turns of a pair that refines a state of the machine lead to the state that it refines behind them, and their damage is that of a run of the machine.
 pub fn turns_of_a_standing_pair()
     ensures stand { (confirm : Confirm) (files : Batch) (st : State) (rounds : List Round) (turns : List Turn) (old new : Pair) (all : List Seen) →
-        AreTurns confirm files st rounds turns old all new → PairStands confirm files st old → PairStands confirm files (after_turns (frames_of files) confirm turns st) new }
+        AreTurns confirm files st rounds turns old all new → PairRefines confirm files st old → PairRefines confirm files (after_turns (frames_of files) confirm turns st) new }
     ensures damage { (confirm : Confirm) (files : Batch) (st : State) (rounds : List Round) (turns : List Turn) (old new : Pair) (all : List Seen) →
         AreTurns confirm files st rounds turns old all new → IsDamage (frames_of files) confirm turns st }
 {
     what_comes_back();
 }
 
-/// Where a pair stands, the committed files are the first ones of the batch, each with its header and its bytes, and what the sender reports is
+/// Where a pair refines a state of the machine, the committed files are the first ones of the batch, each with its header and its bytes, and what the sender reports is
 /// among them.
 pub fn a_standing_pair_commits_the_first_files()
-    ensures { (confirm : Confirm) (files : Batch) (st : State) (pair : Pair) → PairStands confirm files st pair → CommitsFirst files st pair }
+    ensures { (confirm : Confirm) (files : Batch) (st : State) (pair : Pair) → PairRefines confirm files st pair → CommitsFirst files st pair }
 {
     committed_is_reported_or_one_more::<Headers>();
     a_sender_follows_the_machine();
@@ -75,7 +75,7 @@ pub fn a_standing_pair_commits_the_first_files()
 pub fn new_ends_stand()
     ensures { (confirm : Confirm) (shape : Shape) (sources : List FileParts) (frame : List ℕ) (kept : Kept) (sink_failures : ℕ) (told : Option (List Handed)) (failures : ℕ) →
         All IsFile sources → AllTold sources → length sources ≤ MOST_FILES → IsNew kept →
-        PairStands confirm (batch_of shape sources) start (record {
+        PairRefines confirm (batch_of shape sources) start (record {
           sender = record { standing = new_standing (counts_of shape sources); shape = shape; files = sources; frame = frame };
           receiver = record { receiver = new_receiver confirm; kept = kept; failures = sink_failures };
           told = told;

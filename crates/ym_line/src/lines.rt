@@ -1,7 +1,7 @@
 //! The lines of both ends, of which a trace has one each. What runs one end alone prints the same.
 
 ghost use Rattle.std.specs.Prelude.{◌≡◌, Some};
-ghost use Rattle.ym_line.specs.Text.{send_text, recv_text, fault_text, sender_words, receiver_words};
+ghost use Rattle.ym_line.specs.TraceText.{send_text, recv_text, fault_text, sender_words, receiver_words};
 
 use std::fmt;
 use ym_header::HeaderFault;

@@ -1,7 +1,7 @@
 //! The text of a trace: a line for each round, and one for each end.
 
 ghost use Rattle.std.specs.Prelude.{◌≡◌, ◌≤◌, ◌<◌, ◌+◌, ◌++◌, Some, IfOk, string_bytes};
-ghost use Rattle.ym_line.specs.Text.{reply_text, round_line, sender_line, receiver_line, trace_text};
+ghost use Rattle.ym_line.specs.TraceText.{reply_text, round_line, sender_line, receiver_line, trace_text};
 
 use crate::lines::{ReceiverLine, SenderLine};
 use crate::trace::{Seen, Trace};

@@ -4,7 +4,7 @@ ghost use Rattle.std.specs.Prelude.{◌≡◌, Some};
 ghost use Rattle.ym_frame.specs.Frame.{IsFrame};
 ghost use Rattle.ym_frame.specs.declared.frame.Item.{Item};
 ghost use Rattle.ym_line.specs.Damage.{how_of};
-ghost use Rattle.ym_line.specs.Text.{what_text, how_text};
+ghost use Rattle.ym_line.specs.TraceText.{what_text, how_text};
 ghost use Rattle.ym_line.specs.What.{what_is, what_of};
 
 use crate::delivery::Delivery;

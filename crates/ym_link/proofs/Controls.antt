@@ -7,7 +7,7 @@ use Rattle.ym_link.proofs.Names.{control_at, reply_bytes, Control, Ack, Start, C
 use Rattle.ym_frame.specs.Control.{controls}
 use Rattle.ym_frame.specs.declared.control.Control.TheVariants.{Nak}
 use Rattle.ym_frame.specs.declared.control.Reply.TheVariants as reply
-use Rattle.ym_machine.specs.Halves.{control_byte, controls as reply_controls}
+use Rattle.ym_machine.specs.Steps.{control_byte, controls as reply_controls}
 
 -- a control and the byte that it is
 abbrev IsByteOf : ℕ → Option Control → Type 0

@@ -1,4 +1,4 @@
--- what a sink tells after the calls of a receiver that stands
+-- what a sink tells after the calls of a receiver that refines a state of the machine
 use Rattle.std.proofs.Common.{ℕ, ◌+◌, ◌-◌, ◌<◌, ◌≡◌, suc, zero, List, [], ◌∷◌, ◌++◌, length, take, map, refl, sym, ap, ◌∙◌, arith, add-one, min, Option, Some, None, length-append}
 use Rattle.std.specs.Prelude.{option_to_list}
 use Rattle.std.proofs.lemmas.List.{length-take, map-append}

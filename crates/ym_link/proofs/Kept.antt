@@ -9,7 +9,7 @@ use Rattle.ym_link.proofs.Steps.{Keeps, step_keeps}
 
 -- a step at which the source failed is one of the table's
 pub failed_hears : (shape : Shape) (seen files new : List FileParts) (held out : List ℕ) (s t : Standing) (cs : List Control) (step : Step) (place : Place) → seen ≡ files
-    → step ≡ hears (counts_of shape seen) s cs → step.fills ≡ Some place → t ≡ record step.standing { state = SourceFailed; farewell = true } → IsFilled true (Some place) files new
+    → step ≡ hears (counts_of shape seen) s cs → step.fills ≡ Some place → t ≡ record step.standing { state = SourceFailed; cancel_pending = true } → IsFilled true (Some place) files new
     → IsStep (record { standing = s; shape = shape; files = files; frame = held }) (hears (counts_of shape files) s cs) true (record { standing = t; shape = shape; files = new; frame = out })
 failed_hears shape seen files new held out s t cs step place same is fills failed filled =
     let old : SenderParts = record { standing = s; shape = shape; files = files; frame = held } in
@@ -21,7 +21,7 @@ failed_hears shape seen files new held out s t cs step place same is fills faile
       shape = refl;
     })
   where
-    by : (p : Place) → IsFilled true (Some p) files new → record step.standing { state = SourceFailed; farewell = true } ≡ after_fill true (Some p) step.standing
+    by : (p : Place) → IsFilled true (Some p) files new → record step.standing { state = SourceFailed; cancel_pending = true } ≡ after_fill true (Some p) step.standing
     by (Block file k) h = refl
     by _ h = absurd h
 
@@ -31,12 +31,12 @@ module _ (shape : Shape) (frame : List ℕ) (seen old : List FileParts) (same : 
   keeps s step cs is = rw is (step_keeps (counts_of shape seen) s cs)
 
   -- the source failed
-  pub failed_sender : (new : List FileParts) (place : Option Place) (s t : Standing) → t ≡ record s { state = SourceFailed; farewell = true } → IsFilled true place old new → All IsFile old → IsPlace (counts_of shape seen) s.place
+  pub failed_sender : (new : List FileParts) (place : Option Place) (s t : Standing) → t ≡ record s { state = SourceFailed; cancel_pending = true } → IsFilled true place old new → All IsFile old → IsPlace (counts_of shape seen) s.place
       → IsSender (record { standing = t; shape = shape; files = new; frame = frame })
   failed_sender new place s t is filled files within = subst (λ (x : Standing). IsSender (record { standing = x; shape = shape; files = new; frame = frame })) (sym is) (record {
     files = filled_files true place old new filled files;
     place = rw (filled_counts shape true place old new filled) (rw same at within);
-    misses = λ h. absurd cc;
+    retries = λ h. absurd cc;
     frame = λ h. absurd cc;
   })
 
@@ -47,7 +47,7 @@ module _ (shape : Shape) (frame : List ℕ) (seen old : List FileParts) (same : 
   unfilled_sender s step cs is none within sender = record {
     files = sender.files;
     place = rw same at within;
-    misses = λ h. (keeps s step cs is h).misses;
+    retries = λ h. (keeps s step cs is h).retries;
     frame = λ h sent. subst (λ p. IsFrameAt shape old p frame) (sym ((keeps s step cs is h).place none sent)) (sender.frame (keeps s step cs is h).state ((keeps s step cs is h).mode none sent));
   }
 
@@ -58,6 +58,6 @@ module _ (shape : Shape) (frame : List ℕ) (seen old : List FileParts) (same : 
   filled_sender out new s step cs place is fills filled within held files = record {
     files = filled_files false (Some place) old new filled files;
     place = rw (filled_counts shape false (Some place) old new filled) (rw same at within);
-    misses = λ h. (keeps s step cs is h).misses;
+    retries = λ h. (keeps s step cs is h).retries;
     frame = λ h sent. subst (λ p. IsFrameAt shape new p out) (sym ((keeps s step cs is h).filled place fills)) held;
   }

@@ -18,7 +18,7 @@ pub mod ReceiverProgress
 pub mod Files
 pub mod Kept
 pub mod ReceiverStanding
-pub mod SenderHalf
+pub mod SenderSteps
 pub mod SenderPlaces
 pub mod SenderStanding
 pub mod DeliverySize

@@ -20,17 +20,17 @@ pub use Rattle.ym_file.specs.Plan.{piece_at}
 pub use Rattle.ym_file.specs.SourceFile.{FileParts, IsFile, blocks_of, counts_of, file_at, filled, no_file}
 pub use Rattle.ym_file.specs.declared.plan.Shape.{Shape}
 pub use Rattle.ym_machine.specs.Frames.{BlockZero, EndBlock, Eot as EotFrame, File, Frame, Piece, body_at, count_within, files_within, frame_at, frames_of}
-pub use Rattle.ym_machine.specs.Halves.{IsRemnant, asks_again, back, nothing_taken}
+pub use Rattle.ym_machine.specs.Steps.{IsRemnant, asks_again, sender_step, nothing_taken}
 pub use Rattle.ym_machine.specs.State.{ReceiverEnd, SenderEnd, State, said_by, start}
 pub use Rattle.ym_machine.specs.declared.confirm.Confirm.{Confirm}
 pub use Rattle.ym_machine.specs.declared.confirm.Confirm.TheVariants.{Twice}
 pub use Rattle.ym_machine.specs.declared.limits.TheConstants.{GIVE_UP, MOST_FILES}
 pub use Rattle.ym_core.specs.Hearing.{heard_at, heard_of}
 pub use Rattle.ym_core.specs.Place.{IsPlace, count_at, done_at, first_of, next_of}
-pub use Rattle.ym_core.specs.Reading.{controls_in, reads, turn}
+pub use Rattle.ym_core.specs.Reading.{controls_in, reads, reads_control}
 pub use Rattle.ym_core.specs.Receiver.{Adds, Begins, Commits, No_call, Receiver, Step, covered_eot, ends, goes_on, hears_at, opened, running_hears, stays, zero_heard}
 pub use Rattle.ym_core.specs.Standing.{after_fill, after_reading, hears, hears_in, missed, read_through}
-pub use Rattle.ym_core.specs.Step.{Means, StandsFor}
+pub use Rattle.ym_core.specs.Step.{Means, ReadsAs}
 pub use Rattle.ym_core.specs.declared.delivery.Heard.{Heard}
 pub use Rattle.ym_core.specs.declared.place.Mode.{Mode}
 pub use Rattle.ym_core.specs.declared.place.Mode.TheVariants.{Sent, Waiting}
@@ -58,10 +58,10 @@ pub use Rattle.ym_link.specs.LateAnswers.{AreLate, late_and_quiet}
 pub use Rattle.ym_link.specs.Port.{Data, Failed, Seen, Tape, after_write, read_gives, read_leaves, seen_of}
 pub use Rattle.ym_link.specs.ReceiveOver.{Outcome, Receives, ended, heard_in, unheard, unread, unwritten}
 pub use Rattle.ym_link.specs.ReceiverInto.{HearsGives, IsOpenFile, IsReceiver, ReceiverParts, called, outcome}
-pub use Rattle.ym_link.specs.ReceiverStands.{Goes, IsSent, KeepsFirst, KeepsOpen, ReceiverStands, bytes_of, item_of, kept_after, open_at, receiver_at}
+pub use Rattle.ym_link.specs.ReceiverRefines.{Goes, IsSent, KeepsFirst, KeepsOpen, ReceiverRefines, bytes_of, item_of, kept_after, open_at, receiver_at}
 pub use Rattle.ym_link.specs.SendOver.{Sends, heard}
 pub use Rattle.ym_link.specs.Sender.{IsFilled, IsSender, IsStep, SenderParts, counts, spoken}
-pub use Rattle.ym_link.specs.SenderStands.{Batch, counts_in, farewell_of, mode_of, place_at, place_from, state_of}
+pub use Rattle.ym_link.specs.SenderRefines.{Batch, counts_in, cancel_pending_of, mode_of, place_at, place_from, state_of}
 pub use Rattle.ym_link.specs.Sweep.{Swept, heeds_all, is_over}
 unfoldable pub use Rattle.ym_link.specs.Sweep.{swept}
 pub use Rattle.ym_link.specs.declared.clearing.Talk.{Talk}

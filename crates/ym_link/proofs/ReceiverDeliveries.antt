@@ -11,13 +11,13 @@ use Rattle.ym_link.proofs.TableRows.{running_at}
 
 -- fewer deliveries are left behind a step
 abbrev Fewer : Stage → ℕ → ℕ → Step → Type 0
-Fewer stage files count step = receiver_deliveries step.receiver < GIVE_UP * receiver_steps stage files + (GIVE_UP - count)
+Fewer stage files retries step = receiver_deliveries step.receiver < GIVE_UP * receiver_steps stage files + (GIVE_UP - retries)
 
-fewer : {confirm : Confirm} {files count : ℕ} {stage : Stage} {zero : Result Zero HeaderFault} {h : Heard} {step : Step} → Moves confirm files count stage zero h step → count < GIVE_UP
-    → (kept : Kept) → IsOpenFile stage kept → FilesFit stage files → Means (running_at confirm stage files count) h zero
-    → ((block : BlockParts) → h ≡ heard.Item (item.Block block) → 0 < length block.body) → Fewer stage files count step
-fewer {files = files} {count = count} (again _ _ _ left) few kept file fit means some =
-    let same = left in cond_both (nat_lt (count + 1) GIVE_UP) _ _ (Fewer _ files count) (λ e. omega (arith, same)) (λ e. omega arith)
+fewer : {confirm : Confirm} {files retries : ℕ} {stage : Stage} {zero : Result Zero HeaderFault} {h : Heard} {step : Step} → Moves confirm files retries stage zero h step → retries < GIVE_UP
+    → (kept : Kept) → IsOpenFile stage kept → FilesFit stage files → Means (running_at confirm stage files retries) h zero
+    → ((block : BlockParts) → h ≡ heard.Item (item.Block block) → 0 < length block.body) → Fewer stage files retries step
+fewer {files = files} {retries = retries} (again _ _ _ left) few kept file fit means some =
+    let same = left in cond_both (nat_lt (retries + 1) GIVE_UP) _ _ (Fewer _ files retries) (λ e. omega (arith, same)) (λ e. omega arith)
 fewer (opens block header number room) few kept file fit means some = let reads = means block refl refl refl number in let fits = reads.fits in omega (arith, room, fits)
 fewer (adds file block missing) few kept opened fit means some = let more = some block refl in omega (arith, missing, more)
 fewer (confirms file none) few kept opened fit means some = rw none (omega arith)
@@ -30,5 +30,5 @@ pub step-fewer : (old : ReceiverParts) (h : Heard) (reply : Reply) (new : Receiv
     → HearsGives old h (Ok reply) new → ((block : BlockParts) → h ≡ heard.Item (item.Block block) → 0 < length block.body)
     → receiver_deliveries new.receiver < receiver_deliveries old.receiver
 step-fewer old h reply new is on gives some =
-    let means : Means (running_at old.receiver.confirm old.receiver.stage old.receiver.files old.receiver.count) h gives.0 = λ block _. gives.1 block on in
+    let means : Means (running_at old.receiver.confirm old.receiver.stage old.receiver.files old.receiver.retries) h gives.0 = λ block _. gives.1 block on in
     moved old h reply new on gives (λ r kept. receiver_deliveries r < receiver_deliveries old.receiver) (λ step to. rw on (fewer to (is.runs on) old.kept is.open_file is.few means some))

@@ -65,7 +65,7 @@ heard-large (Err fault) h is block e = absurd cc
 
 -- a step's progress is among the steps that are then taken
 abbrev Raises : Stage → Kept → Step → Type 0
-Raises stage kept step = progress_in step.receiver.state step.receiver.count + steps_taken stage kept.headers ≤ steps_taken step.receiver.stage (called step.call kept).headers
+Raises stage kept step = progress_in step.receiver.state step.receiver.retries + steps_taken stage kept.headers ≤ steps_taken step.receiver.stage (called step.call kept).headers
 
 -- the steps of one file more
 steps-append : (headers : List HeaderParts) (opened : Option HeaderParts) (header : HeaderParts) → opened ≡ Some header → steps_of (headers ++ option_to_list opened) ≡ steps_of headers + (blocks_in header.length + 3)
@@ -79,12 +79,12 @@ open-steps file kept open_file =
     let most : (if file.first_eot then 2 else 1) ≤ 2 = cond_both file.first_eot 2 1 (λ n. n ≤ 2) (λ e. omega arith) (λ e. omega arith) in
     omega (arith, more, same, most)
 
-raises : {confirm : Confirm} {files count : ℕ} {stage : Stage} {zero : Result Zero HeaderFault} {h : Heard} {step : Step} → Moves confirm files count stage zero h step
+raises : {confirm : Confirm} {files retries : ℕ} {stage : Stage} {zero : Result Zero HeaderFault} {h : Heard} {step : Step} → Moves confirm files retries stage zero h step
     → (kept : Kept) → IsOpenFile stage kept → ((block : BlockParts) → h ≡ heard.Item (item.Block block) → 128 ≤ length block.body) → Raises stage kept step
-raises {count = count} {stage = stage} (again _ _ taken _) kept file large =
+raises {retries = retries} {stage = stage} (again _ _ taken _) kept file large =
     let same = taken kept.headers in
-    let none = differ (count + 1) 0 (omega arith) in
-    cond_both (nat_lt (count + 1) GIVE_UP) _ _ (Raises stage kept) (λ e. rw none (omega (arith, same))) (λ e. omega (arith, same))
+    let none = differ (retries + 1) 0 (omega arith) in
+    cond_both (nat_lt (retries + 1) GIVE_UP) _ _ (Raises stage kept) (λ e. rw none (omega (arith, same))) (λ e. omega (arith, same))
 raises (opens _ header _ _) kept file large = omega arith
 raises (adds file block missing) kept opened large = let body = large block refl in omega (arith, missing, body)
 raises (confirms file none) kept opened large = rw none (omega arith)
@@ -96,7 +96,7 @@ step-raises : (old : ReceiverParts) (h : Heard) (reply : Reply) (new : ReceiverP
     → ((block : BlockParts) → h ≡ heard.Item (item.Block block) → 128 ≤ length block.body)
     → progress_at new + steps_at old ≤ steps_at new
 step-raises old h reply new is on gives large =
-    moved old h reply new on gives (λ r kept. progress_in r.state r.count + steps_at old ≤ steps_taken r.stage kept.headers) (λ step to. raises to old.kept is.open_file large)
+    moved old h reply new on gives (λ r kept. progress_in r.state r.retries + steps_at old ≤ steps_taken r.stage kept.headers) (λ step to. raises to old.kept is.open_file large)
 
 -- ---- A whole call
 

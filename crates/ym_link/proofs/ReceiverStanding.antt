@@ -1,24 +1,24 @@
--- a receiver that stands at a state of the machine follows the half there, however it has ended
+-- a receiver that refines a state of the machine follows the receiver step, however it has ended
 use Rattle.std.proofs.Common.{ℕ, ◌+◌, ◌<◌, ◌≡◌, ◌≢◌, ◌⊎◌, ◌==◌, inl, inr, suc, zero, List, [], length, Bool, true, false, refl, sym, ap, ◌∙◌, subst, arith, Option, Some, None, Ok, Result}
-use Rattle.ym_link.proofs.Names.{Reply, Silence, HeaderParts, HeaderFault, Zero, Kept, Told, Confirm, File, Frame, frames_of, SenderEnd, ReceiverEnd, State, start, said_by, nothing_taken, asks_again, RecvState, No_call, hears_at, Means, ReceiverParts, HearsGives, IsSent, item_of, open_at, receiver_at, ReceiverStands, Goes}
+use Rattle.ym_link.proofs.Names.{Reply, Silence, HeaderParts, HeaderFault, Zero, Kept, Told, Confirm, File, Frame, frames_of, SenderEnd, ReceiverEnd, State, start, said_by, nothing_taken, asks_again, RecvState, No_call, hears_at, Means, ReceiverParts, HearsGives, IsSent, item_of, open_at, receiver_at, ReceiverRefines, Goes}
 use Rattle.ym_frame.specs.declared.control.Reply.TheVariants.{Ack}
 use Rattle.ym_file.specs.Kept.{TellsNone, IsNew}
 use Rattle.ym_machine.specs.Frames.{frame_before}
 use Rattle.ym_machine.specs.State.{said}
-use Rattle.ym_machine.specs.Halves.{Sound, At, Can, Bad}
-use Rattle.ym_machine.specs.Halves as machine
-use Rattle.ym_machine.specs.Machine.{IsMachine}
+use Rattle.ym_machine.specs.Steps.{Sound, At, Can, Bad}
+use Rattle.ym_machine.specs.Steps as machine
+use Rattle.ym_machine.specs.Machine.{Invariant}
 use Rattle.ym_core.specs.declared.delivery.Heard.TheVariants as heard
 use Rattle.ym_core.specs.declared.state.RecvState.TheVariants as state
 use Rattle.ym_core.specs.Receiver.{hears, new_receiver, finished_reply}
-use Rattle.ym_link.specs.ReceiverStands.{IsBatch, heard_as, IsNextOrLast, state_of, heard_there, Follows}
+use Rattle.ym_link.specs.ReceiverRefines.{IsBatch, heard_as, IsNextOrLast, state_of, heard_there, Follows}
 use Rattle.ym_link.proofs.Positions.{PlaceLaws, position, none-first}
 use Rattle.ym_link.proofs.TableRows.{yes, differ}
 use Rattle.ym_link.proofs.Follows.{ZeroLaws, Took, took, quiet, next-goes, last-goes, cancelled-goes, first-bad-goes, bad-goes}
 
 -- ---- What is heard is the next frame or the last one
 
-module _ (confirm : Confirm) (files : List (File HeaderParts)) (st : State) (m : IsMachine confirm (frames_of files) st) where
+module _ (confirm : Confirm) (files : List (File HeaderParts)) (st : State) (m : Invariant confirm (frames_of files) st) where
   -- a sender that has not finished stands before the end of the list
   before-end : st.sender ≡ SenderEnd.Running → st.acknowledged < length (frames_of files)
   before-end runs =
@@ -28,20 +28,20 @@ module _ (confirm : Confirm) (files : List (File HeaderParts)) (st : State) (m :
 
   pub next-or-last : (whole : Bool) → IsNextOrLast (frames_of files) (machine.heard whole (said st)) st.taken
   next-or-last false = tt
-  next-or-last true = by st.sender st.sent st.farewell refl
+  next-or-last true = by st.sender st.sent st.cancel_pending refl
     where
       place : st.sender ≡ SenderEnd.Running → (st.acknowledged < length (frames_of files)) × ((st.acknowledged ≡ st.taken) ⊎ (st.acknowledged + 1 ≡ st.taken))
       place runs = (before-end runs, elim m.counters.ahead [ inl e ↦ inl (sym e) | inr e ↦ inr (sym e) ])
 
-      by : (end : SenderEnd) (sent farewell : Bool) → st.sender ≡ end → IsNextOrLast (frames_of files) (machine.heard true (said_by end sent farewell st.acknowledged)) st.taken
-      by SenderEnd.Running true farewell e = place e
+      by : (end : SenderEnd) (sent cancel_pending : Bool) → st.sender ≡ end → IsNextOrLast (frames_of files) (machine.heard true (said_by end sent cancel_pending st.acknowledged)) st.taken
+      by SenderEnd.Running true cancel_pending e = place e
       by SenderEnd.NoReply sent true e = tt
       by SenderEnd.SourceFailed sent true e = tt
-      by _ sent farewell e = tt
+      by _ sent cancel_pending e = tt
 
   -- ---- Where it goes
 
-  module _ (laws : PlaceLaws) (zeros : ZeroLaws) (batch : IsBatch files) (old : ReceiverParts) (s : ReceiverStands confirm files st old.receiver old.kept)
+  module _ (laws : PlaceLaws) (zeros : ZeroLaws) (batch : IsBatch files) (old : ReceiverParts) (s : ReceiverRefines confirm files st old.receiver old.kept)
       (meaning : Result Zero HeaderFault) (failed : Bool) (reply : Reply) (new : ReceiverParts) where
     abbrev frames : List (Frame HeaderParts)
     frames = frames_of files
@@ -92,7 +92,7 @@ module _ (confirm : Confirm) (files : List (File HeaderParts)) (st : State) (m :
     sound-goes end e sound next means t = ended-goes (state_of end) (s.state_is ∙ ap state_of e) sound Silence refl t
 
 pub follows : (laws : PlaceLaws) (zeros : ZeroLaws) (confirm : Confirm) (files : List (File HeaderParts)) (whole : Bool) (st : State) (old : ReceiverParts) (reply : Reply) (new : ReceiverParts)
-    → IsBatch files → IsMachine confirm (frames_of files) st → ReceiverStands confirm files st old.receiver old.kept → HearsGives old (heard_there files whole st) (Ok reply) new → Follows confirm files whole st old reply new
+    → IsBatch files → Invariant confirm (frames_of files) st → ReceiverRefines confirm files st old.receiver old.kept → HearsGives old (heard_there files whole st) (Ok reply) new → Follows confirm files whole st old reply new
 follows laws zeros confirm files whole st old reply new batch m s gives =
     let takes = gives.2.1 in (
       gives.2.0,
@@ -107,7 +107,7 @@ none-told : (o : Option Told) → TellsNone o → (told : Told) → o ≡ Some t
 none-told None w told e = absurd cc
 none-told (Some t) w told e = subst (λ o. TellsNone o) e w
 
-pub starts : (confirm : Confirm) (files : List (File HeaderParts)) (kept : Kept) → IsNew kept → ReceiverStands confirm files start (new_receiver confirm) kept
+pub starts : (confirm : Confirm) (files : List (File HeaderParts)) (kept : Kept) → IsNew kept → ReceiverRefines confirm files start (new_receiver confirm) kept
 starts confirm files kept fresh = record {
   confirm_is = refl;
   state_is = refl;

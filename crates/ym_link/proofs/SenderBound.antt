@@ -16,20 +16,20 @@ use Rattle.ym_link.proofs.Steps.{Reaches, stays, cancels, again, finishes, sends
 
 -- how many deliveries without progress stand before this one
 abbrev weight_in : SendState → ℕ → ℕ
-weight_in Running misses = misses
-weight_in _ misses = GIVE_UP
+weight_in Running retries = retries
+weight_in _ retries = GIVE_UP
 
 abbrev weight : SenderParts → ℕ
-weight s = weight_in s.standing.state s.standing.misses
+weight s = weight_in s.standing.state s.standing.retries
 
-weight-le : (state : SendState) (misses : ℕ) → (state ≡ Running → misses < GIVE_UP) → weight_in state misses ≤ GIVE_UP
-weight-le Running misses few = let less = few refl in omega (arith, less)
-weight-le _ misses few = omega arith
+weight-le : (state : SendState) (retries : ℕ) → (state ≡ Running → retries < GIVE_UP) → weight_in state retries ≤ GIVE_UP
+weight-le Running retries few = let less = few refl in omega (arith, less)
+weight-le _ retries few = omega arith
 
-pace : (misses count : ℕ) (state : SendState) → misses < GIVE_UP → (state ≡ Running → (count ≡ 0) ⊎ (count ≡ misses + 1))
-    → misses + 1 ≤ weight_in state count + GIVE_UP * sender_progress_in state count
-pace misses count Running few goes = elim (goes refl) [ inl none ↦ rw none (omega arith) | inr one ↦ omega (arith, one) ]
-pace misses count _ few goes = omega arith
+pace : (retries count : ℕ) (state : SendState) → retries < GIVE_UP → (state ≡ Running → (count ≡ 0) ⊎ (count ≡ retries + 1))
+    → retries + 1 ≤ weight_in state count + GIVE_UP * sender_progress_in state count
+pace retries count Running few goes = elim (goes refl) [ inl none ↦ rw none (omega arith) | inr one ↦ omega (arith, one) ]
+pace retries count _ few goes = omega arith
 
 -- ---- One frame less from the next place on
 
@@ -72,75 +72,75 @@ steps-le _ counts place mode = omega arith
 
 -- a running sender
 abbrev runs_at : Place → Mode → ℕ → Bool → Standing
-runs_at place mode misses farewell = record { place = place; mode = mode; misses = misses; state = Running; farewell = farewell }
+runs_at place mode retries cancel_pending = record { place = place; mode = mode; retries = retries; state = Running; cancel_pending = cancel_pending }
 
 abbrev Lower : List ℕ → Place → Mode → Standing → Type 0
-Lower counts place mode new = steps_in new.state counts new.place new.mode + sender_progress_in new.state new.misses ≤ sender_steps counts place mode
+Lower counts place mode new = steps_in new.state counts new.place new.mode + sender_progress_in new.state new.retries ≤ sender_steps counts place mode
 
-missed-lower : (counts : List ℕ) (place : Place) (mode : Mode) (misses : ℕ) (farewell : Bool) → Lower counts place mode (missed (runs_at place mode misses farewell)).standing
-missed-lower counts place mode misses farewell = grind (arith, nat_tests)
+missed-lower : (counts : List ℕ) (place : Place) (mode : Mode) (retries : ℕ) (cancel_pending : Bool) → Lower counts place mode (missed (runs_at place mode retries cancel_pending)).standing
+missed-lower counts place mode retries cancel_pending = grind (arith, nat_tests)
 
-reading-lower : (counts : List ℕ) (place : Place) (mode : Mode) (misses : ℕ) (farewell : Bool) (r : Reading) → IsPlace counts place → Reaches counts place mode r
-    → Lower counts place mode (after_reading (runs_at place mode misses farewell) r.place r.mode r.stop).standing
-reading-lower counts place mode misses farewell r within (cancels e) = rw e (omega arith)
-reading-lower counts place mode misses farewell r within (again m e) = rw e (missed-lower counts place mode misses farewell)
-reading-lower counts place mode misses farewell r within (finishes m e) = rw e (omega arith)
-reading-lower counts place mode misses farewell r within (sends m e) = let some = some-frames counts place in rw (e, m) (omega (arith, some))
-reading-lower counts place mode misses farewell r within (waits_next m before e) = let one = next-frames counts place within before in rw (e, m) (omega (arith, one))
-reading-lower counts place mode misses farewell r within (sends_next m before e) =
+reading-lower : (counts : List ℕ) (place : Place) (mode : Mode) (retries : ℕ) (cancel_pending : Bool) (r : Reading) → IsPlace counts place → Reaches counts place mode r
+    → Lower counts place mode (after_reading (runs_at place mode retries cancel_pending) r.place r.mode r.stop).standing
+reading-lower counts place mode retries cancel_pending r within (cancels e) = rw e (omega arith)
+reading-lower counts place mode retries cancel_pending r within (again m e) = rw e (missed-lower counts place mode retries cancel_pending)
+reading-lower counts place mode retries cancel_pending r within (finishes m e) = rw e (omega arith)
+reading-lower counts place mode retries cancel_pending r within (sends m e) = let some = some-frames counts place in rw (e, m) (omega (arith, some))
+reading-lower counts place mode retries cancel_pending r within (waits_next m before e) = let one = next-frames counts place within before in rw (e, m) (omega (arith, one))
+reading-lower counts place mode retries cancel_pending r within (sends_next m before e) =
     let one = next-frames counts place within before in let some = some-frames counts (next_of counts place) in rw (e, m) (omega (arith, one, some))
-reading-lower counts place mode misses farewell r within (cancels_next m before e) = rw e (omega arith)
-reading-lower counts place Waiting misses farewell r within (stays e) = rw e (missed-lower counts place Waiting misses farewell)
-reading-lower counts place Sent misses farewell r within (stays e) = rw e (missed-lower counts place Sent misses farewell)
+reading-lower counts place mode retries cancel_pending r within (cancels_next m before e) = rw e (omega arith)
+reading-lower counts place Waiting retries cancel_pending r within (stays e) = rw e (missed-lower counts place Waiting retries cancel_pending)
+reading-lower counts place Sent retries cancel_pending r within (stays e) = rw e (missed-lower counts place Sent retries cancel_pending)
 
 -- ---- A step, also where the source failed
 
 abbrev Goes : ℕ → Standing → Type 0
-Goes misses new = new.state ≡ Running → (new.misses ≡ 0) ⊎ (new.misses ≡ misses + 1)
+Goes retries new = new.state ≡ Running → (new.retries ≡ 0) ⊎ (new.retries ≡ retries + 1)
 
-fill-goes : (misses : ℕ) (failed : Bool) (fills : Option Place) (new : Standing) → Goes misses new → Goes misses (after_fill failed fills new)
-fill-goes misses true (Some (Block file k)) new h = λ e. absurd cc
-fill-goes misses _ _ new h = h
+fill-goes : (retries : ℕ) (failed : Bool) (fills : Option Place) (new : Standing) → Goes retries new → Goes retries (after_fill failed fills new)
+fill-goes retries true (Some (Block file k)) new h = λ e. absurd cc
+fill-goes retries _ _ new h = h
 
 fill-lower : (counts : List ℕ) (place : Place) (mode : Mode) (failed : Bool) (fills : Option Place) (new : Standing) → Lower counts place mode new → Lower counts place mode (after_fill failed fills new)
 fill-lower counts place mode true (Some (Block file k)) new h = omega arith
 fill-lower counts place mode _ _ new h = h
 
-counted : (cs : List Control) (all : List ℕ) (old : Standing) → Goes old.misses (hears all old cs).standing
+counted : (cs : List Control) (all : List ℕ) (old : Standing) → Goes old.retries (hears all old cs).standing
 counted cs all old = λ still. elim (step_counts all old cs still) [ inl h ↦ inl h.0 | inr h ↦ inr h.0 ]
 
 step : (old : SenderParts) (bytes : List ℕ) (new : SenderParts) → IsSender old → old.standing.state ≡ Running → Hears old bytes new
     → (weight old + 1 ≤ weight new + GIVE_UP * sender_progress_at new) × (steps new + sender_progress_at new ≤ steps old)
 step old bytes new is running gives =
     let taken = hears (counts old) old.standing (controls_in bytes) in
-    let goes = fill-goes old.standing.misses gives.0 taken.fills taken.standing (counted (controls_in bytes) (counts old) old.standing) in
+    let goes = fill-goes old.standing.retries gives.0 taken.fills taken.standing (counted (controls_in bytes) (counts old) old.standing) in
     let same : counts new ≡ counts old = ap (λ s. counts_of s new.files) gives.1.shape ∙ filled_counts old.shape gives.0 taken.fills old.files new.files gives.1.files in
     let reads = reaches (counts old) old.standing.place old.standing.mode (controls_in bytes) in
     let lower : Lower (counts old) old.standing.place old.standing.mode taken.standing =
-    rw running (reading-lower (counts old) old.standing.place old.standing.mode old.standing.misses old.standing.farewell _ is.place reads) in
+    rw running (reading-lower (counts old) old.standing.place old.standing.mode old.standing.retries old.standing.cancel_pending _ is.place reads) in
     rw running (
-      pace old.standing.misses new.standing.misses new.standing.state (is.misses running) (rw gives.1.standing goes),
+      pace old.standing.retries new.standing.retries new.standing.state (is.retries running) (rw gives.1.standing goes),
       rw (same, gives.1.standing) (fill-lower (counts old) old.standing.place old.standing.mode gives.0 taken.fills taken.standing lower),
     )
 
-fewer : (state : SendState) (counts : List ℕ) (s : Standing) (steps misses : ℕ) → misses < GIVE_UP → misses + 1 ≤ weight_in state s.misses + GIVE_UP * sender_progress_in state s.misses
-    → steps_in state counts s.place s.mode + sender_progress_in state s.misses ≤ steps → deliveries_in state counts s < GIVE_UP * steps + (GIVE_UP - misses)
-fewer Running counts s steps misses few paced lower = omega arith
-fewer _ counts s steps misses few paced lower = omega arith
+fewer : (state : SendState) (counts : List ℕ) (s : Standing) (steps retries : ℕ) → retries < GIVE_UP → retries + 1 ≤ weight_in state s.retries + GIVE_UP * sender_progress_in state s.retries
+    → steps_in state counts s.place s.mode + sender_progress_in state s.retries ≤ steps → deliveries_in state counts s < GIVE_UP * steps + (GIVE_UP - retries)
+fewer Running counts s steps retries few paced lower = omega arith
+fewer _ counts s steps retries few paced lower = omega arith
 
 -- each delivery that a running sender hears leaves it fewer to hear
 pub step-fewer : (old : SenderParts) (bytes : List ℕ) (new : SenderParts) → IsSender old → old.standing.state ≡ Running → Hears old bytes new → sender_deliveries new < sender_deliveries old
 step-fewer old bytes new is running gives =
     let both = rw running at (step old bytes new is running gives) in
-    rw running (fewer new.standing.state (counts new) new.standing _ _ (is.misses running) both.0 both.1)
+    rw running (fewer new.standing.state (counts new) new.standing _ _ (is.retries running) both.0 both.1)
 
 -- ---- A whole call
 
 bounded : (s : SenderParts) (t : Tape) (out : Outcome) (run : Sends s t out)
     → (sender_hears s t out run + weight s ≤ GIVE_UP * (sender_progress s t out run + 1)) × (sender_progress s t out run ≤ steps s)
-bounded s t out (ended _ _ over) = let most = weight-le s.standing.state s.standing.misses (λ on. absurd (over on)) in (omega (arith, most), omega arith)
-bounded s t out (unwritten _ _ is some) = let most = weight-le s.standing.state s.standing.misses is.misses in (omega (arith, most), omega arith)
-bounded s t out (unread _ _ f is on none) = let most = weight-le s.standing.state s.standing.misses is.misses in (omega (arith, most), omega arith)
+bounded s t out (ended _ _ over) = let most = weight-le s.standing.state s.standing.retries (λ on. absurd (over on)) in (omega (arith, most), omega arith)
+bounded s t out (unwritten _ _ is some) = let most = weight-le s.standing.state s.standing.retries is.retries in (omega (arith, most), omega arith)
+bounded s t out (unread _ _ f is on none) = let most = weight-le s.standing.state s.standing.retries is.retries in (omega (arith, most), omega arith)
 bounded s t out (heard _ _ bytes new _ is on some gives later) =
     let rest = bounded new _ out later in
     let one = step s bytes new is on gives in
@@ -165,7 +165,7 @@ pub course-is : (s : SenderParts) (ds : List (List ℕ)) (p : ℕ) (new : Sender
 course-is s ds p new is hears = let all = course-bounded s ds p new hears in record {
   progress = p;
   hears = hears;
-  few = let most = weight-le new.standing.state new.standing.misses is.misses in omega (arith, all.0, most);
+  few = let most = weight-le new.standing.state new.standing.retries is.retries in omega (arith, all.0, most);
   steps = let most = steps-le s.standing.state (counts s) s.standing.place s.standing.mode in omega (arith, all.1, most);
 }
 

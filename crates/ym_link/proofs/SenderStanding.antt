@@ -4,15 +4,15 @@ use Rattle.std.specs.Prelude.{All, IfSome, IsSome, slice_set}
 use Rattle.std.specs.List.{AllZip}
 use Rattle.std.proofs.lemmas.List.{length-map, length-replicate}
 use Rattle.std.proofs.lemmas.List.Elements.{All-head, All-tail}
-use Rattle.ym_link.proofs.Names.{IsFrame, Item, HeaderParts, text, raised, Shape, piece_at, EotFrame, frames_of, frame_at, body_at, count_within, State, SenderEnd, start, said_by, back, IsRemnant, Place, Block, FileParts, IsFile, file_at, blocks_of, counts_of, first_of, done_at, IsItemAt, IsFrameAt, controls_in, hears, SenderParts, IsSender, IsStep, IsFilled, counts, spoken, Batch, counts_in, place_from, place_at, state_of, mode_of, farewell_of}
+use Rattle.ym_link.proofs.Names.{IsFrame, Item, HeaderParts, text, raised, Shape, piece_at, EotFrame, frames_of, frame_at, body_at, count_within, State, SenderEnd, start, said_by, sender_step, IsRemnant, Place, Block, FileParts, IsFile, file_at, blocks_of, counts_of, first_of, done_at, IsItemAt, IsFrameAt, controls_in, hears, SenderParts, IsSender, IsStep, IsFilled, counts, spoken, Batch, counts_in, place_from, place_at, state_of, mode_of, cancel_pending_of}
 use Rattle.ym_frame.specs.declared.frame.Item.TheVariants as item
 use Rattle.ym_file.specs.Plan.{pieces_of, count_of}
 use Rattle.ym_machine.specs.State.{said}
 use Rattle.ym_core.specs.Standing.{new_standing}
 use Rattle.ym_link.specs.Sender.{spoken_in}
-use Rattle.ym_link.specs.SenderStands.{IsFileOf, told_pieces, batch_of, SenderStands, item_of, IsSaid, AllTold}
+use Rattle.ym_link.specs.SenderRefines.{IsFileOf, told_pieces, batch_of, SenderRefines, item_of, IsSaid, AllTold}
 use Rattle.ym_link.proofs.SenderPlaces.{below, equal, above, ordered, place_block, place_eot, place_rest, in_blocks, behind_blocks, body_is, counts_length, done_is}
-use Rattle.ym_link.proofs.SenderHalf.{half_back}
+use Rattle.ym_link.proofs.SenderSteps.{half_back}
 
 abbrev Are : Shape → List FileParts → Batch → Type 0
 Are shape sources files = AllZip (IsFileOf shape) sources files
@@ -37,13 +37,13 @@ still_are shape false _ old new files filled are = rw filled are
 still_are shape true (Some (Block file k)) old new files filled are = rw filled.after (set_are shape old files file filled.failures (raised (file_at old file).fills) are)
 still_are shape true _ old new files filled are = absurd filled
 
-pub follows : (files : Batch) (st : State) (old new : SenderParts) (bytes : List ℕ) (failed : Bool) → SenderStands files st old → IsRemnant (controls_in bytes)
-    → IsStep old (hears (counts old) old.standing (controls_in bytes)) failed new → SenderStands files (back (frames_of files) failed (controls_in bytes) st) new
-follows files st old new bytes failed stands remnant given =
-    let took = rw (counts_are old.shape old.files files stands.batch) at given in
+pub follows : (files : Batch) (st : State) (old new : SenderParts) (bytes : List ℕ) (failed : Bool) → SenderRefines files st old → IsRemnant (controls_in bytes)
+    → IsStep old (hears (counts old) old.standing (controls_in bytes)) failed new → SenderRefines files (sender_step (frames_of files) failed (controls_in bytes) st) new
+follows files st old new bytes failed refines remnant given =
+    let took = rw (counts_are old.shape old.files files refines.batch) at given in
     record {
-      standing = rw took.standing (half_back files st old.standing failed (controls_in bytes) stands.standing remnant);
-      batch = rw took.shape (still_are old.shape failed (hears (counts_in files) old.standing (controls_in bytes)).fills old.files new.files files took.files stands.batch);
+      standing = rw took.standing (half_back files st old.standing failed (controls_in bytes) refines.standing remnant);
+      batch = rw took.shape (still_are old.shape failed (hears (counts_in files) old.standing (controls_in bytes)).fills old.files new.files files took.files refines.batch);
     }
 
 -- ---- What it says
@@ -76,17 +76,17 @@ item_from shape all i (source ∷ sources) (file ∷ files) (suc n) it here are 
     ]
 item_from shape all i _ _ n it here are told is = absurd are
 
-pub says : (files : Batch) (st : State) (s : SenderParts) → SenderStands files st s → IsSender s → AllTold s.files → IsSaid files (said st) (spoken s)
-says files st s stands sender told = rw (stands.standing.state, stands.standing.farewell) (by st.sender refl st.sent refl st.farewell)
+pub says : (files : Batch) (st : State) (s : SenderParts) → SenderRefines files st s → IsSender s → AllTold s.files → IsSaid files (said st) (spoken s)
+says files st s refines sender told = rw (refines.standing.state, refines.standing.cancel_pending) (by st.sender refl st.sent refl st.cancel_pending)
   where
     frame : IsFrameAt s.shape s.files s.standing.place s.frame → IsFrame (item_of (frame_at (frames_of files) st.acknowledged)) s.frame
-    frame at = rw (← item_from s.shape s.files 0 s.files files st.acknowledged at.item (λ j. ap (file_at s.files) (omega arith)) stands.batch told (rw stands.standing.place at at.there)) at.frame
+    frame at = rw (← item_from s.shape s.files 0 s.files files st.acknowledged at.item (λ j. ap (file_at s.files) (omega arith)) refines.batch told (rw refines.standing.place at at.there)) at.frame
 
-    by : (e : SenderEnd) → st.sender ≡ e → (sent : Bool) → st.sent ≡ sent → (f : Bool) → IsSaid files (said_by e sent f st.acknowledged) (spoken_in (state_of e) s.standing.mode (farewell_of e f) s.frame)
+    by : (e : SenderEnd) → st.sender ≡ e → (sent : Bool) → st.sent ≡ sent → (f : Bool) → IsSaid files (said_by e sent f st.acknowledged) (spoken_in (state_of e) s.standing.mode (cancel_pending_of e f) s.frame)
     by SenderEnd.Running is true sent f =
-        let mode = stands.standing.mode is ∙ ap mode_of sent in
-        rw mode (s.frame, refl, frame (sender.frame (stands.standing.state ∙ ap state_of is) mode))
-    by SenderEnd.Running is false sent f = rw (stands.standing.mode is ∙ ap mode_of sent) refl
+        let mode = refines.standing.mode is ∙ ap mode_of sent in
+        rw mode (s.frame, refl, frame (sender.frame (refines.standing.state ∙ ap state_of is) mode))
+    by SenderEnd.Running is false sent f = rw (refines.standing.mode is ∙ ap mode_of sent) refl
     by SenderEnd.NoReply is _ sent true = refl
     by SenderEnd.NoReply is _ sent false = refl
     by SenderEnd.SourceFailed is _ sent true = refl
@@ -100,16 +100,16 @@ first_is [] = refl
 first_is (file ∷ files) = refl
 
 pub starts : (shape : Shape) (sources : List FileParts) (files : Batch) (frame : List ℕ) → Are shape sources files
-    → SenderStands files start (record { standing = new_standing (counts_of shape sources); shape = shape; files = sources; frame = frame })
-starts shape sources files frame are = record { standing = record { state = refl; farewell = refl; place = rw (counts_are shape sources files are) (first_is files); mode = λ _. refl; misses = λ _. refl }; batch = are }
+    → SenderRefines files start (record { standing = new_standing (counts_of shape sources); shape = shape; files = sources; frame = frame })
+starts shape sources files frame are = record { standing = record { state = refl; cancel_pending = refl; place = rw (counts_are shape sources files are) (first_is files); mode = λ _. refl; retries = λ _. refl }; batch = are }
 
 -- ---- What is done
 
-pub done_stands : (files : Batch) (st : State) (s : SenderParts) → SenderStands files st s → done_at (length s.files) s.standing.place ≡ count_within files st.acknowledged
-done_stands files st s stands =
+pub done_refines : (files : Batch) (st : State) (s : SenderParts) → SenderRefines files st s → done_at (length s.files) s.standing.place ≡ count_within files st.acknowledged
+done_refines files st s refines =
     let lengths : length s.files ≡ length files =
-    sym (length-map s.files (blocks_of s.shape)) ∙ (ap length (counts_are s.shape s.files files stands.batch) ∙ counts_length files) in
-    rw (lengths, stands.standing.place) (done_is files st.acknowledged)
+    sym (length-map s.files (blocks_of s.shape)) ∙ (ap length (counts_are s.shape s.files files refines.batch) ∙ counts_length files) in
+    rw (lengths, refines.standing.place) (done_is files st.acknowledged)
 
 -- ---- The machine's batch of a sender's files
 

@@ -3,7 +3,7 @@ use Rattle.std.proofs.Common.{ℕ, ◌+◌, ◌≡◌, ◌≢◌, List, [], ◌�
 use Rattle.std.specs.Prelude.{is_some}
 use Rattle.std.proofs.lemmas.Bool.{cond_both}
 use Rattle.std.proofs.lemmas.List.Elements.{filter_map-append}
-use Rattle.ym_link.proofs.Names.{control_at, Control, Can, Place, Mode, Waiting, Sent, Reading, Cancels, Standing, SendState, Running, controls_in, turn, reads, missed, read_through, after_reading, hears, hears_in, GIVE_UP}
+use Rattle.ym_link.proofs.Names.{control_at, Control, Can, Place, Mode, Waiting, Sent, Reading, Cancels, Standing, SendState, Running, controls_in, reads_control, reads, missed, read_through, after_reading, hears, hears_in, GIVE_UP}
 use Rattle.ym_core.specs.declared.reading.Stop.{Stop}
 use Rattle.ym_core.specs.declared.standing.SendStep.{SendStep as Step}
 use Rattle.ym_core.specs.declared.state.SendState.TheVariants.{Cancelled}
@@ -20,7 +20,7 @@ still_read counts place mode (Can ∷ []) ds h =
     absurd (elim mode as (λ m. is_some (reads counts place m (Can ∷ [])).stop ≡ true → ⊥) [ Waiting ↦ λ w. cc | Sent ↦ λ w. cc ] h)
 still_read counts place mode (Can ∷ Can ∷ cs) ds h = refl
 still_read counts place mode (c ∷ cs) ds h =
-    let r = turn counts mode c place in on_stop (is_some r.stop) r (reads counts r.place r.mode cs) (reads counts r.place r.mode (cs ++ ds)) (still_read counts r.place r.mode cs ds) h
+    let r = reads_control counts mode c place in on_stop (is_some r.stop) r (reads counts r.place r.mode cs) (reads counts r.place r.mode (cs ++ ds)) (still_read counts r.place r.mode cs ds) h
 
 -- a reading that did not stop is cancelled by two CAN more
 on_none : (t x y : Reading) → (x.stop ≡ None → y.stop ≡ Some Cancels) → (cond (is_some t.stop) t x).stop ≡ None → (cond (is_some t.stop) t y).stop ≡ Some Cancels
@@ -35,10 +35,10 @@ cancelled counts place mode [] h = refl
 cancelled counts place mode (Can ∷ []) h = refl
 cancelled counts place mode (Can ∷ Can ∷ cs) h = absurd cc
 cancelled counts place mode (c ∷ cs) h =
-    let r = turn counts mode c place in on_none r (reads counts r.place r.mode cs) (reads counts r.place r.mode (cs ++ Can ∷ Can ∷ [])) (cancelled counts r.place r.mode cs) h
+    let r = reads_control counts mode c place in on_none r (reads counts r.place r.mode cs) (reads counts r.place r.mode (cs ++ Can ∷ Can ∷ [])) (cancelled counts r.place r.mode cs) h
 
 missed_goes_on : (s : Standing) → s.state ≡ Running → (missed s).standing.state ≢ Cancelled
-missed_goes_on s on = cond_both (nat_lt (s.misses + 1) GIVE_UP) _ _ (λ (x : Step). x.standing.state ≢ Cancelled) (λ e w. cc) (λ e w. cc)
+missed_goes_on s on = cond_both (nat_lt (s.retries + 1) GIVE_UP) _ _ (λ (x : Step). x.standing.state ≢ Cancelled) (λ e w. cc) (λ e w. cc)
 
 reading_goes_on : (s : Standing) → s.state ≡ Running → (place : Place) (old new : Mode) → (read_through s place old new).standing.state ≡ Cancelled → ⊥
 reading_goes_on s on place Waiting Waiting h = missed_goes_on s on h

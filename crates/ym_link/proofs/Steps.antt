@@ -52,18 +52,18 @@ pub reaches : (counts : List ℕ) (place : Place) (mode : Mode) (cs : List Contr
 reaches counts place Waiting cs = from_waiting counts place (Reaches counts place Waiting) (stays refl) (sends refl refl) (cancels refl) cs
 reaches counts place Sent cs = from_sent counts place cs
 
--- A step of a sender that runs and still runs after it: its misses are below ten, and where no frame is filled and it has sent, the
+-- A step of a sender that runs and still runs after it: its retries are below ten, and where no frame is filled and it has sent, the
 -- frame that is out is the same.
 pub record Keeps (old : Standing) (new : Step) : Type 0 where
-  pub misses : new.standing.misses < GIVE_UP
+  pub retries : new.standing.retries < GIVE_UP
   pub place : new.fills ≡ None → new.standing.mode ≡ Sent → new.standing.place ≡ old.place
   pub mode : new.fills ≡ None → new.standing.mode ≡ Sent → old.mode ≡ Sent
   pub state : old.state ≡ Running
   pub filled : (place : Place) → new.fills ≡ Some place → new.standing.place ≡ place
 
--- progress is another frame or mode, and no misses
+-- progress is another frame or mode, and no retries
 abbrev pub Counts : Standing → Standing → Type 0
-Counts old new = ((new.misses ≡ 0) × ¬ IsSame old new) ⊎ ((new.misses ≡ old.misses + 1) × IsSame old new)
+Counts old new = ((new.retries ≡ 0) × ¬ IsSame old new) ⊎ ((new.retries ≡ old.retries + 1) × IsSame old new)
 
 -- the next frame is another one
 next_is_other : (counts : List ℕ) (place : Place) → IsBefore place → next_of counts place ≢ place
@@ -79,8 +79,8 @@ RunsOn old new = new.standing.state ≡ Running → Keeps old new × Counts old 
 
 missed_on : (s : Standing) → s.state ≡ Running → RunsOn s (missed s)
 missed_on s on =
-    cond_both (nat_lt (s.misses + 1) GIVE_UP) _ _ (RunsOn s)
-    (λ few _. (record { misses = ltb-true _ _ few; place = λ _ _. refl; mode = λ _ h. h; state = on; filled = λ p h. cc }, inr (refl, record { place = refl; mode = refl })))
+    cond_both (nat_lt (s.retries + 1) GIVE_UP) _ _ (RunsOn s)
+    (λ few _. (record { retries = ltb-true _ _ few; place = λ _ _. refl; mode = λ _ h. h; state = on; filled = λ p h. cc }, inr (refl, record { place = refl; mode = refl })))
     (λ _ h. absurd cc)
 
 reading_on : (counts : List ℕ) (s : Standing) → s.state ≡ Running → (r : Reading) → Reaches counts s.place s.mode r → RunsOn s (after_reading s r.place r.mode r.stop)
@@ -89,11 +89,11 @@ reading_on counts s on r (cancels e) = rw e (λ h. absurd cc)
 reading_on counts s on r (again m e) = rw e (missed_on s on)
 reading_on counts s on r (finishes m e) = rw e (λ h. absurd cc)
 reading_on counts s on r (sends m e) =
-    rw e (λ _. (record { misses = omega arith; place = λ h. cc; mode = λ h. cc; state = on; filled = λ p h. cc }, inl (refl, λ same. let moved = same.mode in cc)))
+    rw e (λ _. (record { retries = omega arith; place = λ h. cc; mode = λ h. cc; state = on; filled = λ p h. cc }, inl (refl, λ same. let moved = same.mode in cc)))
 reading_on counts s on r (waits_next m before e) = rw e (subst (λ (m : Mode). RunsOn s (read_through s (next_of counts s.place) m Waiting)) (sym m)
-    (λ _. (record { misses = omega arith; place = λ _ h. absurd cc; mode = λ _ h. absurd cc; state = on; filled = λ p h. cc }, inl (refl, λ same. let moved = same.mode in cc))))
+    (λ _. (record { retries = omega arith; place = λ _ h. absurd cc; mode = λ _ h. absurd cc; state = on; filled = λ p h. cc }, inl (refl, λ same. let moved = same.mode in cc))))
 reading_on counts s on r (sends_next m before e) =
-    rw e (λ _. (record { misses = omega arith; place = λ h. cc; mode = λ h. cc; state = on; filled = λ p h. cc }, inl (refl, λ same. next_is_other counts s.place before same.place)))
+    rw e (λ _. (record { retries = omega arith; place = λ h. cc; mode = λ h. cc; state = on; filled = λ p h. cc }, inl (refl, λ same. next_is_other counts s.place before same.place)))
 reading_on counts s on r (cancels_next m before e) = rw e (λ h. absurd cc)
 
 step_on : (counts : List ℕ) (s : Standing) (cs : List Control) → RunsOn s (hears counts s cs)

@@ -39,11 +39,11 @@ steps_at r = steps_taken r.receiver.stage r.kept.headers
 
 -- a delivery brought progress where the receiver goes on and counts from 0
 abbrev pub progress_in : RecvState → ℕ → ℕ
-progress_in state.Running count = if count == 0 then 1 else 0
-progress_in _ count = 0
+progress_in state.Running retries = if retries == 0 then 1 else 0
+progress_in _ retries = 0
 
 abbrev pub progress_at : ReceiverParts → ℕ
-progress_at r = progress_in r.receiver.state r.receiver.count
+progress_at r = progress_in r.receiver.state r.receiver.retries
 
 abbrev pub receiver_hears : (r : ReceiverParts) (t : Tape) (out : receiving.Outcome) → Receives r t out → ℕ
 receiver_hears r t out (ended _ _ over) = 0
@@ -62,11 +62,11 @@ receiver_progress r t out (heard _ _ h reply new _ is on some gives later) = rec
 -- ---- A sender
 
 abbrev pub sender_progress_in : SendState → ℕ → ℕ
-sender_progress_in Running misses = if misses == 0 then 1 else 0
-sender_progress_in _ misses = 0
+sender_progress_in Running retries = if retries == 0 then 1 else 0
+sender_progress_in _ retries = 0
 
 abbrev pub sender_progress_at : SenderParts → ℕ
-sender_progress_at s = sender_progress_in s.standing.state s.standing.misses
+sender_progress_at s = sender_progress_in s.standing.state s.standing.retries
 
 abbrev pub sender_hears : (s : SenderParts) (t : Tape) (out : sending.Outcome) → sending.Sends s t out → ℕ
 sender_hears s t out (sending.ended _ _ over) = 0

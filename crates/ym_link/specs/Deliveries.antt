@@ -29,7 +29,7 @@ receiver_steps AwaitHeader files = (MOST_FILES - files) * file_steps
 receiver_steps (InFile file) files = (MOST_FILES - (files + 1)) * file_steps + (file.length - file.taken) + (if file.first_eot then 1 else 2)
 
 abbrev pub deliveries_at : RecvState → Receiver → ℕ
-deliveries_at state.Running r = GIVE_UP * receiver_steps r.stage r.files + (GIVE_UP - r.count)
+deliveries_at state.Running r = GIVE_UP * receiver_steps r.stage r.files + (GIVE_UP - r.retries)
 deliveries_at _ r = 0
 
 -- how many deliveries a receiver takes at most until it has ended
@@ -41,7 +41,7 @@ receiver_deliveries r = deliveries_at r.state r
 -- how many frames a batch has whose files have so many data blocks: of each file its block 0, its blocks and its EOT, and the end block
 unfoldable pub frames_in : List ℕ → ℕ
 frames_in [] = 1
-frames_in (count ∷ more) = count + 2 + frames_in more
+frames_in (retries ∷ more) = retries + 2 + frames_in more
 
 -- how many frames there are from a place on
 abbrev pub frames_from : List ℕ → Place → ℕ
@@ -56,7 +56,7 @@ sender_steps counts place Waiting = 2 * frames_from counts place
 sender_steps counts place Sent = 2 * frames_from counts place - 1
 
 abbrev pub deliveries_in : SendState → List ℕ → Standing → ℕ
-deliveries_in Running counts s = GIVE_UP * sender_steps counts s.place s.mode + (GIVE_UP - s.misses)
+deliveries_in Running counts s = GIVE_UP * sender_steps counts s.place s.mode + (GIVE_UP - s.retries)
 deliveries_in _ counts s = 0
 
 -- how many deliveries a sender takes at most until it has ended

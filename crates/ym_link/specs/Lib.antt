@@ -16,6 +16,6 @@ pub mod SendOver
 pub mod Bound
 pub mod Course
 pub mod DeliveryExamples
-pub mod ReceiverStands
+pub mod ReceiverRefines
 pub mod Sender
-pub mod SenderStands
+pub mod SenderRefines

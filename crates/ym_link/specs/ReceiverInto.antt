@@ -90,8 +90,8 @@ IsOpenFile (InFile file) kept = (header : HeaderParts) × (kept.opened ≡ Some 
 
 pub record IsReceiver (parts : ReceiverParts) : Type 0 where
   pub open_file : IsOpenFile parts.receiver.stage parts.kept
-  pub blocks : BlocksFit parts.receiver.stage parts.receiver.count
+  pub blocks : BlocksFit parts.receiver.stage parts.receiver.retries
   pub files : parts.receiver.files ≡ length parts.kept.headers
   pub few : FilesFit parts.receiver.stage parts.receiver.files
-  pub count : parts.receiver.count ≤ GIVE_UP
-  pub runs : parts.receiver.state ≡ state.Running → parts.receiver.count < GIVE_UP
+  pub retries : parts.receiver.retries ≤ GIVE_UP
+  pub runs : parts.receiver.state ≡ state.Running → parts.receiver.retries < GIVE_UP

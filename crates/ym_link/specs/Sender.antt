@@ -71,17 +71,17 @@ pub record IsReading (s : SenderParts) (bytes : List ℕ) (read : Reading) : Typ
 
 -- what is to be sent: the frame held, CAN CAN, or nothing
 abbrev pub spoken_in : SendState → Mode → Bool → List ℕ → Option (List ℕ)
-spoken_in Running Sent farewell frame = Some frame
+spoken_in Running Sent cancel_pending frame = Some frame
 spoken_in NoReply mode true frame = Some (0x18 ∷ 0x18 ∷ [])
 spoken_in SourceFailed mode true frame = Some (0x18 ∷ 0x18 ∷ [])
-spoken_in _ mode farewell frame = None
+spoken_in _ mode cancel_pending frame = None
 
 abbrev pub spoken : SenderParts → Option (List ℕ)
-spoken s = spoken_in s.standing.state s.standing.mode s.standing.farewell s.frame
+spoken s = spoken_in s.standing.state s.standing.mode s.standing.cancel_pending s.frame
 
 -- What each sender keeps to: while it runs and has sent, it holds the frame of its place.
 pub record IsSender (s : SenderParts) : Type 0 where
   pub files : All IsFile s.files
   pub place : IsPlace (counts s) s.standing.place
-  pub misses : s.standing.state ≡ Running → s.standing.misses < GIVE_UP
+  pub retries : s.standing.state ≡ Running → s.standing.retries < GIVE_UP
   pub frame : s.standing.state ≡ Running → s.standing.mode ≡ Sent → IsFrameAt s.shape s.files s.standing.place s.frame

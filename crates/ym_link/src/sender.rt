@@ -180,7 +180,7 @@ impl<S: Source> SenderFrom<S> {
         let standing = self.standing;
         match standing.state {
             SendState::Running if standing.mode == Mode::Sent => Some(&self.buffer[..self.len]),
-            SendState::NoReply | SendState::SourceFailed if standing.farewell => {
+            SendState::NoReply | SendState::SourceFailed if standing.cancel_pending => {
                 Some(Reply::Cancel.as_bytes())
             }
             _ => None,

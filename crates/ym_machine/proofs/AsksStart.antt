@@ -1,6 +1,6 @@
 -- where a receiver asks for C, and that one which runs is never silent
 use Rattle.std.proofs.Common.{◌+◌, ◌≡◌, ◌≢◌, List, Bool, true, arith, add-one}
-use Rattle.ym_machine.proofs.Names.{Reply, Silence, Confirm, Frame, Piece, frame_before, ReceiverEnd, State, Answer, asks_again, controls, holds_start, there, CallsForStart, CountersAgree}
+use Rattle.ym_machine.proofs.Names.{Reply, Silence, Confirm, Frame, Piece, frame_before, ReceiverEnd, State, Answer, asks_again, controls, holds_start, receiver_step, CallsForStart, CountersAgree}
 use Rattle.ym_machine.proofs.ReceiverSteps.{IsEcho, IsFault, ReceiverStep, confirmation, receiver-step}
 
 -- both replies to a frame hold a C only where one is called for, and are something
@@ -32,8 +32,8 @@ module _ {H : Type 0} (frames : List (Frame H)) (confirm : Confirm) (sink whole 
   speaks (ReceiverStep.takes_it fresh other eot) running w = (confirmed _).speaks
   speaks _ running w = λ e. cc
 
-  pub there-asks : CountersAgree confirm frames st → holds_start (controls (there frames confirm sink whole st).1) ≡ true → CallsForStart (frame_before frames (there frames confirm sink whole st).0.taken)
+  pub there-asks : CountersAgree confirm frames st → holds_start (controls (receiver_step frames confirm sink whole st).1) ≡ true → CallsForStart (frame_before frames (receiver_step frames confirm sink whole st).0.taken)
   there-asks m = asks m (receiver-step frames confirm sink whole st)
 
-  pub there-speaks : st.receiver ≡ ReceiverEnd.Running → (there frames confirm sink whole st).0.receiver ≡ ReceiverEnd.Running → (there frames confirm sink whole st).1 ≢ Silence
+  pub there-speaks : st.receiver ≡ ReceiverEnd.Running → (receiver_step frames confirm sink whole st).0.receiver ≡ ReceiverEnd.Running → (receiver_step frames confirm sink whole st).1 ≢ Silence
   there-speaks = speaks (receiver-step frames confirm sink whole st)

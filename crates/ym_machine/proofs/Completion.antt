@@ -1,20 +1,20 @@
 -- both ends finish, and no sooner than the batch needs
 use Rattle.std.proofs.Common.{ℕ, ◌+◌, ◌-◌, ◌<◌, ◌≤◌, ◌≡◌, ◌≢◌, List, [], ◌∷◌, length, Bool, true, ap, ◌∙◌, inl, inr, arith, cond}
-use Rattle.ym_machine.proofs.Names.{Confirm, BURST, EndsOnce, File, Frame, files_within, frames_of, ReceiverEnd, SenderEnd, State, start, IsDamage, NoFailure, Turn, after_turn, after_turns, is_whole, longest_bad_run, IsGoing, left, rounds_needed, IsMachine}
+use Rattle.ym_machine.proofs.Names.{Confirm, BURST, EndsOnce, File, Frame, files_within, frames_of, ReceiverEnd, SenderEnd, State, start, IsDamage, NoFailure, Turn, after_turn, after_turns, is_whole, longest_bad_run, IsGoing, rounds_remaining, rounds_needed, Invariant}
 use Rattle.ym_machine.proofs.Places.{all-within, frames-end}
 use Rattle.ym_machine.proofs.Remaining.{left-done, left-some, left-start}
 use Rattle.ym_machine.proofs.Rounds.{sender-is, turn-left, turn-lowered}
 use Rattle.ym_machine.proofs.ShortBursts.{IsFine, got-all, one-fine, start-fine, turns-fine, whole-fine}
 use Rattle.ym_machine.specs.Run.{AllWhole, whole_turns}
-use Rattle.ym_machine.specs.Left.{CountsWithin, IsComplete}
+use Rattle.ym_machine.specs.RoundsRemaining.{CountsWithin, IsComplete}
 
 -- a whole turn takes one, and no turn gives one
 one-less : (whole : Bool) (turns : ℕ) {old new last : ℕ} → last ≤ new - turns → new ≤ old → (whole ≡ true → 0 < old → old ≡ new + 1) → last ≤ old - cond whole (turns + 1) turns
 one-less whole turns rest no_more fewer = grind (arith, rest, no_more, fewer)
 
 module _ {H : Type 0} (frames : List (Frame H)) (confirm : Confirm) (ends : EndsOnce frames) where
-  -- each whole turn takes one from what is left
-  turns-left : (turns : List Turn) (b : ℕ) (st : State) → IsFine confirm frames b st → longest_bad_run b turns ≤ BURST → NoFailure turns → IsDamage frames confirm turns st → left confirm frames (after_turns frames confirm turns st) ≤ left confirm frames st - whole_turns turns
+  -- each whole turn takes one from the rounds remaining
+  turns-left : (turns : List Turn) (b : ℕ) (st : State) → IsFine confirm frames b st → longest_bad_run b turns ≤ BURST → NoFailure turns → IsDamage frames confirm turns st → rounds_remaining confirm frames (after_turns frames confirm turns st) ≤ rounds_remaining confirm frames st - whole_turns turns
   turns-left [] b st f few none damage = omega arith
   turns-left (turn ∷ turns) b st f few none damage =
       let one = one-fine frames confirm ends turn turns b st f few none.0 none.1 damage.0 in
@@ -24,7 +24,7 @@ module _ {H : Type 0} (frames : List (Frame H)) (confirm : Confirm) (ends : Ends
       one-less (is_whole turn) (whole_turns turns) rest no_more fewer
 
   -- whole turns alone take exactly one each
-  whole-left : (turns : List Turn) (st : State) → IsFine confirm frames 0 st → AllWhole turns → NoFailure turns → length turns ≤ left confirm frames st → left confirm frames (after_turns frames confirm turns st) + length turns ≡ left confirm frames st
+  whole-left : (turns : List Turn) (st : State) → IsFine confirm frames 0 st → AllWhole turns → NoFailure turns → length turns ≤ rounds_remaining confirm frames st → rounds_remaining confirm frames (after_turns frames confirm turns st) + length turns ≡ rounds_remaining confirm frames st
   whole-left [] st f all none few = omega arith
   whole-left (turn ∷ turns) st f all none few =
       let fine = whole-fine frames confirm ends turn 0 st f none.0 none.1 (omega arith) all.0 in
@@ -32,8 +32,8 @@ module _ {H : Type 0} (frames : List (Frame H)) (confirm : Confirm) (ends : Ends
       let rest = whole-left turns (after_turn frames confirm turn st) fine all.1 none.2 (omega (arith, lowers, few)) in
       omega (arith, lowers, rest)
 
-  -- nothing is left only where both have finished
-  none-left : (st : State) → IsMachine confirm frames st → IsGoing st → left confirm frames st ≡ 0 → (st.sender ≡ SenderEnd.Finished) × (st.receiver ≡ ReceiverEnd.Finished)
+  -- no round remains only where both have finished
+  none-left : (st : State) → Invariant confirm frames st → IsGoing st → rounds_remaining confirm frames st ≡ 0 → (st.sender ≡ SenderEnd.Finished) × (st.receiver ≡ ReceiverEnd.Finished)
   none-left st m going none = elim (sender-is st going) [ inl s ↦ absurd (let x = left-some frames confirm st m.counters s in omega (arith, x, none)) | inr d ↦ (d, got-all confirm frames st m d) ]
 
 -- the laws of short bad runs

@@ -1,6 +1,6 @@
 -- how the ends stop
 use Rattle.std.proofs.Common.{◌≡◌, ◌≢◌, List, [], ◌∷◌, Bool, true, refl, subst, arith}
-use Rattle.ym_machine.proofs.Names.{Control, Reply, Cancel, Confirm, EndsOnce, Frame, Piece, ReceiverEnd, State, start, Answer, asks_again, controls, is_within, there, IsDamage, IsTurnDamage, Turn, after_turn, after_turns, came_back, ReceiverGoes, CountersAgree, IsMachine}
+use Rattle.ym_machine.proofs.Names.{Control, Reply, Cancel, Confirm, EndsOnce, Frame, Piece, ReceiverEnd, State, start, Answer, asks_again, controls, is_within, receiver_step, IsDamage, IsTurnDamage, Turn, after_turn, after_turns, came_back, ReceiverGoes, CountersAgree, Invariant}
 use Rattle.ym_frame.specs.declared.control.Control.TheVariants as control
 use Rattle.ym_machine.proofs.MachineStates.{there-machine, turn-machine}
 use Rattle.ym_machine.proofs.ReceiverSteps.{IsEcho, IsFault, ReceiverStep, confirmation, receiver-step}
@@ -35,10 +35,10 @@ module _ {H : Type 0} (frames : List (Frame H)) (confirm : Confirm) (sink whole 
   cancels _ w = cc
 
   -- so no CAN CAN comes back of a receiver that goes
-  pub no-cans : ReceiverGoes (there frames confirm sink whole st).0.receiver → (came : List Control) → is_within came (controls (there frames confirm sink whole st).1) ≡ true → came ≢ control.Can ∷ control.Can ∷ []
+  pub no-cans : ReceiverGoes (receiver_step frames confirm sink whole st).0.receiver → (came : List Control) → is_within came (controls (receiver_step frames confirm sink whole st).1) ≡ true → came ≢ control.Can ∷ control.Can ∷ []
   no-cans goes came within cans =
-      let broke = cancels (receiver-step frames confirm sink whole st) (cancel-honest (there frames confirm sink whole st).1 (rw cans at within)) in
-      goes-unbroken (there frames confirm sink whole st).0.receiver goes broke
+      let broke = cancels (receiver-step frames confirm sink whole st) (cancel-honest (receiver_step frames confirm sink whole st).1 (rw cans at within)) in
+      goes-unbroken (receiver_step frames confirm sink whole st).0.receiver goes broke
 
 module _ {H : Type 0} (frames : List (Frame H)) (confirm : Confirm) where
   module _ (sink whole : Bool) (st : State) (m : CountersAgree confirm frames st) (e : EndingsAgree frames st) where
@@ -54,8 +54,8 @@ module _ {H : Type 0} (frames : List (Frame H)) (confirm : Confirm) where
 
   module _ (source : Bool) (came : List Control) (st : State) (m : CountersAgree confirm frames st) (e : EndingsAgree frames st) (cancelled : came ≡ control.Can ∷ control.Can ∷ [] → ReceiverBroke st.receiver) where
     back-endings : {new : State} → SenderStep frames source came st new → EndingsAgree frames new
-    back-endings (SenderStep.stays farewell ended left) = assumption
-    back-endings (SenderStep.misses running vain few) = grind (arith, e, running)
+    back-endings (SenderStep.stays cancel_pending ended left) = assumption
+    back-endings (SenderStep.retries running vain few) = grind (arith, e, running)
     back-endings (SenderStep.gives_up running vain many) = grind (arith, e, m, running, many)
     back-endings (SenderStep.waits running is alone other calls) = grind (arith, e, running)
     back-endings (SenderStep.sends_it running on) = grind (arith, e, running)
@@ -63,13 +63,13 @@ module _ {H : Type 0} (frames : List (Frame H)) (confirm : Confirm) where
     back-endings (SenderStep.finishes running is last) = grind (arith, e, running)
     back-endings (SenderStep.is_cancelled running cans) = let broke = cancelled cans in grind (arith, e, running, broke)
 
-  pub half-there : (sink whole : Bool) (st : State) → IsMachine confirm frames st → EndingsAgree frames st → EndingsAgree frames (there frames confirm sink whole st).0
+  pub half-there : (sink whole : Bool) (st : State) → Invariant confirm frames st → EndingsAgree frames st → EndingsAgree frames (receiver_step frames confirm sink whole st).0
   half-there sink whole st m e = there-endings sink whole st m.counters e (receiver-step frames confirm sink whole st)
 
   module _ (once : EndsOnce frames) where
-    pub turn-endings : (turn : Turn) (st : State) → IsMachine confirm frames st → EndingsAgree frames st → IsTurnDamage frames confirm turn st → EndingsAgree frames (after_turn frames confirm turn st)
+    pub turn-endings : (turn : Turn) (st : State) → Invariant confirm frames st → EndingsAgree frames st → IsTurnDamage frames confirm turn st → EndingsAgree frames (after_turn frames confirm turn st)
     turn-endings turn st m e damage =
-        let answer = there frames confirm turn.sink_failed turn.whole_there st in
+        let answer = receiver_step frames confirm turn.sink_failed turn.whole_there st in
         let came = came_back turn.back answer.1 in
         let mid = there-machine frames confirm once turn.sink_failed turn.whole_there st m in
         let step = receiver-step frames confirm turn.sink_failed turn.whole_there st in
@@ -77,7 +77,7 @@ module _ {H : Type 0} (frames : List (Frame H)) (confirm : Confirm) where
         (λ cans. cancels frames confirm turn.sink_failed turn.whole_there st step (cancel-honest answer.1 (subst (λ cs. is_within cs (controls answer.1) ≡ true) cans damage)))
         (sender-step frames turn.source_failed came answer.0)
 
-    pub turns-endings : (turns : List Turn) (st : State) → IsMachine confirm frames st → EndingsAgree frames st → IsDamage frames confirm turns st → EndingsAgree frames (after_turns frames confirm turns st)
+    pub turns-endings : (turns : List Turn) (st : State) → Invariant confirm frames st → EndingsAgree frames st → IsDamage frames confirm turns st → EndingsAgree frames (after_turns frames confirm turns st)
     turns-endings [] st m e damage = e
     turns-endings (turn ∷ turns) st m e damage =
         turns-endings turns (after_turn frames confirm turn st) (turn-machine frames confirm once turn st m damage.0) (turn-endings turn st m e damage.0) damage.1

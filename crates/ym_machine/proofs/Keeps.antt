@@ -1,6 +1,6 @@
--- what each half leaves alone
+-- what each step leaves alone
 use Rattle.std.proofs.Common.{◌≡◌, ◌≢◌, List, Bool, refl}
-use Rattle.ym_machine.proofs.Names.{Control, Confirm, Frame, ReceiverEnd, SenderEnd, State, Answer, KeepsReceiver, KeepsSender, SenderStays, back, there}
+use Rattle.ym_machine.proofs.Names.{Control, Confirm, Frame, ReceiverEnd, SenderEnd, State, Answer, KeepsReceiver, KeepsSender, SenderStays, sender_step, receiver_step}
 use Rattle.ym_machine.proofs.ReceiverSteps.{ReceiverStep, receiver-step}
 use Rattle.ym_machine.proofs.SenderSteps.{SenderStep, sender-step}
 
@@ -10,7 +10,7 @@ module _ {H : Type 0} (frames : List (Frame H)) (st : State) where
   keeps-sender _ = assumption
 
   keeps-receiver : {source : Bool} {came : List Control} {new : State} → SenderStep frames source came st new → KeepsReceiver st new
-  keeps-receiver (SenderStep.stays farewell ended left) = assumption
+  keeps-receiver (SenderStep.stays cancel_pending ended left) = assumption
   keeps-receiver _ = assumption
 
   stays-there : {confirm : Confirm} {sink whole : Bool} {answer : Answer} → ReceiverStep frames confirm sink whole st answer → st.receiver ≢ ReceiverEnd.Running → answer.0 ≡ st
@@ -24,8 +24,8 @@ module _ {H : Type 0} (frames : List (Frame H)) (st : State) where
   stays-there (ReceiverStep.is_cancelled running broke) e = absurd (e running)
 
   stays-back : {source : Bool} {came : List Control} {new : State} → SenderStep frames source came st new → st.sender ≢ SenderEnd.Running → SenderStays st new
-  stays-back (SenderStep.stays farewell ended left) e = assumption
-  stays-back (SenderStep.misses running vain few) e = absurd (e running)
+  stays-back (SenderStep.stays cancel_pending ended left) e = assumption
+  stays-back (SenderStep.retries running vain few) e = absurd (e running)
   stays-back (SenderStep.gives_up running vain many) e = absurd (e running)
   stays-back (SenderStep.waits running is alone other calls) e = absurd (e running)
   stays-back (SenderStep.sends_it running on) e = absurd (e running)
@@ -33,14 +33,14 @@ module _ {H : Type 0} (frames : List (Frame H)) (st : State) where
   stays-back (SenderStep.finishes running is last) e = absurd (e running)
   stays-back (SenderStep.is_cancelled running cans) e = absurd (e running)
 
-  pub there-keeps : (confirm : Confirm) (sink whole : Bool) → KeepsSender st (there frames confirm sink whole st).0
+  pub there-keeps : (confirm : Confirm) (sink whole : Bool) → KeepsSender st (receiver_step frames confirm sink whole st).0
   there-keeps confirm sink whole = keeps-sender (receiver-step frames confirm sink whole st)
 
-  pub back-keeps : (source : Bool) (came : List Control) → KeepsReceiver st (back frames source came st)
+  pub back-keeps : (source : Bool) (came : List Control) → KeepsReceiver st (sender_step frames source came st)
   back-keeps source came = keeps-receiver (sender-step frames source came st)
 
-  pub there-stays : (confirm : Confirm) (sink whole : Bool) → st.receiver ≢ ReceiverEnd.Running → (there frames confirm sink whole st).0 ≡ st
+  pub there-stays : (confirm : Confirm) (sink whole : Bool) → st.receiver ≢ ReceiverEnd.Running → (receiver_step frames confirm sink whole st).0 ≡ st
   there-stays confirm sink whole ended = stays-there (receiver-step frames confirm sink whole st) ended
 
-  pub back-stays : (source : Bool) (came : List Control) → st.sender ≢ SenderEnd.Running → SenderStays st (back frames source came st)
+  pub back-stays : (source : Bool) (came : List Control) → st.sender ≢ SenderEnd.Running → SenderStays st (sender_step frames source came st)
   back-stays source came ended = stays-back (sender-step frames source came st) ended

@@ -2,7 +2,7 @@
 use Rattle.std.proofs.Common.{ℕ, ◌+◌, ◌%◌, ◌<◌, ◌≤◌, ◌≡◌, ◌≢◌, ◌⊎◌, inl, inr, suc, zero, List, [], ◌∷◌, ◌++◌, length, refl, sym, ap, ◌∙◌, arith, add-one, add-zero, take}
 use Rattle.std.proofs.Math.Seq.{take-length}
 use Rattle.std.proofs.lemmas.List.{length-take-le, take-take}
-use Rattle.ym_machine.proofs.Names.{Confirm, EndBlock, EndsOnce, Eot, File, Frame, Piece, files_within, frame_at, frames_of, numbered_from, State, IsMachine}
+use Rattle.ym_machine.proofs.Names.{Confirm, EndBlock, EndsOnce, Eot, File, Frame, Piece, files_within, frame_at, frames_of, numbered_from, State, Invariant}
 use Rattle.ym_machine.specs.Frames.{BlockZero, IsPrefix, body_at, count_within, eots}
 use Rattle.ym_machine.specs.State.{committed, reported}
 
@@ -112,7 +112,7 @@ module _ {H : Type 0} where
   first-files files n = ap (λ k. take k files) (counted files n)
 
   -- the files of the machine
-  module _ (files : List (File H)) (confirm : Confirm) (st : State) (m : IsMachine confirm (frames_of files) st) where
+  module _ (files : List (File H)) (confirm : Confirm) (st : State) (m : Invariant confirm (frames_of files) st) where
     more : (count_within files st.taken ≡ count_within files st.acknowledged) ⊎ (count_within files st.taken ≡ count_within files st.acknowledged + 1)
     more = elim m.counters.ahead [ inl e ↦ inl (ap (count_within files) e) | inr e ↦ rw e (eots-next (frames_of files) st.acknowledged) ]
 

@@ -1,10 +1,10 @@
--- every half there is one of eight steps
+-- every receiver step is one of eight
 use Rattle.std.proofs.Common.{◌+◌, ◌<◌, ◌≤◌, ◌≡◌, ◌≢◌, ◌==◌, List, Bool, true, false, refl, sym, ◌∙◌, subst, arith, cond, nat_lt}
 use Rattle.std.proofs.lemmas.Bool.Decides.{nat_tests}
-use Rattle.ym_machine.proofs.Names.{Reply, Silence, Start, Ack, AckStart, Nak, Cancel, Confirm, Twice, GIVE_UP, EndBlock, Eot, Frame, Piece, frame_at, frame_before, ReceiverEnd, SenderEnd, State, said, Answer, asks_again, there, SenderBroke}
+use Rattle.ym_machine.proofs.Names.{Reply, Silence, Start, Ack, AckStart, Nak, Cancel, Confirm, Twice, GIVE_UP, EndBlock, Eot, Frame, Piece, frame_at, frame_before, ReceiverEnd, SenderEnd, State, said, Answer, asks_again, receiver_step, SenderBroke}
 use Rattle.ym_machine.specs.declared.confirm.Confirm.TheVariants.{Once}
 use Rattle.ym_machine.specs.State.{said_by}
-use Rattle.ym_machine.specs.Halves.{At, Bad, Can, Sound, heard, hears, hears_last, hears_next, nothing_taken, takes}
+use Rattle.ym_machine.specs.Steps.{At, Bad, Can, Sound, heard, hears, hears_last, hears_next, nothing_taken, takes}
 
 -- a choice, by its two cases
 pub on_cond : {A : Type 0} (P : A → Type 0) (b : Bool) (x y : A) → (b ≡ true → P x) → (b ≡ false → P y) → P (cond b x y)
@@ -19,9 +19,9 @@ pub data Hearing (whole : Bool) (st : State) : Sound → Type 0 where
 
 pub hearing : (whole : Bool) (st : State) → Hearing whole st (heard whole (said st))
 hearing false st = no_frame (λ w. cc)
-hearing true st = go st.sender st.sent st.farewell refl refl
+hearing true st = go st.sender st.sent st.cancel_pending refl refl
   where
-    go : (sender : SenderEnd) (sent farewell : Bool) → st.sender ≡ sender → st.sent ≡ sent → Hearing true st (heard true (said_by sender sent farewell st.acknowledged))
+    go : (sender : SenderEnd) (sent cancel_pending : Bool) → st.sender ≡ sender → st.sent ≡ sent → Hearing true st (heard true (said_by sender sent cancel_pending st.acknowledged))
     go SenderEnd.Running true _ e f = a_frame refl e f
     go SenderEnd.Running false _ e f = no_frame (λ _ _. f)
     go SenderEnd.NoReply _ true e f = call_off (subst SenderBroke (sym e) tt)
@@ -53,10 +53,10 @@ pub data IsEcho (whole : Bool) (st : State) : Reply → Type 0 where
 
 pub data ReceiverStep {H : Type 0} (frames : List (Frame H)) (confirm : Confirm) (sink whole : Bool) (st : State) : Answer → Type 0 where
   stays : {reply : Reply} → st.receiver ≢ ReceiverEnd.Running → IsEcho whole st reply → ReceiverStep frames confirm sink whole st (st, reply)
-  faults : {reply : Reply} → st.receiver ≡ ReceiverEnd.Running → IsFault frames whole st reply → st.receiver_count + 1 < GIVE_UP → ReceiverStep frames confirm sink whole st (record st { receiver_count = st.receiver_count + 1 }, reply)
-  gives_up : {reply : Reply} → st.receiver ≡ ReceiverEnd.Running → IsFault frames whole st reply → GIVE_UP ≤ st.receiver_count + 1 → ReceiverStep frames confirm sink whole st (record st { receiver_count = st.receiver_count + 1; receiver = ReceiverEnd.TooManyErrors }, Cancel)
-  takes_it : IsFresh st → frame_at frames st.acknowledged ≢ EndBlock → (frame_at frames st.acknowledged ≡ Eot → confirm ≡ Twice → st.first_eot ≡ true) → ReceiverStep frames confirm sink whole st (record st { taken = st.taken + 1; first_eot = false; receiver_count = 0 }, confirmation (frame_at frames st.acknowledged))
-  confirms : IsFresh st → confirm ≡ Twice → frame_at frames st.acknowledged ≡ Eot → st.first_eot ≡ false → ReceiverStep frames confirm sink whole st (record st { first_eot = true; receiver_count = 0 }, Nak)
+  faults : {reply : Reply} → st.receiver ≡ ReceiverEnd.Running → IsFault frames whole st reply → st.receiver_retries + 1 < GIVE_UP → ReceiverStep frames confirm sink whole st (record st { receiver_retries = st.receiver_retries + 1 }, reply)
+  gives_up : {reply : Reply} → st.receiver ≡ ReceiverEnd.Running → IsFault frames whole st reply → GIVE_UP ≤ st.receiver_retries + 1 → ReceiverStep frames confirm sink whole st (record st { receiver_retries = st.receiver_retries + 1; receiver = ReceiverEnd.TooManyErrors }, Cancel)
+  takes_it : IsFresh st → frame_at frames st.acknowledged ≢ EndBlock → (frame_at frames st.acknowledged ≡ Eot → confirm ≡ Twice → st.first_eot ≡ true) → ReceiverStep frames confirm sink whole st (record st { taken = st.taken + 1; first_eot = false; receiver_retries = 0 }, confirmation (frame_at frames st.acknowledged))
+  confirms : IsFresh st → confirm ≡ Twice → frame_at frames st.acknowledged ≡ Eot → st.first_eot ≡ false → ReceiverStep frames confirm sink whole st (record st { first_eot = true; receiver_retries = 0 }, Nak)
   finishes : IsFresh st → frame_at frames st.acknowledged ≡ EndBlock → ReceiverStep frames confirm sink whole st (record st { taken = st.taken + 1; receiver = ReceiverEnd.Finished }, Ack)
   breaks : IsFresh st → sink ≡ true → ReceiverStep frames confirm sink whole st (record st { receiver = ReceiverEnd.SinkFailed }, Cancel)
   is_cancelled : st.receiver ≡ ReceiverEnd.Running → SenderBroke st.sender → ReceiverStep frames confirm sink whole st (record st { receiver = ReceiverEnd.Cancelled }, Silence)
@@ -65,12 +65,12 @@ module _ {H : Type 0} (frames : List (Frame H)) (confirm : Confirm) (sink whole 
   abbrev pub Steps : Answer → Type 0
   Steps answer = ReceiverStep frames confirm sink whole st answer
 
-  misses : (reply : Reply) → st.receiver ≡ ReceiverEnd.Running → IsFault frames whole st reply → Steps (nothing_taken st reply)
-  misses reply running fault = on_cond Steps (nat_lt (st.receiver_count + 1) GIVE_UP) _ _ (λ e. faults running fault (grind (arith, nat_tests))) (λ e. gives_up running fault (grind (arith, nat_tests)))
+  retries : (reply : Reply) → st.receiver ≡ ReceiverEnd.Running → IsFault frames whole st reply → Steps (nothing_taken st reply)
+  retries reply running fault = on_cond Steps (nat_lt (st.receiver_retries + 1) GIVE_UP) _ _ (λ e. faults running fault (grind (arith, nat_tests))) (λ e. gives_up running fault (grind (arith, nat_tests)))
 
   last : st.receiver ≡ ReceiverEnd.Running → (frame : Frame H) → IsFault frames whole st (confirmation frame) → Steps (hears_last frame st)
-  last running (Piece number body) fault = misses _ running fault
-  last running _ fault = misses _ running fault
+  last running (Piece number body) fault = retries _ running fault
+  last running _ fault = retries _ running fault
 
   taken : (failed : Bool) (frame : Frame H) → sink ≡ failed → frame_at frames st.acknowledged ≡ frame → IsFresh st → frame ≢ EndBlock → (frame ≡ Eot → confirm ≡ Twice → st.first_eot ≡ true) → Steps (takes st (confirmation frame) failed)
   taken true frame s e fresh other eot = breaks fresh s
@@ -88,7 +88,7 @@ module _ {H : Type 0} (frames : List (Frame H)) (confirm : Confirm) (sink whole 
       (λ t. next confirm refl (frame_at frames st.acknowledged) refl (record { receiving = e; sending = sending; sent = sent; at = grind (arith, nat_tests) }))
       (λ t. last e (frame_at frames st.acknowledged) (again sending sent (grind (arith, nat_tests))))
   go (call_off broke) ReceiverEnd.Running e = is_cancelled e broke
-  go (no_frame n) ReceiverEnd.Running e = misses (asks_again (frame_before frames st.taken)) e (bad n)
+  go (no_frame n) ReceiverEnd.Running e = retries (asks_again (frame_before frames st.taken)) e (bad n)
   go (a_frame w sending sent) ReceiverEnd.Finished e = on_cond (λ r. Steps (st, r)) (st.acknowledged + 1 == st.taken) Ack Silence
       (λ t. stays (λ r. cc) (repeats e sending sent (grind (arith, nat_tests))))
       (λ t. stays (λ r. cc) (silent (λ _ _ _ _. grind (arith, nat_tests))))
@@ -96,5 +96,5 @@ module _ {H : Type 0} (frames : List (Frame H)) (confirm : Confirm) (sink whole 
   go (no_frame n) ReceiverEnd.Finished e = stays (λ r. cc) (silent (λ w _ s f. absurd (let x = n w s in cc)))
   go _ _ e = stays (λ r. cc) (silent (λ _ w. cc))
 
-  pub receiver-step : Steps (there frames confirm sink whole st)
+  pub receiver-step : Steps (receiver_step frames confirm sink whole st)
   receiver-step = go (hearing whole st) st.receiver refl

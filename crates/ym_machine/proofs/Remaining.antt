@@ -1,14 +1,14 @@
--- no round raises what is left, and each whole round lowers it by one
+-- no round raises the rounds remaining, and each whole round lowers them by one
 use Rattle.std.proofs.Common.{ℕ, ◌+◌, ◌-◌, ◌<◌, ◌≡◌, ◌≢◌, ◌==◌, suc, zero, List, [], ◌∷◌, ◌++◌, length, Bool, true, false, refl, sym, ap, ◌∙◌, subst, arith, cond, add-one, sum_by}
 use Rattle.std.proofs.lemmas.Bool.Decides.{nat_tests}
 use Rattle.std.proofs.lemmas.List.Sums.{sum_by-cons}
-use Rattle.ym_machine.proofs.Names.{Control, Confirm, Twice, EndBlock, EndsOnce, Eot, File, Frame, Piece, frame_at, frame_before, frames_of, numbered_from, ReceiverEnd, SenderEnd, State, start, Answer, asks_again, controls, holds_start, ReceiverGoes, left, rounds_needed, CallsForStart, CountersAgree}
+use Rattle.ym_machine.proofs.Names.{Control, Confirm, Twice, EndBlock, EndsOnce, Eot, File, Frame, Piece, frame_at, frame_before, frames_of, numbered_from, ReceiverEnd, SenderEnd, State, start, Answer, asks_again, controls, holds_start, ReceiverGoes, rounds_remaining, rounds_needed, CallsForStart, CountersAgree}
 use Rattle.ym_frame.specs.declared.control.Control.TheVariants as control
 use Rattle.ym_machine.proofs.MachineStates.{below, onward}
 use Rattle.ym_machine.proofs.Places.{none_behind}
 use Rattle.ym_machine.proofs.ReceiverSteps.{IsEcho, IsFault, IsFresh, ReceiverStep, confirmation}
 use Rattle.ym_machine.proofs.SenderSteps.{Onward, SenderStep, helps}
-use Rattle.ym_machine.specs.Left.{left_at, left_unfinished, needed_by, weight, weights, weights_from}
+use Rattle.ym_machine.specs.RoundsRemaining.{left_at, left_unfinished, needed_by, weight, weights, weights_from}
 
 -- ---- Weights
 
@@ -33,10 +33,10 @@ weights-frames confirm [] = grind arith
 weights-frames confirm (file ∷ files) =
     let x = weights-pieces confirm 1 file.pieces (Eot ∷ frames_of files) in let z = weights-frames confirm files in let s = sum_by-cons (needed_by confirm) file files in grind (arith, x, z, s)
 
-pub left-start : {H : Type 0} (confirm : Confirm) (files : List (File H)) → left confirm (frames_of files) start ≡ rounds_needed confirm files
+pub left-start : {H : Type 0} (confirm : Confirm) (files : List (File H)) → rounds_remaining confirm (frames_of files) start ≡ rounds_needed confirm files
 left-start confirm files = let x = weights-frames confirm files in omega (arith, x)
 
--- ---- What is left, of the four fields that it reads
+-- ---- The rounds remaining, of the four fields that they read
 
 pub left_of : {H : Type 0} → Confirm → List (Frame H) → Bool → ℕ → ℕ → Bool → ℕ
 left_of confirm frames sent taken acknowledged first = left_unfinished confirm frames (record start { acknowledged = acknowledged; taken = taken; sent = sent; first_eot = first })
@@ -44,10 +44,10 @@ left_of confirm frames sent taken acknowledged first = left_unfinished confirm f
 abbrev pub left_in : {H : Type 0} → Confirm → List (Frame H) → State → ℕ
 left_in confirm frames st = left_of confirm frames st.sent st.taken st.acknowledged st.first_eot
 
-pub left-done : {H : Type 0} (confirm : Confirm) (frames : List (Frame H)) (st : State) → st.sender ≡ SenderEnd.Finished → left confirm frames st ≡ 0
+pub left-done : {H : Type 0} (confirm : Confirm) (frames : List (Frame H)) (st : State) → st.sender ≡ SenderEnd.Finished → rounds_remaining confirm frames st ≡ 0
 left-done confirm frames st done = ap (λ x. left_at confirm frames x st) done
 
-pub left-is : {H : Type 0} (confirm : Confirm) (frames : List (Frame H)) (st : State) → st.sender ≢ SenderEnd.Finished → left confirm frames st ≡ left_in confirm frames st
+pub left-is : {H : Type 0} (confirm : Confirm) (frames : List (Frame H)) (st : State) → st.sender ≢ SenderEnd.Finished → rounds_remaining confirm frames st ≡ left_in confirm frames st
 unfolding left_of
 left-is confirm frames st other = grind arith
 
@@ -64,7 +64,7 @@ module _ {H : Type 0} (confirm : Confirm) (frames : List (Frame H)) where
   unfolding left_of
   again-left sent taken acknowledged first is_sent at = let other : (taken == acknowledged) ≡ false = grind (arith, nat_tests) in rw (is_sent, other) refl
 
--- ---- The half there
+-- ---- The receiver step
 
 -- a first EOT is a round's work
 abbrev pub taken_on : {H : Type 0} {frames : List (Frame H)} {confirm : Confirm} {sink whole : Bool} {st : State} {answer : Answer} → ReceiverStep frames confirm sink whole st answer → ℕ
@@ -94,16 +94,16 @@ module _ {H : Type 0} (frames : List (Frame H)) (confirm : Confirm) (sink whole 
       grind (arith, old, new, s, two, first)
   there-left running _ = omega arith
 
--- ---- The half back
+-- ---- The sender step
 
--- what a half back is to the sender
+-- what a sender step is to the sender
 pub data Kind : Type 0 where
   vain : Kind
   forward : Kind
   aside : Kind
 
 abbrev pub kind : {H : Type 0} {frames : List (Frame H)} {source : Bool} {came : List Control} {st new : State} → SenderStep frames source came st new → Kind
-kind (SenderStep.misses running unhelped few) = vain
+kind (SenderStep.retries running unhelped few) = vain
 kind (SenderStep.gives_up running unhelped many) = vain
 kind (SenderStep.sends_it running on) = forward
 kind (SenderStep.breaks running on failed piece) = forward
@@ -119,23 +119,23 @@ module _ {H : Type 0} (frames : List (Frame H)) (confirm : Confirm) (ends : Ends
   on-left (Onward.first unsent asked) = waiting-left confirm frames st.sent st.taken st.acknowledged st.first_eot unsent
   on-left (Onward.next is other) = again-left confirm frames st.sent st.taken st.acknowledged st.first_eot is.sent (told _ is.came_is running).1
 
-  sent-left : {place : ℕ} (end : SenderEnd) (farewell : Bool) → end ≢ SenderEnd.Finished → Onward frames came st place
-      → left confirm frames (record st { acknowledged = place; sent = true; sender_count = 0; sender = end; farewell = farewell }) + 1 ≡ left_in confirm frames st
-  sent-left {place} end farewell other on =
-      let l = left-is confirm frames (record st { acknowledged = place; sent = true; sender_count = 0; sender = end; farewell = farewell }) other in
+  sent-left : {place : ℕ} (end : SenderEnd) (cancel_pending : Bool) → end ≢ SenderEnd.Finished → Onward frames came st place
+      → rounds_remaining confirm frames (record st { acknowledged = place; sent = true; sender_retries = 0; sender = end; cancel_pending = cancel_pending }) + 1 ≡ left_in confirm frames st
+  sent-left {place} end cancel_pending other on =
+      let l = left-is confirm frames (record st { acknowledged = place; sent = true; sender_retries = 0; sender = end; cancel_pending = cancel_pending }) other in
       let o = onward frames confirm ends source came st m told running on in
       let old = on-left on in
       let fresh = fresh-left confirm frames true st.taken place st.first_eot refl o.0 in
       grind (arith, o, l, old, fresh)
 
-  pub back-left : {new : State} (step : SenderStep frames source came st new) → left confirm frames new + worth (kind step) ≡ left_in confirm frames st
-  back-left (SenderStep.stays farewell ended w) = absurd (ended running)
+  pub back-left : {new : State} (step : SenderStep frames source came st new) → rounds_remaining confirm frames new + worth (kind step) ≡ left_in confirm frames st
+  back-left (SenderStep.stays cancel_pending ended w) = absurd (ended running)
   back-left (SenderStep.waits r is alone other calls) =
-      let l = left-is confirm frames (record st { acknowledged = st.acknowledged + 1; sent = false; sender_count = 0 }) (λ w. cc) in
+      let l = left-is confirm frames (record st { acknowledged = st.acknowledged + 1; sent = false; sender_retries = 0 }) (λ w. cc) in
       let new = waiting-left confirm frames false st.taken (st.acknowledged + 1) st.first_eot refl in
       let old = on-left (Onward.next is other) in
       omega (arith, l, new, old)
-  back-left (SenderStep.sends_it r on) = sent-left st.sender st.farewell (λ w. cc) on
+  back-left (SenderStep.sends_it r on) = sent-left st.sender st.cancel_pending (λ w. cc) on
   back-left (SenderStep.breaks r on failed piece) = sent-left SenderEnd.SourceFailed true (λ w. cc) on
   back-left (SenderStep.finishes r is last) =
       let old = again-left confirm frames st.sent st.taken st.acknowledged st.first_eot is.sent (told _ is.came_is running).1 in
@@ -172,7 +172,7 @@ asks-helps sent frame _ is calls = record { helped = rw is refl; starts = λ res
 
 pub data WholeThere {H : Type 0} (frames : List (Frame H)) (confirm : Confirm) (st : State) (gain : ℕ) (answer : Answer) : Type 0 where
   helped : IsHelped answer.0.sent (frame_at frames answer.0.acknowledged) (controls answer.1) → gain ≡ 0 → WholeThere frames confirm st gain answer
-  refused : SenderIdle confirm frames st → answer.0.sent ≡ true → answer.0.first_eot ≡ true → answer.0.receiver_count ≡ 0 → controls answer.1 ≡ control.Nak ∷ [] → gain ≡ 1 → WholeThere frames confirm st gain answer
+  refused : SenderIdle confirm frames st → answer.0.sent ≡ true → answer.0.first_eot ≡ true → answer.0.receiver_retries ≡ 0 → controls answer.1 ≡ control.Nak ∷ [] → gain ≡ 1 → WholeThere frames confirm st gain answer
 
 module _ {H : Type 0} (frames : List (Frame H)) (confirm : Confirm) (ends : EndsOnce frames) (sink whole : Bool) (is_whole : whole ≡ true) (st : State) (m : CountersAgree confirm frames st)
     (running : st.sender ≡ SenderEnd.Running) where
@@ -201,8 +201,8 @@ module _ {H : Type 0} (frames : List (Frame H)) (confirm : Confirm) (ends : Ends
 
 module _ {H : Type 0} (frames : List (Frame H)) (source : Bool) (came : List Control) (st : State) (running : st.sender ≡ SenderEnd.Running) where
   pub helped-forward : IsHelped st.sent (frame_at frames st.acknowledged) came → {new : State} (step : SenderStep frames source came st new) → kind step ≡ forward
-  helped-forward h (SenderStep.stays farewell ended w) = absurd (ended running)
-  helped-forward h (SenderStep.misses r unhelped few) = let x = h.helped in cc
+  helped-forward h (SenderStep.stays cancel_pending ended w) = absurd (ended running)
+  helped-forward h (SenderStep.retries r unhelped few) = let x = h.helped in cc
   helped-forward h (SenderStep.gives_up r unhelped many) = let x = h.helped in cc
   helped-forward h (SenderStep.waits r is alone other calls) = let x = h.starts _ is.came_is calls other in cc
   helped-forward h (SenderStep.is_cancelled r cans) = let x = h.helped in grind (arith, x, cans)
@@ -213,7 +213,7 @@ module _ {H : Type 0} (frames : List (Frame H)) (source : Bool) (came : List Con
   on-no-nak sent is (Onward.next a other) = let x = a.came_is in cc
 
   pub refused-vain : st.sent ≡ true → came ≡ control.Nak ∷ [] → {new : State} (step : SenderStep frames source came st new) → kind step ≡ vain
-  refused-vain sent is (SenderStep.stays farewell ended w) = absurd (ended running)
+  refused-vain sent is (SenderStep.stays cancel_pending ended w) = absurd (ended running)
   refused-vain sent is (SenderStep.waits r a alone other calls) = let x = a.came_is in cc
   refused-vain sent is (SenderStep.sends_it r on) = absurd (on-no-nak sent is on)
   refused-vain sent is (SenderStep.breaks r on failed piece) = absurd (on-no-nak sent is on)
@@ -221,7 +221,7 @@ module _ {H : Type 0} (frames : List (Frame H)) (source : Bool) (came : List Con
   refused-vain sent is (SenderStep.is_cancelled r cans) = cc
   refused-vain sent is _ = refl
 
--- ---- While the sender runs, something is left
+-- ---- While the sender runs, rounds remain
 
-pub left-some : {H : Type 0} (frames : List (Frame H)) (confirm : Confirm) (st : State) → CountersAgree confirm frames st → st.sender ≡ SenderEnd.Running → 0 < left confirm frames st
+pub left-some : {H : Type 0} (frames : List (Frame H)) (confirm : Confirm) (st : State) → CountersAgree confirm frames st → st.sender ≡ SenderEnd.Running → 0 < rounds_remaining confirm frames st
 left-some frames confirm st m running = let s = weights-step confirm frames st.acknowledged (below m running) in grind (arith, nat_tests, s)

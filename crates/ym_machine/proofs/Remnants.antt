@@ -4,7 +4,7 @@ use Rattle.ym_machine.proofs.Names.{Control, Reply, Silence, Start, Ack, AckStar
 use Rattle.ym_frame.specs.declared.control.Control.TheVariants as control
 use Rattle.ym_frame.specs.Control.{reply_bytes, IsSubsequence}
 use Rattle.ym_machine.proofs.ReceiverSteps.{on_cond}
-use Rattle.ym_machine.specs.Halves.{IsRemnant, control_byte, same_control}
+use Rattle.ym_machine.specs.Steps.{IsRemnant, control_byte, same_control}
 
 -- of one control byte
 one-of : (c : Control) (came : List Control) → is_within came (c ∷ []) ≡ true → (came ≡ []) ⊎ (came ≡ c ∷ [])

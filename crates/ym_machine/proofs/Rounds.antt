@@ -1,6 +1,6 @@
 -- what a whole round lowers, and no round raises
 use Rattle.std.proofs.Common.{◌+◌, ◌<◌, ◌≤◌, ◌≡◌, ◌⊎◌, List, ◌∷◌, true, refl, sym, ap, ◌∙◌, subst, inl, inr, arith, None}
-use Rattle.ym_machine.proofs.Names.{Control, Reply, Ack, Confirm, EndsOnce, Frame, SenderEnd, State, Answer, KeepsReceiver, KeepsSender, SenderStays, controls, is_within, there, IsTurnDamage, Turn, after_turn, came_back, is_whole, IsGoing, ReceiverGoes, left, IsMachine}
+use Rattle.ym_machine.proofs.Names.{Control, Reply, Ack, Confirm, EndsOnce, Frame, SenderEnd, State, Answer, KeepsReceiver, KeepsSender, SenderStays, controls, is_within, receiver_step, IsTurnDamage, Turn, after_turn, came_back, is_whole, IsGoing, ReceiverGoes, rounds_remaining, Invariant}
 use Rattle.ym_frame.specs.declared.control.Control.TheVariants as control
 use Rattle.ym_machine.proofs.Keeps.{there-keeps, back-keeps, back-stays}
 use Rattle.ym_machine.proofs.MachineStates.{acknowledged-taken, there-machine}
@@ -24,9 +24,9 @@ pub sender-is : (st : State) → IsGoing st → (st.sender ≡ SenderEnd.Running
 sender-is st going = grind (arith, going)
 
 -- a turn in its two steps
-module _ {H : Type 0} (frames : List (Frame H)) (confirm : Confirm) (ends : EndsOnce frames) (turn : Turn) (st : State) (m : IsMachine confirm frames st) where
+module _ {H : Type 0} (frames : List (Frame H)) (confirm : Confirm) (ends : EndsOnce frames) (turn : Turn) (st : State) (m : Invariant confirm frames st) where
   abbrev pub answer : Answer
-  answer = there frames confirm turn.sink_failed turn.whole_there st
+  answer = receiver_step frames confirm turn.sink_failed turn.whole_there st
 
   abbrev pub came : List Control
   came = came_back turn.back answer.1
@@ -46,7 +46,7 @@ module _ {H : Type 0} (frames : List (Frame H)) (confirm : Confirm) (ends : Ends
   pub new-receiver : new.receiver ≡ answer.0.receiver
   new-receiver = let k : KeepsReceiver answer.0 new = back-keeps frames answer.0 turn.source_failed came in k.receiver
 
-  pub mid : IsMachine confirm frames answer.0
+  pub mid : Invariant confirm frames answer.0
   mid = there-machine frames confirm ends turn.sink_failed turn.whole_there st m
 
   pub whole-damage : is_whole turn ≡ true → IsTurnDamage frames confirm turn st
@@ -60,24 +60,24 @@ module _ {H : Type 0} (frames : List (Frame H)) (confirm : Confirm) (ends : Ends
   told damage = acknowledged-taken frames confirm ends turn.sink_failed turn.whole_there came st m damage
 
   -- what a turn lowers
-  turn-lowers : st.sender ≡ SenderEnd.Running → IsTurnDamage frames confirm turn st → left confirm frames new + (worth (kind step_back) + taken_on step_there) ≡ left confirm frames st
+  turn-lowers : st.sender ≡ SenderEnd.Running → IsTurnDamage frames confirm turn st → rounds_remaining confirm frames new + (worth (kind step_back) + taken_on step_there) ≡ rounds_remaining confirm frames st
   turn-lowers running damage =
       let first = there-left frames confirm turn.sink_failed turn.whole_there st m.counters running step_there in
       let second = back-left frames confirm ends turn.source_failed came answer.0 mid.counters (told damage) (keeps.sender ∙ running) step_back in
       let old = left-is confirm frames st (λ w. cc) in
       omega (arith, first, second, old)
 
-  pub turn-left : IsGoing st → IsTurnDamage frames confirm turn st → left confirm frames new ≤ left confirm frames st
+  pub turn-left : IsGoing st → IsTurnDamage frames confirm turn st → rounds_remaining confirm frames new ≤ rounds_remaining confirm frames st
   turn-left going damage = elim (sender-is st going) [
     | inl running ↦ (let x = turn-lowers running damage in omega (arith, x))
     | inr done ↦ (let x = left-done confirm frames new (still-done done) in omega (arith, x))
   ]
 
-  -- the half there of a whole turn
+  -- the receiver step of a whole turn
   pub there-whole : is_whole turn ≡ true → st.sender ≡ SenderEnd.Running → ReceiverGoes answer.0.receiver → WholeThere frames confirm st (taken_on step_there) answer
   there-whole whole running goes = whole-there frames confirm ends turn.sink_failed turn.whole_there (whole-back turn whole).0 st m.counters running step_there goes
 
-  pub turn-lowered : IsGoing st → IsGoing new → is_whole turn ≡ true → 0 < left confirm frames st → left confirm frames st ≡ left confirm frames new + 1
+  pub turn-lowered : IsGoing st → IsGoing new → is_whole turn ≡ true → 0 < rounds_remaining confirm frames st → rounds_remaining confirm frames st ≡ rounds_remaining confirm frames new + 1
   turn-lowered going after whole some = elim (sender-is st going) [
     | inl running ↦ (
         let s = sum running (there-whole whole running (rw new-receiver at after.1)) in

@@ -1,10 +1,10 @@
--- every half back is one of eight steps
+-- every sender step is one of eight
 use Rattle.std.proofs.Common.{ℕ, ◌+◌, ◌<◌, ◌≤◌, ◌≡◌, ◌≢◌, List, [], ◌∷◌, Bool, true, false, refl, sym, ap, ◌∙◌, subst, arith, nat_lt}
 use Rattle.std.proofs.lemmas.Bool.Decides.{nat_tests}
-use Rattle.ym_machine.proofs.Names.{Control, GIVE_UP, EndBlock, Frame, Piece, frame_at, SenderEnd, State, back, holds_start, CallsForStart}
+use Rattle.ym_machine.proofs.Names.{Control, GIVE_UP, EndBlock, Frame, Piece, frame_at, SenderEnd, State, sender_step, holds_start, CallsForStart}
 use Rattle.ym_frame.specs.declared.control.Control.TheVariants as control
 use Rattle.ym_machine.proofs.ReceiverSteps.{on_cond}
-use Rattle.ym_machine.specs.Halves.{acknowledged_at, gets, nothing_gained, running_gets, sends}
+use Rattle.ym_machine.specs.Steps.{acknowledged_at, gets, nothing_gained, running_gets, sends}
 use Rattle.ym_machine.specs.Machine.{IsPiece}
 
 -- these control bytes bring a sender, which has sent or waits, a step further
@@ -24,12 +24,12 @@ pub data Onward {H : Type 0} (frames : List (Frame H)) (came : List Control) (st
   next : {rest : List Control} → IsAcknowledged came rest st → frame_at frames st.acknowledged ≢ EndBlock → Onward frames came st (st.acknowledged + 1)
 
 pub data SenderStep {H : Type 0} (frames : List (Frame H)) (source : Bool) (came : List Control) (st : State) : State → Type 0 where
-  stays : (farewell : Bool) → st.sender ≢ SenderEnd.Running → (farewell ≡ true → st.farewell ≡ true) → SenderStep frames source came st (record st { farewell = farewell })
-  misses : st.sender ≡ SenderEnd.Running → helps st.sent came ≡ false → st.sender_count + 1 < GIVE_UP → SenderStep frames source came st (record st { sender_count = st.sender_count + 1 })
-  gives_up : st.sender ≡ SenderEnd.Running → helps st.sent came ≡ false → GIVE_UP ≤ st.sender_count + 1 → SenderStep frames source came st (record st { sender_count = st.sender_count + 1; sender = SenderEnd.NoReply; farewell = true })
-  waits : {rest : List Control} → st.sender ≡ SenderEnd.Running → IsAcknowledged came rest st → holds_start rest ≡ false → frame_at frames st.acknowledged ≢ EndBlock → CallsForStart (frame_at frames st.acknowledged) → SenderStep frames source came st (record st { acknowledged = st.acknowledged + 1; sent = false; sender_count = 0 })
-  sends_it : {place : ℕ} → st.sender ≡ SenderEnd.Running → Onward frames came st place → SenderStep frames source came st (record st { acknowledged = place; sent = true; sender_count = 0 })
-  breaks : {place : ℕ} → st.sender ≡ SenderEnd.Running → Onward frames came st place → source ≡ true → IsPiece (frame_at frames place) → SenderStep frames source came st (record st { acknowledged = place; sent = true; sender_count = 0; sender = SenderEnd.SourceFailed; farewell = true })
+  stays : (cancel_pending : Bool) → st.sender ≢ SenderEnd.Running → (cancel_pending ≡ true → st.cancel_pending ≡ true) → SenderStep frames source came st (record st { cancel_pending = cancel_pending })
+  retries : st.sender ≡ SenderEnd.Running → helps st.sent came ≡ false → st.sender_retries + 1 < GIVE_UP → SenderStep frames source came st (record st { sender_retries = st.sender_retries + 1 })
+  gives_up : st.sender ≡ SenderEnd.Running → helps st.sent came ≡ false → GIVE_UP ≤ st.sender_retries + 1 → SenderStep frames source came st (record st { sender_retries = st.sender_retries + 1; sender = SenderEnd.NoReply; cancel_pending = true })
+  waits : {rest : List Control} → st.sender ≡ SenderEnd.Running → IsAcknowledged came rest st → holds_start rest ≡ false → frame_at frames st.acknowledged ≢ EndBlock → CallsForStart (frame_at frames st.acknowledged) → SenderStep frames source came st (record st { acknowledged = st.acknowledged + 1; sent = false; sender_retries = 0 })
+  sends_it : {place : ℕ} → st.sender ≡ SenderEnd.Running → Onward frames came st place → SenderStep frames source came st (record st { acknowledged = place; sent = true; sender_retries = 0 })
+  breaks : {place : ℕ} → st.sender ≡ SenderEnd.Running → Onward frames came st place → source ≡ true → IsPiece (frame_at frames place) → SenderStep frames source came st (record st { acknowledged = place; sent = true; sender_retries = 0; sender = SenderEnd.SourceFailed; cancel_pending = true })
   finishes : {rest : List Control} → st.sender ≡ SenderEnd.Running → IsAcknowledged came rest st → frame_at frames st.acknowledged ≡ EndBlock → SenderStep frames source came st (record st { acknowledged = st.acknowledged + 1; sender = SenderEnd.Finished })
   is_cancelled : st.sender ≡ SenderEnd.Running → came ≡ control.Can ∷ control.Can ∷ [] → SenderStep frames source came st (record st { sender = SenderEnd.Cancelled })
 
@@ -38,7 +38,7 @@ module _ {H : Type 0} (frames : List (Frame H)) (source : Bool) (came : List Con
   Steps new = SenderStep frames source came st new
 
   missed : st.sender ≡ SenderEnd.Running → helps st.sent came ≡ false → Steps (nothing_gained st)
-  missed running vain = on_cond Steps (nat_lt (st.sender_count + 1) GIVE_UP) _ _ (λ e. misses running vain (grind (arith, nat_tests))) (λ e. gives_up running vain (grind (arith, nat_tests)))
+  missed running vain = on_cond Steps (nat_lt (st.sender_retries + 1) GIVE_UP) _ _ (λ e. retries running vain (grind (arith, nat_tests))) (λ e. gives_up running vain (grind (arith, nat_tests)))
 
   sent_on : st.sender ≡ SenderEnd.Running → (place : ℕ) → Onward frames came st place → (failed : Bool) → source ≡ failed → (frame : Frame H) → frame_at frames place ≡ frame → Steps (sends failed frame place st)
   sent_on running place on true s (Piece number body) e = breaks running on s (subst IsPiece (sym e) tt)
@@ -64,7 +64,7 @@ module _ {H : Type 0} (frames : List (Frame H)) (source : Bool) (came : List Con
   by SenderEnd.Running e = gets_it e st.sent refl came refl
   by SenderEnd.NoReply e = stays false (λ r. cc) (λ w. cc)
   by SenderEnd.SourceFailed e = stays false (λ r. cc) (λ w. cc)
-  by _ e = stays st.farewell (λ r. cc) (λ w. w)
+  by _ e = stays st.cancel_pending (λ r. cc) (λ w. w)
 
-  pub sender-step : Steps (back frames source came st)
+  pub sender-step : Steps (sender_step frames source came st)
   sender-step = by st.sender refl

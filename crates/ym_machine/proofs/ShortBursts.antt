@@ -1,6 +1,6 @@
 -- neither end gives up while no bad run is longer than a burst
 use Rattle.std.proofs.Common.{ℕ, ◌+◌, ◌≤◌, ◌≡◌, ◌≢◌, ◌⊎◌, List, [], ◌∷◌, Bool, true, false, refl, sym, ◌∙◌, subst, inl, inr, arith, cond, max}
-use Rattle.ym_machine.proofs.Names.{Control, Reply, Confirm, BURST, EndsOnce, Frame, ReceiverEnd, SenderEnd, State, start, Answer, IsDamage, IsTurnDamage, NoFailure, Turn, after_turn, after_turns, is_whole, longest_bad_run, IsGoing, ReceiverGoes, IsMachine, SenderBroke}
+use Rattle.ym_machine.proofs.Names.{Control, Reply, Confirm, BURST, EndsOnce, Frame, ReceiverEnd, SenderEnd, State, start, Answer, IsDamage, IsTurnDamage, NoFailure, Turn, after_turn, after_turns, is_whole, longest_bad_run, IsGoing, ReceiverGoes, Invariant, SenderBroke}
 use Rattle.ym_frame.specs.declared.control.Control.TheVariants as control
 use Rattle.ym_machine.proofs.Endings.{no-cans}
 use Rattle.ym_machine.proofs.MachineStates.{onward, start-machine, turn-machine}
@@ -8,35 +8,35 @@ use Rattle.ym_machine.proofs.ReceiverSteps.{IsFault, ReceiverStep, on_cond}
 use Rattle.ym_machine.proofs.Remaining.{SenderIdle, forward, helped, helped-forward, kind, refused, refused-vain, vain}
 use Rattle.ym_machine.proofs.Rounds.{answer, came, keeps, mid, sender-is, step_back, step_there, still-done, there-whole, told, whole-back, whole-came, whole-damage}
 use Rattle.ym_machine.proofs.SenderSteps.{Onward, SenderStep}
-use Rattle.ym_machine.specs.Left.{SenderGoes}
+use Rattle.ym_machine.specs.RoundsRemaining.{SenderGoes}
 
 -- the next whole round brings the receiver nothing
 abbrev pub ReceiverIdle : State → Type 0
 ReceiverIdle st = (st.sent ≡ false) ⊎ (st.taken ≡ st.acknowledged + 1)
 
 -- What holds while no bad run is longer than a burst: b rounds of the present one are over. An end that the next whole round brings nothing
--- has missed no more than those, and any other one a burst and one more.
+-- has no more retries than those, and any other one a burst and one more.
 pub record IsFine {H : Type 0} (confirm : Confirm) (frames : List (Frame H)) (b : ℕ) (st : State) : Type 0 where
-  pub machine : IsMachine confirm frames st
+  pub machine : Invariant confirm frames st
   pub going : IsGoing st
-  pub sender_count : st.sender ≡ SenderEnd.Running → st.sender_count ≤ b + (BURST + 1)
-  pub sender_idle : st.sender ≡ SenderEnd.Running → SenderIdle confirm frames st → st.sender_count ≤ b
-  pub receiver_count : st.receiver ≡ ReceiverEnd.Running → st.receiver_count ≤ b + (BURST + 1)
-  pub receiver_idle : st.receiver ≡ ReceiverEnd.Running → ReceiverIdle st → st.receiver_count ≤ b
+  pub sender_retries : st.sender ≡ SenderEnd.Running → st.sender_retries ≤ b + (BURST + 1)
+  pub sender_idle : st.sender ≡ SenderEnd.Running → SenderIdle confirm frames st → st.sender_retries ≤ b
+  pub receiver_retries : st.receiver ≡ ReceiverEnd.Running → st.receiver_retries ≤ b + (BURST + 1)
+  pub receiver_idle : st.receiver ≡ ReceiverEnd.Running → ReceiverIdle st → st.receiver_retries ≤ b
 
 -- in the middle of a round
 record IsMiddle {H : Type 0} (confirm : Confirm) (frames : List (Frame H)) (b : ℕ) (whole : Bool) (st : State) : Type 0 where
   goes : ReceiverGoes st.receiver
-  sender_count : st.sender_count ≤ b + (BURST + 1)
-  sender_idle : SenderIdle confirm frames st → st.sender_count ≤ b
-  receiver_count : st.receiver ≡ ReceiverEnd.Running → st.receiver_count ≤ b + (BURST + 2)
-  receiver_idle : st.receiver ≡ ReceiverEnd.Running → ReceiverIdle st → st.receiver_count ≤ b + 1
-  whole_count : whole ≡ true → st.receiver ≡ ReceiverEnd.Running → st.receiver_count ≤ b + 1
+  sender_retries : st.sender_retries ≤ b + (BURST + 1)
+  sender_idle : SenderIdle confirm frames st → st.sender_retries ≤ b
+  receiver_retries : st.receiver ≡ ReceiverEnd.Running → st.receiver_retries ≤ b + (BURST + 2)
+  receiver_idle : st.receiver ≡ ReceiverEnd.Running → ReceiverIdle st → st.receiver_retries ≤ b + 1
+  whole_count : whole ≡ true → st.receiver ≡ ReceiverEnd.Running → st.receiver_retries ≤ b + 1
 
-pub got-all : {H : Type 0} (confirm : Confirm) (frames : List (Frame H)) (st : State) → IsMachine confirm frames st → st.sender ≡ SenderEnd.Finished → st.receiver ≡ ReceiverEnd.Finished
+pub got-all : {H : Type 0} (confirm : Confirm) (frames : List (Frame H)) (st : State) → Invariant confirm frames st → st.sender ≡ SenderEnd.Finished → st.receiver ≡ ReceiverEnd.Finished
 got-all confirm frames st machine done = let m = machine.counters in m.receiver_done.0 (let x = m.sender_done.1 done in let w = m.within in let a = m.ahead in omega arith)
 
-fine-done : {H : Type 0} (confirm : Confirm) (frames : List (Frame H)) (b : ℕ) (st : State) → IsMachine confirm frames st → st.sender ≡ SenderEnd.Finished → IsFine confirm frames b st
+fine-done : {H : Type 0} (confirm : Confirm) (frames : List (Frame H)) (b : ℕ) (st : State) → Invariant confirm frames st → st.sender ≡ SenderEnd.Finished → IsFine confirm frames b st
 fine-done confirm frames b st m done = let got = got-all confirm frames st m done in grind (arith, m, got, done)
 
 module _ {H : Type 0} (frames : List (Frame H)) (confirm : Confirm) (sink whole : Bool) (b : ℕ) (st : State) (f : IsFine confirm frames b st) (running : st.sender ≡ SenderEnd.Running) where
@@ -55,7 +55,7 @@ module _ {H : Type 0} (frames : List (Frame H)) (confirm : Confirm) (sink whole 
   there-fine room sound (ReceiverStep.breaks fresh failed) = cc
   there-fine room sound (ReceiverStep.is_cancelled r broke) = absurd (subst SenderBroke running broke)
 
-module _ {H : Type 0} (frames : List (Frame H)) (confirm : Confirm) (ends : EndsOnce frames) (source : Bool) (came : List Control) (b : ℕ) (whole : Bool) (st : State) (machine : IsMachine confirm frames st) (f : IsMiddle confirm frames b whole st) (running : st.sender ≡ SenderEnd.Running) (sound : source ≡ false)
+module _ {H : Type 0} (frames : List (Frame H)) (confirm : Confirm) (ends : EndsOnce frames) (source : Bool) (came : List Control) (b : ℕ) (whole : Bool) (st : State) (machine : Invariant confirm frames st) (f : IsMiddle confirm frames b whole st) (running : st.sender ≡ SenderEnd.Running) (sound : source ≡ false)
     (told : (rest : List Control) → came ≡ control.Ack ∷ rest → st.sender ≡ SenderEnd.Running → (st.sent ≡ true) × (st.taken ≡ st.acknowledged + 1)) where
   going : IsGoing st
   going = (subst SenderGoes (sym running) tt, f.goes)
@@ -65,10 +65,10 @@ module _ {H : Type 0} (frames : List (Frame H)) (confirm : Confirm) (ends : Ends
   onward-idle (Onward.next is other) = inr (told _ is.came_is running).1
 
   -- of a bad round
-  back-bad : b + 1 ≤ BURST → came ≢ control.Can ∷ control.Can ∷ [] → {new : State} → IsMachine confirm frames new → SenderStep frames source came st new → IsFine confirm frames (b + 1) new
-  back-bad short other m (SenderStep.stays farewell ended w) = absurd (ended running)
-  back-bad short other m (SenderStep.misses r unhelped few) = grind (arith, m, going, f)
-  back-bad short other m (SenderStep.gives_up r unhelped many) = absurd (let x = f.sender_count in omega (arith, x, short, many))
+  back-bad : b + 1 ≤ BURST → came ≢ control.Can ∷ control.Can ∷ [] → {new : State} → Invariant confirm frames new → SenderStep frames source came st new → IsFine confirm frames (b + 1) new
+  back-bad short other m (SenderStep.stays cancel_pending ended w) = absurd (ended running)
+  back-bad short other m (SenderStep.retries r unhelped few) = grind (arith, m, going, f)
+  back-bad short other m (SenderStep.gives_up r unhelped many) = absurd (let x = f.sender_retries in omega (arith, x, short, many))
   back-bad short other m (SenderStep.waits r is alone o calls) = let idle : ReceiverIdle st = inr (told _ is.came_is running).1 in grind (arith, m, going, f, idle)
   back-bad short other m (SenderStep.sends_it r on) = let idle = onward-idle on in grind (arith, m, going, f, idle)
   back-bad short other m (SenderStep.breaks r on failed piece) = cc
@@ -76,7 +76,7 @@ module _ {H : Type 0} (frames : List (Frame H)) (confirm : Confirm) (ends : Ends
   back-bad short other m (SenderStep.is_cancelled r cans) = absurd (other cans)
 
   -- of a whole round
-  back-helped : whole ≡ true → b ≤ BURST → {new : State} → IsMachine confirm frames new → (step : SenderStep frames source came st new) → kind step ≡ forward → IsFine confirm frames 0 new
+  back-helped : whole ≡ true → b ≤ BURST → {new : State} → Invariant confirm frames new → (step : SenderStep frames source came st new) → kind step ≡ forward → IsFine confirm frames 0 new
   back-helped w few m (SenderStep.sends_it r on) k =
       let o = onward frames confirm ends source came st machine.counters told running on in
       grind (arith, m, going, f, o, w, few)
@@ -84,8 +84,8 @@ module _ {H : Type 0} (frames : List (Frame H)) (confirm : Confirm) (ends : Ends
   back-helped w few m (SenderStep.finishes r is last) k = fine-done confirm frames 0 _ m refl
   back-helped w few m _ k = cc
 
-  back-refused : b ≤ BURST → st.sender_count ≤ b → st.first_eot ≡ true → st.receiver_count ≡ 0 → {new : State} → IsMachine confirm frames new → (step : SenderStep frames source came st new) → kind step ≡ vain → IsFine confirm frames 0 new
-  back-refused few idle first count m (SenderStep.misses r unhelped more) k = grind (arith, m, going, f, few, idle, first, count)
+  back-refused : b ≤ BURST → st.sender_retries ≤ b → st.first_eot ≡ true → st.receiver_retries ≡ 0 → {new : State} → Invariant confirm frames new → (step : SenderStep frames source came st new) → kind step ≡ vain → IsFine confirm frames 0 new
+  back-refused few idle first count m (SenderStep.retries r unhelped more) k = grind (arith, m, going, f, few, idle, first, count)
   back-refused few idle first count m (SenderStep.gives_up r unhelped many) k = absurd (omega (arith, many, few, idle))
   back-refused few idle first count m _ k = cc
 
@@ -123,7 +123,7 @@ module _ {H : Type 0} (frames : List (Frame H)) (confirm : Confirm) (ends : Ends
             elim (there-whole frames confirm ends turn st f.machine whole running middle.goes) [
               | helped h none ↦ back-helped frames confirm ends turn.source_failed cs b turn.whole_there _ mid middle runs source told all few m step (helped-forward frames turn.source_failed _ _ runs (rw is h) step)
               | refused idle sent first count nak one ↦ (
-                  let missed : (answer frames confirm ends turn st f.machine).0.sender_count ≤ b = let x = f.sender_idle running idle in let k = keeps.sender_count in omega (arith, x, k) in
+                  let missed : (answer frames confirm ends turn st f.machine).0.sender_retries ≤ b = let x = f.sender_idle running idle in let k = keeps.sender_retries in omega (arith, x, k) in
                   let vain = refused-vain frames turn.source_failed _ _ runs sent (is ∙ nak) step in
                   back-refused frames confirm ends turn.source_failed cs b turn.whole_there _ mid middle runs source told few missed first count m step vain)
             ])

@@ -5,9 +5,9 @@ use Rattle.ym_machine.specs.declared.confirm.Confirm.TheVariants.{Twice}
 use Rattle.ym_machine.specs.declared.limits.TheConstants.{GIVE_UP}
 use Rattle.ym_machine.specs.Frames.{Frame, Piece, Eot, frame_at, frame_before}
 pub use Rattle.ym_machine.specs.State.{SenderEnd, ReceiverEnd, State, start, Speech, Nothing, FrameAt, CanCan, said, committed, reported}
-pub use Rattle.ym_machine.specs.Halves.{Sound, At, Can, Bad, heard, Answer, there, back, controls, is_within, KeepsSender, KeepsReceiver, SenderStays}
+pub use Rattle.ym_machine.specs.Steps.{Sound, At, Can, Bad, heard, Answer, receiver_step, sender_step, controls, is_within, KeepsSender, KeepsReceiver, SenderStays}
 pub use Rattle.ym_machine.specs.Run.{Turn, after_turn, after_turns, Entry, entry_of, entries_of, IsTurnDamage, IsDamage, NoFailure}
-pub use Rattle.ym_machine.specs.Left.{left, rounds_needed}
+pub use Rattle.ym_machine.specs.RoundsRemaining.{rounds_remaining, rounds_needed}
 
 -- a data block
 abbrev pub IsPiece : {H : Type 0} → Frame H → Type 0
@@ -27,8 +27,8 @@ pub record CountersAgree {H : Type 0} (confirm : Confirm) (frames : List (Frame 
   pub first_eot : st.first_eot ≡ true → (confirm ≡ Twice) × (st.sent ≡ true) × (st.taken ≡ st.acknowledged) × (frame_at frames st.taken ≡ Eot) × (st.taken < length frames)
   pub sender_done : (st.acknowledged ≡ length frames) ↔ (st.sender ≡ SenderEnd.Finished)
   pub receiver_done : (st.taken ≡ length frames) ↔ (st.receiver ≡ ReceiverEnd.Finished)
-  pub sender_count : st.sender ≡ SenderEnd.Running → st.sender_count < GIVE_UP
-  pub receiver_count : st.receiver ≡ ReceiverEnd.Running → st.receiver_count < GIVE_UP
+  pub sender_retries : st.sender ≡ SenderEnd.Running → st.sender_retries < GIVE_UP
+  pub receiver_retries : st.receiver ≡ ReceiverEnd.Running → st.receiver_retries < GIVE_UP
 
 -- the sender gave up, or its source failed
 abbrev pub SenderBroke : SenderEnd → Type 0
@@ -42,17 +42,17 @@ ReceiverBroke ReceiverEnd.TooManyErrors = Unit {0}
 ReceiverBroke ReceiverEnd.SinkFailed = Unit {0}
 ReceiverBroke _ = ⊥
 
--- A machine state: the counters agree, and CAN CAN is to go only of a sender that gave up or whose source failed. How the ends have stopped is
+-- The invariant: the counters agree, and CAN CAN is to go only of a sender that gave up or whose source failed. How the ends have stopped is
 -- else left open: one may be cancelled while the other runs.
-pub record IsMachine {H : Type 0} (confirm : Confirm) (frames : List (Frame H)) (st : State) : Type 0 where
+pub record Invariant {H : Type 0} (confirm : Confirm) (frames : List (Frame H)) (st : State) : Type 0 where
   pub counters : CountersAgree confirm frames st
-  pub farewell : st.farewell ≡ true → SenderBroke st.sender
+  pub cancel_pending : st.cancel_pending ≡ true → SenderBroke st.sender
 
 -- How ends that were new have stopped: an end gave up at its tenth delivery without progress, a source failed at a data block, and
 -- an end is cancelled only where the other one broke.
 pub record EndingsAgree {H : Type 0} (frames : List (Frame H)) (st : State) : Type 0 where
-  pub no_reply : st.sender ≡ SenderEnd.NoReply → st.sender_count ≡ GIVE_UP
+  pub no_reply : st.sender ≡ SenderEnd.NoReply → st.sender_retries ≡ GIVE_UP
   pub source_failed : st.sender ≡ SenderEnd.SourceFailed → (st.sent ≡ true) × IsPiece (frame_at frames st.acknowledged)
   pub sender_cancelled : st.sender ≡ SenderEnd.Cancelled → ReceiverBroke st.receiver
-  pub too_many_errors : st.receiver ≡ ReceiverEnd.TooManyErrors → st.receiver_count ≡ GIVE_UP
+  pub too_many_errors : st.receiver ≡ ReceiverEnd.TooManyErrors → st.receiver_retries ≡ GIVE_UP
   pub receiver_cancelled : st.receiver ≡ ReceiverEnd.Cancelled → SenderBroke st.sender

@@ -6,7 +6,7 @@ use Rattle.ym_machine.specs.declared.confirm.Confirm.{Confirm}
 use Rattle.ym_machine.specs.declared.limits.TheConstants.{BURST}
 use Rattle.ym_machine.specs.Frames.{Frame}
 use Rattle.ym_machine.specs.State.{State, Speech, said}
-use Rattle.ym_machine.specs.Halves.{Answer, there, back, controls, is_within}
+use Rattle.ym_machine.specs.Steps.{Answer, receiver_step, sender_step, controls, is_within}
 
 -- what a round does to its two deliveries, and the two truths
 pub record Turn : Type 0 where
@@ -19,14 +19,14 @@ abbrev pub came_back : Option (List Control) → Reply → List Control
 came_back None reply = controls reply
 came_back (Some came) reply = came
 
--- the half there of a turn
+-- the receiver step of a turn
 abbrev pub answer_of : {H : Type 0} → List (Frame H) → Confirm → Turn → State → Answer
-answer_of frames confirm turn st = there frames confirm turn.sink_failed turn.whole_there st
+answer_of frames confirm turn st = receiver_step frames confirm turn.sink_failed turn.whole_there st
 
--- a turn is the half there and then the half back
+-- a turn is the receiver step and then the sender step
 abbrev pub after_turn : {H : Type 0} → List (Frame H) → Confirm → Turn → State → State
 after_turn frames confirm turn st =
-    let answer = answer_of frames confirm turn st in back frames turn.source_failed (came_back turn.back answer.1) answer.0
+    let answer = answer_of frames confirm turn st in sender_step frames turn.source_failed (came_back turn.back answer.1) answer.0
 
 -- the state after all turns
 abbrev pub after_turns : {H : Type 0} → List (Frame H) → Confirm → List Turn → State → State
@@ -50,7 +50,7 @@ entries_of frames confirm (turn ∷ turns) st =
 -- the control bytes that come back are those of the reply, with some of them left out
 abbrev pub IsTurnDamage : {H : Type 0} → List (Frame H) → Confirm → Turn → State → Type 0
 IsTurnDamage frames confirm turn st =
-    is_within (came_back turn.back (there frames confirm turn.sink_failed turn.whole_there st).1) (controls (there frames confirm turn.sink_failed turn.whole_there st).1) ≡ true
+    is_within (came_back turn.back (receiver_step frames confirm turn.sink_failed turn.whole_there st).1) (controls (receiver_step frames confirm turn.sink_failed turn.whole_there st).1) ≡ true
 
 -- so they are at every turn
 abbrev pub IsDamage : {H : Type 0} → List (Frame H) → Confirm → List Turn → State → Type 0

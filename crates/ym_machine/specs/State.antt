@@ -23,10 +23,10 @@ pub record State : Type 0 where
   pub taken : ℕ  -- r: frames that the receiver has taken
   pub sent : Bool  -- the sender has sent F[s]; else it waits for C
   pub first_eot : Bool  -- e: a first EOT was accepted
-  pub sender_count : ℕ  -- the sender's deliveries without progress, in a row
-  pub receiver_count : ℕ  -- the receiver's
+  pub sender_retries : ℕ  -- the sender's deliveries without progress, in a row
+  pub receiver_retries : ℕ  -- the receiver's
   pub sender : SenderEnd
-  pub farewell : Bool  -- CAN CAN is still to go
+  pub cancel_pending : Bool  -- CAN CAN is still to go
   pub receiver : ReceiverEnd
 
 abbrev pub start : State
@@ -35,10 +35,10 @@ start = record {
   taken = 0;
   sent = false;
   first_eot = false;
-  sender_count = 0;
-  receiver_count = 0;
+  sender_retries = 0;
+  receiver_retries = 0;
   sender = SenderEnd.Running;
-  farewell = false;
+  cancel_pending = false;
   receiver = ReceiverEnd.Running;
 }
 
@@ -50,13 +50,13 @@ pub data Speech : Type 0 where
 
 -- the frame where it stands, once it has sent it; CAN CAN after it gave up or its source failed, once
 abbrev pub said_by : SenderEnd → Bool → Bool → ℕ → Speech
-said_by SenderEnd.Running true farewell place = FrameAt place
+said_by SenderEnd.Running true cancel_pending place = FrameAt place
 said_by SenderEnd.NoReply sent true place = CanCan
 said_by SenderEnd.SourceFailed sent true place = CanCan
 said_by _ _ _ _ = Nothing
 
 abbrev pub said : State → Speech
-said st = said_by st.sender st.sent st.farewell st.acknowledged
+said st = said_by st.sender st.sent st.cancel_pending st.acknowledged
 
 -- the files that the receiver has committed: those whose EOT it has taken
 abbrev pub committed : {H : Type 0} → List (File H) → State → List (File H)

@@ -9,13 +9,13 @@ use Rattle.ym_machine.proofs.Places.{all-within, frames-end}
 use Rattle.ym_machine.proofs.ShortBursts.{got-all, start-fine}
 use Rattle.ym_core.specs.declared.state.RecvState.TheVariants as recv_state
 use Rattle.ym_core.specs.declared.state.SendState.TheVariants as send_state
-use Rattle.ym_link.specs.ReceiverStands.{bytes_of}
-use Rattle.ym_link.specs.ReceiverStands as receiver
-use Rattle.ym_link.specs.SenderStands.{file_of}
+use Rattle.ym_link.specs.ReceiverRefines.{bytes_of}
+use Rattle.ym_link.specs.ReceiverRefines as receiver
+use Rattle.ym_link.specs.SenderRefines.{file_of}
 use Rattle.ym_line.specs.Completion.{NoneRose}
 use Rattle.ym_line.proofs.Completing.{sender-going, sender-finished}
-use Rattle.ym_line.proofs.Halves.{source-truth}
-use Rattle.ym_line.proofs.Promised.{Laws, all-bytes, batch_to_send, confirm_of, known, new-stands}
+use Rattle.ym_line.proofs.HalfSteps.{source-truth}
+use Rattle.ym_line.proofs.Promised.{Laws, all-bytes, batch_to_send, confirm_of, known, new-refines}
 use Rattle.ym_line.proofs.Truths.{sink-true, source-true}
 use Rattle.ym_pair.specs.Pairing.{HaveBothFinished}
 use Rattle.ym_pair.proofs.Fronts.{TurnLaws, Front, Onward, IsShort, IsCalm, front-goes, front-is, answers-grew, speaks-grew, calm-there, calm-back, turns-longest}
@@ -61,11 +61,11 @@ module _ (laws : TurnLaws) (confirm : Confirm) (files : Batch) where
   sender-reaches s new end (one ∷ spoke) (round ∷ rounds) on speaks over pairs calm =
       let front : Front confirm files on.before s end = on.front in
       let next : SenderParts = speaks.0 in
-      let comes : Comes front.misses s _ next = comes-along front.misses s _ next front.few speaks.2 speaks.4 in
+      let comes : Comes front.retries s _ next = comes-along front.retries s _ next front.few speaks.2 speaks.4 in
       let made : Round = record { there = Lost; back = round.back } in
-      let goes = paired-round laws.computed (ghost front.misses s) comes.new end end one.came Bad Silence Lost round.back (front-is confirm files on.before s end front speaks.1)
+      let goes = paired-round laws.computed (ghost front.retries s) comes.new end end one.came Bad Silence Lost round.back (front-is confirm files on.before s end front speaks.1)
       comes.heard (silent end over) (bad-lost (sent_by s) Bad refl) pairs.1 in
-      let onward : Onward confirm files rounds next end = front-goes laws confirm files on.before made rounds s next end end _ (seen_of made (ghost front.misses s) Silence) front comes goes
+      let onward : Onward confirm files rounds next end = front-goes laws confirm files on.before made rounds s next end end _ (seen_of made (ghost front.retries s) Silence) front comes goes
       (λ failed tells. sink-true failed end.failures end.failures end.failures tells (omega arith) calm.sink)
       (λ failed found. source-true failed s.files next.files new.files found (speaks-grew next new spoke speaks.5) calm.sources)
       (subst (λ there. IsShort on.before (record { there = there; back = round.back } ∷ rounds)) pairs.0 on.short) in
@@ -74,12 +74,12 @@ module _ (laws : TurnLaws) (confirm : Confirm) (files : Batch) where
   -- the sender has ended: where it has finished, so has the receiver
   all-heard : (s : SenderParts) (r end : ReceiverParts) (before : ℕ) (answered : List Answered) → Front confirm files before s r → s.standing.state ≢ send_state.Running → AnswersTo true r answered end → Reached confirm files s end
   all-heard s r end before [] front over answers = record { before = before; front = subst (λ x. Front confirm files before s x) (sym answers) front }
-  all-heard s r end before (one ∷ answered) front over answers = elim (sender-going front.st.sender s.standing.state front.stands.sender.standing.state front.fine.going.0) [
+  all-heard s r end before (one ∷ answered) front over answers = elim (sender-going front.st.sender s.standing.state front.refines.sender.standing.state front.fine.going.0) [
     | inl runs ↦ absurd (over runs)
     | inr done ↦
-        let sent = sender-finished front.st.sender (sym front.stands.sender.standing.state ∙ done) in
+        let sent = sender-finished front.st.sender (sym front.refines.sender.standing.state ∙ done) in
         let taken = got-all confirm (frames_of files) front.st front.fine.machine sent in
-        let ended : r.receiver.state ≡ recv_state.Finished = front.stands.receiver.state_is ∙ ap receiver.state_of taken in
+        let ended : r.receiver.state ≡ recv_state.Finished = front.refines.receiver.state_is ∙ ap receiver.state_of taken in
         absurd (let runs = answers.2 in cc)
   ]
 
@@ -95,10 +95,10 @@ module _ (laws : TurnLaws) (confirm : Confirm) (files : Batch) where
       let front : Front confirm files on.before s r = on.front in
       let next : SenderParts = speaks.0 in
       let after : ReceiverParts = answers.0 in
-      let comes : Comes front.misses s _ next = comes-along front.misses s _ next front.few speaks.2 speaks.4 in
-      let goes = paired-round laws.computed (ghost front.misses s) comes.new r after one.came answer.heard answers.1 round.there round.back (front-is confirm files on.before s r front speaks.1) comes.heard answers.3
+      let comes : Comes front.retries s _ next = comes-along front.retries s _ next front.few speaks.2 speaks.4 in
+      let goes = paired-round laws.computed (ghost front.retries s) comes.new r after one.came answer.heard answers.1 round.there round.back (front-is confirm files on.before s r front speaks.1) comes.heard answers.3
       (rw speaks.3 at there_pairs) (rw answers.4 at back_pairs) in
-      let onward : Onward confirm files rounds next after = front-goes laws confirm files on.before round rounds s next r after _ (seen_of round (ghost front.misses s) answers.1) front comes goes
+      let onward : Onward confirm files rounds next after = front-goes laws confirm files on.before round rounds s next r after _ (seen_of round (ghost front.retries s) answers.1) front comes goes
       (λ failed tells. sink-true failed r.failures after.failures end.failures tells (answers-grew after end answered answers.5) calm.sink)
       (λ failed found. source-true failed s.files next.files new.files found (speaks-grew next new spoke speaks.5) calm.sources)
       on.short in
@@ -108,10 +108,10 @@ module _ (laws : TurnLaws) (confirm : Confirm) (files : Batch) where
       let front : Front confirm files on.before s r = on.front in
       let after : ReceiverParts = answers.0 in
       let made : Round = record { there = round.there; back = Lost } in
-      let comes : Comes front.misses s [] s = comes-waiting front.misses s front.few speaks.2 in
-      let goes = paired-round laws.computed (ghost front.misses s) comes.new r after [] answer.heard answers.1 round.there Lost (front-is confirm files on.before s r front speaks.1) comes.heard answers.3
+      let comes : Comes front.retries s [] s = comes-waiting front.retries s front.few speaks.2 in
+      let goes = paired-round laws.computed (ghost front.retries s) comes.new r after [] answer.heard answers.1 round.there Lost (front-is confirm files on.before s r front speaks.1) comes.heard answers.3
       (rw speaks.3 at there_pairs) (record { shows = tt; short = tt; heard_is = refl }) in
-      let onward : Onward confirm files rounds s after = front-goes laws confirm files on.before made rounds s s r after [] (seen_of made (ghost front.misses s) answers.1) front comes goes
+      let onward : Onward confirm files rounds s after = front-goes laws confirm files on.before made rounds s s r after [] (seen_of made (ghost front.retries s) answers.1) front comes goes
       (λ failed tells. sink-true failed r.failures after.failures end.failures tells (answers-grew after end answered answers.5) calm.sink)
       (λ failed found. source-true failed s.files s.files new.files found (speaks-grew s new (one ∷ spoke) speaks) calm.sources)
       (subst (λ back. IsShort on.before (record { there = round.there; back = back } ∷ rounds)) lost on.short) in
@@ -128,18 +128,18 @@ engines-finish laws turns s new r end spoke last answered rounds fresh within sp
     let files : Batch = batch_to_send old in
     let first : Front confirm files 0 s r = record {
       st = start;
-      misses = s.standing.misses;
+      retries = s.standing.retries;
       few = omega arith;
-      stands = new-stands laws.new_stand old fresh within;
+      refines = new-refines laws.new_stand old fresh within;
       fine = start-fine (frames_of files) confirm (frames-end files);
     } in
     let begins : Onward confirm files rounds s r = record { before = 0; front = first; short = subst (λ n. n ≤ BURST) (sym (turns-longest rounds 0)) short } in
     let reached : Reached confirm files new end = reaches-end turns confirm files s new r end spoke last answered rounds begins speaks answers over ended pairs (record { sink = none.sink; sources = none.sources }) in
     let front : Front confirm files reached.before new end = reached.front in
     let st : State = front.st in
-    let commits : CommitsFirst files st (ends (ghost front.misses new) end) = laws.first confirm files st _ front.stands in
-    let send : new.standing.state ≡ send_state.Finished = elim (sender-going st.sender new.standing.state front.stands.sender.standing.state front.fine.going.0) [ inl runs ↦ absurd (over runs) | inr done ↦ done ] in
-    let sent = sender-finished st.sender (sym front.stands.sender.standing.state ∙ send) in
+    let commits : CommitsFirst files st (ends (ghost front.retries new) end) = laws.first confirm files st _ front.refines in
+    let send : new.standing.state ≡ send_state.Finished = elim (sender-going st.sender new.standing.state front.refines.sender.standing.state front.fine.going.0) [ inl runs ↦ absurd (over runs) | inr done ↦ done ] in
+    let sent = sender-finished st.sender (sym front.refines.sender.standing.state ∙ send) in
     let took = got-all confirm (frames_of files) st front.fine.machine sent in
     let reported_is : reported files st ≡ files = ap (files_within files) (front.fine.machine.counters.sender_done.1 sent) ∙ all-within files in
     let committed_is : committed files st ≡ files = ap (files_within files) (front.fine.machine.counters.receiver_done.1 took) ∙ all-within files in

@@ -1,6 +1,6 @@
 -- Where no bad run is longer than a burst, and no failure count rises, each round of a pair that has not given up leads to one that has not.
 use Rattle.std.proofs.Common.{◌≡◌, ◌≢◌, ◌∙◌, ◌≤◌, ◌<◌, ◌+◌, ◌⊎◌, inl, inr, ℕ, Bool, true, false, List, [], ◌∷◌, length, refl, sym, ap, subst, arith}
-use Rattle.ym_pair.proofs.Names.{Control, Confirm, BURST, frames_of, State, after_turn, SendState, ReceiverParts, SenderParts, IsSender, Batch, FileParts, file_at, longest_bad_run, Pair, Goes, PairStands, Round, Spoke, Answered, ends}
+use Rattle.ym_pair.proofs.Names.{Control, Confirm, BURST, frames_of, State, after_turn, SendState, ReceiverParts, SenderParts, IsSender, Batch, FileParts, file_at, longest_bad_run, Pair, Goes, PairRefines, Round, Spoke, Answered, ends}
 use Rattle.ym_file.specs.Counts.{Rose}
 use Rattle.ym_machine.specs.Run.{Turn, IsDamage}
 use Rattle.ym_machine.specs.Run as machine
@@ -11,7 +11,7 @@ use Rattle.ym_link.specs.ReceiverInto.{Tells}
 use Rattle.ym_line.specs.Turns.{AreTurns, IsTurn, IsSourceTruth, TakesATurn, turn_of}
 use Rattle.ym_line.specs.declared.trace.Seen.{Seen}
 use Rattle.ym_line.proofs.Completing.{sender-going, sender-runs}
-use Rattle.ym_line.proofs.Halves.{source-truth}
+use Rattle.ym_line.proofs.HalfSteps.{source-truth}
 use Rattle.ym_line.proofs.Truths.{rose-behind, sources-grew, sources-long, tells-grew, whole-turn}
 use Rattle.ym_pair.proofs.Ghosts.{Comes, ghost}
 use Rattle.ym_pair.proofs.Paired.{Computed, SpeaksTo, AnswersTo}
@@ -42,12 +42,12 @@ turns-longest (round ∷ rounds) before =
 
 -- ---- A pair that has not given up
 
--- The pair stands, with a sender that may have missed more than this one, and neither has given up.
+-- The pair refines a state of the machine, with a sender that may have more retries than this one, and neither has given up.
 pub record Front (confirm : Confirm) (files : Batch) (before : ℕ) (s : SenderParts) (r : ReceiverParts) : Type 0 where
   pub st : State
-  pub misses : ℕ
-  pub few : s.standing.misses ≤ misses
-  pub stands : PairStands confirm files st (ends (ghost misses s) r)
+  pub retries : ℕ
+  pub few : s.standing.retries ≤ retries
+  pub refines : PairRefines confirm files st (ends (ghost retries s) r)
   pub fine : IsFine confirm (frames_of files) before st
 
 -- and so it is behind a round, before the others
@@ -68,12 +68,12 @@ still-replies s (inl runs) = λ gone. absurd (cc)
 still-replies s (inr done) = λ gone. absurd (cc)
 
 pub front-goes : TurnLaws → (confirm : Confirm) (files : Batch) (before : ℕ) (round : Round) (rounds : List Round) (s next : SenderParts) (r after : ReceiverParts) (cs : List Control) (seen : Seen) →
-    (front : Front confirm files before s r) → (comes : Comes front.misses s cs next) → Goes round (ends (ghost front.misses s) r) seen (ends comes.new after) →
+    (front : Front confirm files before s r) → (comes : Comes front.retries s cs next) → Goes round (ends (ghost front.retries s) r) seen (ends comes.new after) →
     CalmSink r after → CalmSources s.files next.files → IsShort before (round ∷ rounds) → Onward confirm files rounds next after
 front-goes laws confirm files before round rounds s next r after cs seen front comes goes sink sources short =
-    let old : Pair = ends (ghost front.misses s) r in
+    let old : Pair = ends (ghost front.retries s) r in
     let new : Pair = ends comes.new after in
-    let turned = laws.go round old new seen goes confirm files front.st front.stands in
+    let turned = laws.go round old new seen goes confirm files front.st front.refines in
     let turn : Turn = turned.0 in
     let is_turn : IsTurn confirm files front.st round turn old seen new = turned.1 in
     let no_sink : turn.sink_failed ≡ false = sink turn.sink_failed is_turn.sink in
@@ -83,31 +83,31 @@ front-goes laws confirm files before round rounds s next r after cs seen front c
     let damage = (laws.damage confirm files front.st (round ∷ []) (turn ∷ []) old new (seen ∷ []) (new, is_turn, refl)).0 in
     let one = one-fine (frames_of files) confirm (frames-end files) turn (turns_of rounds) before front.st front.fine brief no_sink no_source damage in
     let st : State = after_turn (frames_of files) confirm turn front.st in
-    let stands : PairStands confirm files st new = is_turn.stands in
-    let like = comes.goes_on (still-replies comes.new.standing.state (sender-going st.sender comes.new.standing.state stands.sender.standing.state one.1.going.0)) in
+    let refines : PairRefines confirm files st new = is_turn.refines in
+    let like = comes.goes_on (still-replies comes.new.standing.state (sender-going st.sender comes.new.standing.state refines.sender.standing.state one.1.going.0)) in
     record {
       before = one.0;
       front = record {
         st = st;
-        misses = like.0;
+        retries = like.0;
         few = like.1;
-        stands = subst (λ x. PairStands confirm files st (ends x after)) like.2 stands;
+        refines = subst (λ x. PairRefines confirm files st (ends x after)) like.2 refines;
         fine = one.1;
       };
       short = one.2;
     }
 
--- the sender that has missed more keeps to what each sender keeps to
-pub front-is : (confirm : Confirm) (files : Batch) (before : ℕ) (s : SenderParts) (r : ReceiverParts) → (front : Front confirm files before s r) → IsSender s → IsSender (ghost front.misses s)
+-- the sender that has more retries keeps to what each sender keeps to
+pub front-is : (confirm : Confirm) (files : Batch) (before : ℕ) (s : SenderParts) (r : ReceiverParts) → (front : Front confirm files before s r) → IsSender s → IsSender (ghost front.retries s)
 front-is confirm files before s r front is = record {
   files = is.files;
   place = is.place;
-  misses = λ on.
-      let at = front.stands.sender.standing in
+  retries = λ on.
+      let at = front.refines.sender.standing in
       let runs = sender-runs front.st.sender (sym at.state ∙ on) in
-      let misses = at.misses runs in
-      let below = front.fine.machine.counters.sender_count runs in
-      omega (arith, misses, below);
+      let retries = at.retries runs in
+      let below = front.fine.machine.counters.sender_retries runs in
+      omega (arith, retries, below);
   frame = is.frame;
 }
 

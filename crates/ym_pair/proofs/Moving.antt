@@ -64,7 +64,7 @@ reads-move counts place mode cs (sends_next m before e) = moves-next counts plac
 reads-move counts place mode cs (cancels_next m before e) = moves-next counts place mode cs m before (ap (λ (r : Reading). r.place) e)
 
 missed-place : (s : Standing) → (missed s).standing.place ≡ s.place
-missed-place s = cond_both (nat_lt (s.misses + 1) GIVE_UP) _ _ (λ (x : Step). x.standing.place ≡ s.place) (λ e. refl) (λ e. refl)
+missed-place s = cond_both (nat_lt (s.retries + 1) GIVE_UP) _ _ (λ (x : Step). x.standing.place ≡ s.place) (λ e. refl) (λ e. refl)
 
 through-place : (s : Standing) (place : Place) (old new : Mode) → ((read_through s place old new).standing.place ≡ s.place) ⊎ ((read_through s place old new).standing.place ≡ place)
 through-place s place Sent Sent = inl (missed-place s)
@@ -123,7 +123,7 @@ acked-end counts place (Can ∷ Ack ∷ cs) stop = acked-end counts place (Ack �
 acked-end counts place _ stop = absurd cc
 
 missed-goes : (s : Standing) → s.state ≡ Running → (missed s).standing.state ≡ Finished → ⊥
-missed-goes s on = cond_both (nat_lt (s.misses + 1) GIVE_UP) _ _ (λ (x : Step). x.standing.state ≡ Finished → ⊥) (λ e over. absurd cc) (λ e over. absurd cc)
+missed-goes s on = cond_both (nat_lt (s.retries + 1) GIVE_UP) _ _ (λ (x : Step). x.standing.state ≡ Finished → ⊥) (λ e over. absurd cc) (λ e over. absurd cc)
 
 through-goes : (s : Standing) (place : Place) (old new : Mode) → s.state ≡ Running → (read_through s place old new).standing.state ≡ Finished → ⊥
 through-goes s place Sent Sent on over = missed-goes s on over

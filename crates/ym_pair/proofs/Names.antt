@@ -44,11 +44,11 @@ pub use Rattle.ym_link.specs.Port.{Tape}
 pub use Rattle.ym_link.specs.ReceiverInto.{HearsGives, ReceiverParts, called}
 pub use Rattle.ym_link.specs.SendOver.{written_for}
 pub use Rattle.ym_link.specs.Sender.{IsFilled, IsSender, IsStep, SenderParts, counts, spoken}
-pub use Rattle.ym_link.specs.SenderStands.{Batch}
+pub use Rattle.ym_link.specs.SenderRefines.{Batch}
 pub use Rattle.ym_line.specs.Completion.{longest_bad_run}
 pub use Rattle.ym_line.specs.Promise.{AreNew}
 pub use Rattle.ym_line.specs.Rounds.{Goes, Pair, seen_of, sent_by}
-pub use Rattle.ym_line.specs.Turns.{CommitsFirst, PairStands}
+pub use Rattle.ym_line.specs.Turns.{CommitsFirst, PairRefines}
 pub use Rattle.ym_line.specs.declared.delivery.Delivery.{Delivery}
 pub use Rattle.ym_line.specs.declared.delivery.Delivery.TheVariants.{Lost}
 pub use Rattle.ym_line.specs.declared.delivery.Round.{Round}

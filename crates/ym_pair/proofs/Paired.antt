@@ -5,7 +5,7 @@ use Rattle.ym_pair.proofs.Names.{verdict_of, Control, Ack, Can, Reply, Silence, 
 use Rattle.ym_frame.specs.Frame.{IsBytes, IsVerdict, HasFrame}
 use Rattle.ym_frame.specs.declared.control.Control.TheVariants.{Nak}
 use Rattle.ym_frame.specs.declared.frame.Broken.{Broken}
-use Rattle.ym_machine.specs.Halves as machine
+use Rattle.ym_machine.specs.Steps as machine
 use Rattle.ym_machine.specs.Run.{came_back}
 use Rattle.ym_core.specs.Hearing.{heard_at}
 use Rattle.ym_core.specs.declared.state.SendState.TheVariants as send_state
@@ -146,7 +146,7 @@ ended-is s new cs is on heard over =
     record {
       files = filled_files failed fills s.files new.files heard.1.files is.files;
       place = subst (λ c. IsPlace c new.standing.place) (sym counted) (moved-place (counts s) s.standing.place new.standing.place s.standing.mode cs is.place (step-moves s cs failed new on heard.1));
-      misses = λ runs. absurd (over runs);
+      retries = λ runs. absurd (over runs);
       frame = λ runs. absurd (over runs);
     }
 
@@ -203,7 +203,7 @@ nothing-back within whole delivery came back =
 
 -- ---- A round
 
--- the half there: what there was to send arrives
+-- the receiver's half of a round: what there was to send arrives
 pub paired-half : Computed → (s : SenderParts) (r after : ReceiverParts) (heard : Heard) (reply : Reply) (there : Delivery) → IsSender s → ArrivesThere there (sent_by s) heard →
     HearsGives r heard (Ok reply) after → GoesThere there (ends s r) reply (ends s after)
 paired-half computed s r after heard reply there is arrives_there gives = record {

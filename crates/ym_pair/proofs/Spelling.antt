@@ -7,7 +7,7 @@ use Rattle.std.proofs.lemmas.List.Elements.{All-append, All-cons}
 use Rattle.ym_pair.proofs.Names.{Reply, Item, HeaderParts, File, Kept, Confirm, Twice, block, eots, spelling, Heard, OpenFile, Stage, AwaitHeader, InFile, RecvState, Receiver, No_call, Step, called, GIVE_UP}
 use Rattle.ym_frame.specs.declared.frame.Item.TheVariants as item
 use Rattle.ym_header.specs.Header.{length_limit}
-use Rattle.ym_header.specs.Reading.{Reads}
+use Rattle.ym_header.specs.HeaderReading.{Reads}
 use Rattle.ym_file.specs.Collecting.{keep, keep_all}
 use Rattle.ym_file.specs.Kept.{Told, told_begun, told_added, told_committed}
 use Rattle.ym_pair.specs.AnyPeer.{FileHeard, bytes_heard, header_heard, blocks_from, items_of, IsSpelled}
@@ -109,7 +109,7 @@ module _ (confirm : Confirm) (items : List Item) (h : Heard) (kept : Kept) where
 
   pub after-stays : (r : Receiver) (reply : Reply) → r.confirm ≡ confirm → Holds confirm items r.stage kept → After confirm items h kept (stays r reply)
   after-stays r reply same holds =
-      either (nat_lt (r.count + 1) GIVE_UP) _ _
+      either (nat_lt (r.retries + 1) GIVE_UP) _ _
       (λ e. record { confirm_is = same; more = []; heard_as = tt; holds = nothing r.stage holds })
       (λ e. record { confirm_is = same; more = []; heard_as = tt; holds = nothing r.stage holds })
 

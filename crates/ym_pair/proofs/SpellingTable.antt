@@ -12,7 +12,7 @@ use Rattle.ym_core.specs.declared.delivery.Heard.TheVariants as heard
 use Rattle.ym_core.specs.declared.state.RecvState.TheVariants as state
 use Rattle.ym_core.specs.Receiver.{zero_heard, awaiting_hears, block_heard, covered_eot, in_file_hears, running_hears, hears}
 use Rattle.ym_link.specs.ReceiverInto.{IsReceiver, IsOpenFile, outcome}
-use Rattle.ym_core.specs.Step.{StandsFor}
+use Rattle.ym_core.specs.Step.{ReadsAs}
 use Rattle.ym_pair.proofs.Spelling.{Holds, IsHeardAs, After, first_eots, not-true, either, after-ends, after-stays, after-begins, after-adds, after-drops, after-first, after-commits}
 use Rattle.ym_machine.specs.declared.limits.TheConstants.{MOST_FILES}
 
@@ -25,7 +25,7 @@ record Runs (confirm : Confirm) (items : List Item) (stage : Stage) (r : Receive
   here : Holds confirm items r.stage kept
 
 zero-after : (confirm : Confirm) (items : List Item) (h : Heard) (kept : Kept) (r : Receiver) (body : List ℕ) (zero : Result Zero HeaderFault) → Runs confirm items AwaitHeader r kept →
-    StandsFor body zero → h ≡ heard.Item (block 0 body) → After confirm items h kept (zero_heard r zero)
+    ReadsAs body zero → h ≡ heard.Item (block 0 body) → After confirm items h kept (zero_heard r zero)
 zero-after confirm items h kept r body (Ok (File header)) runs reads was =
     either confirm items h kept (nat_lt r.files MOST_FILES) _ _
     (λ e. after-begins confirm items h kept r header body AckStart runs.same (rw runs.stage_is at runs.here) reads was)
@@ -34,7 +34,7 @@ zero-after confirm items h kept r body (Ok End) runs reads was = after-ends conf
 zero-after confirm items h kept r body (Err fault) runs reads was = after-ends confirm items h kept r (state.BadHeader fault) Cancel runs.same runs.here
 
 awaiting-after : (confirm : Confirm) (items : List Item) (h : Heard) (kept : Kept) (r : Receiver) (zero : Result Zero HeaderFault) → Runs confirm items AwaitHeader r kept →
-    ((b : BlockParts) → h ≡ heard.Item (item.Block b) → b.number ≡ 0 → StandsFor b.body zero) → After confirm items h kept (awaiting_hears r zero h)
+    ((b : BlockParts) → h ≡ heard.Item (item.Block b) → b.number ≡ 0 → ReadsAs b.body zero) → After confirm items h kept (awaiting_hears r zero h)
 awaiting-after confirm items (heard.Item (item.Block b)) kept r zero runs means =
     let h : Heard = heard.Item (item.Block b) in
     either confirm items h kept (b.number == 0) _ _
@@ -88,7 +88,7 @@ in-file-after confirm items heard.Bad kept r file runs within =
     (λ e. after-stays confirm items heard.Bad kept r Nak runs.same runs.here)
 
 running-after : (confirm : Confirm) (items : List Item) (h : Heard) (kept : Kept) (r : Receiver) (stage : Stage) (zero : Result Zero HeaderFault) → Runs confirm items stage r kept →
-    IsOpenFile stage kept → (stage ≡ AwaitHeader → (b : BlockParts) → h ≡ heard.Item (item.Block b) → b.number ≡ 0 → StandsFor b.body zero) → After confirm items h kept (running_hears r stage zero h)
+    IsOpenFile stage kept → (stage ≡ AwaitHeader → (b : BlockParts) → h ≡ heard.Item (item.Block b) → b.number ≡ 0 → ReadsAs b.body zero) → After confirm items h kept (running_hears r stage zero h)
 running-after confirm items h kept r AwaitHeader zero runs open_file means = awaiting-after confirm items h kept r zero runs (means refl)
 running-after confirm items h kept r (InFile file) zero runs open_file means = in-file-after confirm items h kept r file runs open_file.4
 

@@ -5,7 +5,7 @@ use Rattle.ym_frame.specs.declared.control.Control.TheVariants.{Ack, Can}
 use Rattle.ym_frame.specs.declared.frame.Item.{Item}
 use Rattle.ym_frame.specs.declared.frame.Item.TheVariants.{Block, Eot}
 use Rattle.ym_header.specs.Header.{HeaderParts, length_limit}
-use Rattle.ym_header.specs.Reading.{Reads}
+use Rattle.ym_header.specs.HeaderReading.{Reads}
 use Rattle.ym_header.specs.declared.reading.Zero.TheVariants.{File}
 use Rattle.ym_file.specs.Collecting.{keep_all}
 use Rattle.ym_file.specs.Kept.{Kept, Told}

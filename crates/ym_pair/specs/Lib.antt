@@ -1,4 +1,4 @@
 pub mod AnyPeer
-pub mod Examples
+pub mod PairingExamples
 pub mod Logs
 pub mod Pairing

@@ -13,7 +13,7 @@ use Rattle.ym_header.specs.declared.limits.TheConstants.{MOST_NAME_BYTES}
 use Rattle.ym_header.specs.declared.stamp.Stamp.{Stamp}
 use Rattle.ym_file.specs.SourceFile.{FileParts}
 use Rattle.ym_play.specs.Command.{StampWords}
-use Rattle.ym_play.specs.Fault.{IsRefusal, refusal_of}
+use Rattle.ym_play.specs.PlayFault.{IsRefusal, refusal_of}
 use Rattle.ym_play.specs.Value.{bytes_at, stamp_at}
 use Rattle.ym_play.specs.Script.{is_name, named_file, file_at}
 use Rattle.ym_play.specs.declared.fault.ScriptWhy.TheVariants as why

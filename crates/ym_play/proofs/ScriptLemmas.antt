@@ -4,7 +4,7 @@ use Rattle.std.proofs.lemmas.Bool.{false_from_ne_true}
 use Rattle.std.proofs.lemmas.List.{at_drop_more, drop_all}
 use Rattle.std.specs.Str.{IsUtf8, is_utf8}
 use Rattle.std.proofs.lemmas.Str.{IsUtf8-from_is_utf8}
-use Rattle.ym_play.specs.Fault.{IsFault, IsRefusal, fault_at}
+use Rattle.ym_play.specs.PlayFault.{IsFault, IsRefusal, fault_at}
 use Rattle.ym_play.specs.Script.{ScriptParts, line_read, lines_read, numbered, ◌>>>◌}
 use Rattle.ym_play.specs.declared.fault.Refusal.{Refusal}
 use Rattle.ym_play.specs.declared.fault.Refusal.TheVariants as refusal

@@ -10,7 +10,7 @@ use Rattle.ym_core.specs.declared.state.RecvState.TheVariants as recv
 use Rattle.ym_core.specs.declared.state.SendState.{SendState}
 use Rattle.ym_core.specs.declared.state.SendState.TheVariants as send
 use Rattle.ym_line.specs.Rounds.{Pair, IsTrace, StopsIn}
-use Rattle.ym_line.specs.Text.{trace_text}
+use Rattle.ym_line.specs.TraceText.{trace_text}
 use Rattle.ym_line.specs.declared.delivery.Handed.{Handed}
 use Rattle.ym_line.specs.declared.fault.LineFault.{LineFault}
 use Rattle.ym_line.specs.declared.fault.LineFault.TheVariants as round

@@ -1,7 +1,7 @@
 //! Why a script is not played to its end.
 
 ghost use Rattle.std.specs.Prelude.{◌≡◌, Some};
-ghost use Rattle.ym_play.specs.Fault.{fault_at};
+ghost use Rattle.ym_play.specs.PlayFault.{fault_at};
 ghost use Rattle.ym_play.specs.FaultText.{why_text, round_text, play_text};
 
 use std::alloc::{AllocError, AllocFailed};
@@ -111,7 +111,7 @@ impl fmt::Display for PlayFault {
 impl Error for PlayFault {}
 
 impl From<LineFault> for PlayFault {
-    ghost use Rattle.ym_play.specs.Fault.{line_fault};
+    ghost use Rattle.ym_play.specs.PlayFault.{line_fault};
     ghost use Rattle.std.specs.Prelude.{◌≡◌};
 
     ghost from_gives = { λ fault e. e ≡ line_fault fault };
@@ -157,7 +157,7 @@ impl From<ScriptWhy> for Refusal {
 }
 
 impl From<HeaderFault> for Refusal {
-    ghost use Rattle.ym_play.specs.Fault.{refusal_of};
+    ghost use Rattle.ym_play.specs.PlayFault.{refusal_of};
     ghost use Rattle.std.specs.Prelude.{◌≡◌};
 
     ghost from_gives = { λ fault refusal. refusal ≡ refusal_of fault };

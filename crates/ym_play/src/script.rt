@@ -2,7 +2,7 @@
 
 ghost use Rattle.std.specs.Prelude.{◌≡◌, ◌≤◌, ◌+◌, ◌++◌, length, replicate, vec_len, OnOk, Ok};
 ghost use Rattle.ym_play.specs.Command.{command_in, delivery_in, stamp_in};
-ghost use Rattle.ym_play.specs.Fault.{Gives, Reads};
+ghost use Rattle.ym_play.specs.PlayFault.{Gives, Reads};
 ghost use Rattle.ym_play.specs.Script.{empty, early, file_at, followed, line_read, lines_of, lines_read, script_of, whole_round, with_round, with_whole, with_written_file};
 ghost use Rattle.ym_play.specs.declared.limits.TheConstants.{MOST_SCRIPT_BYTES};
 

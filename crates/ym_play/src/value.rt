@@ -4,7 +4,7 @@ ghost use Rattle.std.specs.Prelude.{◌≡◌, ◌<◌, ◌^◌};
 ghost use Rattle.std.specs.Option.{SomeIff};
 ghost use Rattle.std.specs.Str.Parse.{IsNumeral, digits_value};
 ghost use Rattle.ym_play.specs.Command.{stamp_in, delivery_in};
-ghost use Rattle.ym_play.specs.Fault.{Gives};
+ghost use Rattle.ym_play.specs.PlayFault.{Gives};
 ghost use Rattle.ym_play.specs.Value.{count_at, octal_at, stamp_at, bytes_at, hex_at, delivery_at};
 
 use crate::command::{DeliveryText, StampText};

@@ -13,8 +13,8 @@ use Rattle.clap.proofs.WalkLemmas.{first_value-rows}
 use Rattle.clap.proofs.OnLiterals.{clap_on_literals}
 use Rattle.ym_words.specs.declared.job.JobFault.{JobFault}
 use Rattle.ym_words.specs.declared.job.JobFault.TheVariants as fault
-use Rattle.ym_words.specs.Port.{read_on, IsPort, port_value}
-use Rattle.ym_words.specs.Command.{the_app}
+use Rattle.ym_words.specs.PortNumber.{read_on, IsPort, port_value}
+use Rattle.ym_words.specs.CommandLine.{the_app}
 use Rattle.ym_words.specs.Job.{FaultSays, IsKind, Asked}
 
 pub own : IsNumeralModel (λ ds. all_ascii_digits ds ≡ true) (read_on 0)

@@ -2,7 +2,7 @@
 use Rattle.std.specs.Prelude.{◌≡◌, ℕ, Bool, false, List, [], map, Option, Some, None, codes, if◌then◌else◌}
 use Rattle.clap.specs.Words.{Row, Text, Kinds, IsAmong, kind_of, all_of, first_of}
 use Rattle.std.specs.Str.{bytes_eq}
-use Rattle.ym_words.specs.Port.{port_value}
+use Rattle.ym_words.specs.PortNumber.{port_value}
 use Rattle.ym_words.specs.declared.job.ReceiveFlags.{ReceiveFlags}
 use Rattle.ym_words.specs.declared.job.TellFlags.{TellFlags}
 use Rattle.ym_words.specs.declared.job.Job.{Job}

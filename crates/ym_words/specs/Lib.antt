@@ -1,3 +1,3 @@
-pub mod Command
-pub mod Port
+pub mod CommandLine
+pub mod PortNumber
 pub mod Job

@@ -2,7 +2,7 @@
 
 ghost use Rattle.std.specs.Prelude.{◌≡◌, IfOk, false};
 ghost use Rattle.clap.specs.Words.{app_of, rule_of};
-ghost use Rattle.ym_words.specs.Command.{the_app, port_rule, short_rule, single_rule, eager_rule, keep_rule, no_sync_rule, discard_parts_rule, verbose_rule, quiet_rule, files_rule, dir_rule, with_telling, bare_app, play_app, loop_app, send_app, line_app, asking_app, receive_app};
+ghost use Rattle.ym_words.specs.CommandLine.{the_app, port_rule, short_rule, single_rule, eager_rule, keep_rule, no_sync_rule, discard_parts_rule, verbose_rule, quiet_rule, files_rule, dir_rule, with_telling, bare_app, play_app, loop_app, send_app, line_app, asking_app, receive_app};
 ghost use Rattle.clap.specs.declared.builder.command.Command.TheViews.{out-Command};
 
 use clap::{Arg, ArgAction, Command};

@@ -2,8 +2,8 @@
 
 ghost use Rattle.std.specs.Prelude.{◌≡◌, [], IfOk, IfErr, Some, None, true, map, codes, string_bytes};
 ghost use Rattle.clap.specs.Words.{takes, fault_of, subcommand_of, rows_of, found_of, first_of};
-ghost use Rattle.ym_words.specs.Command.{the_app};
-ghost use Rattle.ym_words.specs.Port.{port_value};
+ghost use Rattle.ym_words.specs.CommandLine.{the_app};
+ghost use Rattle.ym_words.specs.PortNumber.{port_value};
 ghost use Rattle.ym_words.specs.Job.{asked, asked_for, asked_of, FaultSays, IsKind, flag_of, receive_flags_of, tell_flags_of};
 
 use crate::command::the_command;

@@ -2,7 +2,7 @@
 
 ghost use Rattle.std.specs.Prelude.{◌≡◌};
 ghost use Rattle.std.specs.Str.{all_ascii_digits};
-ghost use Rattle.ym_words.specs.Port.{IsPort};
+ghost use Rattle.ym_words.specs.PortNumber.{IsPort};
 
 fn is_digits(text: &str) -> bool
     ensures { result ≡ all_ascii_digits text.now }

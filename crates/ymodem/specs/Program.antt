@@ -12,7 +12,7 @@ use Rattle.ym_host.specs.declared.dir_sink.Leftover.{Leftover}
 use Rattle.ym_host.specs.declared.dir_sink.Leftover.TheVariants.{Refused, Discarded}
 use Rattle.ym_line.specs.declared.delivery.Handed.{Handed}
 use Rattle.ym_play.specs.Session.{SessionGives}
-use Rattle.ym_words.specs.Command.{the_app}
+use Rattle.ym_words.specs.CommandLine.{the_app}
 use Rattle.ym_words.specs.Job.{Asked, asked}
 use Rattle.ym_words.specs.Job as job
 use Rattle.ym_jobs.specs.Desk.{Desk, IsSession}

@@ -5,7 +5,7 @@ ghost use Rattle.ym_header.specs.declared.reading.Zero.{Zero};
 ghost use Rattle.ym_header.specs.declared.fault.HeaderFault.{HeaderFault};
 ghost use Rattle.ym_core.specs.Receiver as table;
 ghost use Rattle.ym_core.specs.HeardRef.{owned_heard};
-ghost use Rattle.ym_core.specs.Step.{Hears, Moves, IsStep, StandsFor};
+ghost use Rattle.ym_core.specs.Step.{Hears, Moves, IsStep, ReadsAs};
 
 use super::ReceiverCore;
 use crate::ask::{Ask, Step};
@@ -46,17 +46,17 @@ impl ReceiverCore {
         ensures step { IsStep result (table.stays self reply) }
         ensures moves { Moves self result }
     {
-        let count = self.count + 1;
-        if count < GIVE_UP {
+        let retries = self.retries + 1;
+        if retries < GIVE_UP {
             return Step {
-                core: ReceiverCore { count, ..self },
+                core: ReceiverCore { retries, ..self },
                 reply,
                 ask: Ask::Nothing,
             };
         }
         Step {
             core: ReceiverCore {
-                count,
+                retries,
                 state: RecvState::TooManyErrors,
                 ..self
             },
@@ -110,7 +110,7 @@ impl ReceiverCore {
         requires running { self.state ≡ RecvState.Running }
         requires awaiting { self.stage ≡ Stage.AwaitHeader }
         requires sized { (list_length body.now ≡ 128) ⊎ (list_length body.now ≡ 1024) }
-        ensures step { (zero : Result Zero HeaderFault) × StandsFor body.entry.now zero × IsStep result (table.zero_heard self zero) }
+        ensures step { (zero : Result Zero HeaderFault) × ReadsAs body.entry.now zero × IsStep result (table.zero_heard self zero) }
         ensures moves { Moves self result }
     {
         match read_borrowed(body) {
@@ -139,7 +139,7 @@ impl ReceiverCore {
         Step {
             core: ReceiverCore {
                 stage: Stage::InFile(file),
-                count: 0,
+                retries: 0,
                 ..self
             },
             reply: Reply::AckStart,
@@ -217,7 +217,7 @@ impl ReceiverCore {
         Step {
             core: ReceiverCore {
                 stage: Stage::InFile(file),
-                count: 0,
+                retries: 0,
                 ..self
             },
             reply: Reply::Ack,
@@ -235,12 +235,12 @@ impl ReceiverCore {
     {
         let blocks = file.blocks + 1;
         let stage = Stage::InFile(OpenFile { blocks, ..file });
-        let count = self.count + 1;
-        if count < GIVE_UP {
+        let retries = self.retries + 1;
+        if retries < GIVE_UP {
             return Step {
                 core: ReceiverCore {
                     stage,
-                    count,
+                    retries,
                     ..self
                 },
                 reply: Reply::Ack,
@@ -250,7 +250,7 @@ impl ReceiverCore {
         Step {
             core: ReceiverCore {
                 stage,
-                count,
+                retries,
                 state: RecvState::TooManyErrors,
                 ..self
             },
@@ -277,7 +277,7 @@ impl ReceiverCore {
             return Step {
                 core: ReceiverCore {
                     stage: Stage::InFile(file),
-                    count: 0,
+                    retries: 0,
                     ..self
                 },
                 reply: Reply::Nak,
@@ -288,7 +288,7 @@ impl ReceiverCore {
             core: ReceiverCore {
                 stage: Stage::AwaitHeader,
                 files: self.files + 1,
-                count: 0,
+                retries: 0,
                 ..self
             },
             reply: Reply::AckStart,

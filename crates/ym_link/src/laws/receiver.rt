@@ -14,11 +14,11 @@ ghost use Rattle.ym_file.specs.declared.plan.Shape.{Shape};
 ghost use Rattle.ym_machine.specs.declared.confirm.Confirm.{Confirm};
 ghost use Rattle.ym_machine.specs.Frames.{File, frames_of};
 ghost use Rattle.ym_machine.specs.State.{State, start};
-ghost use Rattle.ym_machine.specs.Machine.{IsMachine};
+ghost use Rattle.ym_machine.specs.Machine.{Invariant};
 ghost use Rattle.ym_core.specs.Receiver.{Receiver, hears, new_receiver};
-ghost use Rattle.ym_core.specs.Step.{StandsFor, Means};
+ghost use Rattle.ym_core.specs.Step.{ReadsAs, Means};
 ghost use Rattle.ym_link.specs.ReceiverInto.{ReceiverParts, HearsGives};
-ghost use Rattle.ym_link.specs.ReceiverStands.{IsSent, IsBatch, bytes_of, ReceiverStands, heard_there, Follows};
+ghost use Rattle.ym_link.specs.ReceiverRefines.{IsSent, IsBatch, bytes_of, ReceiverRefines, heard_there, Follows};
 
 use ym_file::laws::{covered_by_the_last_piece, pieces_give_the_file};
 use ym_header::laws::{one_meaning, written_is_read};
@@ -28,10 +28,10 @@ use ym_machine::laws::{files_within_a_batch, places_of_a_batch};
 /// A body stands for one thing: the body that is written for a header for that header, and the body that ends a batch
 /// for the end.
 pub fn a_block_zero_means_one_thing()
-    ensures some { (body : List ℕ) → (zero : Result Zero HeaderFault) × StandsFor body zero }
-    ensures one { (body : List ℕ) (x y : Result Zero HeaderFault) → StandsFor body x → StandsFor body y → x ≡ y }
-    ensures header { (h : HeaderParts) → IsHeader length_limit h → StandsFor (text h) (Ok (zero_is.File h)) }
-    ensures end { StandsFor end_text (Ok zero_is.End) }
+    ensures some { (body : List ℕ) → (zero : Result Zero HeaderFault) × ReadsAs body zero }
+    ensures one { (body : List ℕ) (x y : Result Zero HeaderFault) → ReadsAs body x → ReadsAs body y → x ≡ y }
+    ensures header { (h : HeaderParts) → IsHeader length_limit h → ReadsAs (text h) (Ok (zero_is.File h)) }
+    ensures end { ReadsAs end_text (Ok zero_is.End) }
 {
     one_meaning();
     written_is_read();
@@ -54,12 +54,12 @@ impl Batch for Headers {
     ghost Header = { HeaderParts };
 }
 
-/// A receiver that stands at a state of the machine goes, with each delivery, where the machine's half there goes, and
-/// gives its reply; and a new one stands at the start.
+/// A receiver that refines a state of the machine goes, with each delivery, where the machine's receiver step goes, and
+/// gives its reply; and a new one refines the start.
 pub fn a_standing_receiver_follows_the_machine()
-    ensures start { (confirm : Confirm) (files : List (File HeaderParts)) (kept : Kept) → IsNew kept → ReceiverStands confirm files start (new_receiver confirm) kept }
+    ensures start { (confirm : Confirm) (files : List (File HeaderParts)) (kept : Kept) → IsNew kept → ReceiverRefines confirm files start (new_receiver confirm) kept }
     ensures follows { (confirm : Confirm) (files : List (File HeaderParts)) (whole : Bool) (st : State) (old : ReceiverParts) (reply : Reply) (new : ReceiverParts) →
-        IsBatch files → IsMachine confirm (frames_of files) st → ReceiverStands confirm files st old.receiver old.kept →
+        IsBatch files → Invariant confirm (frames_of files) st → ReceiverRefines confirm files st old.receiver old.kept →
         HearsGives old (heard_there files whole st) (Ok reply) new → Follows confirm files whole st old reply new }
 {
     a_block_zero_means_one_thing();

@@ -7,13 +7,13 @@ ghost use Rattle.ym_machine.specs.Frames.{frames_of, count_within};
 ghost use Rattle.ym_frame.specs.Control.{IsSubsequence, reply_bytes, controls as control_bytes};
 ghost use Rattle.ym_frame.specs.declared.control.Control.{Control};
 ghost use Rattle.ym_frame.specs.declared.control.Reply.{Reply};
-ghost use Rattle.ym_machine.specs.Halves.{back, is_within, IsRemnant, controls as reply_controls};
+ghost use Rattle.ym_machine.specs.Steps.{sender_step, is_within, IsRemnant, controls as reply_controls};
 ghost use Rattle.ym_machine.specs.State.{State, start, said};
 ghost use Rattle.ym_file.specs.SourceFile.{FileParts, IsFile, counts_of};
 ghost use Rattle.ym_core.specs.Place.{done_at};
 ghost use Rattle.ym_link.specs.Sender.{SenderParts, IsSender, IsStep, counts, spoken};
 ghost use Rattle.ym_core.specs.Standing.{new_standing};
-ghost use Rattle.ym_link.specs.SenderStands.{Batch, IsFileOf, SenderStands, IsSaid, AllTold, batch_of};
+ghost use Rattle.ym_link.specs.SenderRefines.{Batch, IsFileOf, SenderRefines, IsSaid, AllTold, batch_of};
 ghost use Rattle.ym_core.specs.declared.standing.Standing.{Standing};
 ghost use Rattle.ym_core.specs.declared.state.SendState.TheVariants.{Running};
 ghost use Rattle.ym_core.specs.Reading.{controls_in};
@@ -33,7 +33,7 @@ pub fn a_settled_delivery_stays()
 pub fn progress_is_a_change()
     ensures { (counts : List ℕ) (old : Standing) (bytes : List ℕ) → (hears counts old (controls_in bytes)).standing.state ≡ Running →
         let new = (hears counts old (controls_in bytes)).standing in
-        ((new.misses ≡ 0) × ¬ IsSame old new) ⊎ ((new.misses ≡ old.misses + 1) × IsSame old new) }
+        ((new.retries ≡ 0) × ¬ IsSame old new) ⊎ ((new.retries ≡ old.retries + 1) × IsSame old new) }
 {}
 
 /// What comes back of a reply holds its controls, with some of them left out where the delivery is
@@ -47,20 +47,20 @@ pub fn what_came_back_is_of_the_reply()
     what_comes_back();
 }
 
-/// A new sender stands at the start. A sender that stands at a state of the machine stands, after a
-/// delivery, where the machine goes in the half back, with the truth whether its source failed; it
+/// A new sender refines the start. A sender that refines a state of the machine refines, after a
+/// delivery, the one that the machine's sender step leads to, with the truth whether its source failed; it
 /// says what the machine's sender says, where its sources tell their bytes; and it has done the
 /// files that the machine's sender reports.
 pub fn a_sender_follows_the_machine()
     ensures starts { (shape : Shape) (sources : List FileParts) (files : Batch) (frame : List ℕ) → AllZip (IsFileOf shape) sources files →
-        SenderStands files start (record { standing = new_standing (counts_of shape sources); shape = shape; files = sources; frame = frame }) }
+        SenderRefines files start (record { standing = new_standing (counts_of shape sources); shape = shape; files = sources; frame = frame }) }
     ensures batch { (shape : Shape) (sources : List FileParts) → All IsFile sources → AllZip (IsFileOf shape) sources (batch_of shape sources) }
     ensures follows { (files : Batch) (st : State) (old new : SenderParts) (bytes : List ℕ) (failed : Bool) →
-        SenderStands files st old → IsRemnant (controls_in bytes) → IsStep old (hears (counts old) old.standing (controls_in bytes)) failed new →
-        SenderStands files (back (frames_of files) failed (controls_in bytes) st) new }
-    ensures says { (files : Batch) (st : State) (sender : SenderParts) → SenderStands files st sender → IsSender sender → AllTold sender.files →
+        SenderRefines files st old → IsRemnant (controls_in bytes) → IsStep old (hears (counts old) old.standing (controls_in bytes)) failed new →
+        SenderRefines files (sender_step (frames_of files) failed (controls_in bytes) st) new }
+    ensures says { (files : Batch) (st : State) (sender : SenderParts) → SenderRefines files st sender → IsSender sender → AllTold sender.files →
         IsSaid files (said st) (spoken sender) }
-    ensures done { (files : Batch) (st : State) (sender : SenderParts) → SenderStands files st sender →
+    ensures done { (files : Batch) (st : State) (sender : SenderParts) → SenderRefines files st sender →
         done_at (length sender.files) sender.standing.place ≡ count_within files st.acknowledged }
 {
     one_pieces();

@@ -12,8 +12,8 @@ impl<K: Sink> ReceiverInto<K> {
     pub(crate) fn stand(&self) -> Stand
         ensures stand { result ≡ self.now.receiver }
         ensures files { result.files ≤ MOST_FILES }
-        ensures count { result.count ≤ GIVE_UP }
-        ensures runs { result.state ≡ RecvState.Running → result.count < GIVE_UP }
+        ensures retries { result.retries ≤ GIVE_UP }
+        ensures runs { result.state ≡ RecvState.Running → result.retries < GIVE_UP }
         ensures blocks { (file : OpenFile) → result.stage ≡ Stage.InFile file → file.blocks < 2 ^ 64 - 1 }
     {
         // what always holds of a receiver is known once a field was read

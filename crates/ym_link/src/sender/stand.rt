@@ -12,7 +12,7 @@ impl<S: Source> SenderFrom<S> {
     /// Where it stands.
     pub(crate) fn standing(&self) -> Standing
         ensures standing { result ≡ self.now.standing }
-        ensures misses { result.state ≡ SendState.Running → result.misses < GIVE_UP }
+        ensures retries { result.state ≡ SendState.Running → result.retries < GIVE_UP }
     {
         self.standing
     }

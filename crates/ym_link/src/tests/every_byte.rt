@@ -79,7 +79,7 @@ fn hears_alike(alloc: Global, sender: &mut Sender, bytes: &[u8]) -> Result<bool,
         (SendState::Running, Mode::Sent) => {
             sender.frame() == Some(frame_of(alloc, standing.place)?.as_bytes())
         }
-        _ if standing.farewell => sender.frame() == Some(&[0x18, 0x18]),
+        _ if standing.cancel_pending => sender.frame() == Some(&[0x18, 0x18]),
         _ => sender.frame().is_none(),
     };
     Ok(told.standing == standing && spoken)
@@ -98,7 +98,7 @@ fn delivery(index: usize) -> ([u8; 2], usize)
 
 /// Compares each delivery, and one more behind it, at one frame of the batch: waiting or not, after so many empty
 /// deliveries.
-fn compare_sender(alloc: Global, frame: usize, mode: Mode, misses: usize) -> Result<bool, Fail> {
+fn compare_sender(alloc: Global, frame: usize, mode: Mode, retries: usize) -> Result<bool, Fail> {
     for index in 0..272 {
         let mut sender = new_sender(alloc)?;
         for _ in 0..frame {
@@ -108,7 +108,7 @@ fn compare_sender(alloc: Global, frame: usize, mode: Mode, misses: usize) -> Res
         if mode == Mode::Sent {
             alike = hears_alike(alloc, &mut sender, &[0x43])?;
         }
-        for _ in 0..misses {
+        for _ in 0..retries {
             alike = alike && hears_alike(alloc, &mut sender, &[])?;
         }
         let (bytes, count) = delivery(index);
@@ -124,9 +124,9 @@ fn compare_sender(alloc: Global, frame: usize, mode: Mode, misses: usize) -> Res
 fn every_state_of_a_sender(rt: HostRuntime) -> Result<(), Fail> {
     for frame in 0..FRAMES {
         for mode in [Mode::Waiting, Mode::Sent] {
-            for misses in [0, 9, 10, 11] {
-                let alike = compare_sender(rt.alloc(), frame, mode, misses)?;
-                assert!(rt; alike, "at frame {frame} after {misses}");
+            for retries in [0, 9, 10, 11] {
+                let alike = compare_sender(rt.alloc(), frame, mode, retries)?;
+                assert!(rt; alike, "at frame {frame} after {retries}");
             }
         }
     }
@@ -218,13 +218,13 @@ fn steps_alike(
     alloc: Global,
     receiver: &mut Receiver,
     steps: usize,
-    misses: usize,
+    retries: usize,
 ) -> Result<bool, Fail> {
     let mut alike = true;
     for at in 0..steps {
         alike = alike && answers_alike(alloc, receiver, &step(alloc, at)?)?;
     }
-    for _ in 0..misses {
+    for _ in 0..retries {
         alike = alike && answers_alike(alloc, receiver, &Heard::Bad)?;
     }
     Ok(alike)
@@ -244,11 +244,11 @@ fn compare_receiver(
     alloc: Global,
     confirm: Confirm,
     steps: usize,
-    misses: usize,
+    retries: usize,
 ) -> Result<bool, Fail> {
     for index in 0..284 {
         let mut receiver = new_receiver(alloc, confirm);
-        if !steps_alike(alloc, &mut receiver, steps, misses)?
+        if !steps_alike(alloc, &mut receiver, steps, retries)?
             || !ends_alike(alloc, &mut receiver, index)?
         {
             return Ok(false);
@@ -261,9 +261,9 @@ fn compare_receiver(
 fn every_state_of_a_receiver(rt: HostRuntime) -> Result<(), Fail> {
     for confirm in [Confirm::Twice, Confirm::Once] {
         for steps in 0..=11 {
-            for misses in [0, 9, 10] {
-                let alike = compare_receiver(rt.alloc(), confirm, steps, misses)?;
-                assert!(rt; alike, "after {steps} steps and {misses}");
+            for retries in [0, 9, 10] {
+                let alike = compare_receiver(rt.alloc(), confirm, steps, retries)?;
+                assert!(rt; alike, "after {steps} steps and {retries}");
             }
         }
     }

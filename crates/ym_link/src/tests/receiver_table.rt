@@ -10,14 +10,14 @@ use ym_machine::Confirm;
 
 /// Progress.
 fn goes_on(stand: Stand, stage: Stage, reply: Reply) -> (Stand, Reply)
-    ensures stand { result.0 ≡ record stand { stage = stage; count = 0 } }
+    ensures stand { result.0 ≡ record stand { stage = stage; retries = 0 } }
     ensures reply { result.1 ≡ reply }
 {
-    let count = 0;
+    let retries = 0;
     (
         Stand {
             stage,
-            count,
+            retries,
             ..stand
         },
         reply,
@@ -26,14 +26,14 @@ fn goes_on(stand: Stand, stage: Stage, reply: Reply) -> (Stand, Reply)
 
 /// No progress, for the tenth time in a row the end.
 fn stays(stand: Stand, reply: Reply) -> (Stand, Reply)
-    requires { stand.count < 10 }
+    requires { stand.retries < 10 }
     ensures stand { result.0 ≡ (table.stays stand reply).receiver }
     ensures reply { result.1 ≡ (table.stays stand reply).reply }
 {
-    if stand.count == 9 {
+    if stand.retries == 9 {
         return (
             Stand {
-                count: 10,
+                retries: 10,
                 state: RecvState::TooManyErrors,
                 ..stand
             },
@@ -42,7 +42,7 @@ fn stays(stand: Stand, reply: Reply) -> (Stand, Reply)
     }
     (
         Stand {
-            count: stand.count + 1,
+            retries: stand.retries + 1,
             ..stand
         },
         reply,
@@ -82,7 +82,7 @@ fn zero_heard(stand: Stand, zero: &Result<Zero, HeaderFault>) -> (Stand, Reply)
 
 /// A block of a file.
 fn block_heard(stand: Stand, file: OpenFile, block: &Block) -> (Stand, Reply)
-    requires count { stand.count < 10 }
+    requires retries { stand.retries < 10 }
     requires blocks { file.blocks < 2 ^ 64 - 1 }
     ensures stand { result.0 ≡ (table.block_heard stand file block.now.number block.now.body).receiver }
     ensures reply { result.1 ≡ (table.block_heard stand file block.now.number block.now.body).reply }
@@ -122,7 +122,7 @@ fn block_heard(stand: Stand, file: OpenFile, block: &Block) -> (Stand, Reply)
 
 /// An EOT of a file.
 fn eot_heard(stand: Stand, file: OpenFile) -> (Stand, Reply)
-    requires count { stand.count < 10 }
+    requires retries { stand.retries < 10 }
     requires files { stand.files ≤ 65535 }
     ensures stand { result.0 ≡ (table.eot_heard stand file).receiver }
     ensures reply { result.1 ≡ (table.eot_heard stand file).reply }
@@ -147,7 +147,7 @@ fn eot_heard(stand: Stand, file: OpenFile) -> (Stand, Reply)
 
 /// A delivery to a receiver that runs.
 fn running_hears(stand: Stand, zero: &Result<Zero, HeaderFault>, heard: &Heard) -> (Stand, Reply)
-    requires count { stand.count < 10 }
+    requires retries { stand.retries < 10 }
     requires files { stand.files ≤ 65535 }
     requires blocks { (file : OpenFile) → stand.stage ≡ Stage.InFile file → file.blocks < 2 ^ 64 - 1 }
     ensures stand { result.0 ≡ (table.running_hears stand stand.stage zero.now heard.now).receiver }
@@ -186,7 +186,7 @@ fn running_hears(stand: Stand, zero: &Result<Zero, HeaderFault>, heard: &Heard) 
 
 /// What a delivery makes of a receiver, and the reply to it; `zero` is what the body of a block 0 stands for.
 pub fn hears(stand: Stand, zero: &Result<Zero, HeaderFault>, heard: &Heard) -> (Stand, Reply)
-    requires count { stand.state ≡ RecvState.Running → stand.count < 10 }
+    requires retries { stand.state ≡ RecvState.Running → stand.retries < 10 }
     requires files { stand.files ≤ 65535 }
     requires blocks { (file : OpenFile) → stand.stage ≡ Stage.InFile file → file.blocks < 2 ^ 64 - 1 }
     ensures stand { result.0 ≡ (table.hears stand zero.now heard.now).receiver }

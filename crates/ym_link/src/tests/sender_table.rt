@@ -43,8 +43,8 @@ fn next_of(counts: &[u64], place: Place) -> Place
 }
 
 /// What one control byte does.
-fn turn(counts: &[u64], mode: Mode, control: Control, place: Place) -> Reading
-    ensures { result ≡ reading.turn counts.now mode control place }
+fn read_control(counts: &[u64], mode: Mode, control: Control, place: Place) -> Reading
+    ensures { result ≡ reading.reads_control counts.now mode control place }
 {
     let next = next_of(counts, place);
     let (place, mode, stop) = match (mode, control, place) {
@@ -75,13 +75,13 @@ fn reads_two(counts: &[u64], place: Place, mode: Mode, one: Control, other: Cont
                 stop: Some(Stop::Cancels),
             };
         }
-        return turn(counts, mode, other, place);
+        return read_control(counts, mode, other, place);
     }
-    let read = turn(counts, mode, one, place);
+    let read = read_control(counts, mode, one, place);
     if read.stop.is_some() {
         return read;
     }
-    turn(counts, read.mode, other, read.place)
+    read_control(counts, read.mode, other, read.place)
 }
 
 /// Reads at most two control bytes.
@@ -101,27 +101,27 @@ fn reads(
             mode,
             stop: None,
         },
-        (Some(control), None) => turn(counts, mode, control, place),
-        (None, Some(control)) => turn(counts, mode, control, place),
+        (Some(control), None) => read_control(counts, mode, control, place),
+        (None, Some(control)) => read_control(counts, mode, control, place),
         (Some(one), Some(other)) => reads_two(counts, place, mode, one, other),
     }
 }
 
 /// A delivery without progress.
 fn missed(standing: Standing) -> Step
-    requires { standing.misses < 10 }
+    requires { standing.retries < 10 }
     ensures { result ≡ table.missed standing }
 {
-    let tenth = standing.misses == 9;
+    let tenth = standing.retries == 9;
     Step {
         standing: Standing {
-            misses: standing.misses + 1,
+            retries: standing.retries + 1,
             state: if tenth {
                 SendState::NoReply
             } else {
                 standing.state
             },
-            farewell: tenth || standing.farewell,
+            cancel_pending: tenth || standing.cancel_pending,
             ..standing
         },
         fills: None,
@@ -135,12 +135,12 @@ pub fn hears(
     first: Option<Control>,
     second: Option<Control>,
 ) -> Step
-    requires { standing.state ≡ SendState.Running → standing.misses < 10 }
+    requires { standing.state ≡ SendState.Running → standing.retries < 10 }
     ensures { result ≡ table.hears counts.now standing (cons_option first (cons_option second [])) }
 {
     if standing.state != SendState::Running {
         let standing = Standing {
-            farewell: false,
+            cancel_pending: false,
             ..standing
         };
         return Step {
@@ -152,7 +152,7 @@ pub fn hears(
     let moved = Standing {
         place,
         mode,
-        misses: 0,
+        retries: 0,
         ..standing
     };
     match stop {

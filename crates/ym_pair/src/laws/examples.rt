@@ -8,7 +8,7 @@ ghost use Rattle.ym_file.specs.SourceFile.{FileParts};
 ghost use Rattle.ym_line.specs.Completion.{longest_bad_run};
 ghost use Rattle.ym_line.specs.declared.delivery.Delivery.TheVariants.{Whole, Lost};
 ghost use Rattle.ym_pair.specs.AnyPeer.{AreAmong, AreAcknowledged, bytes_heard, spelling};
-ghost use Rattle.ym_pair.specs.Examples.{hello, hello_twice, block_again, block_skipped, data_block, eot, spoke, eot_again, eot_and_start, another_frame, round, asked_again, asked_again_rounds, asked_early, asked_early_rounds, called_off};
+ghost use Rattle.ym_pair.specs.PairingExamples.{hello, hello_twice, block_again, block_skipped, data_block, eot, spoke, eot_again, eot_and_start, another_frame, round, asked_again, asked_again_rounds, asked_early, asked_early_rounds, called_off};
 ghost use Rattle.ym_pair.specs.Pairing.{ArrivesThere, PairUp};
 
 /// A file is spelled where a block came again, and then once; and not where one was skipped.

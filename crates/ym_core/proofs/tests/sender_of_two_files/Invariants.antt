@@ -6,5 +6,5 @@ use Rattle.ym_core.proofs.tests.sender_of_two_files.Given as goal
 abbrev pub invariant-loop-bytes : goal.invariant-loop-bytes
 invariant-loop-bytes g l = record {
   place : IsPlace (2 ∷ 0 ∷ []) l.standing.place;
-  misses : l.standing.state ≡ Running → l.standing.misses < 10;
+  retries : l.standing.state ≡ Running → l.standing.retries < 10;
 }

@@ -2,15 +2,15 @@ use Rattle.std.proofs.Common.{◌∙◌, sym}
 use Rattle.ym_line.proofs.laws.a_standing_pair_commits_the_first_files.Goals as goal
 
 pub returns : goal.returns
-returns c = λ confirm files st pair stands.
+returns c = λ confirm files st pair refines.
     let machine = c.committed_is_reported_or_one_more.ensures in
     record {
-      headers = stands.receiver.keeps.headers;
-      bytes = stands.receiver.keeps.bytes;
+      headers = refines.receiver.keeps.headers;
+      bytes = refines.receiver.keeps.bytes;
       first = machine.committed_first files st;
-      files_is = stands.receiver.files_is ∙ sym (machine.counted files st.taken);
-      done_is = c.a_sender_follows_the_machine.ensures.done files st pair.sender stands.sender ∙ sym (machine.counted files st.acknowledged);
-      among = machine.reported_within files confirm st stands.machine;
-      send_is = stands.sender.standing.state;
-      recv_is = stands.receiver.state_is;
+      files_is = refines.receiver.files_is ∙ sym (machine.counted files st.taken);
+      done_is = c.a_sender_follows_the_machine.ensures.done files st pair.sender refines.sender ∙ sym (machine.counted files st.acknowledged);
+      among = machine.reported_within files confirm st refines.machine;
+      send_is = refines.sender.standing.state;
+      recv_is = refines.receiver.state_is;
     }

@@ -1,5 +1,5 @@
 use Rattle.ym_line.proofs.Names.{frames_of}
-use Rattle.ym_line.proofs.Halves.{Laws, goes-turn, run-turns}
+use Rattle.ym_line.proofs.HalfSteps.{Laws, goes-turn, run-turns}
 use Rattle.ym_line.proofs.Stops.{run-stops}
 use Rattle.ym_line.proofs.laws.rounds_are_turns.Goals as goal
 
@@ -21,7 +21,7 @@ returns c =
       keeps_receiver = λ files source_failed came old. c.halves_keep_the_other_end.ensures.back_keeps (frames_of files) source_failed came old;
     } in
     record {
-      go = λ round old new seen goes confirm files st stands. goes-turn laws confirm files st round old new seen stands goes;
-      go_on = λ rounds old new trace gives confirm files st stands. run-turns laws confirm files st rounds old new trace stands gives;
-      stop = λ n rounds old new fault stops confirm files st stands. run-stops laws confirm files rounds n st old new fault stands stops;
+      go = λ round old new seen goes confirm files st refines. goes-turn laws confirm files st round old new seen refines goes;
+      go_on = λ rounds old new trace gives confirm files st refines. run-turns laws confirm files st rounds old new trace refines gives;
+      stop = λ n rounds old new fault stops confirm files st refines. run-stops laws confirm files rounds n st old new fault refines stops;
     }

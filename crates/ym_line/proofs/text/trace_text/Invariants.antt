@@ -1,6 +1,6 @@
 -- The lines so far, and those of the rounds that are left, are the lines of all.
 use Rattle.std.proofs.Common.{◌≡◌, ◌+◌, ◌++◌, string_bytes, drop}
-use Rattle.ym_line.specs.Text.{round_lines}
+use Rattle.ym_line.specs.TraceText.{round_lines}
 use Rattle.ym_line.proofs.text.trace_text.Given as goal
 
 abbrev pub invariant-loop-i : goal.invariant-loop-i

@@ -2,7 +2,7 @@
 use Rattle.std.proofs.Common.{◌∙◌, ap, ap₂}
 use Rattle.std.proofs.lemmas.Result.{IfOk-weaker}
 use Rattle.clap.specs.Words.{App, with_subcommand}
-use Rattle.ym_words.specs.Command.{the_app}
+use Rattle.ym_words.specs.CommandLine.{the_app}
 use Rattle.ym_words.proofs.command.the_command.Goals as goal
 
 pub returns : goal.returns

@@ -2,7 +2,7 @@ use Rattle.std.proofs.Common.{◌≡◌, ◌∙◌, [], sym, ap, ap₂, Some, No
 use Rattle.std.proofs.lemmas.Result.{IfErr-weaker, IfOk-weaker}
 use Rattle.std.proofs.lemmas.Bool.{cases_Bool}
 use Rattle.clap.specs.Words.{found_of, rows_of, subcommand_of, subcommand_rows_of, is_simple, is_simple_and_free, app_of, takes, fault_of}
-use Rattle.ym_words.specs.Command.{the_app}
+use Rattle.ym_words.specs.CommandLine.{the_app}
 use Rattle.ym_words.proofs.JobLemmas.{both_halves, no_half, says_any, is_simple_app, is_free_app, first_half, kind_of_value, same_rule}
 use Rattle.ym_words.proofs.job.job_of.Goals as goal
 

@@ -3,7 +3,7 @@ use Rattle.std.specs.Str.{all_ascii_digits}
 use Rattle.std.proofs.lemmas.Str.Parse.{parse_digits}
 use Rattle.ym_words.proofs.JobLemmas.{own, not_empty}
 use Rattle.std.proofs.lemmas.Bool.{cases_lt}
-use Rattle.ym_words.specs.Port.{read_on}
+use Rattle.ym_words.specs.PortNumber.{read_on}
 use Rattle.ym_words.proofs.port.port_number.Goals as goal
 
 pub returns-then-port-eq0 : goal.returns-then-port-eq0

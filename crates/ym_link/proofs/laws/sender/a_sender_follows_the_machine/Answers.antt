@@ -1,4 +1,4 @@
-use Rattle.ym_link.proofs.SenderStanding.{starts, batch_are, follows, says, done_stands}
+use Rattle.ym_link.proofs.SenderStanding.{starts, batch_are, follows, says, done_refines}
 use Rattle.ym_link.proofs.laws.sender.a_sender_follows_the_machine.Goals as goal
 
 pub returns-clause-starts : goal.returns-clause-starts
@@ -14,4 +14,4 @@ pub returns-clause-says : goal.returns-clause-says
 returns-clause-says c = says
 
 pub returns-clause-done : goal.returns-clause-done
-returns-clause-done c = done_stands
+returns-clause-done c = done_refines

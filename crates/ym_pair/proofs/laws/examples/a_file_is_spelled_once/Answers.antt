@@ -2,7 +2,7 @@ use Rattle.std.proofs.Common.{◌≡◌, ◌++◌, ℕ, List, [], ◌∷◌, cod
 use Rattle.ym_pair.proofs.Names.{Item, Heard, AreAmong, block}
 use Rattle.ym_frame.specs.declared.frame.Item.TheVariants as item
 use Rattle.ym_core.specs.declared.delivery.Heard.TheVariants as heard
-use Rattle.ym_pair.specs.Examples.{block_again, block_skipped}
+use Rattle.ym_pair.specs.PairingExamples.{block_again, block_skipped}
 use Rattle.ym_pair.proofs.laws.examples.a_file_is_spelled_once.Goals as goal
 
 -- none of these was heard as the item

@@ -2,7 +2,7 @@ use Rattle.std.proofs.Common.{◌≡◌, ℕ, List, [], ◌∷◌, length, inl, 
 use Rattle.ym_pair.proofs.Names.{Shape, Eot, IsFrameAt, FileParts, AreAcknowledged}
 use Rattle.ym_frame.specs.Frame.{IsFrame}
 use Rattle.ym_frame.specs.declared.frame.Item.TheVariants as item
-use Rattle.ym_pair.specs.Examples.{eot_and_start, another_frame}
+use Rattle.ym_pair.specs.PairingExamples.{eot_and_start, another_frame}
 use Rattle.ym_pair.proofs.laws.examples.an_ack_is_of_the_frame_before_it.Goals as goal
 
 no-eot : (shape : Shape) (files : List FileParts) → IsFrameAt shape files (Eot 0) (24 ∷ 24 ∷ []) → ⊥

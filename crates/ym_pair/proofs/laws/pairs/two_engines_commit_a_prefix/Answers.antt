@@ -1,6 +1,6 @@
 use Rattle.std.proofs.Common.{ap, false, inl}
 use Rattle.ym_pair.proofs.Names.{frames_of, Standing, spoken, written_for}
-use Rattle.ym_line.proofs.Halves.{Laws}
+use Rattle.ym_line.proofs.HalfSteps.{Laws}
 use Rattle.ym_line.proofs.Promised as promised
 use Rattle.ym_pair.proofs.Engines.{Endings, engines-commit, files-within}
 use Rattle.ym_pair.proofs.Paired.{Leaves, speaks, leaves, answers, speaks-along, answers-along, written-sent}

@@ -1,4 +1,4 @@
--- A round, in its two halves: the receiver hears and replies, and the sender hears what comes back.
+-- A round, in its two steps: the receiver hears and replies, and the sender hears what comes back.
 --
 -- Of the tables the lines that have a section of the reference beside them come from there, and this profile chose the others.
 use Rattle.std.specs.Prelude.{ℕ, ◌+◌, ◌≡◌, ◌==◌, ◌⊎◌, nat_lt, List, [], ◌∷◌, filter_map, Bool, true, false, if◌then◌else◌}
@@ -25,7 +25,7 @@ heard true (FrameAt place) = At place
 heard true CanCan = Can
 heard _ _ = Bad
 
--- the state after the half there, and the reply
+-- the state after the receiver step, and the reply
 abbrev pub Answer : Type 0
 Answer = State × Reply
 
@@ -33,12 +33,12 @@ Answer = State × Reply
 -- (reference, "XMODEM Protocol Overview": errors are retried 10 times)
 abbrev pub nothing_taken : State → Reply → Answer
 nothing_taken st reply =
-    if nat_lt (st.receiver_count + 1) GIVE_UP then (record st { receiver_count = st.receiver_count + 1 }, reply)
-    else (record st { receiver_count = st.receiver_count + 1; receiver = ReceiverEnd.TooManyErrors }, Cancel)
+    if nat_lt (st.receiver_retries + 1) GIVE_UP then (record st { receiver_retries = st.receiver_retries + 1 }, reply)
+    else (record st { receiver_retries = st.receiver_retries + 1; receiver = ReceiverEnd.TooManyErrors }, Cancel)
 
 -- a frame is taken, unless the sink failed
 abbrev pub takes : State → Reply → Bool → Answer
-takes st reply false = (record st { taken = st.taken + 1; first_eot = false; receiver_count = 0 }, reply)
+takes st reply false = (record st { taken = st.taken + 1; first_eot = false; receiver_retries = 0 }, reply)
 takes st reply true = (record st { receiver = ReceiverEnd.SinkFailed }, Cancel)
 
 -- what a Running receiver answers to no frame, by F[r-1]: NAK behind a data block, else C; before F[0] stands the end block
@@ -46,7 +46,7 @@ abbrev pub asks_again : {H : Type 0} → Frame H → Reply
 asks_again (Piece number body) = Nak
 asks_again _ = Start
 
--- what a Running receiver meets in a half there
+-- what a Running receiver meets in its step
 pub record Meeting : Type 0 where
   pub state : State  -- before it
   pub confirm : Confirm
@@ -66,7 +66,7 @@ abbrev pub row : {H : Type 0} → Meeting → Confirm → Cue H → Answer
 row at _ (Next (BlockZero header)) = takes at.state AckStart at.sink_failed
 row at _ (Next (Piece number body)) = takes at.state Ack at.sink_failed
 row at Twice (Next Eot) =
-    if at.state.first_eot then takes at.state AckStart at.sink_failed else (record at.state { first_eot = true; receiver_count = 0 }, Nak)
+    if at.state.first_eot then takes at.state AckStart at.sink_failed else (record at.state { first_eot = true; receiver_retries = 0 }, Nak)
 row at Once (Next Eot) = takes at.state AckStart at.sink_failed
 row at _ (Next EndBlock) = (record at.state { taken = at.state.taken + 1; receiver = ReceiverEnd.Finished }, Ack)
 row at _ (Last (BlockZero header)) = nothing_taken at.state AckStart
@@ -76,7 +76,7 @@ row at _ (Last EndBlock) = nothing_taken at.state Start  -- never: it finished a
 row at _ CallOff = (record at.state { receiver = ReceiverEnd.Cancelled }, Silence)
 row at _ (NoFrame last) = nothing_taken at.state (asks_again last)
 
--- its row: in a machine state a frame that is not F[r] is F[r-1]
+-- its row: where the invariant holds, a frame that is not F[r] is F[r-1]
 abbrev pub running : {H : Type 0} → List (Frame H) → Sound → Meeting → Answer
 running frames (At i) at = if i == at.state.taken then row at at.confirm (Next (frame_at frames i)) else row at at.confirm (Last (frame_at frames i))
 running {H} frames Can at = row {H = H} at at.confirm CallOff
@@ -93,9 +93,9 @@ answers frames sound ReceiverEnd.Running at = running frames sound at
 answers frames sound ReceiverEnd.Finished at = finished_hears sound at.state
 answers frames sound _ at = (at.state, Silence)
 
--- the half there: with the truth whether the sink failed, and whether the delivery is whole
-abbrev pub there : {H : Type 0} → List (Frame H) → Confirm → Bool → Bool → State → Answer
-there frames confirm sink_failed whole st =
+-- the receiver step: with the truth whether the sink failed, and whether the delivery is whole
+abbrev pub receiver_step : {H : Type 0} → List (Frame H) → Confirm → Bool → Bool → State → Answer
+receiver_step frames confirm sink_failed whole st =
     answers frames (heard whole (said st)) st.receiver (record { state = st; confirm = confirm; sink_failed = sink_failed })
 
 -- the control bytes of a reply
@@ -105,13 +105,13 @@ controls reply = filter_map control_at (reply_bytes reply)
 -- a delivery that brings the sender no progress: at the last of so many in a row it gives up, with CAN CAN to go
 abbrev pub nothing_gained : State → State
 nothing_gained st =
-    if nat_lt (st.sender_count + 1) GIVE_UP then record st { sender_count = st.sender_count + 1 }
-    else record st { sender_count = st.sender_count + 1; sender = SenderEnd.NoReply; farewell = true }
+    if nat_lt (st.sender_retries + 1) GIVE_UP then record st { sender_retries = st.sender_retries + 1 }
+    else record st { sender_retries = st.sender_retries + 1; sender = SenderEnd.NoReply; cancel_pending = true }
 
 -- the frame at a place becomes the sent one; a data block is filled from the source, which may fail
 abbrev pub sends : {H : Type 0} → Bool → Frame H → ℕ → State → State
-sends true (Piece number body) place st = record st { acknowledged = place; sent = true; sender_count = 0; sender = SenderEnd.SourceFailed; farewell = true }
-sends _ _ place st = record st { acknowledged = place; sent = true; sender_count = 0 }
+sends true (Piece number body) place st = record st { acknowledged = place; sent = true; sender_retries = 0; sender = SenderEnd.SourceFailed; cancel_pending = true }
+sends _ _ place st = record st { acknowledged = place; sent = true; sender_retries = 0 }
 
 -- F[s] is acknowledged: behind a data block the next frame is sent at once, behind a block 0 or an EOT where a C follows
 abbrev pub acknowledged_at : {H : Type 0} → List (Frame H) → Bool → Bool → Frame H → State → State
@@ -119,7 +119,7 @@ acknowledged_at frames source_failed start_follows (Piece number body) st = send
 acknowledged_at frames source_failed start_follows EndBlock st = record st { acknowledged = st.acknowledged + 1; sender = SenderEnd.Finished }
 acknowledged_at frames source_failed start_follows _ st =
     if start_follows then sends source_failed (frame_at frames (st.acknowledged + 1)) (st.acknowledged + 1) st
-    else record st { acknowledged = st.acknowledged + 1; sent = false; sender_count = 0 }
+    else record st { acknowledged = st.acknowledged + 1; sent = false; sender_retries = 0 }
 
 -- a C is among these
 abbrev pub holds_start : List Control → Bool
@@ -139,13 +139,13 @@ running_gets frames source_failed false came st =
 -- CAN CAN goes once, and every other ended sender stays
 abbrev pub gets : {H : Type 0} → List (Frame H) → Bool → List Control → SenderEnd → State → State
 gets frames source_failed came SenderEnd.Running st = running_gets frames source_failed st.sent came st
-gets frames source_failed came SenderEnd.NoReply st = record st { farewell = false }
-gets frames source_failed came SenderEnd.SourceFailed st = record st { farewell = false }
+gets frames source_failed came SenderEnd.NoReply st = record st { cancel_pending = false }
+gets frames source_failed came SenderEnd.SourceFailed st = record st { cancel_pending = false }
 gets frames source_failed came _ st = st
 
--- the half back: with the truth whether the source failed, and the control bytes that came
-abbrev pub back : {H : Type 0} → List (Frame H) → Bool → List Control → State → State
-back frames source_failed came st = gets frames source_failed came st.sender st
+-- the sender step: with the truth whether the source failed, and the control bytes that came
+abbrev pub sender_step : {H : Type 0} → List (Frame H) → Bool → List Control → State → State
+sender_step frames source_failed came st = gets frames source_failed came st.sender st
 
 abbrev pub same_control : Control → Control → Bool
 same_control control.Ack control.Ack = true
@@ -173,27 +173,27 @@ control_byte control.Nak = 0x15
 control_byte control.Start = 0x43
 control_byte control.Can = 0x18
 
--- the half there keeps what is the sender's
+-- the receiver step keeps what is the sender's
 pub record KeepsSender (old new : State) : Type 0 where
   pub sender : new.sender ≡ old.sender
   pub acknowledged : new.acknowledged ≡ old.acknowledged
   pub sent : new.sent ≡ old.sent
-  pub sender_count : new.sender_count ≡ old.sender_count
-  pub farewell : new.farewell ≡ old.farewell
+  pub sender_retries : new.sender_retries ≡ old.sender_retries
+  pub cancel_pending : new.cancel_pending ≡ old.cancel_pending
 
 -- a sender that has ended stays; what it still has to say is all that changes
 pub record SenderStays (old new : State) : Type 0 where
   pub sender : new.sender ≡ old.sender
   pub acknowledged : new.acknowledged ≡ old.acknowledged
   pub sent : new.sent ≡ old.sent
-  pub sender_count : new.sender_count ≡ old.sender_count
+  pub sender_retries : new.sender_retries ≡ old.sender_retries
 
--- the half back keeps what is the receiver's
+-- the sender step keeps what is the receiver's
 pub record KeepsReceiver (old new : State) : Type 0 where
   pub receiver : new.receiver ≡ old.receiver
   pub taken : new.taken ≡ old.taken
   pub first_eot : new.first_eot ≡ old.first_eot
-  pub receiver_count : new.receiver_count ≡ old.receiver_count
+  pub receiver_retries : new.receiver_retries ≡ old.receiver_retries
 
 -- ---- The table by its parts, for proofs that take it apart
 

@@ -12,7 +12,7 @@ use Rattle.ym_machine.specs.declared.confirm.Confirm.TheVariants.{Twice, Once}
 use Rattle.ym_machine.specs.Frames.{File, BlockZero, Piece, Eot, EndBlock, frames_of, numbered_from}
 use Rattle.ym_machine.specs.State.{SenderEnd, ReceiverEnd, State, start, Speech, Nothing, FrameAt, CanCan, committed, reported}
 use Rattle.ym_machine.specs.Run.{Turn, after_turns, Entry, entries_of, whole, lost, longest_bad_run}
-use Rattle.ym_machine.specs.Left.{left, rounds_needed}
+use Rattle.ym_machine.specs.RoundsRemaining.{rounds_remaining, rounds_needed}
 
 -- a batch whose headers are names
 abbrev Names : Type 0
@@ -77,7 +77,7 @@ one_file-ends = refl
 one_file-needs : rounds_needed Twice one_file ≡ 6
 one_file-needs = refl
 
-one_file-left : left Twice (frames_of one_file) start ≡ 6
+one_file-left : rounds_remaining Twice (frames_of one_file) start ≡ 6
 one_file-left = refl
 
 -- with five turns it is stored and reported; with four, after the first EOT, it is neither
@@ -144,7 +144,7 @@ single_eot-ends = refl
 single_eot-needs : rounds_needed Once one_file ≡ 5
 single_eot-needs = refl
 
-single_eot-left : left Once (frames_of one_file) start ≡ 5
+single_eot-left : rounds_remaining Once (frames_of one_file) start ≡ 5
 single_eot-left = refl
 
 -- the reply to the EOT is lost, so it comes once more, and is no second file
@@ -180,7 +180,7 @@ eight_lost-ends = refl
 nine_lost-trace : trace_of Twice empty_batch (replicate 9 lost ++ whole ∷ []) ≡ replicate 9 (says Nothing Start) ++ says Nothing Cancel ∷ []
 nine_lost-trace = refl
 
-nine_lost-ends : state_after Twice empty_batch (replicate 9 lost ++ whole ∷ []) ≡ record start { sender_count = 9; receiver_count = 10; sender = SenderEnd.Cancelled; receiver = ReceiverEnd.TooManyErrors }
+nine_lost-ends : state_after Twice empty_batch (replicate 9 lost ++ whole ∷ []) ≡ record start { sender_retries = 9; receiver_retries = 10; sender = SenderEnd.Cancelled; receiver = ReceiverEnd.TooManyErrors }
 nine_lost-ends = refl
 
 -- after ten both have given up, and the sender's CAN CAN goes once
@@ -194,7 +194,7 @@ ten_lost_replies = replicate 2 whole ++ replicate 10 (back_comes []) ++ whole �
 ten_lost_replies-trace : trace_of Twice one_file ten_lost_replies ≡ says Nothing Start ∷ says (FrameAt 0) AckStart ∷ replicate 10 (says (FrameAt 1) Ack) ++ says CanCan Silence ∷ []
 ten_lost_replies-trace = refl
 
-ten_lost_replies-ends : state_after Twice one_file ten_lost_replies ≡ record start { acknowledged = 1; taken = 2; sent = true; sender_count = 10; receiver_count = 9; sender = SenderEnd.NoReply; receiver = ReceiverEnd.Cancelled }
+ten_lost_replies-ends : state_after Twice one_file ten_lost_replies ≡ record start { acknowledged = 1; taken = 2; sent = true; sender_retries = 10; receiver_retries = 9; sender = SenderEnd.NoReply; receiver = ReceiverEnd.Cancelled }
 ten_lost_replies-ends = refl
 
 -- bad runs of four, with a whole turn behind each: the batch comes across in 30 turns
@@ -225,7 +225,7 @@ five_is_too_many-trace = refl
 five_is_too_many-run : longest_bad_run 0 five_is_too_many ≡ 5
 five_is_too_many-run = refl
 
-five_is_too_many-ends : state_after Twice one_file five_is_too_many ≡ record start { sent = true; sender_count = 6; receiver_count = 10; receiver = ReceiverEnd.TooManyErrors }
+five_is_too_many-ends : state_after Twice one_file five_is_too_many ≡ record start { sent = true; sender_retries = 6; receiver_retries = 10; receiver = ReceiverEnd.TooManyErrors }
 five_is_too_many-ends = refl
 
 -- the source fails at the first data block: CAN CAN goes once, and the receiver is cancelled

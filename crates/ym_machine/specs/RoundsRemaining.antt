@@ -1,4 +1,4 @@
--- How many whole rounds a batch needs, and how many are left.
+-- How many whole rounds a batch needs, and how many remain.
 use Rattle.std.specs.Prelude.{ℕ, ◌+◌, ◌-◌, ◌≤◌, ◌≡◌, ◌==◌, List, [], ◌∷◌, length, if◌then◌else◌, drop, sum_by}
 use Rattle.ym_machine.specs.declared.confirm.Confirm.{Confirm}
 use Rattle.ym_machine.specs.declared.confirm.Confirm.TheVariants.{Twice, Once}
@@ -42,9 +42,9 @@ abbrev pub left_at : {H : Type 0} → Confirm → List (Frame H) → SenderEnd �
 left_at confirm frames SenderEnd.Finished st = 0
 left_at confirm frames _ st = left_unfinished confirm frames st
 
--- the whole rounds that are left, while no end gave up, was cancelled or has failed
-abbrev pub left : {H : Type 0} → Confirm → List (Frame H) → State → ℕ
-left confirm frames st = left_at confirm frames st.sender st
+-- the whole rounds that remain, while no end gave up, was cancelled or has failed
+abbrev pub rounds_remaining : {H : Type 0} → Confirm → List (Frame H) → State → ℕ
+rounds_remaining confirm frames st = left_at confirm frames st.sender st
 
 abbrev pub SenderGoes : SenderEnd → Type 0
 SenderGoes SenderEnd.Running = Unit {0}
@@ -60,10 +60,10 @@ ReceiverGoes _ = ⊥
 abbrev pub IsGoing : State → Type 0
 IsGoing st = SenderGoes st.sender × ReceiverGoes st.receiver
 
--- the count of a Running end is at most n
+-- the retries of a Running end are at most n
 pub record CountsWithin (n : ℕ) (st : State) : Type 0 where
-  pub sender_count : st.sender ≡ SenderEnd.Running → st.sender_count ≤ n
-  pub receiver_count : st.receiver ≡ ReceiverEnd.Running → st.receiver_count ≤ n
+  pub sender_retries : st.sender ≡ SenderEnd.Running → st.sender_retries ≤ n
+  pub receiver_retries : st.receiver ≡ ReceiverEnd.Running → st.receiver_retries ≤ n
 
 -- both ends have finished, and both count the whole batch
 pub record IsComplete {H : Type 0} (files : List (File H)) (st : State) : Type 0 where

@@ -9,8 +9,8 @@ use Rattle.ym_file.specs.Kept.{Kept, Told}
 use Rattle.ym_file.specs.Collecting.{keep_all}
 use Rattle.ym_machine.specs.declared.confirm.Confirm.{Confirm}
 use Rattle.ym_machine.specs.Frames.{File, Frame, BlockZero, Piece, Eot, EndBlock, frames_of, frame_at, count_within, files_within}
-use Rattle.ym_machine.specs.Halves.{Sound, At, Can, Bad, there}
-use Rattle.ym_machine.specs.Halves as machine
+use Rattle.ym_machine.specs.Steps.{Sound, At, Can, Bad, receiver_step}
+use Rattle.ym_machine.specs.Steps as machine
 use Rattle.ym_machine.specs.State.{ReceiverEnd, State, said}
 use Rattle.ym_core.specs.declared.delivery.Heard.{Heard}
 use Rattle.ym_core.specs.declared.delivery.Heard.TheVariants as heard
@@ -113,12 +113,12 @@ receiver_at confirm files st = record {
   confirm = confirm;
   stage = stage_of (open_at files st.taken) st.first_eot;
   files = count_within files st.taken;
-  count = st.receiver_count;
+  retries = st.receiver_retries;
   state = state.Running;
 }
 
--- a receiver, with what its sink tells, stands at a state of the machine
-pub record ReceiverStands (confirm : Confirm) (files : List (File HeaderParts)) (st : State) (r : Receiver) (kept : Kept) : Type 0 where
+-- a receiver, with what its sink tells, refines a state of the machine
+pub record ReceiverRefines (confirm : Confirm) (files : List (File HeaderParts)) (st : State) (r : Receiver) (kept : Kept) : Type 0 where
   pub confirm_is : r.confirm ≡ confirm
   pub state_is : r.state ≡ state_of st.receiver
   pub files_is : r.files ≡ count_within files st.taken
@@ -129,13 +129,13 @@ pub record ReceiverStands (confirm : Confirm) (files : List (File HeaderParts)) 
 -- it has gone where the machine goes, with its reply
 pub record Goes (confirm : Confirm) (files : List (File HeaderParts)) (answer : State × Reply) (reply : Reply) (new : ReceiverParts) : Type 0 where
   pub reply_is : reply ≡ answer.1
-  pub stands : ReceiverStands confirm files answer.0 new.receiver new.kept
+  pub refines : ReceiverRefines confirm files answer.0 new.receiver new.kept
 
--- what it hears of the half there, where the delivery is whole or not
+-- what it hears in the receiver step, where the delivery is whole or not
 abbrev pub heard_there : List (File HeaderParts) → Bool → State → Heard
 heard_there files whole st = heard_as (frames_of files) (machine.heard whole (said st))
 
--- a delivery takes it where the half there takes the machine, with the truth whether its sink failed
+-- a delivery takes it where the receiver step takes the machine, with the truth whether its sink failed
 abbrev pub Follows : Confirm → List (File HeaderParts) → Bool → State → ReceiverParts → Reply → ReceiverParts → Type 0
 Follows confirm files whole st old reply new =
-    (failed : Bool) × Tells failed old.failures new.failures × Goes confirm files (there (frames_of files) confirm failed whole st) reply new
+    (failed : Bool) × Tells failed old.failures new.failures × Goes confirm files (receiver_step (frames_of files) confirm failed whole st) reply new

@@ -43,15 +43,15 @@ send_code SourceFailed = 4
 pub record KeepsStanding (s : YmSender) (standing : Standing) : Type 0 where
   pub place : KeepsPlace s standing.place
   pub mode : s.mode ≡ mode_code standing.mode
-  pub misses : s.misses ≡ standing.misses
+  pub retries : s.retries ≡ standing.retries
   pub state : s.state ≡ send_code standing.state
-  pub farewell : s.farewell ≡ bool_code standing.farewell
+  pub cancel_pending : s.cancel_pending ≡ bool_code standing.cancel_pending
 
 -- where a sender of a batch of so many blocks a file can come to stand; a batch has at most 65,535 files
 pub record Stands (blocks : List ℕ) (standing : Standing) : Type 0 where
   pub place : IsPlace blocks standing.place
-  pub misses : standing.misses ≤ GIVE_UP
-  pub runs : standing.state ≡ Running → standing.misses < GIVE_UP
+  pub retries : standing.retries ≤ GIVE_UP
+  pub runs : standing.state ≡ Running → standing.retries < GIVE_UP
   pub few : length blocks ≤ MOST_FILES
 
 -- what is to be filled
@@ -71,12 +71,12 @@ IsFilled None old new = (new.len ≡ old.len) × (new.frame ≡ old.frame)
 
 -- what is to be sent: 0 nothing, 1 the frame, 2 CAN CAN
 abbrev pub out_in : SendState → Mode → Bool → ℕ
-out_in Running Sent farewell = 1
-out_in Running Waiting farewell = 0
-out_in NoReply mode farewell = bool_code farewell * 2
-out_in SourceFailed mode farewell = bool_code farewell * 2
-out_in Finished mode farewell = 0
-out_in Cancelled mode farewell = 0
+out_in Running Sent cancel_pending = 1
+out_in Running Waiting cancel_pending = 0
+out_in NoReply mode cancel_pending = bool_code cancel_pending * 2
+out_in SourceFailed mode cancel_pending = bool_code cancel_pending * 2
+out_in Finished mode cancel_pending = 0
+out_in Cancelled mode cancel_pending = 0
 
 abbrev pub out_code : Standing → ℕ
-out_code s = out_in s.state s.mode s.farewell
+out_code s = out_in s.state s.mode s.cancel_pending

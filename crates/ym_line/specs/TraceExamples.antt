@@ -12,7 +12,7 @@ use Rattle.ym_machine.specs.declared.confirm.Confirm.TheVariants.{Twice, Once}
 use Rattle.ym_line.specs.declared.trace.How.TheVariants.{Whole, Lost, Damaged}
 use Rattle.ym_line.specs.declared.trace.What.TheVariants.{Nothing, Block, Eot, Can}
 use Rattle.ym_line.specs.Needed.{rounds_of}
-use Rattle.ym_line.specs.Text.{round_line, sender_line, receiver_line}
+use Rattle.ym_line.specs.TraceText.{round_line, sender_line, receiver_line}
 
 -- ---- Lines
 

@@ -1,4 +1,4 @@
--- A sender that stands at a state of the machine of two counters.
+-- A sender that refines a state of the machine of two counters.
 use Rattle.std.specs.Prelude.{◌≡◌, ℕ, ◌+◌, ◌-◌, ◌==◌, nat_lt, suc, zero, if◌then◌else◌, Bool, true, false, List, [], ◌∷◌, length, map, replicate, All, IfSome, IsSome, Option, None, Some}
 use Rattle.std.specs.List.{AllZip}
 use Rattle.ym_frame.specs.Frame.{IsFrame}
@@ -76,22 +76,22 @@ mode_of true = Sent
 mode_of false = Waiting
 
 -- only a sender that gave up, or whose source failed, has CAN CAN to go
-abbrev pub farewell_of : SenderEnd → Bool → Bool
-farewell_of SenderEnd.NoReply farewell = farewell
-farewell_of SenderEnd.SourceFailed farewell = farewell
-farewell_of _ farewell = false
+abbrev pub cancel_pending_of : SenderEnd → Bool → Bool
+cancel_pending_of SenderEnd.NoReply cancel_pending = cancel_pending
+cancel_pending_of SenderEnd.SourceFailed cancel_pending = cancel_pending
+cancel_pending_of _ cancel_pending = false
 
--- its standing is that of the machine's sender; the mode and the count are told of one that runs
-pub record StandsAt (files : Batch) (st : State) (s : Standing) : Type 0 where
+-- its standing is that of the machine's sender; the mode and the retries are told of one that runs
+pub record RefinesAt (files : Batch) (st : State) (s : Standing) : Type 0 where
   pub state : s.state ≡ state_of st.sender
-  pub farewell : s.farewell ≡ farewell_of st.sender st.farewell
+  pub cancel_pending : s.cancel_pending ≡ cancel_pending_of st.sender st.cancel_pending
   pub place : s.place ≡ place_at files st.acknowledged
   pub mode : st.sender ≡ SenderEnd.Running → s.mode ≡ mode_of st.sent
-  pub misses : st.sender ≡ SenderEnd.Running → s.misses ≡ st.sender_count
+  pub retries : st.sender ≡ SenderEnd.Running → s.retries ≡ st.sender_retries
 
--- a sender of this batch stands there
-pub record SenderStands (files : Batch) (st : State) (s : SenderParts) : Type 0 where
-  pub standing : StandsAt files st s.standing
+-- a sender of this batch refines that state
+pub record SenderRefines (files : Batch) (st : State) (s : SenderParts) : Type 0 where
+  pub standing : RefinesAt files st s.standing
   pub batch : AllZip (IsFileOf s.shape) s.files files
 
 -- ---- What it says
