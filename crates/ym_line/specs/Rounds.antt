@@ -40,7 +40,7 @@ handed way bytes pair = record pair { told = told_more way bytes pair.told }
 abbrev pub sent_by : SenderParts → List ℕ
 sent_by parts = unwrap_or (spoken parts) []
 
--- ---- The half there, to the receiver
+-- ---- There: the receiver step
 
 -- the receiver has heard what arrived, and gave this reply
 pub record GoesThere (delivery : Delivery) (old : Pair) (reply : Reply) (new : Pair) : Type 0 where
@@ -51,13 +51,13 @@ pub record GoesThere (delivery : Delivery) (old : Pair) (reply : Reply) (new : P
   pub hears : receiver.HearsGives old.receiver (heard_of (arrives delivery (sent_by old.sender))) (Ok reply) new.receiver
   pub others : new ≡ record (handed There (arrives delivery (sent_by old.sender)) old) { receiver = new.receiver }
 
--- What a fault of a half of round n leaves where no end has heard: by the check that failed, the carry, or a growth.
+-- What a fault of a step of round n leaves where no end has heard: by the check that failed, the carry, or a growth.
 abbrev pub StopsHalf : ℕ → Type 0 → Type 0 → Pair → LineFault → Pair → Type 0
 StopsHalf n shows short old Carrier new = shows × short × Rose old.failures new.failures × (new ≡ record old { failures = new.failures })
 StopsHalf n shows short old Memory new = shows × short × (new ≡ old)
 StopsHalf n shows short old refused new = IsChecked n shows short (Err refused) × (new ≡ old)
 
--- in the half there a delivery may have been handed on for which the receiver then wanted memory
+-- in the receiver step a delivery may have been handed on for which the receiver then wanted memory
 abbrev pub StopsThere : ℕ → Delivery → Pair → LineFault → Pair → Type 0
 StopsThere n delivery old fault new =
     StopsHalf n (ShowsThere delivery) (IsShort delivery) old fault new
@@ -67,7 +67,7 @@ abbrev pub ThereGives : ℕ → Delivery → Pair → Result Reply LineFault →
 ThereGives n delivery old (Ok reply) new = GoesThere delivery old reply new
 ThereGives n delivery old (Err fault) new = StopsThere n delivery old fault new
 
--- ---- The half back, to the sender
+-- ---- Back: the sender step
 
 -- the sender has heard what arrived of the reply
 pub record GoesBack (delivery : Delivery) (reply : Reply) (old new : Pair) : Type 0 where
@@ -86,7 +86,7 @@ BackGives n delivery reply old (Err fault) new = StopsHalf n (ShowsBack reply de
 abbrev pub seen_of : Round → SenderParts → Reply → Seen
 seen_of round parts reply = record { what = what_heard (heard_of (sent_by parts)); there = how_of round.there; reply = reply; back = how_of round.back }
 
--- the two halves, one after the other
+-- the two steps, one after the other
 pub record Goes (round : Round) (old : Pair) (seen : Seen) (new : Pair) : Type 0 where
   pub between : Pair
   pub there : GoesThere round.there old seen.reply between

@@ -1,4 +1,4 @@
--- Two ends that stand at a state of the machine of two counters, and rounds as turns of that machine.
+-- Two ends that refine a state of the machine of two counters, and rounds as turns of that machine.
 use Rattle.std.specs.Prelude.{◌≡◌, ◌⊎◌, map, length, ◌+◌, ℕ, Bool, true, false, List, [], ◌∷◌, Option, None, Some}
 use Rattle.ym_frame.specs.declared.control.Control.{Control}
 use Rattle.ym_frame.specs.declared.control.Reply.{Reply}

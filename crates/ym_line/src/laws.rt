@@ -34,9 +34,9 @@ use ym_machine::laws::{
     halves_keep_the_other_end, neither_end_gives_up, not_sooner, what_comes_back,
 };
 
-/// Rounds of two ends that stand at a state of the machine of two counters are turns of that machine, whatever is lost or damaged in them: the
-/// ends stand where the turns lead, and the trace reports that state. Where a round meets a fault, those before it are turns, and the ends stand
-/// behind them, or behind the receiver step of that round.
+/// Rounds of two ends that refine a state of the machine of two counters are turns of that machine, whatever is lost or damaged in them: the
+/// ends refine the state that the turns lead to, and the trace reports it. Where a round meets a fault, those before it are turns, and the ends
+/// refine the state behind them, or behind the receiver step of that round.
 pub fn rounds_are_turns()
     ensures go { (round : Round) (old new : Pair) (seen : Seen) → Goes round old seen new → TakesATurn round old seen new }
     ensures go_on { (rounds : List Round) (old new : Pair) (trace : Trace) → IsTrace rounds old trace new → FollowsMachine rounds old trace new }

@@ -146,7 +146,7 @@ fn go_all<S: Source, K: Sink, C: Carrier>(
 /// One round: the receiver hears what arrives of the sender's frame, and the sender what arrives of the reply. A damaged delivery is checked
 /// before it is carried. A fault leaves what the steps before it did, and no later step is taken. The round's number is 1.
 ///
-/// Where both ends stand at a state of the machine of two counters, the round is a turn of that machine (`machine`), and a fault leaves them there,
+/// Where both ends refine a state of the machine of two counters, the round is a turn of that machine (`machine`), and a fault leaves them there,
 /// or behind the receiver step of that turn (`stopped`).
 pub fn round<S: Source, K: Sink, C: Carrier>(
     alloc: Global,
@@ -171,7 +171,7 @@ pub fn round<S: Source, K: Sink, C: Carrier>(
 /// before it did in its own round; rounds are numbered from 1.
 ///
 /// - What the two ends do is what their tables say, round after round (`gives`).
-/// - From any ends that stand at a state of the machine of two counters, the rounds are turns of that machine, and the trace reports the state that
+/// - From any ends that refine a state of the machine of two counters, the rounds are turns of that machine, and the trace reports the state that
 ///   they lead to (`machine`). Where a round meets a fault, those before it are turns, and of its own at most the receiver step was taken (`stopped`).
 /// - From new ends, whatever is lost or damaged and also where it met a fault, the files committed are the first ones of the batch, each exact, and
 ///   what the sender reports is among them (`commits`, `reports`).

@@ -1,4 +1,4 @@
--- Both halves, with the pair between them.
+-- Both steps, with the pair between them.
 use Rattle.ym_line.proofs.Names.{Pair}
 use Rattle.ym_line.proofs.Runs.{seen-parts}
 use Rattle.ym_line.proofs.rounds.go_round.Goals as goal
