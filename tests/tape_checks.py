@@ -117,7 +117,7 @@ def between_both(files, relay_to, flags):
 
 def wants_program():
     if not os.access(REPLAY, os.X_OK):
-        raise Skipped("crates/replay is not built (make build)")
+        raise Skipped("crates/replay is not built (make replay)")
 
 
 def from_sb(files, flags):

@@ -23,14 +23,16 @@ LOG = os.path.join(ROOT, "out", "gate.log")
 TRIED = {"YMODEM": "ymodem", "REPLAY": "replay"}
 TESTS = ("transfer", "shipped", "library", "bare", "uboot", "web", "counts")
 
-TOLD = re.compile(r"rt: (\w+)(: trying its must-fail edits \(\d+\)|:? ?(?:its tests are )?(?:NOT )?(?:PROVED|proved))$")
+# The lines that are passed on as they come, and the one of a crate that is proved, by which time its program is built.
+TOLD = re.compile(r"rt: \w+(: its tests are)? (proved|NOT PROVED)|rt: \w+: trying its must-fail edits")
+PROVED = re.compile(r"rt: (\w+) proved\n")
 
 
 class Gate:
     """`rt ci` while it runs."""
 
     def __init__(self):
-        self.began, self.lines, self.changed = time.monotonic(), [], threading.Condition()
+        self.began, self.lines, self.proved, self.changed = time.monotonic(), [], set(), threading.Condition()
         how = {"stdin": subprocess.DEVNULL, "stdout": subprocess.PIPE, "stderr": subprocess.STDOUT, "text": True, "errors": "replace"}
         # a group of its own, so that all that it started can be stopped
         self.child = subprocess.Popen(["rt", "ci"], cwd=ROOT, start_new_session=True, **how)
@@ -44,19 +46,21 @@ class Gate:
                 kept.write(line)
                 if TOLD.match(line.rstrip("\n")):
                     print("gate, %d:%02d min: %s" % (*divmod(time.monotonic() - self.began, 60), line.rstrip("\n")), flush=True)
+                proved = PROVED.fullmatch(line)
                 with self.changed:
                     self.lines.append(line)
-                    self.changed.notify_all()
+                    if proved:
+                        self.proved.add(proved[1])
+                        self.changed.notify_all()
         with self.changed:
             self.is_over = True
             self.changed.notify_all()
 
     def has_proved(self, *names):
         """Waits until these crates are proved. Gives whether they are: it may end before."""
-        wanted = {"rt: %s proved\n" % it for it in names}
         with self.changed:
-            self.changed.wait_for(lambda: self.is_over or wanted <= {*self.lines})
-            return wanted <= {*self.lines}
+            self.changed.wait_for(lambda: self.is_over or self.proved.issuperset(names))
+            return self.proved.issuperset(names)
 
     def stop(self):
         if self.child.poll() is None:
