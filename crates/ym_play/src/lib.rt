@@ -4,6 +4,7 @@
 mod command;
 mod fault;
 mod input;
+pub mod laws;
 mod limits;
 mod play;
 mod script;

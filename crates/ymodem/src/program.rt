@@ -19,6 +19,7 @@ use ym_host::{Durability, Leftover};
 use ym_jobs::{CommandFault, Order, looped_session, receive_as_asked, send};
 use ym_line::Direct;
 use ym_machine::Confirm;
+use ym_play::laws::a_known_script_is_played;
 use ym_play::{Input, Output, StreamFault, session_over};
 use ym_show::Teller;
 use ym_words::{Job, JobFault, ReceiveFlags, TellFlags, job_of};
@@ -224,6 +225,7 @@ where
     ensures refused { AsksFor (map string_bytes words.items) None → (result ≡ 2) ⊎ (result ≡ 3) }
     ensures status { result ≤ 3 }
 {
+    a_known_script_is_played();
     match job_of(alloc, words.as_slice()) {
         Ok(job) => {
             let TellFlags { verbose, quiet } = tell_flags(&job);

@@ -9,4 +9,4 @@ returns-in-Ok-do_job-clause-does g c = search rules
 
 pub returns-in-Ok-do_job-clause-plays : goal.returns-in-Ok-do_job-clause-plays
 returns-in-Ok-do_job-clause-plays g c asks text before wrong r w e ne =
-    plays _ text before wrong _ _ (returns-in-Ok-do_job-clause-does g c Play asks) r w e ne
+    plays c.a_known_script_is_played.ensures _ text before wrong _ _ (returns-in-Ok-do_job-clause-does g c Play asks) r w e ne
