@@ -1,14 +1,13 @@
 -- Runs of new ends in which damage comes in short bursts, by the laws of the machine.
-use Rattle.std.proofs.Common.{◌≡◌, ◌≢◌, ◌∙◌, ◌≤◌, ◌<◌, ◌⊎◌, ℕ, ◌+◌, suc, List, [], ◌∷◌, length, map, Option, None, Some, IfSome, IsSome, All, sum_by, refl, sym, ap, subst, inl, inr, arith}
-use Rattle.std.proofs.lemmas.List.{length-map}
+use Rattle.std.proofs.Common.{◌≡◌, ◌≢◌, ◌∙◌, ◌≤◌, ◌<◌, ◌⊎◌, ℕ, ◌+◌, suc, List, [], ◌∷◌, length, map, take, Option, None, Some, IfSome, IsSome, All, sum_by, refl, sym, ap, subst, inl, inr, arith}
+use Rattle.std.proofs.lemmas.List.{length-map, take_all}
 use Rattle.std.proofs.lemmas.List.Sums.{sum_by-cons}
-use Rattle.std.proofs.lemmas.Simd.{map-map}
 use Rattle.ym_line.proofs.Names.{HeaderParts, pieces_of, Shape, Confirm, File, frames_of, Turn, NoFailure, IsDamage, after_turns, bytes_of, Batch, AllTold, file_of, told_pieces, FileParts, IsFile, SendState, Round, Seen, Trace, AllWhole, AreGoing, HaveFinished, NoneRose, whole_rounds, AreNew, Pair, IsTrace, AreTurns, CommitsFirst, PairRefines, Reports}
 use Rattle.ym_file.specs.Plan.{count_of}
 use Rattle.ym_machine.specs.declared.limits.TheConstants.{BURST}
 use Rattle.ym_machine.specs.RoundsRemaining.{SenderGoes, ReceiverGoes, IsGoing, CountsWithin, IsComplete, needed_by, rounds_needed}
 use Rattle.ym_machine.specs.Run as machine
-use Rattle.ym_machine.specs.State.{SenderEnd, ReceiverEnd, State, start}
+use Rattle.ym_machine.specs.State.{SenderEnd, ReceiverEnd, State, start, committed}
 use Rattle.ym_link.specs.ReceiverRefines as receiver
 use Rattle.ym_link.specs.SenderRefines as sender
 use Rattle.ym_file.specs.SourceFile.{blocks_of}
@@ -17,7 +16,8 @@ use Rattle.ym_core.specs.declared.state.RecvState.{RecvState}
 use Rattle.ym_core.specs.declared.state.RecvState.TheVariants as recv_state
 use Rattle.ym_line.specs.Completion.{BringsShortBadRuns, rounds_for}
 use Rattle.ym_line.specs.Needed.{others_of}
-use Rattle.ym_line.proofs.Promised.{Laws, SameEnds, all-bytes, batch_to_send, confirm_of, known, run-of, run-refines, trace-heard}
+use Rattle.ym_line.specs.Promise.{CommitsAPrefix}
+use Rattle.ym_line.proofs.Promised.{Laws, SameEnds, batch_to_send, confirm_of, run-of, run-refines, trace-heard}
 use Rattle.ym_line.proofs.Truths.{SameTurns, same-turns, no-failure}
 
 -- ---- What the laws say
@@ -160,14 +160,16 @@ run-complete laws completion rounds old new trace gives brings enough = elim (tr
       let brief : machine.longest_bad_run 0 ran_so.turns ≤ BURST = subst (λ n. n ≤ BURST) (sym (ran_so.same.longest 0)) brings.short in
       let many : rounds_needed (confirm_of old) (batch_to_send old) ≤ machine.whole_turns ran_so.turns = rw (needed-is completion old brings.fresh files, ran_so.same.whole) enough in
       let complete : IsComplete (batch_to_send old) st = completion.complete (batch_to_send old) (confirm_of old) ran_so.turns ran_so.damage ran_so.none brief many in
+      let first : CommitsAPrefix sources new = laws.prefix shape sources st new files brings.fresh.tells ran_so.commits in
+      let counted : length (committed (batch_to_send old) st) ≡ length sources = ap length complete.committed ∙ length-map sources (file_of shape) in
+      let all : take first.number sources ≡ sources = take_all first.number sources (let n = first.files_is in let m = ran_so.commits.files_is in omega (arith, n, m, counted)) in
       record {
         send = ran_so.reports.send ∙ ap sender.state_of complete.sender;
         recv = ran_so.reports.recv ∙ ap receiver.state_of complete.receiver;
         done = ran_so.reports.done ∙ (ap length complete.reported ∙ length-map sources (file_of shape));
-        files = ran_so.reports.files_is ∙ (ap length complete.committed ∙ length-map sources (file_of shape));
-        headers = ran_so.commits.headers ∙ (ap (map (λ (f : File HeaderParts). f.header)) complete.committed ∙ map-map (λ (f : File HeaderParts). f.header) (file_of shape) sources);
-        bytes = λ told told_is. ap (map known) (ran_so.commits.bytes told told_is ∙ ap (map bytes_of) complete.committed)
-            ∙ (ap (map known) (map-map bytes_of (file_of shape) sources) ∙ (map-map known (λ f. bytes_of (file_of shape f)) sources ∙ all-bytes laws shape sources files brings.fresh.tells));
+        files = ran_so.reports.files_is ∙ counted;
+        headers = first.headers ∙ ap (map (λ (f : FileParts). f.header)) all;
+        bytes = λ told told_is. first.bytes told told_is ∙ ap (map (λ (f : FileParts). f.bytes)) all;
       }
 ]
 

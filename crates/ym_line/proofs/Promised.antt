@@ -19,54 +19,22 @@ use Rattle.ym_line.proofs.Stops.{Same, half-same, stopped-refines, unchanged}
 
 -- ---- What the laws say
 
-abbrev pub PlannedBytes : Type 0
-PlannedBytes = (shape : Shape) (header : HeaderParts) (bytes : List ℕ) (pieces : List (List ℕ)) →
-    IsHeader length_limit header → header.length ≡ length bytes → IsPieces shape bytes pieces → bytes_of (record { header = header; pieces = pieces }) ≡ bytes
-
-abbrev pub NewRefines : Type 0
-NewRefines = (confirm : Confirm) (shape : Shape) (sources : List FileParts) (frame : List ℕ) (kept : Kept) (sink_failures : ℕ) (told : Option (List Handed)) (failures : ℕ) →
-    All IsFile sources → AllTold sources → length sources ≤ MOST_FILES → IsNew kept →
-    PairRefines confirm (batch_of shape sources) start (record {
-      sender = record { standing = new_standing (counts_of shape sources); shape = shape; files = sources; frame = frame };
-      receiver = record { receiver = new_receiver confirm; kept = kept; failures = sink_failures };
-      told = told;
-      failures = failures;
-    })
-
 pub record Laws : Type 0 where
-  pub bytes : PlannedBytes
-  pub pieces : (shape : Shape) (file : List ℕ) → IsPieces shape file (pieces_of shape file)
   pub go_on : (rounds : List Round) (old new : Pair) (trace : Trace) → IsTrace rounds old trace new → FollowsMachine rounds old trace new
   pub stop : (n : ℕ) (rounds : List Round) (old new : Pair) (fault : LineFault) → StopsIn n rounds old fault new → StopsWithMachine n rounds old fault new
   pub stand : (confirm : Confirm) (files : Batch) (st : State) (rounds : List Round) (turns : List Turn) (old new : Pair) (all : List Seen) →
       AreTurns confirm files st rounds turns old all new → PairRefines confirm files st old → PairRefines confirm files (after_turns (frames_of files) confirm turns st) new
   pub first : (confirm : Confirm) (files : Batch) (st : State) (pair : Pair) → PairRefines confirm files st pair → CommitsFirst files st pair
-  pub new_stand : NewRefines
+  pub prefix : (shape : Shape) (sources : List FileParts) (st : State) (pair : Pair) → All IsFile sources → AllTold sources → CommitsFirst (batch_of shape sources) st pair → CommitsAPrefix sources pair
+  pub new_stand : (pair : Pair) → AreNew pair → All IsFile pair.sender.files → PairRefines pair.receiver.receiver.confirm (batch_of pair.sender.shape pair.sender.files) start pair
 
 -- ---- New ends
-
-abbrev pub known : List ℕ → Option (List ℕ)
-known bytes = Some bytes
 
 abbrev pub batch_to_send : Pair → Batch
 batch_to_send pair = batch_of pair.sender.shape pair.sender.files
 
 abbrev pub confirm_of : Pair → Confirm
 confirm_of pair = pair.receiver.receiver.confirm
-
--- a batch begins at its first place
-first-is : (shape : Shape) (sources : List FileParts) → first_of (counts_of shape sources) ≡ first_place sources
-first-is shape [] = refl
-first-is shape (source ∷ sources) = refl
-
-abbrev waiting_at : Place → Standing
-waiting_at place = record { place = place; mode = Waiting; retries = 0; state = Running; cancel_pending = false }
-
-pub new-refines : NewRefines → (pair : Pair) → AreNew pair → All IsFile pair.sender.files → PairRefines (confirm_of pair) (batch_to_send pair) start pair
-new-refines stand pair new files =
-    let made = stand (confirm_of pair) pair.sender.shape pair.sender.files pair.sender.frame pair.receiver.kept pair.receiver.failures pair.told pair.failures files new.tells new.few new.sink in
-    let standing : pair.sender.standing ≡ new_standing (counts_of pair.sender.shape pair.sender.files) = new.sender ∙ sym (ap waiting_at (first-is pair.sender.shape pair.sender.files)) in
-    rw (← standing, ← new.receiver) at made
 
 -- ---- A run that no end heard anything in
 
@@ -107,74 +75,27 @@ same-commits old new fresh same =
       number = 0;
       within = omega arith;
       headers = rw same.receiver fresh.sink.headers;
-      bytes = λ told is. ap (map known) (none-told old.receiver.kept.told told fresh.sink.told (rw same.receiver at is));
+      bytes = λ told is. ap (map (λ (bytes : List ℕ). Some bytes)) (none-told old.receiver.kept.told told fresh.sink.told (rw same.receiver at is));
       files_is = rw (same.receiver, fresh.receiver) refl;
       done = rw (same.sender, fresh.sender) (let none = none-done old.sender.files in omega (arith, none));
     }
 
--- ---- The bytes of a file as it is sent
-
-source-bytes : Laws → (shape : Shape) (count : ℕ) (header : HeaderParts) (bytes : Option (List ℕ)) → IsHeader length_limit header →
-    IfSome bytes (λ all. length all ≡ header.length) → IsSome bytes → known (bytes_of (record { header = header; pieces = told_pieces shape count bytes })) ≡ bytes
-source-bytes laws shape count header None within sized told = absurd (cc)
-source-bytes laws shape count header (Some all) within sized told = ap known (laws.bytes shape header all (pieces_of shape all) within (sym sized) (laws.pieces shape all))
-
-pub all-bytes : Laws → (shape : Shape) (sources : List FileParts) → All IsFile sources → AllTold sources →
-    map (λ f. known (bytes_of (file_of shape f))) sources ≡ map (λ (f : FileParts). f.bytes) sources
-all-bytes laws shape [] files tells = refl
-all-bytes laws shape (source ∷ sources) files tells =
-    let file : IsFile source = files 0 source (omega arith) in
-    let tell : IsSome source.bytes = tells 0 source (omega arith) in
-    let here : known (bytes_of (file_of shape source)) ≡ source.bytes = source-bytes laws shape _ source.header source.bytes file.header file.bytes tell in
-    let others = all-bytes laws shape sources (λ k d below. files (suc k) d (omega (arith, below))) (λ k d below. tells (suc k) d (omega (arith, below))) in
-    rw (here, others) refl
-
-pub sent-bytes : Laws → (shape : Shape) (sources : List FileParts) (n : ℕ) → All IsFile sources → AllTold sources →
-    map known (map bytes_of (map (file_of shape) (take n sources))) ≡ map (λ (f : FileParts). f.bytes) (take n sources)
-sent-bytes laws shape sources n files tells =
-    rw (map-map bytes_of (file_of shape) (take n sources), map-map known (λ f. bytes_of (file_of shape f)) (take n sources))
-    (sym (take-map (λ f. known (bytes_of (file_of shape f))) n sources) ∙ (ap (take n) (all-bytes laws shape sources files tells) ∙ take-map (λ (f : FileParts). f.bytes) n sources))
-
 -- ---- What was committed
-
--- the first list is no longer
-prefix-long : {A : Type 0} → (front all : List A) → IsPrefix front all → length front ≤ length all
-prefix-long front all first =
-    let long : length front ≡ min (length front) (length all) = sym (ap length first) ∙ length-take (length front) all in
-    omega (arith, long)
-
-pub commits-prefix : Laws → (shape : Shape) (sources : List FileParts) (st : State) (pair : Pair) → All IsFile sources → AllTold sources →
-    CommitsFirst (batch_of shape sources) st pair → CommitsAPrefix sources pair
-commits-prefix laws shape sources st pair files tells commits =
-    let batch : Batch = batch_of shape sources in
-    let n : ℕ = length (committed batch st) in
-    let committed_is : committed batch st ≡ map (file_of shape) (take n sources) = sym commits.first ∙ take-map (file_of shape) n sources in
-    let within : n ≤ length batch = prefix-long (committed batch st) batch commits.first in
-    let among : length (reported batch st) ≤ n = prefix-long (reported batch st) (committed batch st) commits.among in
-    let long : length batch ≡ length sources = length-map sources (file_of shape) in
-    record {
-      number = n;
-      within = subst (λ m. n ≤ m) long within;
-      headers = commits.headers ∙ (ap (map (λ (f : File HeaderParts). f.header)) committed_is ∙ map-map (λ (f : File HeaderParts). f.header) (file_of shape) (take n sources));
-      bytes = λ told told_is. ap (map known) (commits.bytes told told_is ∙ ap (map bytes_of) committed_is) ∙ sent-bytes laws shape sources n files tells;
-      files_is = commits.files_is;
-      done = rw commits.done_is among;
-    }
 
 pub run-of : Laws → (rounds : List Round) (old new : Pair) (trace : Trace) → IsTrace rounds old trace new → AreNew old → All IsFile old.sender.files →
     RunsAsMachine (confirm_of old) (batch_to_send old) start rounds old trace new
-run-of laws rounds old new trace gives fresh files = laws.go_on rounds old new trace gives (confirm_of old) (batch_to_send old) start (new-refines laws.new_stand old fresh files)
+run-of laws rounds old new trace gives fresh files = laws.go_on rounds old new trace gives (confirm_of old) (batch_to_send old) start (laws.new_stand old fresh files)
 
 pub run-refines : Laws → (rounds : List Round) (old new : Pair) (trace : Trace) (fresh : AreNew old) (files : All IsFile old.sender.files) →
     (runs : RunsAsMachine (confirm_of old) (batch_to_send old) start rounds old trace new) →
     PairRefines (confirm_of old) (batch_to_send old) (after_turns (frames_of (batch_to_send old)) (confirm_of old) runs.turns start) new
 run-refines laws rounds old new trace fresh files runs =
-    laws.stand (confirm_of old) (batch_to_send old) start rounds runs.turns old new trace.rounds.items runs.are_turns (new-refines laws.new_stand old fresh files)
+    laws.stand (confirm_of old) (batch_to_send old) start rounds runs.turns old new trace.rounds.items runs.are_turns (laws.new_stand old fresh files)
 
 -- a pair that refines some state
 standing-commits : Laws → (old new : Pair) (st : State) → AreNew old → All IsFile old.sender.files → PairRefines (confirm_of old) (batch_to_send old) st new → CommitsAPrefix old.sender.files new
 standing-commits laws old new st fresh files refines =
-    commits-prefix laws old.sender.shape old.sender.files st new files fresh.tells (laws.first (confirm_of old) (batch_to_send old) st new refines)
+    laws.prefix old.sender.shape old.sender.files st new files fresh.tells (laws.first (confirm_of old) (batch_to_send old) st new refines)
 
 pub run-commits : Laws → (rounds : List Round) (old new : Pair) (result : Result Trace LineFault) → RunGives rounds old result new → AreNew old → CommitsAPrefix old.sender.files new
 run-commits laws rounds old new (Ok trace) gives fresh = elim (trace-heard rounds old new trace.rounds.items gives.goes_on) [
@@ -186,7 +107,7 @@ run-commits laws rounds old new (Ok trace) gives fresh = elim (trace-heard round
 run-commits laws rounds old new (Err fault) gives fresh = elim (fault-heard 1 rounds old new fault gives) [
   | inl same ↦ same-commits old new fresh same
   | inr files ↦
-      let begins = new-refines laws.new_stand old fresh files in
+      let begins = laws.new_stand old fresh files in
       let last = stopped-refines (confirm_of old) (batch_to_send old) rounds 1 start old new fault begins (laws.stop 1 rounds old new fault gives (confirm_of old) (batch_to_send old) start begins) in
       standing-commits laws old new last.0 fresh files last.1
 ]

@@ -1,9 +1,18 @@
 -- New ends stand at the start.
-use Rattle.std.proofs.Common.{◌≡◌, ◌≤◌, ℕ, List, length, Option, None, Some, IfSome, IsSome, All, sym}
+use Rattle.std.proofs.Common.{◌≡◌, ◌∙◌, ◌≤◌, ℕ, List, [], ◌∷◌, length, Option, None, Some, IfSome, IsSome, All, false, refl, sym, ap}
 use Rattle.std.proofs.lemmas.List.{length-map}
 use Rattle.std.proofs.lemmas.List.Elements.{All-map}
-use Rattle.ym_line.proofs.Names.{MOST_FILES, HeaderParts, IsHeader, length_limit, IsPieces, pieces_of, Shape, IsBatch, AllTold, batch_of, file_of, told_pieces, FileParts, IsFile}
+use Rattle.ym_line.proofs.Names.{MOST_FILES, HeaderParts, IsHeader, length_limit, IsPieces, pieces_of, Shape, Place, IsBatch, AllTold, batch_of, file_of, told_pieces, FileParts, IsFile, AreNew, Pair, PairRefines}
+use Rattle.ym_file.specs.SourceFile.{counts_of}
+use Rattle.ym_machine.specs.Machine.{start}
+use Rattle.ym_core.specs.Place.{first_of}
+use Rattle.ym_core.specs.Receiver.{new_receiver}
+use Rattle.ym_core.specs.Standing.{new_standing}
+use Rattle.ym_core.specs.declared.place.Mode.TheVariants.{Waiting}
+use Rattle.ym_core.specs.declared.standing.Standing.{Standing}
+use Rattle.ym_core.specs.declared.state.SendState.TheVariants.{Running}
 use Rattle.ym_link.specs.ReceiverRefines.{IsSent}
+use Rattle.ym_line.specs.Promise.{first_place}
 
 -- a file that is cut by a plan is sent whole
 abbrev pub PlannedIsSent : Type 0
@@ -22,3 +31,23 @@ batch-is sent pieces shape sources files told few = record {
       (λ k d below. told-sent sent pieces shape _ _ _ (files k d below).header (files k d below).bytes (told k d below));
   few = rw (length-map sources (file_of shape)) few;
 }
+
+-- a batch begins at its first place
+first-is : (shape : Shape) (sources : List FileParts) → first_of (counts_of shape sources) ≡ first_place sources
+first-is shape [] = refl
+first-is shape (source ∷ sources) = refl
+
+abbrev waiting_at : Place → Standing
+waiting_at place = record { place = place; mode = Waiting; retries = 0; state = Running; cancel_pending = false }
+
+-- new ends are those that are made so
+pub new-refines : (pair : Pair) → AreNew pair →
+    PairRefines pair.receiver.receiver.confirm (batch_of pair.sender.shape pair.sender.files) start (record {
+      sender = record { standing = new_standing (counts_of pair.sender.shape pair.sender.files); shape = pair.sender.shape; files = pair.sender.files; frame = pair.sender.frame };
+      receiver = record { receiver = new_receiver pair.receiver.receiver.confirm; kept = pair.receiver.kept; failures = pair.receiver.failures };
+      told = pair.told;
+      failures = pair.failures;
+    }) → PairRefines pair.receiver.receiver.confirm (batch_of pair.sender.shape pair.sender.files) start pair
+new-refines pair new made =
+    let standing : pair.sender.standing ≡ new_standing (counts_of pair.sender.shape pair.sender.files) = new.sender ∙ sym (ap waiting_at (first-is pair.sender.shape pair.sender.files)) in
+    rw (← standing, ← new.receiver) at made

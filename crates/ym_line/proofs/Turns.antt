@@ -8,13 +8,12 @@ use Rattle.ym_frame.specs.Frame.{IsFrame, verdict_of}
 use Rattle.ym_frame.specs.declared.control.Reply.TheVariants as reply
 use Rattle.ym_frame.specs.declared.frame.Item.{Item}
 use Rattle.ym_frame.specs.declared.frame.Item.TheVariants as item
-use Rattle.ym_machine.specs.Frames.{Frame, BlockZero, frame_at}
+use Rattle.ym_machine.specs.Frames.{frame_at}
 use Rattle.ym_machine.specs.Steps as machine
 use Rattle.ym_machine.specs.Machine.{Speech, Nothing, FrameAt, CanCan}
 use Rattle.ym_core.specs.Hearing.{heard_of, heard_at}
 use Rattle.ym_core.specs.declared.delivery.Heard.TheVariants as heard
 use Rattle.ym_link.specs.ReceiverRefines as receiver
-use Rattle.ym_link.specs.SenderRefines.{item_of}
 use Rattle.ym_core.specs.declared.place.Mode.{Mode}
 use Rattle.ym_core.specs.declared.place.Mode.TheVariants.{Sent}
 use Rattle.ym_core.specs.declared.state.SendState.TheVariants as sender
@@ -83,11 +82,6 @@ words-shown found _ _ _ frame holds = refl
 pub sent-shown : FrameFound → (s : SenderParts) → IsSender s → what_of (sent_by s) ≡ what_heard (heard_of (sent_by s))
 sent-shown found s is = words-shown found s.standing.state s.standing.mode s.standing.cancel_pending s.frame (λ runs sent. let held = is.frame runs sent in (held.item, held.frame))
 
--- both ends have one item of a frame
-same-item : (frame : Frame HeaderParts) → receiver.item_of frame ≡ item_of frame
-same-item (BlockZero header) = refl
-same-item _ = refl
-
 -- what is heard of what the sender said
 pub said-heard : FrameFound → (files : Batch) (speech : Speech) (sender : SenderParts) (delivery : Delivery) → IsSaid files speech (spoken sender) → IsHeardBad delivery →
     heard_of (arrives delivery (sent_by sender)) ≡ receiver.heard_as (frames_of files) (machine.heard (is_whole delivery) speech)
@@ -95,7 +89,7 @@ unfolding verdict_of
 said-heard found files speech sender Lost says bad = refl
 said-heard found files speech sender (Damaged bytes) says bad = bad
 said-heard found files Nothing sender Whole says bad = rw says refl
-said-heard found files (FrameAt i) sender Whole says bad = rw (says.1, same-item (frame_at (frames_of files) i)) (frame-heard found (item_of (frame_at (frames_of files) i)) says.0 says.2)
+said-heard found files (FrameAt i) sender Whole says bad = rw says.1 (frame-heard found (receiver.item_of (frame_at (frames_of files) i)) says.0 says.2)
 said-heard found files CanCan sender Whole says bad = rw says refl
 
 -- ---- What comes back, within the reply
@@ -110,3 +104,7 @@ came-within within whole Whole r shows = whole r
 came-within within whole Lost r shows = refl
 came-within within whole (Damaged bytes) r shows =
     within r (controls_in bytes) (rw (control-bytes bytes, ← reply-controls r) shows)
+
+pub none-within : (came : List Control) → machine.is_within came [] ≡ true → came ≡ []
+none-within [] within = refl
+none-within (c ∷ came) within = absurd (cc)

@@ -1,27 +1,34 @@
 //! Laws over the definitions alone: each is the promise of a function that does nothing.
 
-ghost use Rattle.std.specs.Prelude.{◌≢◌, ◌≤◌, ◌<◌, List, ℕ, Option, Result, All, length};
+ghost use Rattle.std.specs.Prelude.{◌≡◌, ◌≢◌, ◌≤◌, ◌<◌, List, [], ℕ, Bool, false, Option, Result, All, length};
+ghost use Rattle.ym_frame.specs.Control.{reply_bytes};
+ghost use Rattle.ym_frame.specs.declared.control.Reply.{Reply};
+ghost use Rattle.ym_frame.specs.declared.control.Reply.TheVariants.{Silence};
 ghost use Rattle.ym_machine.specs.declared.confirm.Confirm.{Confirm};
 ghost use Rattle.ym_machine.specs.declared.limits.TheConstants.{MOST_FILES};
 ghost use Rattle.ym_machine.specs.Frames.{frames_of};
-ghost use Rattle.ym_machine.specs.Machine.{State, start};
-ghost use Rattle.ym_machine.specs.Run.{Turn, IsDamage, after_turns};
-ghost use Rattle.ym_file.specs.Kept.{Kept, IsNew};
+ghost use Rattle.ym_machine.specs.Machine.{State, Invariant, start};
+ghost use Rattle.ym_machine.specs.Run.{Turn, IsDamage, after_turns, is_whole};
+ghost use Rattle.ym_file.specs.Counts.{Rose};
 ghost use Rattle.ym_file.specs.declared.plan.Shape.{Shape};
-ghost use Rattle.ym_core.specs.Receiver.{new_receiver};
+ghost use Rattle.ym_core.specs.Reading.{controls_in};
+ghost use Rattle.ym_core.specs.Standing.{hears};
+ghost use Rattle.ym_core.specs.declared.place.Place.{Place};
 ghost use Rattle.ym_core.specs.declared.state.SendState.TheVariants as SendState;
-ghost use Rattle.ym_file.specs.SourceFile.{FileParts, IsFile, counts_of};
-ghost use Rattle.ym_core.specs.Standing.{new_standing};
-ghost use Rattle.ym_link.specs.SenderRefines.{Batch, AllTold, batch_of};
-ghost use Rattle.ym_line.specs.declared.delivery.Handed.{Handed};
+ghost use Rattle.ym_file.specs.SourceFile.{FileParts, IsFile, file_at};
+ghost use Rattle.ym_link.specs.ReceiverInto.{Tells};
+ghost use Rattle.ym_link.specs.Sender.{SenderParts, IsFilled, IsStep, counts};
+ghost use Rattle.ym_link.specs.SenderRefines.{Batch, SenderRefines, AllTold, batch_of};
+ghost use Rattle.ym_line.specs.declared.delivery.Delivery.{Delivery};
 ghost use Rattle.ym_line.specs.declared.delivery.Round.{Round};
 ghost use Rattle.ym_line.specs.declared.fault.LineFault.{LineFault};
 ghost use Rattle.ym_line.specs.declared.trace.Seen.{Seen};
 ghost use Rattle.ym_line.specs.declared.trace.Trace.{Trace};
-ghost use Rattle.ym_line.specs.Completion.{AllWhole, AreGoing, BringsShortBadRuns, HaveFinished, NoneRose, rounds_for, whole_rounds};
+ghost use Rattle.ym_line.specs.Completion.{AllWhole, AreGoing, BringsShortBadRuns, HaveFinished, NoneRose, both_whole, rounds_for, whole_rounds};
+ghost use Rattle.ym_line.specs.Damage.{ShowsBack, arrives};
 ghost use Rattle.ym_line.specs.Promise.{AreNew, CommitsAPrefix, ReportsCommitted};
-ghost use Rattle.ym_line.specs.Rounds.{Pair, Goes, StopsIn, IsTrace, RunGives};
-ghost use Rattle.ym_line.specs.Turns.{AreTurns, CommitsFirst, FollowsMachine, PairRefines, StopsWithMachine, TakesATurn};
+ghost use Rattle.ym_line.specs.Rounds.{Pair, Goes, GoesThere, StopsIn, IsTrace, RunGives};
+ghost use Rattle.ym_line.specs.Turns.{AreTurns, CommitsFirst, FollowsMachine, IsReceiverStep, IsSourceTruth, PairRefines, StopsWithMachine, TakesATurn, turn_of};
 
 use ym_file::laws::one_pieces;
 use ym_frame::laws::frame_found;
@@ -36,11 +43,13 @@ use ym_machine::laws::{
 
 /// Rounds of two ends that refine a state of the machine of two counters are turns of that machine, whatever is lost or damaged in them: the
 /// ends refine the state that the turns lead to, and the trace reports it. Where a round meets a fault, those before it are turns, and the ends
-/// refine the state behind them, or behind the receiver step of that round.
+/// refine the state behind them, or behind the receiver step of that round. A delivery to the receiver alone is the receiver step of a turn.
 pub fn rounds_are_turns()
     ensures go { (round : Round) (old new : Pair) (seen : Seen) → Goes round old seen new → TakesATurn round old seen new }
     ensures go_on { (rounds : List Round) (old new : Pair) (trace : Trace) → IsTrace rounds old trace new → FollowsMachine rounds old trace new }
     ensures stop { (n : ℕ) (rounds : List Round) (old new : Pair) (fault : LineFault) → StopsIn n rounds old fault new → StopsWithMachine n rounds old fault new }
+    ensures there { (delivery : Delivery) (old new : Pair) (reply : Reply) → GoesThere delivery old reply new →
+        (confirm : Confirm) (files : Batch) (st : State) → PairRefines confirm files st old → IsReceiverStep confirm files st delivery old reply new }
 {
     frame_found();
     what_comes_back();
@@ -51,36 +60,36 @@ pub fn rounds_are_turns()
     a_standing_receiver_follows_the_machine();
 }
 
-/// Turns of a pair that refines a state of the machine lead to the state that it refines behind them, and their damage is that of a run of the machine.
+/// Turns of a pair that refines a state of the machine lead to the state that it refines behind them, and their damage is that of a run of the machine. A
+/// round is whole where its turn is.
 pub fn turns_of_a_standing_pair()
     ensures stand { (confirm : Confirm) (files : Batch) (st : State) (rounds : List Round) (turns : List Turn) (old new : Pair) (all : List Seen) →
         AreTurns confirm files st rounds turns old all new → PairRefines confirm files st old → PairRefines confirm files (after_turns (frames_of files) confirm turns st) new }
     ensures damage { (confirm : Confirm) (files : Batch) (st : State) (rounds : List Round) (turns : List Turn) (old new : Pair) (all : List Seen) →
         AreTurns confirm files st rounds turns old all new → IsDamage (frames_of files) confirm turns st }
+    ensures whole { (round : Round) (sink_failed source_failed : Bool) → is_whole (turn_of round sink_failed source_failed) ≡ both_whole round }
 {
     what_comes_back();
 }
 
 /// Where a pair refines a state of the machine, the committed files are the first ones of the batch, each with its header and its bytes, and what the sender reports is
-/// among them.
+/// among them: in words of the machine's files, and of the sources that they were cut from.
 pub fn a_standing_pair_commits_the_first_files()
-    ensures { (confirm : Confirm) (files : Batch) (st : State) (pair : Pair) → PairRefines confirm files st pair → CommitsFirst files st pair }
+    ensures first { (confirm : Confirm) (files : Batch) (st : State) (pair : Pair) → PairRefines confirm files st pair → CommitsFirst files st pair }
+    ensures prefix { (shape : Shape) (sources : List FileParts) (st : State) (pair : Pair) → All IsFile sources → AllTold sources →
+        CommitsFirst (batch_of shape sources) st pair → CommitsAPrefix sources pair }
 {
+    one_pieces();
+    a_planned_file_is_sent();
     committed_is_reported_or_one_more::<Headers>();
     a_sender_follows_the_machine();
 }
 
-/// New ends stand at the start: a sender of a batch of at most 65,535 files whose sources tell their bytes, and a receiver into a sink that has no
+/// New ends refine the start: a sender of a batch of at most 65,535 files whose sources tell their bytes, and a receiver into a sink that has no
 /// file.
 pub fn new_ends_stand()
-    ensures { (confirm : Confirm) (shape : Shape) (sources : List FileParts) (frame : List ℕ) (kept : Kept) (sink_failures : ℕ) (told : Option (List Handed)) (failures : ℕ) →
-        All IsFile sources → AllTold sources → length sources ≤ MOST_FILES → IsNew kept →
-        PairRefines confirm (batch_of shape sources) start (record {
-          sender = record { standing = new_standing (counts_of shape sources); shape = shape; files = sources; frame = frame };
-          receiver = record { receiver = new_receiver confirm; kept = kept; failures = sink_failures };
-          told = told;
-          failures = failures;
-        }) }
+    ensures { (pair : Pair) → AreNew pair → All IsFile pair.sender.files →
+        PairRefines pair.receiver.receiver.confirm (batch_of pair.sender.shape pair.sender.files) start pair }
 {
     one_pieces();
     a_planned_file_is_sent();
@@ -95,8 +104,6 @@ pub fn new_ends_commit_a_prefix()
     ensures commits { (rounds : List Round) (old new : Pair) (result : Result Trace LineFault) → RunGives rounds old result new → AreNew old → CommitsAPrefix old.sender.files new }
     ensures reports { (rounds : List Round) (old new : Pair) (trace : Trace) → IsTrace rounds old trace new → AreNew old → ReportsCommitted trace new }
 {
-    one_pieces();
-    a_planned_file_is_sent();
     rounds_are_turns();
     turns_of_a_standing_pair();
     a_standing_pair_commits_the_first_files();
@@ -113,7 +120,6 @@ pub fn short_bad_runs_complete()
         AllWhole rounds → length rounds < rounds_for old → trace.send ≢ SendState.Finished }
 {
     one_pieces();
-    a_planned_file_is_sent();
     rounds_are_turns();
     turns_of_a_standing_pair();
     a_standing_pair_commits_the_first_files();
@@ -122,3 +128,33 @@ pub fn short_bad_runs_complete()
     both_finish::<Headers>();
     not_sooner::<Headers>();
 }
+
+/// A sender that hears nothing goes where the machine goes in a turn in which nothing arrives, whatever became of the receiver: no frame is taken.
+pub fn a_sender_alone_goes_on()
+    ensures { (confirm : Confirm) (files : Batch) (st : State) (old new : SenderParts) (failed : Bool) → Invariant confirm (frames_of files) st → AllTold old.files →
+        SenderRefines files st old → IsStep old (hears (counts old) old.standing []) failed new →
+        (next : State) × Invariant confirm (frames_of files) next × AllTold new.files × SenderRefines files next new × (next.taken ≡ st.taken) }
+{
+    halves_keep_machine_states::<Headers>();
+    halves_keep_the_other_end::<Headers>();
+    a_sender_follows_the_machine();
+}
+
+/// Of a silent receiver no control comes back, whatever becomes of the delivery.
+pub fn nothing_comes_back_of_silence()
+    ensures { (delivery : Delivery) → ShowsBack Silence delivery → controls_in (arrives delivery (reply_bytes Silence)) ≡ [] }
+{
+    what_comes_back();
+}
+
+/// What a sender's step leaves of its sources tells whether one failed (`filled`). Failure counts never fall, no file comes or goes, and where none rose from the
+/// first to the last, nothing failed on the way.
+pub fn failure_counts_tell()
+    ensures filled { (failed : Bool) (fills : Option Place) (old new : List FileParts) → IsFilled failed fills old new → IsSourceTruth failed old new }
+    ensures long { (failed : Bool) (old new : List FileParts) → IsSourceTruth failed old new → length new ≡ length old }
+    ensures grow { (failed : Bool) (old new : List FileParts) → IsSourceTruth failed old new → (i : ℕ) → (file_at old i).failures ≤ (file_at new i).failures }
+    ensures source { (failed : Bool) (old between new : List FileParts) → IsSourceTruth failed old between →
+        ((i : ℕ) → (file_at between i).failures ≤ (file_at new i).failures) →
+        ((i : ℕ) → i < length old → ¬ Rose (file_at old i).failures (file_at new i).failures) → failed ≡ false }
+    ensures sink { (failed : Bool) (a b c : ℕ) → Tells failed a b → b ≤ c → ¬ Rose a c → failed ≡ false }
+{}

@@ -4,13 +4,13 @@ use Rattle.std.specs.Prelude.{All, IfSome, IsSome, slice_set}
 use Rattle.std.specs.List.{AllZip}
 use Rattle.std.proofs.lemmas.List.{length-map, length-replicate}
 use Rattle.std.proofs.lemmas.List.Elements.{All-head, All-tail}
-use Rattle.ym_link.proofs.Names.{IsFrame, Item, HeaderParts, text, raised, Shape, piece_at, EotFrame, frames_of, frame_at, body_at, count_within, State, SenderEnd, start, said_by, sender_step, IsRemnant, Place, Block, FileParts, IsFile, file_at, blocks_of, counts_of, first_of, done_at, IsItemAt, IsFrameAt, controls_in, hears, SenderParts, IsSender, IsStep, IsFilled, counts, spoken, Batch, counts_in, place_from, place_at, state_of, mode_of, cancel_pending_of}
+use Rattle.ym_link.proofs.Names.{IsFrame, Item, HeaderParts, text, raised, Shape, piece_at, EotFrame, frames_of, frame_at, body_at, count_within, State, SenderEnd, start, said_by, sender_step, IsRemnant, Place, Block, FileParts, IsFile, file_at, blocks_of, counts_of, first_of, done_at, IsItemAt, IsFrameAt, controls_in, hears, SenderParts, IsSender, IsStep, IsFilled, counts, spoken, item_of, Batch, counts_in, place_from, place_at, state_of, mode_of, cancel_pending_of}
 use Rattle.ym_frame.specs.declared.frame.Item.TheVariants as item
 use Rattle.ym_file.specs.Plan.{pieces_of, count_of}
 use Rattle.ym_machine.specs.State.{said}
 use Rattle.ym_core.specs.Standing.{new_standing}
 use Rattle.ym_link.specs.Sender.{spoken_in}
-use Rattle.ym_link.specs.SenderRefines.{IsFileOf, told_pieces, batch_of, SenderRefines, item_of, IsSaid, AllTold}
+use Rattle.ym_link.specs.SenderRefines.{IsFileOf, told_pieces, batch_of, SenderRefines, IsSaid, AllTold}
 use Rattle.ym_link.proofs.SenderPlaces.{below, equal, above, ordered, place_block, place_eot, place_rest, in_blocks, behind_blocks, body_is, counts_length, done_is}
 use Rattle.ym_link.proofs.SenderSteps.{half_back}
 

@@ -2,15 +2,13 @@
 use Rattle.std.specs.Prelude.{◌≡◌, ℕ, ◌+◌, ◌-◌, ◌==◌, nat_lt, suc, zero, if◌then◌else◌, Bool, true, false, List, [], ◌∷◌, length, map, replicate, All, IfSome, IsSome, Option, None, Some}
 use Rattle.std.specs.List.{AllZip}
 use Rattle.ym_frame.specs.Frame.{IsFrame}
-use Rattle.ym_frame.specs.declared.frame.Item.{Item}
-use Rattle.ym_frame.specs.declared.frame.Item.TheVariants as item
 use Rattle.ym_header.specs.Header.{HeaderParts}
-use Rattle.ym_header.specs.Text.{text, end_text}
 use Rattle.ym_file.specs.declared.plan.Shape.{Shape}
 use Rattle.ym_file.specs.Plan.{pieces_of}
-use Rattle.ym_machine.specs.Frames.{File, Frame, BlockZero, Piece, Eot as EotFrame, EndBlock, frames_of, frame_at}
+use Rattle.ym_machine.specs.Frames.{File, frames_of, frame_at}
 use Rattle.ym_machine.specs.State.{State, SenderEnd, Speech, Nothing, FrameAt, CanCan}
 use Rattle.ym_file.specs.SourceFile.{FileParts, blocks_of}
+use Rattle.ym_link.specs.ReceiverRefines.{item_of}
 use Rattle.ym_link.specs.Sender.{SenderParts}
 use Rattle.ym_core.specs.declared.place.Place.{Place}
 use Rattle.ym_core.specs.declared.place.Place.TheVariants.{Header, Block, Eot, End}
@@ -95,13 +93,6 @@ pub record SenderRefines (files : Batch) (st : State) (s : SenderParts) : Type 0
   pub batch : AllZip (IsFileOf s.shape) s.files files
 
 -- ---- What it says
-
--- the item of a frame of the batch
-abbrev pub item_of : Frame HeaderParts → Item
-item_of (BlockZero header) = item.Block (record { number = 0; body = text header })
-item_of (Piece number body) = item.Block (record { number = number; body = body })
-item_of EotFrame = item.Eot
-item_of EndBlock = item.Block (record { number = 0; body = end_text })
 
 -- the bytes of what the machine's sender has to say
 abbrev pub IsSaid : Batch → Speech → Option (List ℕ) → Type 0

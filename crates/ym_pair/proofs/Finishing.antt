@@ -1,24 +1,19 @@
 -- Two engines whose deliveries pair up, and that both end, finish where damage comes in short bursts.
-use Rattle.std.proofs.Common.{◌≡◌, ◌≢◌, ◌∙◌, ◌≤◌, inl, inr, ℕ, true, false, List, [], ◌∷◌, length, map, Ok, Result, All, refl, sym, ap, subst, arith}
-use Rattle.std.proofs.lemmas.List.{length-map}
-use Rattle.std.proofs.lemmas.Simd.{map-map}
-use Rattle.ym_pair.proofs.Names.{Silence, HeaderParts, HeaderFault, Zero, Confirm, BURST, frames_of, State, start, committed, reported, Receiver, Step, No_call, hears_at, Bad, RecvState, ReceiverParts, HearsGives, called, SenderParts, Batch, IsFile, longest_bad_run, AreNew, Pair, sent_by, seen_of, CommitsFirst, Lost, Round, Spoke, Answered, SenderAlone, PairUp, ends}
+use Rattle.std.proofs.Common.{◌≡◌, ◌≢◌, ◌∙◌, ◌≤◌, inl, inr, ℕ, true, false, List, [], ◌∷◌, length, map, take, Ok, Result, All, refl, sym, ap, subst, arith}
+use Rattle.std.proofs.lemmas.List.{length-map, take_all}
+use Rattle.ym_pair.proofs.Names.{Silence, HeaderFault, Zero, Confirm, BURST, frames_of, State, start, committed, reported, Receiver, Step, No_call, hears_at, Bad, RecvState, ReceiverParts, HearsGives, called, SenderParts, Batch, FileParts, IsFile, longest_bad_run, AreNew, Pair, sent_by, seen_of, CommitsFirst, Lost, Round, Spoke, Answered, SenderAlone, PairUp, ends}
 use Rattle.ym_header.specs.declared.reading.Zero.TheVariants.{End}
-use Rattle.ym_machine.specs.Frames.{File, files_within}
+use Rattle.ym_machine.specs.Frames.{files_within}
 use Rattle.ym_machine.proofs.Places.{all-within, frames-end}
 use Rattle.ym_machine.proofs.ShortBursts.{got-all, start-fine}
 use Rattle.ym_core.specs.declared.state.RecvState.TheVariants as recv_state
 use Rattle.ym_core.specs.declared.state.SendState.TheVariants as send_state
-use Rattle.ym_link.specs.ReceiverRefines.{bytes_of}
 use Rattle.ym_link.specs.ReceiverRefines as receiver
-use Rattle.ym_link.specs.SenderRefines.{file_of}
+use Rattle.ym_link.specs.SenderRefines.{batch_of, file_of}
 use Rattle.ym_line.specs.Completion.{NoneRose}
-use Rattle.ym_line.proofs.Completing.{sender-going, sender-finished}
-use Rattle.ym_line.proofs.HalfSteps.{source-truth}
-use Rattle.ym_line.proofs.Promised.{Laws, all-bytes, batch_to_send, confirm_of, known, new-refines}
-use Rattle.ym_line.proofs.Truths.{sink-true, source-true}
+use Rattle.ym_line.specs.Promise.{CommitsAPrefix}
 use Rattle.ym_pair.specs.Pairing.{HaveBothFinished}
-use Rattle.ym_pair.proofs.Fronts.{TurnLaws, Front, Onward, IsShort, IsCalm, front-goes, front-is, answers-grew, speaks-grew, calm-there, calm-back, turns-longest}
+use Rattle.ym_pair.proofs.Fronts.{TurnLaws, Front, Onward, IsShort, IsCalm, sender-going, sender-finished, front-goes, front-is, answers-grew, speaks-grew, calm-there, calm-back, turns-longest}
 use Rattle.ym_pair.proofs.Ghosts.{Comes, ghost, comes-along, comes-waiting}
 use Rattle.ym_pair.proofs.Paired.{SpeaksTo, AnswersTo, bad-lost, paired-round}
 
@@ -66,10 +61,10 @@ module _ (laws : TurnLaws) (confirm : Confirm) (files : Batch) where
       let goes = paired-round laws.computed (ghost front.retries s) comes.new end end one.came Bad Silence Lost round.back (front-is confirm files on.before s end front speaks.1)
       comes.heard (silent end over) (bad-lost (sent_by s) Bad refl) pairs.1 in
       let onward : Onward confirm files rounds next end = front-goes laws confirm files on.before made rounds s next end end _ (seen_of made (ghost front.retries s) Silence) front comes goes
-      (λ failed tells. sink-true failed end.failures end.failures end.failures tells (omega arith) calm.sink)
-      (λ failed found. source-true failed s.files next.files new.files found (speaks-grew next new spoke speaks.5) calm.sources)
+      (λ failed tells. laws.sink failed end.failures end.failures end.failures tells (omega arith) calm.sink)
+      (λ failed found. laws.source failed s.files next.files new.files found (speaks-grew laws next new spoke speaks.5) calm.sources)
       (subst (λ there. IsShort on.before (record { there = there; back = round.back } ∷ rounds)) pairs.0 on.short) in
-      sender-reaches next new end spoke rounds onward speaks.5 over pairs.2 (calm-back s next new end end speaks.4.0 calm (source-truth speaks.4.0 _ s.files next.files speaks.4.1.files))
+      sender-reaches next new end spoke rounds onward speaks.5 over pairs.2 (calm-back laws s next new end end speaks.4.0 calm (laws.filled speaks.4.0 _ s.files next.files speaks.4.1.files))
 
   -- the sender has ended: where it has finished, so has the receiver
   all-heard : (s : SenderParts) (r end : ReceiverParts) (before : ℕ) (answered : List Answered) → Front confirm files before s r → s.standing.state ≢ send_state.Running → AnswersTo true r answered end → Reached confirm files s end
@@ -99,11 +94,11 @@ module _ (laws : TurnLaws) (confirm : Confirm) (files : Batch) where
       let goes = paired-round laws.computed (ghost front.retries s) comes.new r after one.came answer.heard answers.1 round.there round.back (front-is confirm files on.before s r front speaks.1) comes.heard answers.3
       (rw speaks.3 at there_pairs) (rw answers.4 at back_pairs) in
       let onward : Onward confirm files rounds next after = front-goes laws confirm files on.before round rounds s next r after _ (seen_of round (ghost front.retries s) answers.1) front comes goes
-      (λ failed tells. sink-true failed r.failures after.failures end.failures tells (answers-grew after end answered answers.5) calm.sink)
-      (λ failed found. source-true failed s.files next.files new.files found (speaks-grew next new spoke speaks.5) calm.sources)
+      (λ failed tells. laws.sink failed r.failures after.failures end.failures tells (answers-grew after end answered answers.5) calm.sink)
+      (λ failed found. laws.source failed s.files next.files new.files found (speaks-grew laws next new spoke speaks.5) calm.sources)
       on.short in
       reaches-end next new after end spoke last answered rounds onward speaks.5 answers.5 over ended later
-      (calm-there next new r after end answers.3.2.0 (calm-back s next new r end speaks.4.0 calm (source-truth speaks.4.0 _ s.files next.files speaks.4.1.files)) answers.3.2.1.truth)
+      (calm-there next new r after end answers.3.2.0 (calm-back laws s next new r end speaks.4.0 calm (laws.filled speaks.4.0 _ s.files next.files speaks.4.1.files)) answers.3.2.1.truth)
   reaches-end s new r end (one ∷ spoke) last (answer ∷ answered) (round ∷ rounds) on speaks answers over ended (there_pairs, inr (lost, later)) calm =
       let front : Front confirm files on.before s r = on.front in
       let after : ReceiverParts = answers.0 in
@@ -112,29 +107,29 @@ module _ (laws : TurnLaws) (confirm : Confirm) (files : Batch) where
       let goes = paired-round laws.computed (ghost front.retries s) comes.new r after [] answer.heard answers.1 round.there Lost (front-is confirm files on.before s r front speaks.1) comes.heard answers.3
       (rw speaks.3 at there_pairs) (record { shows = tt; short = tt; heard_is = refl }) in
       let onward : Onward confirm files rounds s after = front-goes laws confirm files on.before made rounds s s r after [] (seen_of made (ghost front.retries s) answers.1) front comes goes
-      (λ failed tells. sink-true failed r.failures after.failures end.failures tells (answers-grew after end answered answers.5) calm.sink)
-      (λ failed found. source-true failed s.files s.files new.files found (speaks-grew s new (one ∷ spoke) speaks) calm.sources)
+      (λ failed tells. laws.sink failed r.failures after.failures end.failures tells (answers-grew after end answered answers.5) calm.sink)
+      (λ failed found. laws.source failed s.files s.files new.files found (speaks-grew laws s new (one ∷ spoke) speaks) calm.sources)
       (subst (λ back. IsShort on.before (record { there = round.there; back = back } ∷ rounds)) lost on.short) in
       reaches-end s new after end (one ∷ spoke) last answered rounds onward speaks answers.5 over ended later (calm-there s new r after end answers.3.2.0 calm answers.3.2.1.truth)
 
 -- ---- Both finish
 
-pub engines-finish : Laws → TurnLaws → (s new : SenderParts) (r end : ReceiverParts) (spoke : List Spoke) (last : List ℕ) (answered : List Answered) (rounds : List Round) → AreNew (ends s r) → All IsFile s.files →
+pub engines-finish : TurnLaws → (s new : SenderParts) (r end : ReceiverParts) (spoke : List Spoke) (last : List ℕ) (answered : List Answered) (rounds : List Round) → AreNew (ends s r) → All IsFile s.files →
     SpeaksTo s spoke new → AnswersTo true r answered end → new.standing.state ≢ send_state.Running → end.receiver.state ≢ recv_state.Running → PairUp spoke last answered rounds →
     NoneRose (ends s r) (ends new end) → longest_bad_run 0 rounds ≤ BURST → HaveBothFinished s.files (ends new end)
-engines-finish laws turns s new r end spoke last answered rounds fresh within speaks answers over ended pairs none short =
+engines-finish laws s new r end spoke last answered rounds fresh within speaks answers over ended pairs none short =
     let old : Pair = ends s r in
-    let confirm : Confirm = confirm_of old in
-    let files : Batch = batch_to_send old in
+    let confirm : Confirm = r.receiver.confirm in
+    let files : Batch = batch_of s.shape s.files in
     let first : Front confirm files 0 s r = record {
       st = start;
       retries = s.standing.retries;
       few = omega arith;
-      refines = new-refines laws.new_stand old fresh within;
+      refines = laws.new_stand old fresh within;
       fine = start-fine (frames_of files) confirm (frames-end files);
     } in
-    let begins : Onward confirm files rounds s r = record { before = 0; front = first; short = subst (λ n. n ≤ BURST) (sym (turns-longest rounds 0)) short } in
-    let reached : Reached confirm files new end = reaches-end turns confirm files s new r end spoke last answered rounds begins speaks answers over ended pairs (record { sink = none.sink; sources = none.sources }) in
+    let begins : Onward confirm files rounds s r = record { before = 0; front = first; short = subst (λ n. n ≤ BURST) (sym (turns-longest laws rounds 0)) short } in
+    let reached : Reached confirm files new end = reaches-end laws confirm files s new r end spoke last answered rounds begins speaks answers over ended pairs (record { sink = none.sink; sources = none.sources }) in
     let front : Front confirm files reached.before new end = reached.front in
     let st : State = front.st in
     let commits : CommitsFirst files st (ends (ghost front.retries new) end) = laws.first confirm files st _ front.refines in
@@ -143,12 +138,14 @@ engines-finish laws turns s new r end spoke last answered rounds fresh within sp
     let took = got-all confirm (frames_of files) st front.fine.machine sent in
     let reported_is : reported files st ≡ files = ap (files_within files) (front.fine.machine.counters.sender_done.1 sent) ∙ all-within files in
     let committed_is : committed files st ≡ files = ap (files_within files) (front.fine.machine.counters.receiver_done.1 took) ∙ all-within files in
+    let counted : length (committed files st) ≡ length s.files = ap length committed_is ∙ length-map s.files (file_of s.shape) in
+    let prefix : CommitsAPrefix s.files (ends (ghost front.retries new) end) = laws.prefix s.shape s.files st _ within fresh.tells commits in
+    let all : take prefix.number s.files ≡ s.files = take_all prefix.number s.files (let n = prefix.files_is in let m = commits.files_is in omega (arith, n, m, counted)) in
     record {
       send = send;
       recv = commits.recv_is ∙ ap receiver.state_of took;
       done = commits.done_is ∙ (ap length reported_is ∙ length-map s.files (file_of s.shape));
-      files = commits.files_is ∙ (ap length committed_is ∙ length-map s.files (file_of s.shape));
-      headers = commits.headers ∙ (ap (map (λ (f : File HeaderParts). f.header)) committed_is ∙ map-map (λ (f : File HeaderParts). f.header) (file_of s.shape) s.files);
-      bytes = λ told told_is. ap (map known) (commits.bytes told told_is ∙ ap (map bytes_of) committed_is)
-          ∙ (ap (map known) (map-map bytes_of (file_of s.shape) s.files) ∙ (map-map known (λ f. bytes_of (file_of s.shape f)) s.files ∙ all-bytes laws s.shape s.files within fresh.tells));
+      files = commits.files_is ∙ counted;
+      headers = prefix.headers ∙ ap (map (λ (f : FileParts). f.header)) all;
+      bytes = λ told told_is. prefix.bytes told told_is ∙ ap (map (λ (f : FileParts). f.bytes)) all;
     }

@@ -1,18 +1,21 @@
 -- Where no bad run is longer than a burst, and no failure count rises, each round of a pair that has not given up leads to one that has not.
-use Rattle.std.proofs.Common.{◌≡◌, ◌≢◌, ◌∙◌, ◌≤◌, ◌<◌, ◌+◌, ◌⊎◌, inl, inr, ℕ, Bool, true, false, List, [], ◌∷◌, length, refl, sym, ap, subst, arith}
-use Rattle.ym_pair.proofs.Names.{Control, Confirm, BURST, frames_of, State, after_turn, SendState, ReceiverParts, SenderParts, IsSender, Batch, FileParts, file_at, longest_bad_run, Pair, Goes, PairRefines, Round, Spoke, Answered, ends}
+use Rattle.std.proofs.Common.{◌≡◌, ◌≢◌, ◌∙◌, ◌≤◌, ◌<◌, ◌+◌, ◌⊎◌, inl, inr, ℕ, Bool, true, false, List, [], ◌∷◌, length, Option, refl, sym, ap, subst, arith, All}
+use Rattle.ym_pair.proofs.Names.{Control, Shape, Confirm, BURST, frames_of, State, start, after_turn, SendState, ReceiverParts, SenderParts, IsSender, IsFilled, Batch, FileParts, IsFile, file_at, Place, longest_bad_run, AreNew, Pair, Goes, CommitsFirst, PairRefines, Round, Spoke, Answered, ends}
 use Rattle.ym_file.specs.Counts.{Rose}
+use Rattle.ym_machine.specs.RoundsRemaining.{SenderGoes}
 use Rattle.ym_machine.specs.Run.{Turn, IsDamage}
 use Rattle.ym_machine.specs.Run as machine
+use Rattle.ym_machine.specs.State.{SenderEnd}
 use Rattle.ym_machine.proofs.Places.{frames-end}
 use Rattle.ym_machine.proofs.ShortBursts.{IsFine, one-fine}
 use Rattle.ym_core.specs.declared.state.SendState.TheVariants as send_state
 use Rattle.ym_link.specs.ReceiverInto.{Tells}
+use Rattle.ym_link.specs.SenderRefines.{AllTold, batch_of}
+use Rattle.ym_link.specs.SenderRefines as sender
+use Rattle.ym_line.specs.Completion.{both_whole}
+use Rattle.ym_line.specs.Promise.{CommitsAPrefix}
 use Rattle.ym_line.specs.Turns.{AreTurns, IsTurn, IsSourceTruth, TakesATurn, turn_of}
 use Rattle.ym_line.specs.declared.trace.Seen.{Seen}
-use Rattle.ym_line.proofs.Completing.{sender-going, sender-runs}
-use Rattle.ym_line.proofs.HalfSteps.{source-truth}
-use Rattle.ym_line.proofs.Truths.{rose-behind, sources-grew, sources-long, tells-grew, whole-turn}
 use Rattle.ym_pair.proofs.Ghosts.{Comes, ghost}
 use Rattle.ym_pair.proofs.Paired.{Computed, SpeaksTo, AnswersTo}
 
@@ -23,6 +26,17 @@ pub record TurnLaws : Type 0 where
   pub go : (round : Round) (old new : Pair) (seen : Seen) → Goes round old seen new → TakesATurn round old seen new
   pub damage : (confirm : Confirm) (files : Batch) (st : State) (rounds : List Round) (turns : List Turn) (old new : Pair) (all : List Seen) →
       AreTurns confirm files st rounds turns old all new → IsDamage (frames_of files) confirm turns st
+  pub whole : (round : Round) (sink_failed source_failed : Bool) → machine.is_whole (turn_of round sink_failed source_failed) ≡ both_whole round
+  pub first : (confirm : Confirm) (files : Batch) (st : State) (pair : Pair) → PairRefines confirm files st pair → CommitsFirst files st pair
+  pub prefix : (shape : Shape) (sources : List FileParts) (st : State) (pair : Pair) → All IsFile sources → AllTold sources → CommitsFirst (batch_of shape sources) st pair → CommitsAPrefix sources pair
+  pub new_stand : (pair : Pair) → AreNew pair → All IsFile pair.sender.files → PairRefines pair.receiver.receiver.confirm (batch_of pair.sender.shape pair.sender.files) start pair
+  -- of failure counts
+  pub filled : (failed : Bool) (fills : Option Place) (old new : List FileParts) → IsFilled failed fills old new → IsSourceTruth failed old new
+  pub long : (failed : Bool) (old new : List FileParts) → IsSourceTruth failed old new → length new ≡ length old
+  pub grow : (failed : Bool) (old new : List FileParts) → IsSourceTruth failed old new → (i : ℕ) → (file_at old i).failures ≤ (file_at new i).failures
+  pub source : (failed : Bool) (old between new : List FileParts) → IsSourceTruth failed old between → ((i : ℕ) → (file_at between i).failures ≤ (file_at new i).failures) →
+      ((i : ℕ) → i < length old → ¬ Rose (file_at old i).failures (file_at new i).failures) → failed ≡ false
+  pub sink : (failed : Bool) (a b c : ℕ) → Tells failed a b → b ≤ c → ¬ Rose a c → failed ≡ false
 
 -- ---- Rounds as turns without a failure
 
@@ -34,11 +48,9 @@ turns_of (round ∷ rounds) = turn_of round false false ∷ turns_of rounds
 abbrev pub IsShort : ℕ → List Round → Type 0
 IsShort before rounds = machine.longest_bad_run before (turns_of rounds) ≤ BURST
 
-pub turns-longest : (rounds : List Round) (before : ℕ) → machine.longest_bad_run before (turns_of rounds) ≡ longest_bad_run before rounds
-turns-longest [] before = refl
-turns-longest (round ∷ rounds) before =
-    let first : machine.is_whole (turn_of round false false) ≡ _ = whole-turn round (turn_of round false false) refl in
-    rw (first, turns-longest rounds 0, turns-longest rounds (before + 1)) refl
+pub turns-longest : TurnLaws → (rounds : List Round) (before : ℕ) → machine.longest_bad_run before (turns_of rounds) ≡ longest_bad_run before rounds
+turns-longest laws [] before = refl
+turns-longest laws (round ∷ rounds) before = rw (laws.whole round false false, turns-longest laws rounds 0, turns-longest laws rounds (before + 1)) refl
 
 -- ---- A pair that has not given up
 
@@ -62,6 +74,13 @@ CalmSink old new = (failed : Bool) → Tells failed old.failures new.failures �
 
 abbrev pub CalmSources : List FileParts → List FileParts → Type 0
 CalmSources old new = (failed : Bool) → IsSourceTruth failed old new → failed ≡ false
+
+-- how a sender that has not given up stands
+pub sender-going : (end : SenderEnd) (s : SendState) → s ≡ sender.state_of end → SenderGoes end → (s ≡ send_state.Running) ⊎ (s ≡ send_state.Finished)
+sender-going end s is goes = grind (arith, is, goes)
+
+pub sender-finished : (end : SenderEnd) → sender.state_of end ≡ send_state.Finished → end ≡ SenderEnd.Finished
+sender-finished end is = grind (arith, is)
 
 still-replies : (s : SendState) → (s ≡ send_state.Running) ⊎ (s ≡ send_state.Finished) → s ≢ send_state.NoReply
 still-replies s (inl runs) = λ gone. absurd (cc)
@@ -104,7 +123,8 @@ front-is confirm files before s r front is = record {
   place = is.place;
   retries = λ on.
       let at = front.refines.sender.standing in
-      let runs = sender-runs front.st.sender (sym at.state ∙ on) in
+      let state = sym at.state ∙ on in
+      let runs : front.st.sender ≡ SenderEnd.Running = grind (arith, state) in
       let retries = at.retries runs in
       let below = front.fine.machine.counters.sender_retries runs in
       omega (arith, retries, below);
@@ -113,6 +133,12 @@ front-is confirm files before s r front is = record {
 
 -- ---- Failure counts never fall
 
+tells-grew : (failed : Bool) (a b : ℕ) → Tells failed a b → a ≤ b
+tells-grew failed a b tells = grind (arith, tells)
+
+rose-behind : (a b c : ℕ) → a ≤ b → Rose b c → Rose a c
+rose-behind a b c grew rose = grind (arith, grew, rose)
+
 pub answers-grew : (r end : ReceiverParts) (answered : List Answered) → AnswersTo true r answered end → r.failures ≤ end.failures
 answers-grew r end [] answers = let same : end.failures ≡ r.failures = ap (λ (x : ReceiverParts). x.failures) answers in omega (arith, same)
 answers-grew r end (one ∷ answered) answers =
@@ -120,11 +146,11 @@ answers-grew r end (one ∷ answered) answers =
     let others = answers-grew answers.0 end answered answers.5 in
     omega (arith, first, others)
 
-pub speaks-grew : (s new : SenderParts) (spoke : List Spoke) → SpeaksTo s spoke new → (i : ℕ) → (file_at s.files i).failures ≤ (file_at new.files i).failures
-speaks-grew s new [] speaks i = let same : (file_at new.files i).failures ≡ (file_at s.files i).failures = ap (λ (x : SenderParts). (file_at x.files i).failures) speaks in omega (arith, same)
-speaks-grew s new (one ∷ spoke) speaks i =
-    let first = sources-grew speaks.4.0 s.files speaks.0.files (source-truth speaks.4.0 _ s.files speaks.0.files speaks.4.1.files) i in
-    let others = speaks-grew speaks.0 new spoke speaks.5 i in
+pub speaks-grew : TurnLaws → (s new : SenderParts) (spoke : List Spoke) → SpeaksTo s spoke new → (i : ℕ) → (file_at s.files i).failures ≤ (file_at new.files i).failures
+speaks-grew laws s new [] speaks i = let same : (file_at new.files i).failures ≡ (file_at s.files i).failures = ap (λ (x : SenderParts). (file_at x.files i).failures) speaks in omega (arith, same)
+speaks-grew laws s new (one ∷ spoke) speaks i =
+    let first = laws.grow speaks.4.0 s.files speaks.0.files (laws.filled speaks.4.0 _ s.files speaks.0.files speaks.4.1.files) i in
+    let others = speaks-grew laws speaks.0 new spoke speaks.5 i in
     omega (arith, first, others)
 
 -- no failure count rises from here to the end
@@ -139,9 +165,9 @@ calm-there s new r after end failed calm tells = record {
   sources = calm.sources;
 }
 
-pub calm-back : (s next new : SenderParts) (r end : ReceiverParts) (failed : Bool) → IsCalm s new r end → IsSourceTruth failed s.files next.files → IsCalm next new r end
-calm-back s next new r end failed calm truth = record {
+pub calm-back : TurnLaws → (s next new : SenderParts) (r end : ReceiverParts) (failed : Bool) → IsCalm s new r end → IsSourceTruth failed s.files next.files → IsCalm next new r end
+calm-back laws s next new r end failed calm truth = record {
   sink = calm.sink;
   sources = λ i below rose.
-      calm.sources i (subst (λ n. i < n) (sources-long failed s.files next.files truth) below) (rose-behind _ _ _ (sources-grew failed s.files next.files truth i) rose);
+      calm.sources i (subst (λ n. i < n) (laws.long failed s.files next.files truth) below) (rose-behind _ _ _ (laws.grow failed s.files next.files truth i) rose);
 }

@@ -2,22 +2,19 @@
 use Rattle.std.proofs.Common.{◌≡◌, ◌≢◌, ◌∙◌, ◌⊎◌, ◌+◌, inl, inr, nat_lt, ℕ, Bool, true, false, List, [], ◌∷◌, ◌++◌, length, Option, None, Some, Result, Ok, Err, unwrap_or, refl, sym, ap, subst, arith}
 use Rattle.std.proofs.lemmas.Bool.{cond_both, ltb-true}
 use Rattle.ym_pair.proofs.Names.{verdict_of, Control, Ack, Can, Reply, Silence, Item, IsPlace, count_at, next_of, controls_in, reads, after_reading, hears, hears_in, Heard, Bad, Mode, Waiting, Sent, Place, Header, Block, Eot, End, Reading, Standing, SendState, SenderHears, sender_none, sender_more, ReceiverHears, receiver_none, receiver_more, Tape, ReceiverParts, HearsGives, SenderParts, IsSender, IsStep, counts, spoken, written_for, counts_of, Goes, sent_by, seen_of, Delivery, Lost, Spoke, Answered, spoke_in, spoke_along, last_words, answered_in, ArrivesThere, ArrivesBack, ends, up_to_start}
+use Rattle.ym_frame.specs.Control.{reply_bytes}
 use Rattle.ym_frame.specs.Frame.{IsBytes, IsVerdict, HasFrame}
 use Rattle.ym_frame.specs.declared.control.Control.TheVariants.{Nak}
 use Rattle.ym_frame.specs.declared.frame.Broken.{Broken}
-use Rattle.ym_machine.specs.Steps as machine
-use Rattle.ym_machine.specs.Run.{came_back}
 use Rattle.ym_core.specs.Hearing.{heard_at}
 use Rattle.ym_core.specs.declared.state.SendState.TheVariants as send_state
 use Rattle.ym_core.specs.declared.state.RecvState.TheVariants as recv_state
 use Rattle.ym_link.specs.ReceiveOver as receiving
 use Rattle.ym_link.specs.SendOver as sending
 use Rattle.ym_link.proofs.Files.{filled_counts, filled_files}
-use Rattle.ym_line.specs.Damage.{arrives, IsHeardBad, ShowsThere}
+use Rattle.ym_line.specs.Damage.{arrives, IsHeardBad, ShowsBack, ShowsThere}
 use Rattle.ym_line.specs.Rounds.{GoesThere}
-use Rattle.ym_line.specs.Turns.{came_of}
 use Rattle.ym_line.specs.declared.delivery.Delivery.TheVariants.{Damaged}
-use Rattle.ym_line.proofs.Turns.{WithinReply, came-within, controls-arrive}
 use Rattle.ym_pair.specs.Logs.{answered_along}
 use Rattle.ym_pair.specs.Pairing.{AreBytes}
 use Rattle.ym_pair.proofs.Moving.{Moves, step-moves}
@@ -191,15 +188,12 @@ pub there-of : Computed → (s : SenderParts) (wrote : List ℕ) (delivery : Del
 there-of computed s wrote delivery h (inl same) arrives = (delivery, rw same at arrives)
 there-of computed s wrote delivery h (inr none) arrives = (Lost, bad-lost (sent_by s) h (nothing-there computed delivery h (rw none at arrives)))
 
-none-within : (came : List Control) → machine.is_within came [] ≡ true → came ≡ []
-none-within [] within = refl
-none-within (c ∷ came) within = absurd (cc)
+abbrev pub SilenceBack : Type 0
+SilenceBack = (delivery : Delivery) → ShowsBack Silence delivery → controls_in (arrives delivery (reply_bytes Silence)) ≡ []
 
 -- of silence the sender reads no control
-pub nothing-back : WithinReply → ((r : Reply) → machine.is_within (machine.controls r) (machine.controls r) ≡ true) →
-    (delivery : Delivery) (came : List ℕ) → ArrivesBack delivery Silence came → up_to_start (controls_in came) ≡ []
-nothing-back within whole delivery came back =
-    back.heard_is ∙ (controls-arrive delivery Silence ∙ none-within (came_back (came_of delivery) Silence) (came-within within whole delivery Silence back.shows))
+pub nothing-back : SilenceBack → (delivery : Delivery) (came : List ℕ) → ArrivesBack delivery Silence came → up_to_start (controls_in came) ≡ []
+nothing-back silence delivery came back = back.heard_is ∙ silence delivery back.shows
 
 -- ---- A round
 

@@ -14,20 +14,13 @@ ghost use Rattle.ym_line.specs.Promise.{AreNew, CommitsAPrefix};
 ghost use Rattle.ym_line.specs.declared.delivery.Round.{Round};
 ghost use Rattle.ym_pair.specs.Pairing.{RunsPairUp, AreCalls, CallsPairUp, HaveBothFinished, ends};
 
-use ym_file::laws::one_pieces;
-use ym_frame::laws::{frame_found, one_verdict};
+use ym_frame::laws::one_verdict;
 use ym_line::laws::{
-    a_standing_pair_commits_the_first_files, new_ends_stand, rounds_are_turns,
-    turns_of_a_standing_pair,
+    a_sender_alone_goes_on, a_standing_pair_commits_the_first_files, failure_counts_tell,
+    new_ends_stand, nothing_comes_back_of_silence, rounds_are_turns, turns_of_a_standing_pair,
 };
-use ym_link::laws::{
-    Headers, a_planned_file_is_sent, a_sender_follows_the_machine,
-    a_standing_receiver_follows_the_machine,
-};
-use ym_machine::laws::{
-    committed_is_reported_or_one_more, halves_keep_machine_states, halves_keep_the_other_end,
-    what_comes_back,
-};
+use ym_link::laws::{Headers, a_sender_follows_the_machine};
+use ym_machine::laws::committed_is_reported_or_one_more;
 
 /// Where the deliveries of two engines pair up, over any two ports, whether or not they tell their events, and however each call returns, the files that the receiver has committed are the first
 /// ones of the batch, each with its name, length, stamp and bytes, and the sender reports no more of them.
@@ -37,20 +30,14 @@ pub fn two_engines_commit_a_prefix()
     ensures course { (s new : SenderParts) (r end : ReceiverParts) (calls : AreCalls s new r end) (rounds : List Round) →
         AreNew (ends s r) → IsSender new → CallsPairUp s new r end calls rounds → CommitsAPrefix s.files (ends new end) }
 {
-    one_pieces();
     one_verdict();
-    frame_found();
-    what_comes_back();
-    a_planned_file_is_sent();
     a_sender_follows_the_machine();
-    a_standing_receiver_follows_the_machine();
-    halves_keep_machine_states::<Headers>();
-    halves_keep_the_other_end::<Headers>();
     committed_is_reported_or_one_more::<Headers>();
     rounds_are_turns();
-    turns_of_a_standing_pair();
     a_standing_pair_commits_the_first_files();
     new_ends_stand();
+    a_sender_alone_goes_on();
+    nothing_comes_back_of_silence();
 }
 
 /// Where moreover both calls return well, no failure count rose, and no bad run of the rounds is longer than a burst, of four today, both ends have finished,
@@ -63,11 +50,10 @@ pub fn two_engines_complete()
         AreNew (ends s r) → IsSender new → CallsPairUp s new r end calls rounds → new.standing.state ≢ sender_is.Running → end.receiver.state ≢ receiver_is.Running →
         NoneRose (ends s r) (ends new end) → longest_bad_run 0 rounds ≤ BURST → HaveBothFinished s.files (ends new end) }
 {
-    one_pieces();
     one_verdict();
-    a_planned_file_is_sent();
     rounds_are_turns();
     turns_of_a_standing_pair();
     a_standing_pair_commits_the_first_files();
     new_ends_stand();
+    failure_counts_tell();
 }

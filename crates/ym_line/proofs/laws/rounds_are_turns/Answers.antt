@@ -1,5 +1,5 @@
 use Rattle.ym_line.proofs.Names.{frames_of}
-use Rattle.ym_line.proofs.HalfSteps.{Laws, goes-turn, run-turns}
+use Rattle.ym_line.proofs.HalfSteps.{Laws, receiver-step, goes-turn, run-turns}
 use Rattle.ym_line.proofs.Stops.{run-stops}
 use Rattle.ym_line.proofs.laws.rounds_are_turns.Goals as goal
 
@@ -24,4 +24,5 @@ returns c =
       go = λ round old new seen goes confirm files st refines. goes-turn laws confirm files st round old new seen refines goes;
       go_on = λ rounds old new trace gives confirm files st refines. run-turns laws confirm files st rounds old new trace refines gives;
       stop = λ n rounds old new fault stops confirm files st refines. run-stops laws confirm files rounds n st old new fault refines stops;
+      there = λ delivery old new reply goes confirm files st refines. (receiver-step laws confirm files st delivery old reply new refines goes).0;
     }

@@ -5,12 +5,11 @@ use Rattle.ym_line.proofs.laws.short_bad_runs_complete.Goals as goal
 pub returns : goal.returns
 returns c =
     let laws : Laws = record {
-      bytes = c.a_planned_file_is_sent.ensures.bytes;
-      pieces = c.one_pieces.ensures.computed;
       go_on = c.rounds_are_turns.ensures.go_on;
       stop = c.rounds_are_turns.ensures.stop;
       stand = c.turns_of_a_standing_pair.ensures.stand;
-      first = c.a_standing_pair_commits_the_first_files.ensures;
+      first = c.a_standing_pair_commits_the_first_files.ensures.first;
+      prefix = c.a_standing_pair_commits_the_first_files.ensures.prefix;
       new_stand = c.new_ends_stand.ensures;
     } in
     let completion : Completion = record {

@@ -1,6 +1,5 @@
 use Rattle.std.proofs.Common.{ap, inl, true}
 use Rattle.ym_pair.proofs.Names.{Standing, spoken, written_for}
-use Rattle.ym_line.proofs.Promised.{Laws}
 use Rattle.ym_pair.proofs.Engines.{files-within}
 use Rattle.ym_pair.proofs.Finishing.{engines-finish}
 use Rattle.ym_pair.proofs.Fronts.{TurnLaws}
@@ -9,28 +8,29 @@ use Rattle.ym_pair.proofs.laws.pairs.two_engines_complete.Goals as goal
 
 pub returns : goal.returns
 returns c =
-    let laws : Laws = record {
-      bytes = c.a_planned_file_is_sent.ensures.bytes;
-      pieces = c.one_pieces.ensures.computed;
-      go_on = c.rounds_are_turns.ensures.go_on;
-      stop = c.rounds_are_turns.ensures.stop;
-      stand = c.turns_of_a_standing_pair.ensures.stand;
-      first = c.a_standing_pair_commits_the_first_files.ensures;
-      new_stand = c.new_ends_stand.ensures;
-    } in
-    let turns : TurnLaws = record {
+    let counts = c.failure_counts_tell.ensures in
+    let laws : TurnLaws = record {
       computed = c.one_verdict.ensures.computed;
       go = c.rounds_are_turns.ensures.go;
       damage = c.turns_of_a_standing_pair.ensures.damage;
+      whole = c.turns_of_a_standing_pair.ensures.whole;
+      first = c.a_standing_pair_commits_the_first_files.ensures.first;
+      prefix = c.a_standing_pair_commits_the_first_files.ensures.prefix;
+      new_stand = c.new_ends_stand.ensures;
+      filled = counts.filled;
+      long = counts.long;
+      grow = counts.grow;
+      source = counts.source;
+      sink = counts.sink;
     } in
     record {
       told = λ s t out sends r u end receives rounds fresh pairs sent received none short.
           let said = speaks s t out sends in
           let left = leaves s t out sends (λ over. absurd (over (ap (λ (x : Standing). x.state) fresh.sender))) in
           let answered = answers-all r u end receives received in
-          engines-finish laws turns s out.sender r end.receiver _ _ _ rounds fresh (files-within s out.sender _ _ said left) said answered.0 (sent-over s t out sends sent) answered.1 pairs none short;
+          engines-finish laws s out.sender r end.receiver _ _ _ rounds fresh (files-within s out.sender _ _ said left) said answered.0 (sent-over s t out sends sent) answered.1 pairs none short;
       course = λ s new r end calls rounds fresh is pairs over ended none short.
           let said = speaks-along s calls.deliveries calls.progress new calls.speaks in
           let left : Leaves new (written_for (spoken new)) = record { is = is; words = inl (written-sent (spoken new)) } in
-          engines-finish laws turns s new r end _ _ _ rounds fresh (files-within s new _ _ said left) said (answers-along true r calls.heard calls.steps end calls.hears) over ended pairs none short;
+          engines-finish laws s new r end _ _ _ rounds fresh (files-within s new _ _ said left) said (answers-along true r calls.heard calls.steps end calls.hears) over ended pairs none short;
     }
