@@ -24,6 +24,7 @@ pub mod SenderStanding
 pub mod DeliverySize
 pub mod SenderBound
 pub mod Settled
+pub mod Moving
 pub mod Steps
 pub mod TableRows
 pub mod Taking

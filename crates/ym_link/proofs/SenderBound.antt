@@ -10,7 +10,8 @@ use Rattle.ym_link.specs.Deliveries.{frames_in, frames_from, sender_steps, deliv
 use Rattle.ym_link.specs.Bound.{sender_progress_in, sender_hears, sender_progress}
 use Rattle.ym_link.specs.Course.{SenderCourse}
 use Rattle.ym_link.proofs.Files.{filled_counts}
-use Rattle.ym_link.proofs.Steps.{Reaches, stays, cancels, again, finishes, sends, waits_next, sends_next, cancels_next, IsBefore, reaches, step_counts}
+use Rattle.ym_link.specs.Moves.{IsBefore}
+use Rattle.ym_link.proofs.Steps.{Reaches, stays, cancels, again, finishes, sends, waits_next, sends_next, cancels_next, reaches, step_counts}
 
 -- ---- Ten deliveries for each step
 

@@ -6,11 +6,7 @@ use Rattle.ym_core.specs.declared.reading.Stop.TheVariants.{Sends, Again, Finish
 use Rattle.ym_core.specs.declared.standing.SendStep.{SendStep as Step}
 use Rattle.ym_core.specs.Reading.{goes_on, stops}
 use Rattle.ym_core.specs.Standing.{IsSame}
-
--- another frame stands behind it
-abbrev pub IsBefore : Place → Type 0
-IsBefore End = ⊥
-IsBefore place = Unit {0}
+use Rattle.ym_link.specs.Moves.{IsBefore}
 
 -- what a reading comes to, from a place and a mode on
 pub data Reaches (counts : List ℕ) (place : Place) (mode : Mode) (r : Reading) : Type 0 where

@@ -2,6 +2,7 @@ pub mod ReceiverInto
 pub mod Calls
 pub use Rattle.ym_file.specs.SourceFile
 pub mod FrameAt
+pub mod Moves
 pub mod Port
 pub mod ScriptPort
 pub mod Delivery

@@ -12,9 +12,9 @@ use Rattle.ym_link.specs.FrameAt.{IsItemAt}
 use Rattle.ym_link.specs.SendOver.{Outcome, Sends, heard}
 use Rattle.ym_file.specs.SourceFile.{filled, no_file}
 use Rattle.ym_core.specs.Standing.{new_standing}
-use Rattle.ym_link.proofs.Files.{filled_counts}
-use Rattle.ym_link.proofs.Steps.{IsBefore}
-use Rattle.ym_pair.proofs.Moving.{before-next, step-moves, step-finishes}
+use Rattle.ym_link.specs.Moves.{IsBefore}
+use Rattle.ym_pair.proofs.PlacesBefore.{before-next}
+use Rattle.ym_pair.proofs.SenderLaws.{SenderLaws}
 
 -- ---- The files, apart from their counts
 
@@ -121,18 +121,18 @@ passes-none s = record {
   counted = refl;
 }
 
-passes-one : (s new : SenderParts) (one : Spoke) (failed : Bool) → IsSender s → s.standing.state ≡ Running → one.wrote ≡ written_for (spoken s) →
+passes-one : SenderLaws → (s new : SenderParts) (one : Spoke) (failed : Bool) → IsSender s → s.standing.state ≡ Running → one.wrote ≡ written_for (spoken s) →
     IsStep s (hears (counts s) s.standing (controls_in one.came)) failed new → Passes s (one ∷ []) new
-passes-one s new one failed is on wrote step =
+passes-one laws s new one failed is on wrote step =
     let fills : Option Place = (hears (counts s) s.standing (controls_in one.came)).fills in
     let same_files : SameFiles s.files new.files = filled-same failed fills s.files new.files step.files in
-    let counts_same : counts new ≡ counts s = ap (λ shape. counts_of shape new.files) step.shape ∙ filled_counts s.shape failed fills s.files new.files step.files in
+    let counts_same : counts new ≡ counts s = laws.counts s _ failed new step in
     let held : s.standing.mode ≡ Sent → IsFrameAt s.shape s.files s.standing.place one.wrote = λ sent. rw (wrote, on, sent) (is.frame on sent) in
-    elim (step-moves s (controls_in one.came) failed new on step) [
+    elim (laws.goes s (controls_in one.came) failed new on step) [
       | inl stayed ↦ record {
         more = [];
         finished = λ over.
-            let at = step-finishes s (controls_in one.came) failed new on step over in
+            let at = laws.finishes s (controls_in one.came) failed new on step over in
             inr (record { place = at.after; acknowledged = inl (rw at.place at (held at.mode), at.ack, tt) });
         acknowledged = tt;
         before = ap (places_before (counts s)) stayed ∙ sym (append-nil (places_before (counts s) s.standing.place));
@@ -142,7 +142,7 @@ passes-one s new one failed is on wrote step =
       }
       | inr moved ↦ record {
         more = s.standing.place ∷ [];
-        finished = λ over. absurd (subst IsBefore (step-finishes s (controls_in one.came) failed new on step over).place moved.1);
+        finished = λ over. absurd (subst IsBefore (laws.finishes s (controls_in one.came) failed new on step over).place moved.1);
         acknowledged = inl (held moved.0, moved.2, tt);
         before = ap (places_before (counts s)) moved.3 ∙ sym (before-next (counts s) s.standing.place is.place moved.1);
         shape = step.shape;
@@ -181,17 +181,17 @@ passes-then s between new first later one rest =
       counted = rest.counted ∙ one.counted;
     }
 
-passes : (s : SenderParts) (t : Tape) (out : Outcome) (run : Sends s t out) → Passes s (spoke_in s t out run) out.sender
-passes s t out (heard _ _ bytes new _ is on some gives later) =
+passes : SenderLaws → (s : SenderParts) (t : Tape) (out : Outcome) (run : Sends s t out) → Passes s (spoke_in s t out run) out.sender
+passes laws s t out (heard _ _ bytes new _ is on some gives later) =
     let one : Spoke = record { wrote = written_for (spoken s); came = bytes } in
-    passes-then s new out.sender (one ∷ []) (spoke_in new _ out later) (passes-one s new one gives.0 is on refl gives.1) (passes new _ out later)
-passes s t out _ = passes-none s
+    passes-then s new out.sender (one ∷ []) (spoke_in new _ out later) (passes-one laws s new one gives.0 is on refl gives.1) (passes laws new _ out later)
+passes laws s t out _ = passes-none s
 
-passes-along : (s : SenderParts) (deliveries : List (List ℕ)) (progress : ℕ) (new : SenderParts) (hears : SenderHears s deliveries progress new) → Passes s (spoke_along s deliveries progress new hears) new
-passes-along s deliveries progress new (sender_none _) = passes-none s
-passes-along s deliveries progress new (sender_more _ before steps between bytes _ hears is on short gives) =
+passes-along : SenderLaws → (s : SenderParts) (deliveries : List (List ℕ)) (progress : ℕ) (new : SenderParts) (hears : SenderHears s deliveries progress new) → Passes s (spoke_along s deliveries progress new hears) new
+passes-along laws s deliveries progress new (sender_none _) = passes-none s
+passes-along laws s deliveries progress new (sender_more _ before steps between bytes _ hears is on short gives) =
     let one : Spoke = record { wrote = written_for (spoken between); came = bytes } in
-    passes-then s between new (spoke_along s before steps between hears) (one ∷ []) (passes-along s before steps between hears) (passes-one between new one gives.0 is on refl gives.1)
+    passes-then s between new (spoke_along s before steps between hears) (one ∷ []) (passes-along laws s before steps between hears) (passes-one laws between new one gives.0 is on refl gives.1)
 
 -- ---- From the first place on
 
@@ -227,22 +227,22 @@ passed-all s new all fresh over passed = elim (passed.finished over) [
       subst (λ places. AreAcknowledged s.shape s.files places all) (ap (λ front. front ++ End ∷ []) (sym whole)) ends.acknowledged
 ]
 
-pub all-before : (s : SenderParts) (t : Tape) (out : Outcome) (run : Sends s t out) → s.standing ≡ new_standing (counts s) →
+pub all-before : SenderLaws → (s : SenderParts) (t : Tape) (out : Outcome) (run : Sends s t out) → s.standing ≡ new_standing (counts s) →
     AreAcknowledged s.shape s.files (places_before (counts s) out.sender.standing.place) (spoke_in s t out run)
-all-before s t out run fresh = passed-before s out.sender (spoke_in s t out run) fresh (passes s t out run)
+all-before laws s t out run fresh = passed-before s out.sender (spoke_in s t out run) fresh (passes laws s t out run)
 
-pub all-done : (s : SenderParts) (t : Tape) (out : Outcome) (run : Sends s t out) → s.standing ≡ new_standing (counts s) →
+pub all-done : SenderLaws → (s : SenderParts) (t : Tape) (out : Outcome) (run : Sends s t out) → s.standing ≡ new_standing (counts s) →
     AreAcknowledged s.shape s.files (files_places (counts s) (done_at (length s.files) out.sender.standing.place)) (spoke_in s t out run)
-all-done s t out run fresh = passed-done s out.sender (spoke_in s t out run) fresh (passes s t out run)
+all-done laws s t out run fresh = passed-done s out.sender (spoke_in s t out run) fresh (passes laws s t out run)
 
-pub course-done : (s new : SenderParts) (deliveries : List (List ℕ)) (progress : ℕ) (hears : SenderHears s deliveries progress new) → s.standing ≡ new_standing (counts s) →
+pub course-done : SenderLaws → (s new : SenderParts) (deliveries : List (List ℕ)) (progress : ℕ) (hears : SenderHears s deliveries progress new) → s.standing ≡ new_standing (counts s) →
     AreAcknowledged s.shape s.files (files_places (counts s) (done_at (length s.files) new.standing.place)) (spoke_along s deliveries progress new hears)
-course-done s new deliveries progress hears fresh = passed-done s new (spoke_along s deliveries progress new hears) fresh (passes-along s deliveries progress new hears)
+course-done laws s new deliveries progress hears fresh = passed-done s new (spoke_along s deliveries progress new hears) fresh (passes-along laws s deliveries progress new hears)
 
-pub all-finished : (s : SenderParts) (t : Tape) (out : Outcome) (run : Sends s t out) → s.standing ≡ new_standing (counts s) → out.sender.standing.state ≡ Finished →
+pub all-finished : SenderLaws → (s : SenderParts) (t : Tape) (out : Outcome) (run : Sends s t out) → s.standing ≡ new_standing (counts s) → out.sender.standing.state ≡ Finished →
     AreAcknowledged s.shape s.files (batch_places (counts s)) (spoke_in s t out run)
-all-finished s t out run fresh over = passed-all s out.sender (spoke_in s t out run) fresh over (passes s t out run)
+all-finished laws s t out run fresh over = passed-all s out.sender (spoke_in s t out run) fresh over (passes laws s t out run)
 
-pub course-finished : (s new : SenderParts) (deliveries : List (List ℕ)) (progress : ℕ) (hears : SenderHears s deliveries progress new) → s.standing ≡ new_standing (counts s) → new.standing.state ≡ Finished →
+pub course-finished : SenderLaws → (s new : SenderParts) (deliveries : List (List ℕ)) (progress : ℕ) (hears : SenderHears s deliveries progress new) → s.standing ≡ new_standing (counts s) → new.standing.state ≡ Finished →
     AreAcknowledged s.shape s.files (batch_places (counts s)) (spoke_along s deliveries progress new hears)
-course-finished s new deliveries progress hears fresh over = passed-all s new (spoke_along s deliveries progress new hears) fresh over (passes-along s deliveries progress new hears)
+course-finished laws s new deliveries progress hears fresh over = passed-all s new (spoke_along s deliveries progress new hears) fresh over (passes-along laws s deliveries progress new hears)

@@ -4,9 +4,10 @@ pub mod Engines
 pub mod Finishing
 pub mod Fronts
 pub mod Ghosts
-pub mod Moving
+pub mod PlacesBefore
 pub mod OnTheTape
 pub mod Paired
+pub mod SenderLaws
 pub mod Spelling
 pub mod SpellingRuns
 pub mod SpellingTable

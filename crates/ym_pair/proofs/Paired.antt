@@ -11,13 +11,13 @@ use Rattle.ym_core.specs.declared.state.SendState.TheVariants as send_state
 use Rattle.ym_core.specs.declared.state.RecvState.TheVariants as recv_state
 use Rattle.ym_link.specs.ReceiveOver as receiving
 use Rattle.ym_link.specs.SendOver as sending
-use Rattle.ym_link.proofs.Files.{filled_counts, filled_files}
+use Rattle.ym_link.specs.Moves.{Moves}
 use Rattle.ym_line.specs.Damage.{arrives, IsHeardBad, ShowsBack, ShowsThere}
 use Rattle.ym_line.specs.Rounds.{GoesThere}
 use Rattle.ym_line.specs.declared.delivery.Delivery.TheVariants.{Damaged}
 use Rattle.ym_pair.specs.Logs.{answered_along}
 use Rattle.ym_pair.specs.Pairing.{AreBytes}
-use Rattle.ym_pair.proofs.Moving.{Moves, step-moves}
+use Rattle.ym_pair.proofs.SenderLaws.{SenderLaws}
 
 -- ---- Nothing is read behind the first C
 
@@ -135,14 +135,12 @@ moved-place counts place new mode cs within (inl same) = rw same within
 moved-place counts place new mode cs within (inr moved) = rw moved.3 (next-place counts place within)
 
 -- it keeps to what each sender keeps to
-ended-is : (s new : SenderParts) (cs : List Control) → IsSender s → s.standing.state ≡ send_state.Running → HearsControls s cs new → new.standing.state ≢ send_state.Running → IsSender new
-ended-is s new cs is on heard over =
-    let failed : Bool = heard.0 in
-    let fills : Option Place = (hears (counts s) s.standing cs).fills in
-    let counted : counts new ≡ counts s = ap (λ shape. counts_of shape new.files) heard.1.shape ∙ filled_counts s.shape failed fills s.files new.files heard.1.files in
+ended-is : SenderLaws → (s new : SenderParts) (cs : List Control) → IsSender s → s.standing.state ≡ send_state.Running → HearsControls s cs new → new.standing.state ≢ send_state.Running → IsSender new
+ended-is laws s new cs is on heard over =
+    let counted : counts new ≡ counts s = laws.counts s _ heard.0 new heard.1 in
     record {
-      files = filled_files failed fills s.files new.files heard.1.files is.files;
-      place = subst (λ c. IsPlace c new.standing.place) (sym counted) (moved-place (counts s) s.standing.place new.standing.place s.standing.mode cs is.place (step-moves s cs failed new on heard.1));
+      files = laws.files s _ heard.0 new heard.1 is.files;
+      place = subst (λ c. IsPlace c new.standing.place) (sym counted) (moved-place (counts s) s.standing.place new.standing.place s.standing.mode cs is.place (laws.goes s cs heard.0 new on heard.1));
       retries = λ runs. absurd (over runs);
       frame = λ runs. absurd (over runs);
     }
@@ -152,11 +150,11 @@ pub record Leaves (s : SenderParts) (last : List ℕ) : Type 0 where
   pub is : IsSender s
   pub words : (last ≡ sent_by s) ⊎ (last ≡ [])
 
-pub leaves : (s : SenderParts) (t : Tape) (out : sending.Outcome) (run : sending.Sends s t out) → (s.standing.state ≢ send_state.Running → IsSender s) → Leaves out.sender (last_words s t out run)
-leaves s t out (sending.ended _ _ over) known = record { is = known over; words = inl (written-sent (spoken s)) }
-leaves s t out (sending.unwritten _ _ is some) known = record { is = is; words = inr refl }
-leaves s t out (sending.unread _ _ f is on none) known = record { is = is; words = inl (written-sent (spoken s)) }
-leaves s t out (sending.heard _ _ bytes new _ is on some gives later) known = leaves new _ out later (ended-is s new (controls_in bytes) is on gives)
+pub leaves : SenderLaws → (s : SenderParts) (t : Tape) (out : sending.Outcome) (run : sending.Sends s t out) → (s.standing.state ≢ send_state.Running → IsSender s) → Leaves out.sender (last_words s t out run)
+leaves laws s t out (sending.ended _ _ over) known = record { is = known over; words = inl (written-sent (spoken s)) }
+leaves laws s t out (sending.unwritten _ _ is some) known = record { is = is; words = inr refl }
+leaves laws s t out (sending.unread _ _ f is on none) known = record { is = is; words = inl (written-sent (spoken s)) }
+leaves laws s t out (sending.heard _ _ bytes new _ is on some gives later) known = leaves laws new _ out later (ended-is laws s new (controls_in bytes) is on gives)
 
 -- ---- What arrives
 

@@ -1,7 +1,5 @@
 -- What an end promises against any peer, in words of what it heard and wrote alone: there is no premise on who is at the other end (this profile).
 use Rattle.std.specs.Prelude.{◌≡◌, ◌+◌, ◌-◌, ◌%◌, ◌⊎◌, ℕ, zero, suc, List, [], ◌∷◌, ◌++◌, length, map, All, Some}
-use Rattle.ym_frame.specs.declared.control.Control.{Control}
-use Rattle.ym_frame.specs.declared.control.Control.TheVariants.{Ack, Can}
 use Rattle.ym_frame.specs.declared.frame.Item.{Item}
 use Rattle.ym_frame.specs.declared.frame.Item.TheVariants.{Block, Eot}
 use Rattle.ym_header.specs.Header.{HeaderParts, length_limit}
@@ -19,6 +17,7 @@ use Rattle.ym_core.specs.declared.delivery.Heard.TheVariants.{Item as Heard_item
 use Rattle.ym_core.specs.declared.place.Place.{Place}
 use Rattle.ym_core.specs.declared.place.Place.TheVariants as place
 use Rattle.ym_link.specs.FrameAt.{IsFrameAt}
+use Rattle.ym_link.specs.Moves.{SaysAck}
 use Rattle.ym_file.specs.SourceFile.{FileParts}
 use Rattle.ym_pair.specs.Logs.{Spoke}
 
@@ -81,12 +80,6 @@ pub record CommitsTheHeard (confirm : Confirm) (heard : List Heard) (kept : Kept
   pub bytes : (told : Told) → kept.told ≡ Some told → told.files ≡ map bytes_heard files
 
 -- ---- A sender
-
--- the first control that says something is an ACK: a CAN alone in front of it says nothing
-abbrev pub SaysAck : List Control → Type 0
-SaysAck (Ack ∷ more) = Unit {0}
-SaysAck (Can ∷ Ack ∷ more) = Unit {0}
-SaysAck _ = ⊥
 
 -- The frames of these places of a batch were acknowledged, in this order, whatever came between: for each there is a delivery of its own in which an ACK was
 -- read while exactly that frame was what had been written last.

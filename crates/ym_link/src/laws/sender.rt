@@ -14,6 +14,7 @@ ghost use Rattle.ym_core.specs.Place.{done_at};
 ghost use Rattle.ym_link.specs.Sender.{SenderParts, IsSender, IsStep, counts, spoken};
 ghost use Rattle.ym_core.specs.Standing.{new_standing};
 ghost use Rattle.ym_link.specs.SenderRefines.{Batch, IsFileOf, SenderRefines, IsSaid, AllTold, batch_of};
+ghost use Rattle.ym_link.specs.Moves.{GoesOnePlace, FinishesLast, KeepsCounts, KeepsFiles};
 ghost use Rattle.ym_core.specs.declared.standing.Standing.{Standing};
 ghost use Rattle.ym_core.specs.declared.state.SendState.TheVariants.{Running};
 ghost use Rattle.ym_core.specs.Reading.{controls_in};
@@ -34,6 +35,19 @@ pub fn progress_is_a_change()
     ensures { (counts : List ℕ) (old : Standing) (bytes : List ℕ) → (hears counts old (controls_in bytes)).standing.state ≡ Running →
         let new = (hears counts old (controls_in bytes)).standing in
         ((new.retries ≡ 0) × ¬ IsSame old new) ⊎ ((new.retries ≡ old.retries + 1) × IsSame old new) }
+{}
+
+/// A delivery leaves a sender that runs at its place, or takes it to the next one, behind an ACK of what it has sent; and it finishes at the end block alone,
+/// behind an ACK of that.
+pub fn a_delivery_goes_one_place()
+    ensures goes { GoesOnePlace }
+    ensures finishes { FinishesLast }
+{}
+
+/// A step keeps the batch: how many blocks each file has, and that it is within its limits.
+pub fn a_step_keeps_the_batch()
+    ensures counts { KeepsCounts }
+    ensures files { KeepsFiles }
 {}
 
 /// What comes back of a reply holds its controls, with some of them left out where the delivery is

@@ -21,6 +21,7 @@ ghost use Rattle.ym_pair.specs.AnyPeer.{CommitsTheHeard, AreAcknowledged, batch_
 ghost use Rattle.ym_pair.specs.Logs.{Spoke, AreTaken, AreHeard, heard_in, spoke_in, last_words, answered_in, spoke_along, words_of, replies_of};
 
 use ym_frame::laws::{frame_found, one_verdict};
+use ym_link::laws::{a_delivery_goes_one_place, a_step_keeps_the_batch};
 
 /// A delivery is heard as an item exactly where it begins with that item's frame: for a block the check fits.
 pub fn a_delivery_brings_its_frame()
@@ -51,7 +52,10 @@ pub fn a_sender_was_acknowledged()
         AreAcknowledged s.shape s.files (places_before (counts s) out.sender.standing.place) (spoke_in s t out run) }
     ensures course { (s new : SenderParts) (deliveries : List (List ℕ)) (progress : ℕ) (hears : SenderHears s deliveries progress new) → s.standing ≡ new_standing (counts s) →
         AreAcknowledged s.shape s.files (files_places (counts s) (done_at (length s.files) new.standing.place)) (spoke_along s deliveries progress new hears) }
-{}
+{
+    a_delivery_goes_one_place();
+    a_step_keeps_the_batch();
+}
 
 /// So was each frame of the whole batch, the end block behind all others, where the sender has finished.
 pub fn a_finished_sender_was_acknowledged()
@@ -59,7 +63,10 @@ pub fn a_finished_sender_was_acknowledged()
         AreAcknowledged s.shape s.files (batch_places (counts s)) (spoke_in s t out run) }
     ensures course { (s new : SenderParts) (deliveries : List (List ℕ)) (progress : ℕ) (hears : SenderHears s deliveries progress new) → s.standing ≡ new_standing (counts s) → new.standing.state ≡ sender_is.Finished →
         AreAcknowledged s.shape s.files (batch_places (counts s)) (spoke_along s deliveries progress new hears) }
-{}
+{
+    a_delivery_goes_one_place();
+    a_step_keeps_the_batch();
+}
 
 /// What an engine is said to have heard is what the events of its tape make up, delivery by delivery: none of it twice, and none left out between.
 pub fn what_was_heard_is_on_the_tape()

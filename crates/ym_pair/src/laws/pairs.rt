@@ -19,7 +19,9 @@ use ym_line::laws::{
     a_sender_alone_goes_on, a_standing_pair_commits_the_first_files, failure_counts_tell,
     new_ends_stand, nothing_comes_back_of_silence, rounds_are_turns, turns_of_a_standing_pair,
 };
-use ym_link::laws::{Headers, a_sender_follows_the_machine};
+use ym_link::laws::{
+    Headers, a_delivery_goes_one_place, a_sender_follows_the_machine, a_step_keeps_the_batch,
+};
 use ym_machine::laws::committed_is_reported_or_one_more;
 
 /// Where the deliveries of two engines pair up, over any two ports, whether or not they tell their events, and however each call returns, the files that the receiver has committed are the first
@@ -31,6 +33,8 @@ pub fn two_engines_commit_a_prefix()
         AreNew (ends s r) → IsSender new → CallsPairUp s new r end calls rounds → CommitsAPrefix s.files (ends new end) }
 {
     one_verdict();
+    a_delivery_goes_one_place();
+    a_step_keeps_the_batch();
     a_sender_follows_the_machine();
     committed_is_reported_or_one_more::<Headers>();
     rounds_are_turns();
@@ -51,6 +55,8 @@ pub fn two_engines_complete()
         NoneRose (ends s r) (ends new end) → longest_bad_run 0 rounds ≤ BURST → HaveBothFinished s.files (ends new end) }
 {
     one_verdict();
+    a_delivery_goes_one_place();
+    a_step_keeps_the_batch();
     rounds_are_turns();
     turns_of_a_standing_pair();
     a_standing_pair_commits_the_first_files();

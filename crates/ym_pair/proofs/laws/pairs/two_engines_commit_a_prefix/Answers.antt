@@ -2,6 +2,7 @@ use Rattle.std.proofs.Common.{ap, false, inl}
 use Rattle.ym_pair.proofs.Names.{Standing, spoken, written_for}
 use Rattle.ym_pair.proofs.Engines.{Laws, engines-commit, files-within}
 use Rattle.ym_pair.proofs.Paired.{Leaves, speaks, leaves, answers, speaks-along, answers-along, written-sent}
+use Rattle.ym_pair.proofs.SenderLaws.{SenderLaws}
 use Rattle.ym_pair.proofs.laws.pairs.two_engines_commit_a_prefix.Goals as goal
 
 pub returns : goal.returns
@@ -20,10 +21,11 @@ returns c =
       reported_within = machine.reported_within;
       prefix = c.a_standing_pair_commits_the_first_files.ensures.prefix;
     } in
+    let kept : SenderLaws = record { goes = c.a_delivery_goes_one_place.ensures.goes; finishes = c.a_delivery_goes_one_place.ensures.finishes; counts = c.a_step_keeps_the_batch.ensures.counts; files = c.a_step_keeps_the_batch.ensures.files } in
     record {
       told = λ s t out sends r u end receives rounds fresh pairs.
           let said = speaks s t out sends in
-          let left = leaves s t out sends (λ over. absurd (over (ap (λ (x : Standing). x.state) fresh.sender))) in
+          let left = leaves kept s t out sends (λ over. absurd (over (ap (λ (x : Standing). x.state) fresh.sender))) in
           engines-commit laws s out.sender r end.receiver _ _ _ rounds fresh (files-within s out.sender _ _ said left) said left (answers r u end receives) pairs;
       course = λ s new r end calls rounds fresh is pairs.
           let said = speaks-along s calls.deliveries calls.progress new calls.speaks in

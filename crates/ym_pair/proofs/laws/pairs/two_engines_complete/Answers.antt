@@ -4,6 +4,7 @@ use Rattle.ym_pair.proofs.Engines.{files-within}
 use Rattle.ym_pair.proofs.Finishing.{engines-finish}
 use Rattle.ym_pair.proofs.Fronts.{TurnLaws}
 use Rattle.ym_pair.proofs.Paired.{Leaves, speaks, leaves, sent-over, answers-all, speaks-along, answers-along, written-sent}
+use Rattle.ym_pair.proofs.SenderLaws.{SenderLaws}
 use Rattle.ym_pair.proofs.laws.pairs.two_engines_complete.Goals as goal
 
 pub returns : goal.returns
@@ -23,10 +24,11 @@ returns c =
       source = counts.source;
       sink = counts.sink;
     } in
+    let kept : SenderLaws = record { goes = c.a_delivery_goes_one_place.ensures.goes; finishes = c.a_delivery_goes_one_place.ensures.finishes; counts = c.a_step_keeps_the_batch.ensures.counts; files = c.a_step_keeps_the_batch.ensures.files } in
     record {
       told = λ s t out sends r u end receives rounds fresh pairs sent received none short.
           let said = speaks s t out sends in
-          let left = leaves s t out sends (λ over. absurd (over (ap (λ (x : Standing). x.state) fresh.sender))) in
+          let left = leaves kept s t out sends (λ over. absurd (over (ap (λ (x : Standing). x.state) fresh.sender))) in
           let answered = answers-all r u end receives received in
           engines-finish laws s out.sender r end.receiver _ _ _ rounds fresh (files-within s out.sender _ _ said left) said answered.0 (sent-over s t out sends sent) answered.1 pairs none short;
       course = λ s new r end calls rounds fresh is pairs over ended none short.

@@ -1,44 +1,14 @@
 -- What a delivery does to the place of a sender: it stays, or goes past a frame that was sent and acknowledged; and so it finishes behind the end block.
-use Rattle.std.proofs.Common.{◌≡◌, ◌∙◌, ◌+◌, ◌-◌, ◌≤◌, ◌⊎◌, inl, inr, ℕ, zero, suc, Bool, true, nat_lt, List, [], ◌∷◌, ◌++◌, length, Option, None, Some, refl, sym, ap, subst, arith, add-one, append_assoc}
-use Rattle.std.proofs.lemmas.Bool.{cond_both, ltb-false}
-use Rattle.ym_pair.proofs.Names.{Control, Ack, Can, block_places, files_places, places_before, IsPlace, count_at, next_of, reads, SenderParts, IsStep, counts, missed, read_through, after_reading, after_fill, hears, hears_in, Place, Header, Block, Eot, End, Mode, Waiting, Sent, Reading, Stop, Again, Finishes, Standing, Running, Finished, GIVE_UP}
-use Rattle.ym_pair.specs.AnyPeer.{SaysAck}
+use Rattle.std.proofs.Common.{◌≡◌, ◌∙◌, ◌+◌, ◌⊎◌, inl, inr, ℕ, Bool, true, nat_lt, List, [], ◌∷◌, Option, None, Some, refl, sym, ap, subst, arith}
+use Rattle.std.proofs.lemmas.Bool.{cond_both}
+use Rattle.ym_link.proofs.Names.{Control, Ack, Can, next_of, reads, SenderParts, IsStep, counts, missed, read_through, after_reading, hears, hears_in, Place, Block, End, Mode, Waiting, Sent, Reading, Standing, Running, GIVE_UP}
+use Rattle.ym_core.specs.Standing.{after_fill}
+use Rattle.ym_core.specs.declared.reading.Stop.{Stop}
+use Rattle.ym_core.specs.declared.reading.Stop.TheVariants.{Again, Finishes}
 use Rattle.ym_core.specs.declared.standing.SendStep.{SendStep as Step}
-use Rattle.ym_link.proofs.Steps.{IsBefore, Reaches, stays, cancels, again, finishes, sends, waits_next, sends_next, cancels_next, reaches}
-
--- ---- One place more
-
-before-block : (counts : List ℕ) (file k n : ℕ) → 1 ≤ k → k ≡ n → places_before counts (Block file k) ++ Block file k ∷ [] ≡ files_places counts file ++ (Header file ∷ block_places file n)
-before-block counts file zero n least last = absurd (omega arith)
-before-block counts file (suc j) n least last =
-    let less : suc j - 1 ≡ j = omega arith in
-    rw (append_assoc, less) (ap (λ n. files_places counts file ++ (Header file ∷ block_places file n)) last)
-
-before-file : (counts : List ℕ) (file : ℕ) → places_before counts (Eot file) ++ Eot file ∷ [] ≡ files_places counts (file + 1)
-before-file counts file =
-    append_assoc (files_places counts file) (Header file ∷ block_places file (count_at counts file)) (Eot file ∷ [])
-    ∙ ap (files_places counts) (sym (add-one file))
-
-pub before-next : (counts : List ℕ) (place : Place) → IsPlace counts place → IsBefore place → places_before counts place ++ place ∷ [] ≡ places_before counts (next_of counts place)
-before-next counts (Header file) within before =
-    cond_both (nat_lt 0 (count_at counts file)) (Block file 1) (Eot file) (λ p. places_before counts (Header file) ++ Header file ∷ [] ≡ places_before counts p)
-    (λ e. refl)
-    (λ e. let none = ltb-false 0 (count_at counts file) e in let zero_is : 0 ≡ count_at counts file = omega (arith, none) in ap (λ n. files_places counts file ++ (Header file ∷ block_places file n)) zero_is)
-before-next counts (Block file k) within before =
-    cond_both (nat_lt k (count_at counts file)) (Block file (k + 1)) (Eot file) (λ p. places_before counts (Block file k) ++ Block file k ∷ [] ≡ places_before counts p)
-    (λ e. before-block counts file k (k + 1 - 1) within.1 (omega arith))
-    (λ e. let most = ltb-false k (count_at counts file) e in let last = within.2 in before-block counts file k (count_at counts file) within.1 (omega (arith, most, last)))
-before-next counts (Eot file) within before =
-    cond_both (nat_lt (file + 1) (length counts)) (Header (file + 1)) End (λ p. places_before counts (Eot file) ++ Eot file ∷ [] ≡ places_before counts p)
-    (λ e. before-file counts file)
-    (λ e. let most = ltb-false (file + 1) (length counts) e in let all : file + 1 ≡ length counts = omega (arith, most, within) in before-file counts file ∙ ap (files_places counts) all)
-before-next counts End within before = absurd before
-
--- ---- A delivery
-
--- the place stays, or it is the next one, behind an ACK of what was sent
-abbrev pub Moves : List ℕ → Place → Mode → List Control → Place → Type 0
-Moves counts place mode cs new = (new ≡ place) ⊎ ((mode ≡ Sent) × IsBefore place × SaysAck cs × (new ≡ next_of counts place))
+use Rattle.ym_core.specs.declared.state.SendState.TheVariants.{Finished}
+use Rattle.ym_link.specs.Moves.{IsBefore, SaysAck, Moves, FinishesAt}
+use Rattle.ym_link.proofs.Steps.{Reaches, stays, cancels, again, finishes, sends, waits_next, sends_next, cancels_next, reaches}
 
 acked : (counts : List ℕ) (place : Place) (cs : List Control) → ((reads counts place Sent cs).place ≡ place) ⊎ SaysAck cs
 acked counts place (Ack ∷ cs) = inr tt
@@ -140,13 +110,6 @@ finished-stop s place mode (Some _) on over = absurd cc
 fill-finished : (failed : Bool) (fills : Option Place) (s : Standing) → (after_fill failed fills s).state ≡ Finished → s.state ≡ Finished
 fill-finished true (Some (Block file k)) s over = absurd cc
 fill-finished _ _ s over = over
-
--- a delivery at which a sender finishes
-pub record FinishesAt (s : Standing) (cs : List Control) (new : Place) : Type 0 where
-  pub place : s.place ≡ End
-  pub after : new ≡ End
-  pub mode : s.mode ≡ Sent
-  pub ack : SaysAck cs
 
 hears-finish : (counts : List ℕ) (s : Standing) (cs : List Control) → s.state ≡ Running → (hears_in Running counts s cs).standing.state ≡ Finished → FinishesAt s cs (hears_in Running counts s cs).standing.place
 hears-finish counts s cs on over =
