@@ -22,6 +22,7 @@ use ym_file::{Shape, Source};
 use ym_header::{HeaderFault, Stamp};
 use ym_host::{FileSource, SocketPort};
 use ym_line::SenderLine;
+use ym_link::laws::a_step_keeps_the_batch;
 use ym_link::{
     BatchFault, Clearing, EndFault, Port, Role, SendState, SenderFrom, SourceFile, send_over,
 };
@@ -219,6 +220,7 @@ pub fn send_batch<P: Port, S: Source, O: Output>(
         × TellsSender ended sender.new (record { holds = O.contents out.old; failed = O.failures out.old }) result (record { holds = O.contents out.new; failed = O.failures out.new }) }
 {
     a_sender_was_acknowledged();
+    a_step_keeps_the_batch();
     let ended = send_over(port, sender);
     tell_sender(ended, sender, out)
 }

@@ -5,11 +5,12 @@ use Rattle.ym_jobs.proofs.sending.send_batch.Goals as goal
 pub returns : goal.returns
 returns g c =
     let ran = c.send_over-ended.ensures in
+    let keeps = c.a_step_keeps_the_batch.ensures.counts in
     let law = c.a_sender_was_acknowledged.ensures in (
       c.send_over-ended.result,
       record {
-        told = λ running u after. let run = ran.told running u after in (run.0, run.1, run.2, λ new. acknowledges-told _ _ _ _ _ run.2 (law.done _ _ _ run.2 new));
-        course = (ran.course.0, ran.course.1, λ new. acknowledges-along _ _ _ _ ran.course.1.hears (law.course _ _ _ _ ran.course.1.hears new));
+        told = λ running u after. let run = ran.told running u after in (run.0, run.1, run.2, λ new. acknowledges-told keeps _ _ _ _ _ run.2 (law.done _ _ _ run.2 new));
+        course = (ran.course.0, ran.course.1, λ new. acknowledges-along keeps _ _ _ _ ran.course.1.hears (law.course _ _ _ _ ran.course.1.hears new));
         device = ran.device;
         memory = ran.memory;
         over = ran.ended;
