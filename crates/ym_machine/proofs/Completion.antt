@@ -4,9 +4,10 @@ use Rattle.ym_machine.proofs.Names.{Confirm, BURST, EndsOnce, File, Frame, files
 use Rattle.ym_machine.proofs.Places.{all-within, frames-end}
 use Rattle.ym_machine.proofs.Remaining.{left-done, left-some, left-start}
 use Rattle.ym_machine.proofs.Rounds.{sender-is, turn-left, turn-lowered}
-use Rattle.ym_machine.proofs.ShortBursts.{IsFine, got-all, one-fine, start-fine, turns-fine, whole-fine}
+use Rattle.ym_machine.proofs.ShortBursts.{got-all, one-fine, start-fine, turns-fine, whole-fine}
 use Rattle.ym_machine.specs.Run.{AllWhole, whole_turns}
 use Rattle.ym_machine.specs.RoundsRemaining.{CountsWithin, IsComplete}
+use Rattle.ym_machine.specs.ShortBursts.{IsFine}
 
 -- a whole turn takes one, and no turn gives one
 one-less : (whole : Bool) (turns : ℕ) {old new last : ℕ} → last ≤ new - turns → new ≤ old → (whole ≡ true → 0 < old → old ≡ new + 1) → last ≤ old - cond whole (turns + 1) turns

@@ -8,6 +8,7 @@ use Rattle.ym_machine.proofs.MachineStates.{below, onward}
 use Rattle.ym_machine.proofs.Places.{none_behind}
 use Rattle.ym_machine.proofs.ReceiverSteps.{IsEcho, IsFault, IsFresh, ReceiverStep, confirmation}
 use Rattle.ym_machine.proofs.SenderSteps.{Onward, SenderStep, helps}
+use Rattle.ym_machine.specs.ShortBursts.{SenderIdle}
 use Rattle.ym_machine.specs.RoundsRemaining.{left_at, left_unfinished, needed_by, weight, weights, weights_from}
 
 -- ---- Weights
@@ -149,14 +150,6 @@ module _ {H : Type 0} (frames : List (Frame H)) (confirm : Confirm) (ends : Ends
 pub record IsHelped {H : Type 0} (sent : Bool) (frame : Frame H) (came : List Control) : Type 0 where
   pub helped : helps sent came ≡ true
   pub starts : (rest : List Control) → came ≡ control.Ack ∷ rest → CallsForStart frame → frame ≢ EndBlock → holds_start rest ≡ true
-
--- the next whole round brings the sender nothing: a first EOT is accepted
-pub record SenderIdle {H : Type 0} (confirm : Confirm) (frames : List (Frame H)) (st : State) : Type 0 where
-  pub twice : confirm ≡ Twice
-  pub sent : st.sent ≡ true
-  pub at : st.taken ≡ st.acknowledged
-  pub eot : frame_at frames st.acknowledged ≡ Eot
-  pub first : st.first_eot ≡ false
 
 confirmation-helps : {H : Type 0} (sent : Bool) (frame : Frame H) → sent ≡ true → frame ≢ EndBlock → IsHelped sent frame (controls (confirmation frame))
 confirmation-helps sent (Piece number body) is other = record { helped = rw is refl; starts = λ rest e calls _. absurd calls }

@@ -5,24 +5,11 @@ use Rattle.ym_frame.specs.declared.control.Control.TheVariants as control
 use Rattle.ym_machine.proofs.Endings.{no-cans}
 use Rattle.ym_machine.proofs.MachineStates.{onward, start-machine, turn-machine}
 use Rattle.ym_machine.proofs.ReceiverSteps.{IsFault, ReceiverStep, on_cond}
-use Rattle.ym_machine.proofs.Remaining.{SenderIdle, forward, helped, helped-forward, kind, refused, refused-vain, vain}
+use Rattle.ym_machine.proofs.Remaining.{forward, helped, helped-forward, kind, refused, refused-vain, vain}
 use Rattle.ym_machine.proofs.Rounds.{answer, came, keeps, mid, sender-is, step_back, step_there, still-done, there-whole, told, whole-back, whole-came, whole-damage}
 use Rattle.ym_machine.proofs.SenderSteps.{Onward, SenderStep}
 use Rattle.ym_machine.specs.RoundsRemaining.{SenderGoes}
-
--- the next whole round brings the receiver nothing
-abbrev pub ReceiverIdle : State → Type 0
-ReceiverIdle st = (st.sent ≡ false) ⊎ (st.taken ≡ st.acknowledged + 1)
-
--- What holds while no bad run is longer than a burst: b rounds of the present one are over. An end that the next whole round brings nothing
--- has no more retries than those, and any other one a burst and one more.
-pub record IsFine {H : Type 0} (confirm : Confirm) (frames : List (Frame H)) (b : ℕ) (st : State) : Type 0 where
-  pub machine : Invariant confirm frames st
-  pub going : IsGoing st
-  pub sender_retries : st.sender ≡ SenderEnd.Running → st.sender_retries ≤ b + (BURST + 1)
-  pub sender_idle : st.sender ≡ SenderEnd.Running → SenderIdle confirm frames st → st.sender_retries ≤ b
-  pub receiver_retries : st.receiver ≡ ReceiverEnd.Running → st.receiver_retries ≤ b + (BURST + 1)
-  pub receiver_idle : st.receiver ≡ ReceiverEnd.Running → ReceiverIdle st → st.receiver_retries ≤ b
+use Rattle.ym_machine.specs.ShortBursts.{SenderIdle, ReceiverIdle, IsFine}
 
 -- in the middle of a round
 record IsMiddle {H : Type 0} (confirm : Confirm) (frames : List (Frame H)) (b : ℕ) (whole : Bool) (st : State) : Type 0 where

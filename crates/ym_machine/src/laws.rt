@@ -3,7 +3,7 @@
 //! Each is a function with an empty body, whose contract is the law: call it where the law is
 //! needed, at a type that names the kind of batch.
 
-ghost use Rattle.std.specs.Prelude.{◌≡◌, ◌≢◌, ◌⊎◌, ◌+◌, ◌%◌, ◌<◌, ◌≤◌, ◌∷◌, ◌++◌, [], ℕ, Bool, List, true, length, map};
+ghost use Rattle.std.specs.Prelude.{◌≡◌, ◌≢◌, ◌⊎◌, ◌+◌, ◌%◌, ◌<◌, ◌≤◌, ◌∷◌, ◌++◌, [], ℕ, Bool, List, true, false, length, map};
 ghost use Rattle.ym_frame.specs.declared.control.Control.{Control};
 ghost use Rattle.ym_frame.specs.declared.control.Control.TheVariants as control;
 ghost use Rattle.ym_frame.specs.declared.control.Reply.{Reply};
@@ -17,6 +17,7 @@ ghost use Rattle.ym_machine.specs.Steps.{receiver_step, sender_step, controls, h
 ghost use Rattle.ym_machine.specs.Run.{Turn, after_turn, after_turns, entries_of, IsTurnDamage, IsDamage, NoFailure, AllWhole, is_whole, whole_turns, longest_bad_run, five_and_five};
 ghost use Rattle.ym_machine.specs.RoundsRemaining.{rounds_remaining, rounds_needed, IsGoing, CountsWithin, IsComplete};
 ghost use Rattle.ym_machine.specs.Machine.{CallsForStart, Invariant, EndingsAgree};
+ghost use Rattle.ym_machine.specs.ShortBursts.{IsFine};
 
 use crate::Batch;
 
@@ -177,6 +178,18 @@ pub fn neither_end_gives_up<B: Batch>()
     ensures counts { (files : List (File B.Header)) (confirm : Confirm) (turns : List Turn) →
         IsDamage (frames_of files) confirm turns start → NoFailure turns → longest_bad_run 0 turns ≤ BURST →
         CountsWithin (BURST + 1 + BURST) (after_turns (frames_of files) confirm turns start) }
+{}
+
+/// So it is turn by turn: the start is fine, a turn leads from a state that is fine to one that is, of a run as long as is left to it, and where the sender
+/// has finished, so has the receiver.
+pub fn short_bursts_are_survived<B: Batch>()
+    ensures starts { (files : List (File B.Header)) (confirm : Confirm) → IsFine confirm (frames_of files) 0 start }
+    ensures goes_on { (files : List (File B.Header)) (confirm : Confirm) (turn : Turn) (turns : List Turn) (bad : ℕ) (st : State) →
+        IsFine confirm (frames_of files) bad st → longest_bad_run bad (turn ∷ turns) ≤ BURST → turn.sink_failed ≡ false → turn.source_failed ≡ false →
+        IsTurnDamage (frames_of files) confirm turn st →
+        (next : ℕ) × IsFine confirm (frames_of files) next (after_turn (frames_of files) confirm turn st) × (longest_bad_run next turns ≤ BURST) }
+    ensures finishes { (files : List (File B.Header)) (confirm : Confirm) (st : State) → Invariant confirm (frames_of files) st →
+        st.sender ≡ SenderEnd.Finished → st.receiver ≡ ReceiverEnd.Finished }
 {}
 
 /// Where such a run also holds as many whole rounds as the batch needs, in any places, both ends

@@ -4,8 +4,9 @@ use Rattle.std.proofs.lemmas.List.{length-map, take_all}
 use Rattle.ym_pair.proofs.Names.{Silence, HeaderFault, Zero, Confirm, BURST, frames_of, State, start, committed, reported, Receiver, Step, No_call, hears_at, Bad, RecvState, ReceiverParts, HearsGives, called, SenderParts, Batch, FileParts, IsFile, longest_bad_run, AreNew, Pair, sent_by, seen_of, CommitsFirst, Lost, Round, Spoke, Answered, SenderAlone, PairUp, ends}
 use Rattle.ym_header.specs.declared.reading.Zero.TheVariants.{End}
 use Rattle.ym_machine.specs.Frames.{files_within}
-use Rattle.ym_machine.proofs.Places.{all-within, frames-end}
-use Rattle.ym_machine.proofs.ShortBursts.{got-all, start-fine}
+use Rattle.ym_machine.specs.Machine.{Invariant}
+use Rattle.ym_machine.specs.ShortBursts.{IsFine}
+use Rattle.ym_machine.specs.State.{SenderEnd, ReceiverEnd}
 use Rattle.ym_core.specs.declared.state.RecvState.TheVariants as recv_state
 use Rattle.ym_core.specs.declared.state.SendState.TheVariants as send_state
 use Rattle.ym_link.specs.ReceiverRefines as receiver
@@ -40,6 +41,14 @@ silent r over =
       ),
     )
 
+-- ---- What the laws of the machine say
+
+pub record FinishLaws : Type 0 where
+  pub turns : TurnLaws
+  pub starts : (files : Batch) (confirm : Confirm) → IsFine confirm (frames_of files) 0 start
+  pub finishes : (files : Batch) (confirm : Confirm) (st : State) → Invariant confirm (frames_of files) st → st.sender ≡ SenderEnd.Finished → st.receiver ≡ ReceiverEnd.Finished
+  pub all : (files : Batch) → files_within files (length (frames_of files)) ≡ files
+
 -- ---- Round for round
 
 -- where the sender is at the end, neither has given up
@@ -47,7 +56,10 @@ pub record Reached (confirm : Confirm) (files : Batch) (s : SenderParts) (r : Re
   pub before : ℕ
   pub front : Front confirm files before s r
 
-module _ (laws : TurnLaws) (confirm : Confirm) (files : Batch) where
+module _ (all_laws : FinishLaws) (confirm : Confirm) (files : Batch) where
+  laws : TurnLaws
+  laws = all_laws.turns
+
   -- the receiver has ended
   sender-reaches : (s new : SenderParts) (end : ReceiverParts) (spoke : List Spoke) (rounds : List Round) → Onward confirm files rounds s end → SpeaksTo s spoke new →
       end.receiver.state ≢ recv_state.Running → SenderAlone spoke rounds → IsCalm s new end end → Reached confirm files new end
@@ -73,7 +85,7 @@ module _ (laws : TurnLaws) (confirm : Confirm) (files : Batch) where
     | inl runs ↦ absurd (over runs)
     | inr done ↦
         let sent = sender-finished front.st.sender (sym front.refines.sender.standing.state ∙ done) in
-        let taken = got-all confirm (frames_of files) front.st front.fine.machine sent in
+        let taken = all_laws.finishes files confirm front.st front.fine.machine sent in
         let ended : r.receiver.state ≡ recv_state.Finished = front.refines.receiver.state_is ∙ ap receiver.state_of taken in
         absurd (let runs = answers.2 in cc)
   ]
@@ -114,10 +126,11 @@ module _ (laws : TurnLaws) (confirm : Confirm) (files : Batch) where
 
 -- ---- Both finish
 
-pub engines-finish : TurnLaws → (s new : SenderParts) (r end : ReceiverParts) (spoke : List Spoke) (last : List ℕ) (answered : List Answered) (rounds : List Round) → AreNew (ends s r) → All IsFile s.files →
+pub engines-finish : FinishLaws → (s new : SenderParts) (r end : ReceiverParts) (spoke : List Spoke) (last : List ℕ) (answered : List Answered) (rounds : List Round) → AreNew (ends s r) → All IsFile s.files →
     SpeaksTo s spoke new → AnswersTo true r answered end → new.standing.state ≢ send_state.Running → end.receiver.state ≢ recv_state.Running → PairUp spoke last answered rounds →
     NoneRose (ends s r) (ends new end) → longest_bad_run 0 rounds ≤ BURST → HaveBothFinished s.files (ends new end)
-engines-finish laws s new r end spoke last answered rounds fresh within speaks answers over ended pairs none short =
+engines-finish all_laws s new r end spoke last answered rounds fresh within speaks answers over ended pairs none short =
+    let laws : TurnLaws = all_laws.turns in
     let old : Pair = ends s r in
     let confirm : Confirm = r.receiver.confirm in
     let files : Batch = batch_of s.shape s.files in
@@ -126,18 +139,18 @@ engines-finish laws s new r end spoke last answered rounds fresh within speaks a
       retries = s.standing.retries;
       few = omega arith;
       refines = laws.new_stand old fresh within;
-      fine = start-fine (frames_of files) confirm (frames-end files);
+      fine = all_laws.starts files confirm;
     } in
     let begins : Onward confirm files rounds s r = record { before = 0; front = first; short = subst (λ n. n ≤ BURST) (sym (turns-longest laws rounds 0)) short } in
-    let reached : Reached confirm files new end = reaches-end laws confirm files s new r end spoke last answered rounds begins speaks answers over ended pairs (record { sink = none.sink; sources = none.sources }) in
+    let reached : Reached confirm files new end = reaches-end all_laws confirm files s new r end spoke last answered rounds begins speaks answers over ended pairs (record { sink = none.sink; sources = none.sources }) in
     let front : Front confirm files reached.before new end = reached.front in
     let st : State = front.st in
     let commits : CommitsFirst files st (ends (ghost front.retries new) end) = laws.first confirm files st _ front.refines in
     let send : new.standing.state ≡ send_state.Finished = elim (sender-going st.sender new.standing.state front.refines.sender.standing.state front.fine.going.0) [ inl runs ↦ absurd (over runs) | inr done ↦ done ] in
     let sent = sender-finished st.sender (sym front.refines.sender.standing.state ∙ send) in
-    let took = got-all confirm (frames_of files) st front.fine.machine sent in
-    let reported_is : reported files st ≡ files = ap (files_within files) (front.fine.machine.counters.sender_done.1 sent) ∙ all-within files in
-    let committed_is : committed files st ≡ files = ap (files_within files) (front.fine.machine.counters.receiver_done.1 took) ∙ all-within files in
+    let took = all_laws.finishes files confirm st front.fine.machine sent in
+    let reported_is : reported files st ≡ files = ap (files_within files) (front.fine.machine.counters.sender_done.1 sent) ∙ all_laws.all files in
+    let committed_is : committed files st ≡ files = ap (files_within files) (front.fine.machine.counters.receiver_done.1 took) ∙ all_laws.all files in
     let counted : length (committed files st) ≡ length s.files = ap length committed_is ∙ length-map s.files (file_of s.shape) in
     let prefix : CommitsAPrefix s.files (ends (ghost front.retries new) end) = laws.prefix s.shape s.files st _ within fresh.tells commits in
     let all : take prefix.number s.files ≡ s.files = take_all prefix.number s.files (let n = prefix.files_is in let m = commits.files_is in omega (arith, n, m, counted)) in

@@ -6,8 +6,7 @@ use Rattle.ym_machine.specs.RoundsRemaining.{SenderGoes}
 use Rattle.ym_machine.specs.Run.{Turn, IsDamage}
 use Rattle.ym_machine.specs.Run as machine
 use Rattle.ym_machine.specs.State.{SenderEnd}
-use Rattle.ym_machine.proofs.Places.{frames-end}
-use Rattle.ym_machine.proofs.ShortBursts.{IsFine, one-fine}
+use Rattle.ym_machine.specs.ShortBursts.{IsFine}
 use Rattle.ym_core.specs.declared.state.SendState.TheVariants as send_state
 use Rattle.ym_link.specs.ReceiverInto.{Tells}
 use Rattle.ym_link.specs.SenderRefines.{AllTold, batch_of}
@@ -26,6 +25,10 @@ pub record TurnLaws : Type 0 where
   pub go : (round : Round) (old new : Pair) (seen : Seen) → Goes round old seen new → TakesATurn round old seen new
   pub damage : (confirm : Confirm) (files : Batch) (st : State) (rounds : List Round) (turns : List Turn) (old new : Pair) (all : List Seen) →
       AreTurns confirm files st rounds turns old all new → IsDamage (frames_of files) confirm turns st
+  pub goes_on : (files : Batch) (confirm : Confirm) (turn : Turn) (turns : List Turn) (bad : ℕ) (st : State) →
+      IsFine confirm (frames_of files) bad st → machine.longest_bad_run bad (turn ∷ turns) ≤ BURST → turn.sink_failed ≡ false → turn.source_failed ≡ false →
+      machine.IsTurnDamage (frames_of files) confirm turn st →
+      (next : ℕ) × IsFine confirm (frames_of files) next (after_turn (frames_of files) confirm turn st) × (machine.longest_bad_run next turns ≤ BURST)
   pub whole : (round : Round) (sink_failed source_failed : Bool) → machine.is_whole (turn_of round sink_failed source_failed) ≡ both_whole round
   pub first : (confirm : Confirm) (files : Batch) (st : State) (pair : Pair) → PairRefines confirm files st pair → CommitsFirst files st pair
   pub prefix : (shape : Shape) (sources : List FileParts) (st : State) (pair : Pair) → All IsFile sources → AllTold sources → CommitsFirst (batch_of shape sources) st pair → CommitsAPrefix sources pair
@@ -100,7 +103,7 @@ front-goes laws confirm files before round rounds s next r after cs seen front c
     let turn_is : turn ≡ turn_of round false false = is_turn.turn_is ∙ (ap (λ f. turn_of round f turn.source_failed) no_sink ∙ ap (turn_of round false) no_source) in
     let brief : machine.longest_bad_run before (turn ∷ turns_of rounds) ≤ BURST = subst (λ t. machine.longest_bad_run before (t ∷ turns_of rounds) ≤ BURST) (sym turn_is) short in
     let damage = (laws.damage confirm files front.st (round ∷ []) (turn ∷ []) old new (seen ∷ []) (new, is_turn, refl)).0 in
-    let one = one-fine (frames_of files) confirm (frames-end files) turn (turns_of rounds) before front.st front.fine brief no_sink no_source damage in
+    let one = laws.goes_on files confirm turn (turns_of rounds) before front.st front.fine brief no_sink no_source damage in
     let st : State = after_turn (frames_of files) confirm turn front.st in
     let refines : PairRefines confirm files st new = is_turn.refines in
     let like = comes.goes_on (still-replies comes.new.standing.state (sender-going st.sender comes.new.standing.state refines.sender.standing.state one.1.going.0)) in

@@ -22,7 +22,9 @@ use ym_line::laws::{
 use ym_link::laws::{
     Headers, a_delivery_goes_one_place, a_sender_follows_the_machine, a_step_keeps_the_batch,
 };
-use ym_machine::laws::committed_is_reported_or_one_more;
+use ym_machine::laws::{
+    committed_is_reported_or_one_more, files_within_a_batch, short_bursts_are_survived,
+};
 
 /// Where the deliveries of two engines pair up, over any two ports, whether or not they tell their events, and however each call returns, the files that the receiver has committed are the first
 /// ones of the batch, each with its name, length, stamp and bytes, and the sender reports no more of them.
@@ -62,4 +64,6 @@ pub fn two_engines_complete()
     a_standing_pair_commits_the_first_files();
     new_ends_stand();
     failure_counts_tell();
+    files_within_a_batch::<Headers>();
+    short_bursts_are_survived::<Headers>();
 }
