@@ -23,11 +23,11 @@ module _ (confirm : Confirm) (files : Batch) (st : State) (failed : Bool) where
   half = (receiver_step (frames_of files) confirm false false st).0
 
   pub alone-hears : ((sink_failed whole source_failed : Bool) (came : List Control) →
-        machine.is_within came (machine.controls (receiver_step (frames_of files) confirm sink_failed whole st).1) ≡ true →
-        Invariant confirm (frames_of files) (sender_step (frames_of files) source_failed came (receiver_step (frames_of files) confirm sink_failed whole st).0)) →
+      machine.is_within came (machine.controls (receiver_step (frames_of files) confirm sink_failed whole st).1) ≡ true →
+      Invariant confirm (frames_of files) (sender_step (frames_of files) source_failed came (receiver_step (frames_of files) confirm sink_failed whole st).0)) →
       KeepsSender st half → KeepsReceiver half (sender_step (frames_of files) failed [] half) →
       ((old new : SenderParts) (bytes : List ℕ) → SenderRefines files half old → machine.IsRemnant (controls_in bytes) → IsStep old (hears (counts old) old.standing (controls_in bytes)) failed new →
-        SenderRefines files (sender_step (frames_of files) failed (controls_in bytes) half) new) →
+      SenderRefines files (sender_step (frames_of files) failed (controls_in bytes) half) new) →
       (old new : SenderParts) → AllTold old.files → SenderRefines files st old → IsStep old (hears (counts old) old.standing []) failed new →
       (next : State) × Invariant confirm (frames_of files) next × AllTold new.files × SenderRefines files next new × (next.taken ≡ st.taken)
   alone-hears back there_keeps back_keeps follows old new told refines heard = (
