@@ -28,7 +28,7 @@ use Rattle.ym_core.specs.declared.state.RecvState.{RecvState}
 use Rattle.ym_core.specs.declared.state.RecvState.TheVariants as state
 use Rattle.ym_c.specs.ReceiverInC.{IsAsk, IsPlaced}
 use Rattle.ym_c.specs.declared.receiver.YmAsk.{YmAsk}
-use Rattle.ym_c.proofs.Fronts.{Found, found_at}
+use Rattle.ym_c.proofs.Fronts.{BodyStands, body_at_front}
 
 -- a front of a front is a front
 front : (n m : ℕ) (x : List ℕ) → take (length (take n (take m x))) x ≡ take n (take m x)
@@ -46,10 +46,10 @@ Behind (Adds bytes) held = take (length bytes) (drop 3 held) ≡ bytes
 Behind Commits held = Unit {0}
 
 -- so do the first bytes of a block's body
-front_of : (held : List ℕ) (b : BlockParts) (n : ℕ) (some : List ℕ) → Found held b → some ≡ take n b.body → take (length some) (drop 3 held) ≡ some
-front_of held b n some f e =
-    let is : some ≡ take n (take f.size (drop 3 held)) = e ∙ ap (take n) f.body in
-    ap (λ s. take (length s) (drop 3 held)) is ∙ front n f.size (drop 3 held) ∙ sym is
+front_of : (held : List ℕ) (b : BlockParts) (n : ℕ) (some : List ℕ) → take (length b.body) (drop 3 held) ≡ b.body → some ≡ take n b.body → take (length some) (drop 3 held) ≡ some
+front_of held b n some there e =
+    let is : some ≡ take n (take (length b.body) (drop 3 held)) = e ∙ ap (take n) (sym there) in
+    ap (λ s. take (length s) (drop 3 held)) is ∙ front n (length b.body) (drop 3 held) ∙ sym is
 
 either : (t : Bool) (a b : Step) (held : List ℕ) → (t ≡ true → Behind a.call held) → Behind b.call held → Behind (cond t a b).call held
 either true a b held p q = p refl
@@ -60,12 +60,12 @@ stays_no r reply held = either (nat_lt (r.retries + 1) GIVE_UP) _ _ held (λ e. 
 
 -- ---- A block
 
-zero_behind : (r : Receiver) (zero : Result Zero HeaderFault) (held : List ℕ) (b : BlockParts) → Found held b → ReadsAs b.body zero → Behind (zero_heard r zero).call held
+zero_behind : (r : Receiver) (zero : Result Zero HeaderFault) (held : List ℕ) (b : BlockParts) → take (length b.body) (drop 3 held) ≡ b.body → ReadsAs b.body zero → Behind (zero_heard r zero).call held
 zero_behind r (Ok (File header)) held b f reads =
     either (nat_lt r.files MOST_FILES) _ _ held (λ e. front_of held b (position_or_len is_zero b.body) header.name f reads.name) tt
 zero_behind r zero held b f reads = tt
 
-next_behind : (r : Receiver) (file : OpenFile) (held : List ℕ) (b : BlockParts) → Found held b → Behind (next_block r file b.body).call held
+next_behind : (r : Receiver) (file : OpenFile) (held : List ℕ) (b : BlockParts) → take (length b.body) (drop 3 held) ≡ b.body → Behind (next_block r file b.body).call held
 next_behind r file held b f =
     either (nat_lt file.taken file.length) _ _ held (λ e. front_of held b (file.length - file.taken) (take (file.length - file.taken) b.body) f refl) (stays_no _ _ held)
 
@@ -80,30 +80,30 @@ twice_no t r one other held = either t _ _ held (λ e. stays_no r one held) (sta
 
 -- ---- All of it
 
-running : (stage : Stage) (r : Receiver) (zero : Result Zero HeaderFault) (held : List ℕ) (v : Result (Item × ℕ) Broken) → verdict_of held ≡ v
+running : BodyStands → (stage : Stage) (r : Receiver) (zero : Result Zero HeaderFault) (held : List ℕ) (v : Result (Item × ℕ) Broken) → verdict_of held ≡ v
     → ((b : BlockParts) → stage ≡ AwaitHeader → heard_at v ≡ heard.Item (item.Block b) → b.number ≡ 0 → ReadsAs b.body zero) → Behind (running_hears r stage zero (heard_at v)).call held
-running AwaitHeader r zero held (Ok (item.Block b, len)) e means =
-    either (b.number == 0) _ _ held (λ w. zero_behind r zero held b (found_at held b len e) (means b refl refl (eqb-true b.number 0 w))) tt
-running (InFile file) r zero held (Ok (item.Block b, len)) e means =
-    either (b.number == (file.blocks + 1) % 256) _ _ held (λ w. next_behind r file held b (found_at held b len e))
+running stands AwaitHeader r zero held (Ok (item.Block b, len)) e means =
+    either (b.number == 0) _ _ held (λ w. zero_behind r zero held b (body_at_front stands held b len e) (means b refl refl (eqb-true b.number 0 w))) tt
+running stands (InFile file) r zero held (Ok (item.Block b, len)) e means =
+    either (b.number == (file.blocks + 1) % 256) _ _ held (λ w. next_behind r file held b (body_at_front stands held b len e))
     (either (b.number == file.blocks % 256) _ _ held (λ w. twice_no (file.blocks == 0) r _ _ held) tt)
-running AwaitHeader r zero held (Ok (item.Eot, len)) e means = twice_no (nat_lt 0 r.files) r _ _ held
-running (InFile file) r zero held (Ok (item.Eot, len)) e means =
+running stands AwaitHeader r zero held (Ok (item.Eot, len)) e means = twice_no (nat_lt 0 r.files) r _ _ held
+running stands (InFile file) r zero held (Ok (item.Eot, len)) e means =
     either (nat_lt file.taken file.length) _ _ held (λ w. stays_no r _ held) (covered_no r.confirm file.first_eot r file held)
-running AwaitHeader r zero held (Err broken) e means = stays_no r _ held
-running (InFile file) r zero held (Err broken) e means = twice_no (file.blocks == 0) r _ _ held
-running stage r zero held v e means = tt
+running stands AwaitHeader r zero held (Err broken) e means = stays_no r _ held
+running stands (InFile file) r zero held (Err broken) e means = twice_no (file.blocks == 0) r _ _ held
+running stands stage r zero held v e means = tt
 
-by_state : (s : RecvState) (r : Receiver) (zero : Result Zero HeaderFault) (held : List ℕ)
+by_state : BodyStands → (s : RecvState) (r : Receiver) (zero : Result Zero HeaderFault) (held : List ℕ)
     → ((b : BlockParts) → s ≡ state.Running → r.stage ≡ AwaitHeader → heard_of held ≡ heard.Item (item.Block b) → b.number ≡ 0 → ReadsAs b.body zero)
     → Behind (hears_at s r zero (heard_of held)).call held
-by_state state.Running r zero held means = running r.stage r zero held (verdict_of held) refl (λ b. means b refl)
-by_state s r zero held means = tt
+by_state stands state.Running r zero held means = running stands r.stage r zero held (verdict_of held) refl (λ b. means b refl)
+by_state stands s r zero held means = tt
 
 told_at : (call : Call) (ask : YmAsk) (held : List ℕ) → ask.at ≡ 3 → IsAsk call ask → Behind call held → IsPlaced call ask held
 told_at (Begins header) ask held at is there = ap₂ (λ n a. take n (drop a held)) is.2 at ∙ there
 told_at (Adds bytes) ask held at is there = ap₂ (λ n a. take n (drop a held)) is.1 at ∙ there
 told_at call ask held at is there = tt
 
-pub placed : (r : Receiver) (zero : Result Zero HeaderFault) (held : List ℕ) (ask : YmAsk) → Means r (heard_of held) zero → ask.at ≡ 3 → IsAsk (hears r zero (heard_of held)).call ask → IsPlaced (hears r zero (heard_of held)).call ask held
-placed r zero held ask means at is = told_at (hears r zero (heard_of held)).call ask held at is (by_state r.state r zero held means)
+pub placed : BodyStands → (r : Receiver) (zero : Result Zero HeaderFault) (held : List ℕ) (ask : YmAsk) → Means r (heard_of held) zero → ask.at ≡ 3 → IsAsk (hears r zero (heard_of held)).call ask → IsPlaced (hears r zero (heard_of held)).call ask held
+placed stands r zero held ask means at is = told_at (hears r zero (heard_of held)).call ask held at is (by_state stands r.state r zero held means)

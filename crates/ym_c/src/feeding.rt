@@ -4,6 +4,8 @@ ghost use Rattle.std.specs.Prelude.{◌≡◌, ◌⊎◌, ◌≤◌, ◌<◌, �
 ghost use Rattle.ym_frame.specs.Frame.{verdict_of, block_verdict, IsOpen};
 ghost use Rattle.ym_c.specs.Feeding.{Feeds};
 
+use ym_frame::laws::open_bytes_begin_a_frame;
+
 const SOH: u8 = 0x01;
 
 const STX: u8 = 0x02;
@@ -36,6 +38,7 @@ pub fn wanted(bytes: &[u8]) -> usize
     ensures some { IsOpen (verdict_of bytes.now) → 0 < result }
     ensures room { 0 < result → length bytes.now + result ≤ 1029 }
 {
+    open_bytes_begin_a_frame();
     if bytes.is_empty() {
         return 1;
     }

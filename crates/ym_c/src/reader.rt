@@ -7,6 +7,7 @@ ghost use Rattle.ym_c.specs.Fronts.{KeepsReading, Takes, IsFound, IsRead, why_co
 
 use crate::feeding::take_bytes;
 use crate::frames::YmFront;
+use ym_frame::laws::a_body_stands_behind_three_bytes;
 use ym_frame::{Broken, ItemRef, Why, verdict};
 
 /// A reader of frames that come in pieces, and the bytes of the frame that is coming.
@@ -52,6 +53,7 @@ fn tell(reader: &mut YmReader, front: &mut YmFront)
     ensures reading { KeepsReading reader.new (reading_left (verdict_of (take reader.old.len reader.old.held)) (take reader.old.len reader.old.held)) }
     ensures found { IsFound (verdict_of (take reader.old.len reader.old.held)) front.new reader.new.held }
 {
+    a_body_stands_behind_three_bytes();
     front.number = 0;
     front.size = 0;
     match verdict(&reader.held[..reader.len as usize]) {

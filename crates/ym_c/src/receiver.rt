@@ -19,6 +19,7 @@ use crate::feeding::{take_bytes, wanted};
 use crate::stand::{YmStand, load, store};
 use ym_core::{Ask, Confirm, HeardRef, ReceiverCore, heard_in};
 use ym_frame::Reply;
+use ym_frame::laws::a_body_stands_behind_three_bytes;
 use ym_header::Stamp;
 
 /// A receiver, and the bytes of the delivery that is coming.
@@ -192,6 +193,7 @@ pub extern "C" fn ym_receiver_hear(receiver: &mut YmReceiver, ask: &mut YmAsk)
         × IsPlaced (hears core zero (heard_of held)).call ask.new held
         × (ask.new.bad ≡ bad_code (heard_of held)) }
 {
+    a_body_stands_behind_three_bytes();
     let core = load(&receiver.stand);
     let bytes = delivery(&receiver.held, receiver.len);
     receiver.reply = hear_into(core, bytes, &mut receiver.next, ask);

@@ -1,5 +1,5 @@
 use Rattle.std.proofs.Common.{rules, [], append-nil}
-use Rattle.ym_c.proofs.Openings.{soh_verdict, stx_verdict, empty_open, can_open, decided}
+use Rattle.ym_c.proofs.Openings.{soh_verdict, stx_verdict, empty_open, can_open}
 use Rattle.ym_c.proofs.feeding.wanted.Goals as goal
 
 pub returns-then-is_empty-clause-wanted : goal.returns-then-is_empty-clause-wanted
@@ -23,4 +23,4 @@ pub returns-then-bytes-eq1-clause-wanted : goal.returns-then-bytes-eq1-clause-wa
 returns-then-bytes-eq1-clause-wanted c more few = can_open c.args.bytes.now more c.if-bytes-eq1.true c.if-first-eq-CAN.true few
 
 pub returns-clause-some : goal.returns-clause-some
-returns-clause-some c h = absurd (decided c.args.bytes.now (search rules) c.if-first-eq-SOH.false c.if-first-eq-STX.false (search rules) h)
+returns-clause-some c h = absurd (c.open_bytes_begin_a_frame.ensures c.args.bytes.now (search rules) c.if-first-eq-SOH.false c.if-first-eq-STX.false (search rules) h)

@@ -11,4 +11,4 @@ pub returns-in-Block-clause-found : goal.returns-in-Block-clause-found
 returns-in-Block-clause-found c =
     let found : Result (Item × ℕ) Broken = Ok (Block c.in-Block.block, c.in-Ok.found.1) in
     let is : verdict_of (take c.args.reader.now.len c.args.reader.now.held) ≡ found = search rules in
-    found_block c.args.reader.now.len c.args.reader.now.held c.in-Block.block c.in-Ok.found.1 _ is (search rules)
+    found_block c.a_body_stands_behind_three_bytes.ensures c.args.reader.now.len c.args.reader.now.held c.in-Block.block c.in-Ok.found.1 _ is (search rules)
