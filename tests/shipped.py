@@ -1,6 +1,6 @@
 #!/usr/bin/env python3
 """Tries what is shipped beside the program: what it tells, ymodem-tty under a terminal program, the manual pages, the completion, the charts, the packages and
-the Makefile.
+the Makefile; and what the crates keep to among themselves.
 
 Prints a line for each check, and ends with the line 'N passed, M failed, K skipped'; the status is 1 where a check failed. A check that needs a
 package which is not installed is skipped, and says which.
@@ -18,6 +18,7 @@ sys.path.insert(0, os.path.dirname(os.path.abspath(__file__)))
 
 import chart_checks
 import gate_checks
+import house_checks
 import make_checks
 import package_checks
 import readme_checks
@@ -42,6 +43,7 @@ BOOKS = (
     user_checks,
     package_checks,
     gate_checks,
+    house_checks,
 )
 AT_ONCE = 8
 
