@@ -1,7 +1,7 @@
 -- A sender that hears nothing, beside a receiver that may have returned.
-use Rattle.std.proofs.Common.{◌≡◌, ◌∙◌, ◌+◌, nat_lt, ℕ, Bool, true, false, List, [], length, refl, inl, subst}
+use Rattle.std.proofs.Common.{◌≡◌, ◌∙◌, ◌+◌, nat_lt, ℕ, Bool, true, false, List, [], refl, inl}
 use Rattle.std.proofs.lemmas.Bool.{cond_both}
-use Rattle.ym_line.proofs.Names.{Control, HeaderParts, Confirm, File, frames_of, State, controls_in, Batch, AllTold, SenderParts}
+use Rattle.ym_line.proofs.Names.{Control, HeaderParts, Confirm, frames_of, State, controls_in, Batch, AllTold, SenderParts}
 use Rattle.ym_machine.specs.declared.limits.TheConstants.{GIVE_UP}
 use Rattle.ym_machine.specs.Frames.{Frame}
 use Rattle.ym_machine.specs.Steps as machine

@@ -2,7 +2,7 @@
 use Rattle.std.proofs.Common.{◌≡◌, ◌≢◌, ◌∙◌, ◌≤◌, ◌<◌, ◌⊎◌, ℕ, ◌+◌, suc, List, [], ◌∷◌, length, map, take, Option, None, Some, IfSome, IsSome, All, sum_by, refl, sym, ap, subst, inl, inr, arith}
 use Rattle.std.proofs.lemmas.List.{length-map, take_all}
 use Rattle.std.proofs.lemmas.List.Sums.{sum_by-cons}
-use Rattle.ym_line.proofs.Names.{HeaderParts, pieces_of, Shape, Confirm, File, frames_of, Turn, NoFailure, IsDamage, after_turns, bytes_of, Batch, AllTold, file_of, told_pieces, FileParts, IsFile, SendState, Round, Seen, Trace, AllWhole, AreGoing, HaveFinished, NoneRose, whole_rounds, AreNew, Pair, IsTrace, AreTurns, CommitsFirst, PairRefines, Reports}
+use Rattle.ym_line.proofs.Names.{pieces_of, Shape, Confirm, frames_of, Turn, NoFailure, IsDamage, after_turns, Batch, AllTold, file_of, told_pieces, FileParts, IsFile, SendState, Round, Seen, Trace, AllWhole, AreGoing, HaveFinished, NoneRose, whole_rounds, AreNew, Pair, IsTrace, AreTurns, CommitsFirst, PairRefines, Reports}
 use Rattle.ym_file.specs.Plan.{count_of}
 use Rattle.ym_machine.specs.declared.limits.TheConstants.{BURST}
 use Rattle.ym_machine.specs.RoundsRemaining.{SenderGoes, ReceiverGoes, IsGoing, CountsWithin, IsComplete, needed_by, rounds_needed}

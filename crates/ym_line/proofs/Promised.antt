@@ -1,19 +1,9 @@
 -- What a pair that refines a state of the machine has committed, in words of the two ends.
-use Rattle.std.proofs.Common.{◌≡◌, ◌∙◌, ◌≤◌, ◌⊎◌, ℕ, min, suc, List, [], ◌∷◌, length, map, take, Option, None, Some, IfSome, IsSome, All, false, Result, Ok, Err, refl, sym, ap, subst, inl, inr, arith}
-use Rattle.std.proofs.lemmas.List.{length-map, length-take, take-map}
-use Rattle.std.proofs.lemmas.Simd.{map-map}
-use Rattle.ym_line.proofs.Names.{HeaderParts, IsHeader, length_limit, Kept, IsPieces, pieces_of, Shape, Confirm, File, frames_of, MOST_FILES, State, Turn, after_turns, done_at, Place, bytes_of, Batch, AllTold, batch_of, file_of, told_pieces, FileParts, IsFile, Round, LineFault, Seen, Trace, AreNew, ReportsCommitted, Pair, GoOn, StopsIn, IsTrace, RunGives, AreTurns, CommitsFirst, FollowsMachine, PairRefines, RunsAsMachine, StopsWithMachine}
-use Rattle.ym_file.specs.Kept.{Told, IsNew, TellsNone}
-use Rattle.ym_machine.specs.Frames.{IsPrefix}
-use Rattle.ym_machine.specs.Machine.{start, committed, reported}
-use Rattle.ym_core.specs.Place.{first_of}
-use Rattle.ym_core.specs.Receiver.{new_receiver}
-use Rattle.ym_core.specs.declared.place.Mode.TheVariants.{Waiting}
-use Rattle.ym_core.specs.declared.standing.Standing.{Standing}
-use Rattle.ym_core.specs.declared.state.SendState.TheVariants.{Running}
-use Rattle.ym_file.specs.SourceFile.{counts_of}
-use Rattle.ym_core.specs.Standing.{new_standing}
-use Rattle.ym_line.specs.declared.delivery.Handed.{Handed}
+use Rattle.std.proofs.Common.{◌≡◌, ◌∙◌, ◌⊎◌, ℕ, min, List, [], ◌∷◌, length, map, take, Option, None, Some, All, Result, Ok, Err, refl, ap, subst, inl, inr, arith}
+use Rattle.std.proofs.lemmas.List.{length-map, length-take}
+use Rattle.ym_line.proofs.Names.{Shape, Confirm, frames_of, State, Turn, after_turns, done_at, Batch, AllTold, batch_of, FileParts, IsFile, Round, LineFault, Seen, Trace, AreNew, ReportsCommitted, Pair, GoOn, StopsIn, IsTrace, RunGives, AreTurns, CommitsFirst, FollowsMachine, PairRefines, RunsAsMachine, StopsWithMachine}
+use Rattle.ym_file.specs.Kept.{Told, TellsNone}
+use Rattle.ym_machine.specs.Machine.{start, committed}
 use Rattle.ym_line.specs.Promise.{CommitsAPrefix, first_place}
 use Rattle.ym_line.proofs.Stops.{Same, half-same, stopped-refines, unchanged}
 

@@ -2,7 +2,7 @@
 use Rattle.std.proofs.Common.{◌≡◌, ◌∙◌, inl, inr, is_some, if◌then◌else◌, append-nil, unwrap_or, ℕ, Bool, true, List, [], ◌∷◌, ◌++◌, length, map, Option, None, Some, Ok, refl, sym, ap, arith}
 use Rattle.std.specs.List.{cons_option}
 use Rattle.std.proofs.lemmas.Bool.Decides.{nat_tests}
-use Rattle.ym_line.proofs.Names.{HeaderParts, reply_bytes, Reply, Control, frames_of, came_back, controls_in, Batch, IsSaid, SendState, SenderParts, IsSender, spoken, Delivery, Whole, arrives, ShowsBack, sent_by, is_whole, came_of, what_of}
+use Rattle.ym_line.proofs.Names.{reply_bytes, Reply, Control, frames_of, came_back, controls_in, Batch, IsSaid, SendState, SenderParts, IsSender, spoken, Delivery, Whole, arrives, ShowsBack, sent_by, is_whole, came_of, what_of}
 use Rattle.ym_frame.specs.Control.{control_at, controls, IsSubsequence}
 use Rattle.ym_frame.specs.Frame.{IsFrame, verdict_of}
 use Rattle.ym_frame.specs.declared.control.Reply.TheVariants as reply

@@ -2,7 +2,7 @@
 use Rattle.std.proofs.Common.{◌≡◌, ◌∙◌, ◌-◌, ◌<◌, slice_set, ◌⊎◌, inl, inr, ℕ, Bool, true, false, List, [], ◌∷◌, ◌++◌, length, Option, Some, IfSome, refl, sym, ap, subst, append_assoc, append-nil}
 use Rattle.std.proofs.lemmas.Bool.{cases_eq}
 use Rattle.std.proofs.lemmas.List.{length-map, get_or-set_same, get_or-set_other}
-use Rattle.ym_pair.proofs.Names.{HeaderParts, Shape, Item, AreAcknowledged, block_places, files_places, places_before, Spoke, spoke_in, spoke_along, count_at, IsFrameAt, SenderHears, sender_none, sender_more, Tape, controls_in, SenderParts, IsSender, IsStep, IsFilled, counts, spoken, written_for, FileParts, counts_of, file_at, hears, Place, Header, Block, Eot, End, Sent, Standing, Running, Finished}
+use Rattle.ym_pair.proofs.Names.{HeaderParts, Shape, Item, AreAcknowledged, block_places, files_places, places_before, Spoke, spoke_in, spoke_along, count_at, IsFrameAt, SenderHears, sender_none, sender_more, Tape, controls_in, SenderParts, IsSender, IsStep, IsFilled, counts, spoken, written_for, FileParts, file_at, hears, Place, Header, Block, Eot, End, Sent, Standing, Running, Finished}
 use Rattle.ym_header.specs.Text.{text}
 use Rattle.ym_file.specs.Plan.{piece_at, size_at}
 use Rattle.ym_frame.specs.declared.frame.Item.TheVariants as item

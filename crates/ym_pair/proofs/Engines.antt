@@ -1,6 +1,6 @@
 -- Two engines whose deliveries pair up stand where the machine goes, round for round; and where one has returned, the other goes on alone.
 use Rattle.std.proofs.Common.{◌≡◌, ◌∙◌, ◌⊎◌, inl, inr, ℕ, Bool, false, List, [], ◌∷◌, All, length, refl, sym, ap, subst, Ok}
-use Rattle.ym_pair.proofs.Names.{Reply, HeaderParts, Shape, Confirm, frames_of, State, start, committed, reported, after_turn, Heard, controls_in, hears, ReceiverParts, HearsGives, SenderParts, IsSender, IsStep, counts, Batch, FileParts, IsFile, AreNew, Pair, Goes, sent_by, seen_of, PairRefines, CommitsFirst, Delivery, Lost, Round, Spoke, Answered, ArrivesThere, ArrivesBack, SenderAlone, PairUp, ends, up_to_start}
+use Rattle.ym_pair.proofs.Names.{Reply, Shape, Confirm, frames_of, State, start, committed, reported, after_turn, Heard, controls_in, hears, ReceiverParts, HearsGives, SenderParts, IsSender, IsStep, counts, Batch, FileParts, IsFile, AreNew, Pair, Goes, sent_by, seen_of, PairRefines, CommitsFirst, Delivery, Lost, Round, Spoke, Answered, ArrivesThere, ArrivesBack, SenderAlone, PairUp, ends, up_to_start}
 use Rattle.ym_machine.specs.Frames.{count_within, files_within, IsPrefix}
 use Rattle.ym_machine.specs.Machine.{Invariant}
 use Rattle.ym_core.specs.Place.{done_at}

@@ -1,7 +1,7 @@
 -- The runs of two engines, step by step: a round in which their deliveries pair up is a round of the pair.
 use Rattle.std.proofs.Common.{◌≡◌, ◌≢◌, ◌∙◌, ◌⊎◌, ◌+◌, inl, inr, nat_lt, ℕ, Bool, true, false, List, [], ◌∷◌, ◌++◌, length, Option, None, Some, Result, Ok, Err, unwrap_or, refl, sym, ap, subst, arith}
 use Rattle.std.proofs.lemmas.Bool.{cond_both, ltb-true}
-use Rattle.ym_pair.proofs.Names.{verdict_of, Control, Ack, Can, Reply, Silence, Item, IsPlace, count_at, next_of, controls_in, reads, after_reading, hears, hears_in, Heard, Bad, Mode, Waiting, Sent, Place, Header, Block, Eot, End, Reading, Standing, SendState, SenderHears, sender_none, sender_more, ReceiverHears, receiver_none, receiver_more, Tape, ReceiverParts, HearsGives, SenderParts, IsSender, IsStep, counts, spoken, written_for, counts_of, Goes, sent_by, seen_of, Delivery, Lost, Spoke, Answered, spoke_in, spoke_along, last_words, answered_in, ArrivesThere, ArrivesBack, ends, up_to_start}
+use Rattle.ym_pair.proofs.Names.{verdict_of, Control, Ack, Can, Reply, Silence, Item, IsPlace, count_at, next_of, controls_in, reads, after_reading, hears, hears_in, Heard, Bad, Mode, Waiting, Sent, Place, Header, Block, Eot, End, Reading, Standing, SendState, SenderHears, sender_none, sender_more, ReceiverHears, receiver_none, receiver_more, Tape, ReceiverParts, HearsGives, SenderParts, IsSender, IsStep, counts, spoken, written_for, Goes, sent_by, seen_of, Delivery, Lost, Spoke, Answered, spoke_in, spoke_along, last_words, answered_in, ArrivesThere, ArrivesBack, ends, up_to_start}
 use Rattle.ym_frame.specs.Control.{reply_bytes}
 use Rattle.ym_frame.specs.Frame.{IsBytes, IsVerdict, HasFrame}
 use Rattle.ym_frame.specs.declared.control.Control.TheVariants.{Nak}
