@@ -1,7 +1,7 @@
 # make play              plays the example session: by the program where it is built, else by a build without proofs (about a minute)
 # make build             proves and builds the program
 # make check             while you write: proves what changed, and tries the tests of the crates that changed since the last green run
-# make layout            whether each source is laid out as `rt fmt` does it, which the gate wants: a second
+# make layout            whether each source is laid out as `rt fmt` does it, which the gate wants, and the version is spelled alike: a second
 # make test              everything that is checked before a change lands: want of memory, and the gate, whose last line is 'N passed, M failed',
 #                        with the program that it proved on sockets and files, what is shipped beside it, the library and the page
 # make memory            each growth of memory refused in turn, alone
@@ -28,8 +28,9 @@ check: layout
 	@tools/prove.py check
 
 layout:
+	@tools/version.py check
 	@# the toolchain's `rattle` lies beside its `rt`, which alone has to be on the path
-	@find crates \( -name out -o -name must-fail \) -prune -o \( -name '*.rt' -o -name '*.antt' \) -print0 \
+	@find crates \( -name out -o -name must-fail -o -name edits \) -prune -o \( -name '*.rt' -o -name '*.antt' \) -print0 \
 	    | xargs -0 "$$(dirname "$$(readlink -f "$$(command -v rt)")")/rattle" fmt --check \
 	    || { echo "run rt fmt in the folder of its crate" >&2; exit 1; }
 
@@ -97,7 +98,8 @@ install-lib: lib
 	install -D -m 644 out/lib/$(TARGET)/libymodem.a "$(DESTDIR)$(PREFIX)/lib/libymodem.a"
 	install -D -m 644 include/ymodem.h "$(DESTDIR)$(PREFIX)/include/ymodem.h"
 	install -d "$(DESTDIR)$(PREFIX)/lib/pkgconfig"
-	sed 's|@PREFIX@|$(PREFIX)|; s|@LIBDIR@|$${prefix}/lib|' include/ymodem.pc.in > "$(DESTDIR)$(PREFIX)/lib/pkgconfig/ymodem.pc"
+	sed "s|@PREFIX@|$(PREFIX)|; s|@LIBDIR@|\$${prefix}/lib|; s|@VERSION@|$$(tools/version.py)|" include/ymodem.pc.in \
+	    > "$(DESTDIR)$(PREFIX)/lib/pkgconfig/ymodem.pc"
 	chmod 644 "$(DESTDIR)$(PREFIX)/lib/pkgconfig/ymodem.pc"
 
 # ---- The page

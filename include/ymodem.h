@@ -12,6 +12,9 @@
 #include <stddef.h>
 #include <stdint.h>
 
+/* The version of this header, and of the library and the program beside it. */
+#define YM_VERSION "0.2.0"
+
 #ifdef __cplusplus
 extern "C" {
 #endif

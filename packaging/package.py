@@ -3,7 +3,7 @@
 library for C: the archive, the header, the file for pkg-config, the examples and their document.
 
 Two packages of one commit are the same, byte for byte: all times are that of the commit, or the environment variable SOURCE_DATE_EPOCH, and the
-version is made of the commit, or the environment variable VERSION.
+version is the program's with the commit behind it, or the environment variable VERSION.
 
 usage: package.py deb|dist PROGRAM FOLDER
        package.py dev ARCHIVE FOLDER
@@ -88,6 +88,11 @@ def said(*words, default=None):
     return default if ran.returncode else ran.stdout.strip()
 
 
+def number():
+    """The version of the program, without the commit."""
+    return said(os.path.join(ROOT, "tools", "version.py"))
+
+
 class Build:
     """What a package is made of."""
 
@@ -99,7 +104,8 @@ class Build:
     def version_by_commit(self):
         day = time.strftime("%Y%m%d", time.gmtime(self.epoch))
         is_changed = said("git", "status", "--porcelain", "--untracked-files=no")
-        return "0+git%s.%s%s" % (day, said("git", "rev-parse", "--short=7", "HEAD"), ".changed" if is_changed else "")
+        commit = said("git", "rev-parse", "--short=7", "HEAD")
+        return "%s+git%s.%s%s" % (number(), day, commit, ".changed" if is_changed else "")
 
     def install(self, prefix):
         """Puts everything below a folder. The program comes without what only a debugger reads."""
@@ -124,6 +130,7 @@ class Build:
         shutil.copy(os.path.join(ROOT, "include", "ymodem.h"), os.path.join(prefix, "include"))
         with open(os.path.join(ROOT, "include", "ymodem.pc.in"), encoding="utf-8") as it:
             text = it.read().replace("@PREFIX@", "/usr").replace("@LIBDIR@", "${prefix}/lib/x86_64-linux-gnu")
+            text = text.replace("@VERSION@", number())
         write(os.path.join(libraries, "pkgconfig", "ymodem.pc"), text)
         shutil.copy(os.path.join(ROOT, "docs", "library.md"), documents)
         shutil.copytree(os.path.join(ROOT, "examples"), os.path.join(documents, "examples"), ignore=shutil.ignore_patterns("out"))

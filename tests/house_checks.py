@@ -50,8 +50,25 @@ def short_proof_files():
     wants_none(long, "proof files of more than %d lines" % PROOF_LINES)
 
 
+def edits_in(part):
+    """How many edits each crate has in must-fail/ or in edits/, where it has some."""
+    counts = {}
+    for crate, _, _ in texts((part,), ".edit"):
+        counts[crate] = counts.get(crate, 0) + 1
+    return counts
+
+
+def few_edits_in_the_gate():
+    """The gate tries the edits of must-fail/ alone, each by a check of its own."""
+    tried = edits_in("must-fail")
+    wants_none(["%s: %d" % it for it in tried.items() if not 2 <= it[1] <= 4], "crates without two to four edits")
+    wants_none(["%d" % sum(tried.values())] * (sum(tried.values()) > 50), "more than 50 edits in the gate")
+    wants_none(sorted(set(edits_in("edits")) - set(tried)), "crates of which the gate tries none")
+
+
 CHECKS = [
     ("no crate cites a lemma of another one", no_lemma_of_another_crate),
     ("no two spec modules share a name", one_name_a_spec_module),
     ("no long proof files", short_proof_files),
+    ("few edits in the gate", few_edits_in_the_gate),
 ]

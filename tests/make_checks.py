@@ -117,6 +117,23 @@ def layout():
         wants("calls of rt", it.called(), [])
 
 
+def version():
+    """The version is set in all files that spell it, and one that spells another is told before anything is proved."""
+    with tree() as it:
+        wants("another version", it.run("tools/version.py", "set", "3.20.1"), (0, "", ""))
+        wants("what it is then", it.run("tools/version.py"), (0, "3.20.1\n", ""))
+        wants("make layout", it.make("layout"), (0, "", ""))
+        page = os.path.join(it.top, "share", "man", "ymodem.1")
+        with open(page, encoding="utf-8") as read:
+            text = read.read()
+        with open(page, "w", encoding="utf-8") as edited:
+            edited.write(text.replace("3.20.1", "3.20.2"))
+        status, out, _ = it.make("layout")
+        wants("its status", status, 2)
+        has(out, "share/man/ymodem.1 spells 3.20.2, and the version is 3.20.1: tools/version.py set 3.20.1")
+        wants("calls of rt", it.called(), [])
+
+
 # In place of each program of tests: it tells its name and the program that it was given. Where the file `fails` is there it fails.
 TEST = """#!/bin/sh
 echo "$(basename "$0" .py) $YMODEM" >> "$CALLED/called"
@@ -170,6 +187,7 @@ CHECKS = [
     ("make build under a terminal, and interrupted", build_under_terminal),
     ("make check tries what changed", check),
     ("make layout of sources that are not laid out", layout),
+    ("the version in one place", version),
     ("the gate, and beside it the tests of what it proved", gate),
     ("the gate where an edit is not refused", gate_that_refuses),
     ("the gate where a test fails", gate_behind_a_test_that_fails),

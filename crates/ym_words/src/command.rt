@@ -11,8 +11,8 @@ use std::alloc::{AllocError, Global};
 const ABOUT: &str =
     "Sends and receives files by YMODEM, and plays sessions over a line that loses and damages bytes.";
 
-/// What this version is, and the toolchain that it is proved and built with.
-const VERSION: &str = "0.1.0 (rattle-kit-13b logic dac8208d650f15bf)";
+/// The version of the program, of its packages and of the library for C: `tools/version.py` reads it here.
+const VERSION: &str = "0.2.0";
 
 const STATUSES: &str = "Without a command, `play` is meant.
 
