@@ -11,7 +11,17 @@ LEMMAS = re.compile(r"Rattle\.(ym_\w+)\.proofs\.")
 PROOF_LINES = 400
 README, README_LINES = "README.md", 80
 # The pages whose lines are kept short.
-SHORT_LINED = (README, "docs/scripts.md", "docs/serial.md")
+SHORT_LINED = (
+    README,
+    "docs/believe.md",
+    "docs/building.md",
+    "docs/commands.md",
+    "docs/glossary.md",
+    "docs/promises.md",
+    "docs/proved.md",
+    "docs/scripts.md",
+    "docs/serial.md",
+)
 COLUMNS = 100
 # A link or a picture to another place than the web, and what does not count as one.
 LINK = re.compile(r"\]\((?!https?:)([^)\s]+)\)")
