@@ -34,8 +34,9 @@ LOG = os.path.join(OUT, "gate.log")
 # Copies, since the gate is at work in the crates' own folders, by the variables that name them to the tests.
 TRIED = {"YMODEM": "ymodem", "REPLAY": "replay"}
 # The tests that need the library or the page come last: these are made meanwhile.
-TESTS = ("transfer", "shipped", "counts")
-TESTS_OF_LIBRARY = ("library", "bare", "uboot", "web")
+TESTS = ("transfer", "shipped")
+# The last one tells what was skipped in the others.
+TESTS_OF_LIBRARY = ("library", "bare", "uboot", "web", "counts")
 
 # The lines that are passed on as they come, and the one of a crate that is proved, by which time its program is built.
 TOLD = re.compile(r"rt: \w+(: its tests are)? (proved|NOT PROVED)|rt: \w+ is kept|rt: \w+: trying its must-fail edits")
