@@ -1,6 +1,6 @@
 -- A port that lets the line clear: which events it drops, and when (this profile).
 use Rattle.std.specs.Prelude.{◌≡◌, ℕ, zero, suc, nat_lt, ◌&&◌, Bool, true, false, List, [], ◌∷◌, ◌++◌, length, Result, Ok, Err, is_ok, if◌then◌else◌}
-use Rattle.ym_link.specs.Exchange.{new_exchange, front_of, heard, after_seen, is_stale, must_clear, wrote}
+use Rattle.ym_link.specs.Exchange.{new_exchange, front_of, heard, after_seen, is_stale, must_clear, is_calm, wrote}
 use Rattle.ym_link.specs.Port.{Tape, Seen, Data, Silence, End, Failed, read_gives, read_leaves, after_write}
 use Rattle.ym_link.specs.Sweep.{Swept, swept, new_sweep}
 use Rattle.ym_link.specs.declared.sweep.TheConstants.{MOST_READS}
@@ -29,7 +29,7 @@ holds_nothing _ = false
 abbrev pub cleared : Talk → List ℕ → List Event → Swept
 cleared talk bytes events =
     if holds_nothing talk.held && must_clear talk.role talk.exchange (front_of bytes)
-    then swept MOST_READS talk.role (new_sweep talk.role talk.exchange.is_quiet) events
+    then swept MOST_READS talk.role (new_sweep talk.role (is_calm talk.role talk.exchange)) events
     else record { answer = Ok talk.held; rest = events }
 
 -- and then the bytes are written

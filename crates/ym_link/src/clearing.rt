@@ -52,7 +52,7 @@ fn clear_for<P: Port>(port: &mut P, talk: &Talk, clears: bool) -> Result<Held, P
             let_clear(
                 port,
                 talk.role,
-                Sweep::new(talk.role, talk.exchange.is_quiet),
+                Sweep::new(talk.role, talk.exchange.is_calm(talk.role)),
             )
         }
         held => Ok(held),
