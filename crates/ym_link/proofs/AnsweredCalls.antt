@@ -1,15 +1,17 @@
 -- Over a line that answers each copy, an end hears for each call nothing as often as it waited in vain, and then the answer.
 use Rattle.std.proofs.Common.{◌≡◌, Bool, ◌<◌, ◌≤◌, ◌+◌, ℕ, zero, suc, true, false, nat_eq, min, List, [], ◌∷◌, ◌++◌, length, Ok, refl, sym, ◌∙◌, ap, arith, lit<}
 use Rattle.std.proofs.lemmas.Bool.{and_right, ne_eqb, lt-ltb, lt-leb, eq-eqb}
-use Rattle.ym_link.proofs.Names.{cleared, said, front_of, AreLate, late_and_quiet, Seen, Data, STALE_READS, Talk, Event, Exchange, Role, Sender, DELIVERY_LIMIT}
+use Rattle.ym_link.proofs.Names.{cleared, said, front_of, AreLate, late_and_quiet, Seen, Data, STALE_READS, Talk, Event, Exchange, Role, Sender, DELIVERY_LIMIT, brings, heeded_bytes, heeds_all}
 use Rattle.ym_link.specs.Clearing.{new_talk}
 use Rattle.ym_link.specs.Exchange.{new_exchange, is_same, is_taken, wrote, all_ask, is_opening}
 use Rattle.ym_link.specs.LateAnswers.{waits, Act, Writes, Reads, gives, Call, acts_of, hears, behind, comes, all_acts, all_comes, all_hears, AreCalls, one}
 use Rattle.ym_link.specs.Port.{Silence}
+use Rattle.ym_link.specs.Withdrawn.{heard_by}
 use Rattle.ym_link.specs.declared.event.Event.TheVariants as event
 use Rattle.ym_link.specs.declared.exchange.Front.{Front}
 use Rattle.ym_link.specs.declared.exchange.Role.TheVariants.{Receiver}
 use Rattle.ym_link.specs.declared.sweep.Held.TheVariants as held
+use Rattle.ym_link.specs.declared.sweep.Heed.{Heed}
 use Rattle.ym_link.specs.declared.sweep.Heed.TheVariants as heed
 use Rattle.ym_link.proofs.Fresh.{fresh-over}
 use Rattle.ym_link.proofs.LateAnswersDropped.{whole-piece, late-answers-dropped}
@@ -26,18 +28,41 @@ said_of owed came prompt quick front repeat = record { owed = owed; came = came;
 abbrev waiting : ℕ → Bool → Bool → Front → Bool → Exchange
 waiting owed prompt quick front repeat = record { owed = owed; came = 0; is_quiet = true; waited = true; was_prompt = prompt; is_quick = quick; last = front; is_repeat = repeat }
 
+-- how many bytes of an answer are heard
+abbrev came_of : Role → List ℕ → ℕ
+came_of role answer = min DELIVERY_LIMIT (0 + length (heeded_bytes role answer))
+
+-- what is heard of an answer is some of it, and no question where the answer is none
+record Heeded (bytes heard : List ℕ) : Type 0 where
+  some : 0 < length bytes → 0 < length heard
+  short : length bytes < DELIVERY_LIMIT → length heard < DELIVERY_LIMIT
+  answers : all_ask bytes ≡ false → all_ask heard ≡ false
+
+heeded-by : (heed : Heed) (bytes : List ℕ) → Heeded bytes (heard_by heed bytes)
+heeded-by heed.CanCan bytes = record { some = λ _. omega arith; short = λ _. lit< tt; answers = λ _. refl }
+heeded-by heed.Can bytes = record { some = λ _. omega arith; short = λ _. lit< tt; answers = λ _. refl }
+heeded-by heed.Open bytes = record { some = λ e. e; short = λ e. e; answers = λ e. e }
+heeded-by heed.Other bytes = record { some = λ e. e; short = λ e. e; answers = λ e. e }
+
+heeded-of : (role : Role) (bytes : List ℕ) → Heeded bytes (heeded_bytes role bytes)
+heeded-of Sender bytes = heeded-by (heeds_all Sender heed.Open bytes) bytes
+heeded-of Receiver bytes = record { some = λ e. e; short = λ e. e; answers = λ e. e }
+
 -- ---- One act
 
 -- an answer is no question that a sender passes over
 read-answer : (acts : List Act) (role : Role) (owed : ℕ) (prompt quick repeat : Bool) (front : Front) (answer : List ℕ) (rest : List Event) → 0 < length answer → length answer < DELIVERY_LIMIT
     → all_ask answer ≡ false → gives (Reads ∷ acts) (talk_of role (said_of owed 0 prompt quick front repeat)) (event.Piece answer ∷ rest)
-    ≡ Data answer ∷ gives acts (talk_of role (said_of owed (min DELIVERY_LIMIT (0 + length answer)) prompt quick front repeat)) rest
+    ≡ Data (heeded_bytes role answer) ∷ gives acts (talk_of role (said_of owed (came_of role answer) prompt quick front repeat)) rest
 unfolding gives
 read-answer acts role owed prompt quick repeat front answer rest some short answers =
     let x = said_of owed 0 prompt quick front repeat in
     let read = whole-piece answer rest some (omega arith) in
-    let first = fresh-over STALE_READS 0 DELIVERY_LIMIT (talk_of role x) (event.Piece answer ∷ rest) (Data answer) (lit< tt) (sym read.0) (and_right (is_opening role x) (all_ask answer) answers) in
-    rw (first, read.0, read.1) refl
+    let heard = heeded_bytes role answer in
+    let brought : brings role DELIVERY_LIMIT (event.Piece answer ∷ rest) ≡ Data heard = rw read.0 refl in
+    let first = fresh-over STALE_READS 0 DELIVERY_LIMIT (talk_of role x) (event.Piece answer ∷ rest) (Data heard) (lit< tt) (sym brought)
+    (and_right (is_opening role x) (all_ask heard) ((heeded-of role answer).answers answers)) in
+    rw (first, brought, read.1) refl
 
 read-quiet : (acts : List Act) (role : Role) (owed : ℕ) (prompt quick repeat : Bool) (front : Front) (rest : List Event)
     → gives (Reads ∷ acts) (talk_of role (said_of owed 0 prompt quick front repeat)) (event.Quiet ∷ event.Quiet ∷ rest) ≡ Silence ∷ gives acts (talk_of role (waiting owed prompt quick front repeat)) rest
@@ -135,7 +160,7 @@ settled (suc again) = (refl, refl, refl)
 
 one-call : (role : Role) (written answer : List ℕ) (again owed : ℕ) (prompt quick repeat : Bool) (acts : List Act) (rest : List Event) → 0 < owed → 0 < length answer → length answer < DELIVERY_LIMIT → all_ask answer ≡ false
     → gives (rest_of written again ++ acts) (talk_of role (said_of owed 0 prompt quick (front_of written) repeat)) (waits again ++ (event.Piece answer ∷ rest))
-    ≡ hears again answer ++ gives acts (talk_of role (said_of (owed_by again owed) (min DELIVERY_LIMIT (0 + length answer)) prompt (quick_by again quick) (front_of written) (repeat_by again repeat))) rest
+    ≡ hears again (heeded_bytes role answer) ++ gives acts (talk_of role (said_of (owed_by again owed) (came_of role answer) prompt (quick_by again quick) (front_of written) (repeat_by again repeat))) rest
 one-call role written answer zero owed prompt quick repeat acts rest more some short answers = read-answer acts role owed prompt quick repeat (front_of written) answer rest some short answers
 one-call role written answer (suc again) owed prompt quick repeat acts rest more some short answers =
     let tail = waits again ++ (event.Piece answer ∷ rest) in
@@ -152,14 +177,22 @@ one-call role written answer (suc again) owed prompt quick repeat acts rest more
 -- how it leaves the port
 found-behind : (role : Role) (written answer : List ℕ) (late more : List Event) (again : ℕ) (prompt quick repeat : Bool) → 0 < length answer → length answer < DELIVERY_LIMIT
     → AreLate role heed.Open 9 late → length late ≤ 65000
-    → Found role written (said_of (owed_by again 1) (min DELIVERY_LIMIT (0 + length answer)) prompt (quick_by again quick) (front_of written) (repeat_by again repeat)) (behind role again late more) more
+    → Found role written (said_of (owed_by again 1) (came_of role answer) prompt (quick_by again quick) (front_of written) (repeat_by again repeat)) (behind role again late more) more
 found-behind role written answer late more zero prompt quick repeat some short are few =
-    answered written 1 _ prompt quick repeat more more (omega arith) (omega arith) (nothing-dropped role _ prompt quick repeat (front_of written) more (omega arith))
+    let heard = heeded-of role answer in
+    let any = heard.some some in
+    let few_bytes = heard.short short in
+    answered written 1 _ prompt quick repeat more more (omega (arith, any, few_bytes)) (omega (arith, any, few_bytes))
+    (nothing-dropped role _ prompt quick repeat (front_of written) more (omega (arith, any, few_bytes)))
 found-behind role written answer late more (suc again) prompt quick repeat some short are few =
-    answered written 2 _ prompt false true _ more (omega arith) (omega arith) (others-dropped role _ prompt true (front_of written) late more (omega arith) are few)
+    let heard = heeded-of role answer in
+    let any = heard.some some in
+    let few_bytes = heard.short short in
+    answered written 2 _ prompt false true _ more (omega (arith, any, few_bytes)) (omega (arith, any, few_bytes))
+    (others-dropped role _ prompt true (front_of written) late more (omega (arith, any, few_bytes)) are few)
 
 calls-heard : (role : Role) (before : List ℕ) (calls : List Call) (x : Exchange) (events more : List Event) → AreCalls role before calls
-    → Found role before x events (all_comes role calls more) → gives (all_acts calls) (talk_of role x) events ≡ all_hears calls
+    → Found role before x events (all_comes role calls more) → gives (all_acts calls) (talk_of role x) events ≡ all_hears role calls
 unfolding gives
 calls-heard role before [] x events more are found = refl
 calls-heard role before (call ∷ calls) x events more (one _ _ _ is other are) found =
@@ -169,8 +202,8 @@ calls-heard role before (call ∷ calls) x events more (one _ _ _ is other are) 
     let left = found-behind role call.written call.answer call.late rest call.again begun.0 begun.1 begun.2 is.some is.short is.late is.few in
     let heard = one-call role call.written call.answer call.again 1 begun.0 begun.1 begun.2 acts _ (omega arith) is.some is.short is.answers in
     let on = calls-heard role call.written calls _ _ more are left in
-    rw (acts-rest call.written call.again) (begun.3 ∙ (heard ∙ ap (λ (xs : List Seen). hears call.again call.answer ++ xs) on))
+    rw (acts-rest call.written call.again) (begun.3 ∙ (heard ∙ ap (λ (xs : List Seen). hears call.again (heeded_bytes role call.answer) ++ xs) on))
 
 pub answered-calls : (role : Role) (calls : List Call) (more : List Event) → AreCalls role [] calls
-    → gives (all_acts calls) (new_talk role) (all_comes role calls more) ≡ all_hears calls
+    → gives (all_acts calls) (new_talk role) (all_comes role calls more) ≡ all_hears role calls
 answered-calls role calls more are = calls-heard role [] calls new_exchange _ more are (new (all_comes role calls more))

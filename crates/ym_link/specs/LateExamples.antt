@@ -111,6 +111,18 @@ late_nak_at_an_eot : gives (Writes block ∷ Reads ∷ Writes eot ∷ Reads ∷ 
 unfolding gives swept fresh
 late_nak_at_an_eot = refl
 
+-- A boot loader gives up behind an ACK, as it does where an EOT came twice: what comes with the ACK takes it back, also where the second
+-- CAN comes a moment later.
+withdrawn_ack : gives (Writes block ∷ Reads ∷ Reads ∷ []) (new_talk Sender)
+    (Piece (0x06 ∷ 0x18 ∷ []) ∷ Piece (0x18 ∷ 0x18 ∷ 0x08 ∷ []) ∷ [])
+    ≡ Data (0x18 ∷ []) ∷ Data cancel ∷ []
+unfolding gives swept fresh
+withdrawn_ack = refl
+
+cancelled_ack : gives (Writes block ∷ Reads ∷ []) (new_talk Sender) (Piece (0x06 ∷ 0x18 ∷ 0x18 ∷ []) ∷ []) ≡ Data cancel ∷ []
+unfolding gives swept fresh
+cancelled_ack = refl
+
 -- CAN CAN among what is dropped is heard at the next read, and so is the end of the line.
 cancel_is_heard : gives (Writes block ∷ Reads ∷ Writes block ∷ Reads ∷ Writes eot ∷ Reads ∷ []) (new_talk Sender)
     (Quiet ∷ Quiet ∷ Piece ack ∷ Piece ack ∷ Piece cancel ∷ [])
