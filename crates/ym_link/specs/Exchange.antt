@@ -61,12 +61,6 @@ is_confirming Sender x next =
     nat_lt 0 x.came && not x.waited && x.was_prompt && (nat_eq next.length 1 && is_same x.last next && not x.is_repeat)
 is_confirming Receiver x next = false
 
--- A sender writes a frame again that it was asked for late, on a line where answers come at once. The answer to the frame would have come
--- by then: it was lost, or the frame was. So no answer is under way but the one to come.
-abbrev pub is_overdue : Role → Exchange → Front → Bool
-is_overdue Sender x next = nat_lt 0 x.came && (x.waited && (x.is_quick && is_same x.last next))
-is_overdue Receiver x next = false
-
 -- The line has been quiet for the first of the waits for which it is let clear: the last read found it so. Or it is a sender's on which
 -- answers come at once, where none of the copies was written in vain: if nothing comes within one wait, nothing is under way.
 abbrev pub is_calm : Role → Exchange → Bool
@@ -81,8 +75,7 @@ must_clear role x next = is_full x || (is_taken role x next && nat_lt 1 x.owed)
 -- something was written
 abbrev pub wrote : Role → Exchange → Front → Exchange
 wrote role x next = record {
-  owed = if is_taken role x next then 1
-      else (if is_confirming role x next || is_overdue role x next then x.owed else (if nat_eq x.owed 0 then 1 else 2));
+  owed = if is_taken role x next then 1 else (if is_confirming role x next then x.owed else (if nat_eq x.owed 0 then 1 else 2));
   came = 0;
   is_quiet = false;
   waited = false;

@@ -76,21 +76,21 @@ crossed_nak : gives (Writes block ∷ Reads ∷ Writes block ∷ Reads ∷ Write
 unfolding gives swept fresh
 crossed_nak = refl
 
--- A block is damaged, on a line where answers come at once, and the receiver asks once it has waited: the next block goes out at once.
+-- A block is damaged, on a line where answers come at once, and the receiver asks for it, at once or once it has waited: one quiet wait
+-- is enough, which is shorter than a boot loader's own.
 asked_late : gives (Writes block ∷ Reads ∷ Writes second ∷ Reads ∷ Writes second ∷ Reads ∷ Writes eot ∷ Reads ∷ []) (new_talk Sender)
-    (Piece ack ∷ Quiet ∷ Piece start ∷ Piece ack ∷ Piece nak ∷ [])
+    (Piece ack ∷ Quiet ∷ Piece start ∷ Piece ack ∷ Quiet ∷ Piece nak ∷ [])
     ≡ Data ack ∷ Data start ∷ Data ack ∷ Data nak ∷ []
 unfolding gives swept fresh
 asked_late = refl
 
--- The same, and it asks at once: one quiet wait is enough, which is shorter than a boot loader's own.
 asked_at_once : gives (Writes block ∷ Reads ∷ Writes second ∷ Reads ∷ Writes second ∷ Reads ∷ Writes eot ∷ Reads ∷ []) (new_talk Sender)
     (Piece ack ∷ Piece start ∷ Piece ack ∷ Quiet ∷ Piece nak ∷ [])
     ≡ Data ack ∷ Data start ∷ Data ack ∷ Data nak ∷ []
 unfolding gives swept fresh
 asked_at_once = refl
 
--- It asked while the block was under way, and answers it and its copy: what comes once more is followed by two quiet waits.
+-- It asked while the block was under way, and answers it and its copy: the second answer is dropped, and two quiet waits follow it.
 crossed_start : gives (Writes block ∷ Reads ∷ Writes second ∷ Reads ∷ Writes second ∷ Reads ∷ Writes eot ∷ Reads ∷ []) (new_talk Sender)
     (Piece ack ∷ Piece start ∷ Piece ack ∷ Piece ack ∷ Quiet ∷ Quiet ∷ Piece nak ∷ [])
     ≡ Data ack ∷ Data start ∷ Data ack ∷ Data nak ∷ []

@@ -180,18 +180,6 @@ impl Exchange {
         }
     }
 
-    /// Whether the next write is a frame that was asked for late, on a line where answers come at
-    /// once: the answer to it would have come by then, so none is under way.
-    #[inline(always)]
-    fn is_overdue(self, role: Role, is_same: bool) -> bool
-        ensures { (next : Front) → is_same ≡ table.is_same self.last next → result ≡ table.is_overdue role self next }
-    {
-        match role {
-            Role::Sender => 0 < self.came && self.waited && self.is_quick && is_same,
-            Role::Receiver => false,
-        }
-    }
-
     /// Whether the line needs to be quiet for one wait less than else: it just was, or it is a
     /// sender's on which answers come at once, and no copy was written in vain.
     #[inline(always)]
@@ -229,7 +217,7 @@ impl Exchange {
         };
         self.owed = if is_taken {
             1
-        } else if self.is_confirming(role, next, is_same) || self.is_overdue(role, is_same) {
+        } else if self.is_confirming(role, next, is_same) {
             self.owed
         } else if self.owed == 0 {
             1
