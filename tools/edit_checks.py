@@ -73,6 +73,8 @@ class Checked:
             _, status, used = os.wait4(child.pid, 0)
             self.running.discard(child)
             child.returncode = self.status = os.waitstatus_to_exitcode(status)
+            # Most likely for memory: by a signal, or as rt or a shell tell of it.
+            self.is_killed = self.status in (-9, 137, 247)
             self.seconds = used.ru_utime + used.ru_stime
             said.seek(0)
             self.text = said.read()

@@ -53,17 +53,21 @@ class Settled:
     """What earlier runs settled of a crate's edits: why each failed, or no word where it passed."""
 
     def __init__(self, name, names, lines, anew):
-        self.file = os.path.join(KEPT, name + ".json")
-        found = hashlib.sha256(repr(lines).encode())
-        for path in files_of(names):
-            with open(path, "rb") as it:
-                found.update(repr((os.path.relpath(path, CRATES), it.read())).encode())
-        self.sum, self.whys = found.hexdigest(), {}
+        self.file, self.names, self.lines = os.path.join(KEPT, name + ".json"), names, lines
+        self.sum, self.whys = self.now(), {}
         with contextlib.suppress(OSError, ValueError, KeyError, TypeError):
             with open(self.file, encoding="utf-8") as it:
                 kept = json.load(it)
             if kept["sum"] == self.sum and not anew:
                 self.whys = dict(kept["whys"])
+
+    def now(self):
+        """The sum of all that a verdict stands on beside the edit."""
+        found = hashlib.sha256(repr(self.lines).encode())
+        for path in files_of(self.names):
+            with open(path, "rb") as it:
+                found.update(repr((os.path.relpath(path, CRATES), it.read())).encode())
+        return found.hexdigest()
 
     def keep(self, edit, why):
         self.whys[sum_of(edit.text)] = why

@@ -23,6 +23,9 @@ reads what `rattle check --help` describes: the lines `fn NAME: ..`, the places 
 last line. The calls that `rt`, a script, makes for its own edits could be taken out of it, but they
 are nobody's interface: a new toolchain may rename them, where it keeps its commands.
 
+It begins with what `rt check` kept of the crates, here or in another copy on this machine. What is
+not there is proved first.
+
 usage: edits.py [--anew] [--jobs N] [CRATE..]
   --anew      tries also what an earlier run settled
   --jobs N    so many checks at a time, of one job each; else as many as there are processors. They
@@ -59,18 +62,19 @@ class Trial:
     """The edits of a crate, and how they came out."""
 
     def __init__(self, name, listed, version, anew):
-        self.name, self.folder = name, os.path.join(CRATES, name)
+        self.name, self.seed = name, os.path.join(ROOM, name, "seed")
+        # The copy that each run begins with.
+        self.folder = os.path.join(self.seed, "crates", name)
         self.names = [*listed.below(name), name]
         self.lines = [listed.lines[it] for it in self.names]
         self.settled = Settled(name, self.names, [JUDGEMENT, version, *self.lines], anew)
         self.lock, self.rooms = threading.Lock(), set()
         self.told, self.passed, self.failed = [], 0, 0
         self.edits = [it for it in self.found() if self.is_open(it)]
-        self.seed = os.path.join(ROOM, name, "seed")
 
     def found(self):
         for part in TRIED:
-            top = os.path.join(self.folder, part)
+            top = os.path.join(CRATES, self.name, part)
             names = sorted(os.listdir(top)) if os.path.isdir(top) else []
             files = [os.path.join(top, it) for it in names if not it.endswith(".md")]
             yield from (Edit(it) for it in files if os.path.isfile(it))
@@ -83,9 +87,9 @@ class Trial:
         return why is None
 
     def memory(self):
-        """What a check takes at most, in bytes, as was measured of the crates here."""
-        own = 10**6 * lines_of([self.name], ".rt") + 2 * 10**5 * lines_of([self.name], ".antt")
-        return 10**9 + own + 8 * 10**4 * lines_of(self.names[:-1], ".rt")
+        """What a check over kept work takes at most, in bytes, as was measured of crates."""
+        own = 7 * 10**5 * lines_of([self.name], ".rt") + 14 * 10**4 * lines_of([self.name], ".antt")
+        return 7 * 10**8 + own + 6 * 10**4 * lines_of(self.names[:-1], ".rt")
 
     def count(self, edit, why):
         if why:
@@ -127,7 +131,7 @@ class Trial:
         if os.path.isfile(handles):
             shutil.copy2(handles, self.seed)
         libraries, to = self.names[:-1], os.path.join(self.seed, "crates")
-        take(self.folder, "incremental", os.path.join(to, self.name))
+        take(os.path.join(CRATES, self.name), "incremental", self.folder)
         taken = [take(os.path.join(CRATES, it), "rlib", os.path.join(to, it)) for it in libraries]
         # Libraries that were built over others cannot be used.
         for name in libraries if not all(taken) else ():
@@ -136,17 +140,22 @@ class Trial:
     def begin(self):
         """Proves the crate as it stands, where each run begins. Gives the runs."""
         self.make_seed()
-        ran = Checked(os.path.join(self.seed, "crates", self.name))
-        if Checked.is_over:
-            return []
-        self.tell("its own proof", ran.seconds)
-        said = Said(self.name, ran.text)
-        self.told = list(said.states)
-        if ran.status:
-            why = "not tried, as the crate is not proved: %s" % said.first_error()
-            for edit in self.edits:
-                self.settle(edit, why, False)
-            return []
+        why = "its crate, or one below it, changed meanwhile"
+        if self.settled.now() == self.settled.sum:
+            ran = Checked(self.folder)
+            if Checked.is_over:
+                return []
+            self.tell("its own proof", ran.seconds)
+            said = Said(self.name, ran.text)
+            self.told = list(said.states)
+            if not ran.status:
+                return self.runs()
+            why = "its crate is not proved without it: %s" % said.first_error()
+        for edit in self.edits:
+            self.settle(edit, "not tried: %s" % why, False)
+        return []
+
+    def runs(self):
         runs = self.together([it for it in self.edits if self.can_be_tried(it)])
         for number, run in enumerate(runs, 1):
             run.what = "run %d of %d" % (number, len(runs))
@@ -211,8 +220,7 @@ class Run:
         """Makes the check, and judges the edits. Gives the runs that what is open needs."""
         ran = self.check()
         seconds = ran.seconds
-        if ran.status < 0 and not Checked.is_over:
-            # Killed, most likely for memory: once more.
+        if ran.is_killed and not Checked.is_over:
             ran = self.check()
             seconds += ran.seconds
         if Checked.is_over:
