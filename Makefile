@@ -5,6 +5,8 @@
 # make test              everything that is checked before a change lands: the gate, whose last line is 'N passed, M failed', and beside it
 #                        want of memory, the library, the page, and the program that it proved on sockets and files
 # make memory            each growth of memory refused in turn, alone
+# make edits             tries every edit of the crates, many in a check; the gate tries a few of them.
+#                        CRATES="A B" takes those of these crates, ANEW=1 also what was settled
 # make interop           the program against lrzsz, which has to be installed
 # make install           puts the program, ymodem-tty, the manual pages and the completion below $(DESTDIR)$(PREFIX)
 # make deb, make dist    the same as a Debian package, with one of the library for C beside it, and as a tar file, in out/
@@ -15,7 +17,7 @@
 PREFIX ?= /usr/local
 PROGRAM = crates/ymodem/out/ymodem
 
-.PHONY: play build check layout test replay memory interop install deb dist charts bench clean
+.PHONY: play build check layout test replay memory edits interop install deb dist charts bench clean
 
 play:
 	@tools/prove.py play
@@ -43,6 +45,9 @@ replay:
 
 memory:
 	tests/memory.py
+
+edits:
+	@tools/edits.py $(if $(ANEW),--anew) $(if $(JOBS),--jobs $(JOBS)) $(CRATES)
 
 interop: build
 	tests/transfer.py --interop
