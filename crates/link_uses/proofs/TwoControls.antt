@@ -1,7 +1,14 @@
 -- What one or two controls are read as.
 use Rattle.std.proofs.Common.{ℕ, ◌≡◌, ◌≢◌, List, [], ◌∷◌, true, false, refl, ap, sym, ◌∙◌, cond}
 use Rattle.std.specs.Prelude.{is_some}
-use Rattle.ym_link.proofs.Names.{Control, Ack, Can, Place, Header, Block, Eot, End, Mode, Waiting, Sent, Reading, reads_control, reads}
+use Rattle.ym_frame.specs.declared.control.Control.{Control}
+use Rattle.ym_frame.specs.declared.control.Control.TheVariants.{Ack, Can}
+use Rattle.ym_core.specs.Reading.{reads, reads_control}
+use Rattle.ym_core.specs.declared.place.Mode.{Mode}
+use Rattle.ym_core.specs.declared.place.Mode.TheVariants.{Sent, Waiting}
+use Rattle.ym_core.specs.declared.place.Place.{Place}
+use Rattle.ym_core.specs.declared.place.Place.TheVariants.{Block, End, Eot, Header}
+use Rattle.ym_core.specs.declared.reading.Reading.{Reading}
 
 pub one_control : (counts : List ℕ) (place : Place) (mode : Mode) (c : Control) → reads_control counts mode c place ≡ reads counts place mode (c ∷ [])
 one_control counts (Header file) Sent Ack = refl

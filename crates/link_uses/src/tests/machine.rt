@@ -1,6 +1,6 @@
 //! Each law at a kind of batch.
 
-use crate::{Batch, Confirm, laws};
+use ym_machine::{Batch, Confirm, laws};
 
 /// Batches whose headers are names.
 struct Names;

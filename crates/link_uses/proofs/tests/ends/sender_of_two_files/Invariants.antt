@@ -1,7 +1,7 @@
 use Rattle.std.proofs.Common.{◌≡◌, ◌<◌, [], ◌∷◌}
 use Rattle.ym_core.specs.Place.{IsPlace}
 use Rattle.ym_core.specs.declared.state.SendState.TheVariants.{Running}
-use Rattle.ym_core.proofs.tests.sender_of_two_files.Given as goal
+use Rattle.link_uses.proofs.tests.ends.sender_of_two_files.Given as goal
 
 abbrev pub invariant-loop-bytes : goal.invariant-loop-bytes
 invariant-loop-bytes g l = record {

@@ -2,8 +2,11 @@
 
 ghost use Rattle.std.specs.Prelude.{◌≡◌, List, ℕ, ◌∷◌, []};
 
-use super::*;
 use std::test::Fail;
+use ym_core::{
+    Ask, Batch, Confirm, Heard, HeardRef, OpenFile, Place, ReceiverCore, RecvState, SendState,
+    Stage, Stand, Standing, Step, first_place, heard_in,
+};
 use ym_frame::{Block, FrameBuf, Item, Reply, encode};
 use ym_header::{HeaderFault, HeaderRef, Stamp, write_body, write_end};
 
