@@ -1,27 +1,29 @@
+//! Two ends with the line between them, and rounds to play to them.
+
 ghost use Rattle.std.specs.Prelude.{◌≡◌, IfOk, replicate};
 
-use crate::{Delivery, Direct, Handed, LineFault, Round, Trace, Way, round, run, trace_text};
+use anyhow::{Context, Result};
 use std::alloc::{AllocError, Global};
-use std::test::Fail;
 use ym_file::{MemSink, MemSource, Shape};
 use ym_frame::Bytes;
 use ym_header::Stamp;
+use ym_line::{Delivery, Direct, Handed, LineFault, Round, Trace, round, run, trace_text};
 use ym_link::{Confirm, Receiver, RecvState, SendFile, SendState, Sender, SourceFile};
 
 /// The bytes of the files in the examples: `A`, 128 times.
-pub(super) fn a128(alloc: Global) -> Result<Vec<u8>, AllocError>
+pub fn a128(alloc: Global) -> Result<Vec<u8>, AllocError>
     ensures { IfOk result (λ bytes. bytes.items ≡ replicate 128 65) }
 {
     vec![in alloc; b'A'; 128]
 }
 
 /// A batch of one file, whose fill number `failing` fails.
-pub(super) fn one_file(
+pub fn one_file(
     alloc: Global,
     name: &str,
     bytes: &[u8],
     failing: Option<u64>,
-) -> Result<Vec<SendFile>, Fail> {
+) -> Result<Vec<SendFile>> {
     let source = MemSource::new(bytes.to_vec(alloc)?, failing);
     let file = SourceFile::from_source(alloc, name, source, Stamp::Nothing)?;
     let mut batch = Vec::new(alloc);
@@ -31,7 +33,7 @@ pub(super) fn one_file(
 
 /// Rounds of one kind.
 #[derive(Clone, Copy)]
-pub(super) enum Rounds<'a> {
+pub enum Rounds<'a> {
     /// So many whole ones.
     Whole(usize),
     /// So many that are lost both ways.
@@ -80,9 +82,9 @@ fn rounds_of(alloc: Global, kinds: &[Rounds]) -> Result<Vec<Round>, AllocError> 
     Ok(rounds)
 }
 
-/// Two ends, and the line between them. What it answers tells a proof nothing, and so costs the proof of a test little.
+/// Two ends, and the line between them. What it answers tells a proof nothing, and so costs a proof little.
 #[derive(Drop)]
-pub(super) struct Session {
+pub struct Session {
     sender: Sender,
     receiver: Receiver,
     line: Direct,
@@ -90,45 +92,45 @@ pub(super) struct Session {
 
 impl Session {
     /// A new sender of a batch and a new receiver.
-    pub(super) fn new(alloc: Global, batch: Vec<SendFile>, shape: Shape) -> Result<Self, Fail> {
+    pub fn new(alloc: Global, batch: Vec<SendFile>, shape: Shape) -> Result<Self> {
         Ok(Session {
-            sender: Sender::new(batch, shape).ok().ok_or("too many files")?,
+            sender: Sender::new(batch, shape).ok().context("too many files")?,
             receiver: Receiver::new(alloc),
             line: Direct::new(alloc),
         })
     }
 
     /// A sender of the file of these bytes.
-    pub(super) fn of_file(alloc: Global, name: &str, bytes: &[u8]) -> Result<Self, Fail> {
+    pub fn of_file(alloc: Global, name: &str, bytes: &[u8]) -> Result<Self> {
         Session::new(alloc, one_file(alloc, name, bytes, None)?, Shape::Mixed)
     }
 
     /// A sender of the file a.txt.
-    pub(super) fn usual(alloc: Global) -> Result<Self, Fail> {
+    pub fn usual(alloc: Global) -> Result<Self> {
         Session::of_file(alloc, "a.txt", a128(alloc)?.as_slice())
     }
 
     /// A sender of the file a whose fill number `fill` fails.
-    pub(super) fn with_failing_fill(alloc: Global, fill: Option<u64>) -> Result<Self, Fail> {
+    pub fn with_failing_fill(alloc: Global, fill: Option<u64>) -> Result<Self> {
         let batch = one_file(alloc, "a", a128(alloc)?.as_slice(), fill)?;
         Session::new(alloc, batch, Shape::Mixed)
     }
 
     /// With a receiver that confirms once.
-    pub(super) fn with_single(mut self, alloc: Global) -> Self {
+    pub fn with_single(mut self, alloc: Global) -> Self {
         self.receiver = Receiver::single(alloc);
         self
     }
 
     /// With a receiver whose sink's call number `call` fails.
-    pub(super) fn with_failing_sink(mut self, alloc: Global, call: u64) -> Self {
+    pub fn with_failing_sink(mut self, alloc: Global, call: u64) -> Self {
         let sink = MemSink::new(alloc, Some(call));
         self.receiver = Receiver::with_sink(alloc, sink, Confirm::Twice);
         self
     }
 
     /// With a line whose carry number `at` fails.
-    pub(super) fn with_failing_line(mut self, alloc: Global, at: u64) -> Self {
+    pub fn with_failing_line(mut self, alloc: Global, at: u64) -> Self {
         self.line = Direct::failing(alloc, at);
         self
     }
@@ -145,44 +147,27 @@ impl Session {
     }
 
     /// The text of a run.
-    pub(super) fn text(&mut self, alloc: Global, kinds: &[Rounds]) -> Result<String, Fail> {
+    pub fn text(&mut self, alloc: Global, kinds: &[Rounds]) -> Result<String> {
         let rounds = rounds_of(alloc, kinds)?;
         let trace = self.run(alloc, rounds.as_slice())?;
         Ok(trace_text(alloc, &trace)?)
     }
 
-    /// Whether a run prints this text.
-    pub(super) fn prints(
-        &mut self,
-        alloc: Global,
-        kinds: &[Rounds],
-        want: &str,
-    ) -> Result<bool, Fail> {
-        Ok(self.text(alloc, kinds)?.as_str() == want)
-    }
-
-    /// Whether the text of a run ends so.
-    pub(super) fn prints_at_the_end(
-        &mut self,
-        alloc: Global,
-        kinds: &[Rounds],
-        want: &str,
-    ) -> Result<bool, Fail> {
-        Ok(self.text(alloc, kinds)?.as_str().ends_with(want))
+    /// Prints the trace of a run.
+    pub fn tell(&mut self, rt: &HostRuntime, kinds: &[Rounds]) -> Result<()> {
+        let text = self.text(rt.alloc(), kinds)?;
+        print!(rt; "{text}")?;
+        Ok(())
     }
 
     /// The fault of a run, if it met one.
-    pub(super) fn fault(
-        &mut self,
-        alloc: Global,
-        kinds: &[Rounds],
-    ) -> Result<Option<LineFault>, Fail> {
+    pub fn fault(&mut self, alloc: Global, kinds: &[Rounds]) -> Result<Option<LineFault>> {
         let rounds = rounds_of(alloc, kinds)?;
         Ok(self.run(alloc, rounds.as_slice()).err())
     }
 
     /// One round alone.
-    pub(super) fn round(&mut self, alloc: Global, one: &Round) -> Result<(), LineFault> {
+    pub fn round(&mut self, alloc: Global, one: &Round) -> Result<(), LineFault> {
         round(
             alloc,
             &mut self.sender,
@@ -194,17 +179,17 @@ impl Session {
     }
 
     /// Whether both ends have finished.
-    pub(super) fn has_finished(&self) -> bool {
+    pub fn has_finished(&self) -> bool {
         self.sender.state() == SendState::Finished && self.receiver.state() == RecvState::Finished
     }
 
     /// Whether the sender runs.
-    pub(super) fn sender_runs(&self) -> bool {
+    pub fn sender_runs(&self) -> bool {
         self.sender.state() == SendState::Running
     }
 
     /// Whether one file is committed, of this name and these bytes.
-    pub(super) fn has_file(&self, name: &str, bytes: &[u8]) -> bool {
+    pub fn has_file(&self, name: &str, bytes: &[u8]) -> bool {
         let files = self.receiver.files();
         match files.first() {
             Some(file) => files.len() == 1 && file.name() == name && file.bytes() == bytes,
@@ -213,30 +198,12 @@ impl Session {
     }
 
     /// Whether no file is committed.
-    pub(super) fn has_no_file(&self) -> bool {
+    pub fn has_no_file(&self) -> bool {
         self.receiver.files().is_empty()
     }
 
-    /// How many deliveries were handed on.
-    pub(super) fn handed(&self) -> usize {
-        self.line.handed().len()
+    /// What was handed on.
+    pub fn handed(&self) -> &[Handed] {
+        self.line.handed()
     }
-
-    /// Whether delivery number `i`, counted from 0, went this way with these bytes.
-    pub(super) fn handed_at(&self, i: usize, way: Way, bytes: &[u8]) -> bool {
-        match self.line.handed().get(i) {
-            Some(
-                Handed {
-                    way: went,
-                    bytes: sent,
-                },
-            ) => *went == way && sent.as_slice() == bytes,
-            None => false,
-        }
-    }
-}
-
-/// Whether two values are the same, likewise.
-pub(super) fn same<T: PartialEq>(left: &T, right: &T) -> bool {
-    left == right
 }
