@@ -1,6 +1,6 @@
 //! Worked examples. No contract says these values: they come from the protocol's reference and from hand calculation.
 
-use ym_frame::{CheckState, check16};
+use ym_check::{CheckState, check16};
 
 #[test]
 fn check_values(rt: HostRuntime) {

@@ -1,6 +1,6 @@
 //! Calls over ports that play a script.
 
-use crate::{receive_from_any_peer, send_and_receive, send_to_any_peer};
+use super::scripted::{ACK, ACK_START, CANCEL, EOT, START};
 use std::alloc::{AllocError, Global};
 use std::test::Fail;
 use ym_core::{RecvState, SendState};
@@ -8,18 +8,9 @@ use ym_file::Shape;
 use ym_frame::{Block, Bytes, FrameBuf, Item, encode};
 use ym_header::{Header, Stamp, write, write_end};
 use ym_link::{EndFault, Event, Receiver, ScriptPort, SendFile, Sender};
-
-const EOT: &[u8] = &[0x04];
-
-const ACK: &[u8] = &[0x06];
+use ym_pair::{receive_from_any_peer, send_and_receive, send_to_any_peer};
 
 const NAK: &[u8] = &[0x15];
-
-const START: &[u8] = &[0x43];
-
-const ACK_START: &[u8] = &[0x06, 0x43];
-
-const CANCEL: &[u8] = &[0x18, 0x18];
 
 const QUIET: &[u8] = &[];
 

@@ -1,9 +1,9 @@
 //! Ports that play a script, and frames to put into one.
 
-use crate::{Event, ScriptPort};
 use std::alloc::{AllocError, Global};
 use ym_frame::{Bytes, FrameBuf, Item, encode};
 use ym_header::{Header, HeaderFault, Stamp, write, write_end};
+use ym_link::{Event, ScriptPort};
 
 pub const EOT: &[u8] = &[0x04];
 
@@ -107,9 +107,4 @@ pub fn header_of(alloc: Global, name: &str, length: u64) -> Result<FrameBuf, Hea
 
 pub fn end_block() -> FrameBuf {
     encode(&Item::Block(write_end()))
-}
-
-/// Whether two values are the same. It tells a proof nothing of them, and so costs it little.
-pub fn same<T: PartialEq>(left: &T, right: &T) -> bool {
-    left == right
 }

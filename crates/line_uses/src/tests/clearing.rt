@@ -3,14 +3,14 @@
 use super::scripted::{
     ACK, ACK_START, CANCEL, Coming, EOT, Failing, START, end_block, header_of, port_of, repeated,
 };
-use crate::{
-    Clearing, EndFault, Receiver, RecvState, Role, ScriptPort, SendFile, SendState, Sender,
-    receive_over, send_over,
-};
 use std::alloc::{AllocError, Global};
 use std::test::Fail;
 use ym_file::Shape;
 use ym_header::Stamp;
+use ym_link::{
+    Clearing, EndFault, Receiver, RecvState, Role, ScriptPort, SendFile, SendState, Sender,
+    receive_over, send_over,
+};
 
 const NAK: &[u8] = &[0x15];
 

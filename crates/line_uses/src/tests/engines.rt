@@ -4,14 +4,14 @@ use super::scripted::{
     ACK, ACK_START, CANCEL, Coming, EOT, Failing, START, end_block, header_of, port_of, push_event,
     repeated, times,
 };
-use crate::{
-    EndFault, Receiver, RecvState, ScriptPort, SendFile, SendState, Sender, receive_over, send_over,
-};
 use std::alloc::{AllocError, Global};
 use std::test::Fail;
 use ym_file::Shape;
 use ym_frame::{Block, FrameBuf, Item, encode};
 use ym_header::Stamp;
+use ym_link::{
+    EndFault, Receiver, RecvState, ScriptPort, SendFile, SendState, Sender, receive_over, send_over,
+};
 
 /// A receiver that was run over a port.
 #[derive(Drop)]
