@@ -1,4 +1,5 @@
-//! A batch of two files, of three blocks and of none, its frames, and the deliveries that every end is tried with.
+//! A batch of two files, of three blocks and of none, its frames, and the deliveries that every end
+//! is tried with.
 
 ghost use Rattle.std.specs.Prelude.{◌≤◌};
 

@@ -1,4 +1,5 @@
-//! Every single byte, every pair of control bytes and each item, in every state of a receiver of a small batch, against the table.
+//! Every single byte, every pair of control bytes and each item, in every state of a receiver of a
+//! small batch, against the table.
 
 ghost use Rattle.std.specs.Prelude.{◌≡◌, ◌<◌, ◌≤◌, ◌^◌, ◌-◌};
 
@@ -90,7 +91,8 @@ fn step(alloc: Global, index: usize) -> Result<Heard, Fail> {
     })
 }
 
-/// A delivery by its number: the bytes that a sender is tried with, blocks, and what may stand in a block 0.
+/// A delivery by its number: the bytes that a sender is tried with, blocks, and what may stand in a
+/// block 0.
 fn probe(alloc: Global, index: usize) -> Result<Heard, Fail> {
     Ok(match index {
         0..=271 => {
@@ -133,7 +135,8 @@ fn steps_alike(alloc: Global, both: &mut Both, steps: usize, retries: usize) -> 
     Ok(alike)
 }
 
-/// Whether a delivery, and an end block behind it, do to both what the table says, and leave it the files that it says.
+/// Whether a delivery, and an end block behind it, do to both what the table says, and leave it the
+/// files that it says.
 fn ends_alike(alloc: Global, both: &mut Both, index: usize) -> Result<bool, Fail> {
     Ok(
         answers_alike(alloc, both, &probe(alloc, index)?)?

@@ -1,5 +1,6 @@
-//! Every single byte and every pair of control bytes, in every state of a sender of a small batch, against the table: where a sender may stand, and then a
-//! sender with its files, in the states to which deliveries bring one.
+//! Every single byte and every pair of control bytes, in every state of a sender of a small batch,
+//! against the table: where a sender may stand, and then a sender with its files, in the states to
+//! which deliveries bring one.
 
 ghost use Rattle.std.specs.Prelude.{◌≡◌, ◌<◌, ◌∷◌, []};
 
@@ -92,8 +93,8 @@ fn by_table(standing: Standing, bytes: &[u8]) -> SendStep
     sender_table::hears(&COUNTS, standing, first, second)
 }
 
-/// Compares each delivery, and one more behind it, at one frame of the batch: waiting or not, after so many empty
-/// deliveries.
+/// Compares each delivery, and one more behind it, at one frame of the batch: waiting or not, after
+/// so many empty deliveries.
 fn compare_standing(frame: usize, mode: Mode, retries: usize) -> bool {
     for index in 0..272 {
         let mut stood = Stood::at(frame);
@@ -135,7 +136,8 @@ fn new_sender(alloc: Global) -> Result<Sender, Fail> {
     Ok(Sender::new(batch, Shape::Short).map_err(|_| "batch")?)
 }
 
-/// A sender that deliveries have brought to a frame. It waits at none that stands behind a data block.
+/// A sender that deliveries have brought to a frame. It waits at none that stands behind a data
+/// block.
 fn sender_at(alloc: Global, frame: usize, mode: Mode) -> Result<Sender, Fail> {
     let mut sender = new_sender(alloc)?;
     for before in 0..frame {
@@ -166,7 +168,8 @@ fn shows(alloc: Global, sender: &Sender, standing: Standing) -> Result<bool, Fai
     )
 }
 
-/// Whether a delivery of at most two control bytes does to a sender that stands there what the table says.
+/// Whether a delivery of at most two control bytes does to a sender that stands there what the
+/// table says.
 fn hears_alike(
     alloc: Global,
     sender: &mut Sender,
@@ -181,8 +184,8 @@ fn hears_alike(
     shows(alloc, sender, *standing)
 }
 
-/// Compares each delivery, and one more behind it, at one frame of the batch: waiting or not, after so many empty
-/// deliveries.
+/// Compares each delivery, and one more behind it, at one frame of the batch: waiting or not, after
+/// so many empty deliveries.
 fn compare_sender(alloc: Global, frame: usize, mode: Mode, retries: usize) -> Result<bool, Fail> {
     let Stood { standing: waiting } = Stood::at(frame);
     for index in 0..272 {

@@ -8,7 +8,8 @@ use ym_frame::{Block, Item, Reply};
 use ym_header::{Header, HeaderFault, Stamp, write, write_end};
 use ym_link::{Confirm, Heard, Receiver, ReceiverInto, RecvState, laws};
 
-/// A delivery, as a table names it. What a table tells is proved once, in the loop over it, and so a long table costs a proof little.
+/// A delivery, as a table names it. What a table tells is proved once, in the loop over it, and so
+/// a long table costs a proof little.
 #[derive(Clone, Copy)]
 enum Told {
     Bad,
@@ -60,7 +61,8 @@ fn heard(alloc: Global, told: Told) -> Result<Heard, HeaderFault> {
     })
 }
 
-/// A receiver that commits a file at its second EOT. It tells a proof nothing of it, and so costs it little, as do the helpers below.
+/// A receiver that commits a file at its second EOT. It tells a proof nothing of it, and so costs
+/// it little, as do the helpers below.
 fn new_receiver(alloc: Global) -> Receiver {
     Receiver::new(alloc)
 }
@@ -181,7 +183,8 @@ const BAD: Turn = (Told::Bad, Reply::Start, RecvState::Running, 0);
 /// The tenth without progress.
 const TENTH: Turn = (Told::Bad, Reply::Cancel, RecvState::TooManyErrors, 0);
 
-/// What happens to a new receiver: steps and repeats, a header that is refused, and ten deliveries without progress.
+/// What happens to a new receiver: steps and repeats, a header that is refused, and ten deliveries
+/// without progress.
 #[test]
 fn a_new_receiver(rt: HostRuntime) -> Result<(), Fail> {
     let refused = RecvState::BadHeader(HeaderFault::NoLength);
@@ -269,7 +272,8 @@ fn has_no_file(receiver: Receiver) -> bool {
     receiver.sink().files().is_empty() && receiver.into_sink().files().is_empty()
 }
 
-/// Whether a receiver whose sink fails at this call answers as a table says, and has no file in the end.
+/// Whether a receiver whose sink fails at this call answers as a table says, and has no file in the
+/// end.
 fn fails_with(alloc: Global, failing: u64, turns: &[Turn]) -> Result<bool, Fail> {
     let mut receiver = failing_receiver(alloc, failing);
     Ok(answers_all(alloc, &mut receiver, turns)? && has_no_file(receiver))

@@ -184,7 +184,8 @@ fn running_hears(stand: Stand, zero: &Result<Zero, HeaderFault>, heard: &Heard) 
     }
 }
 
-/// What a delivery makes of a receiver, and the reply to it; `zero` is what the body of a block 0 stands for.
+/// What a delivery makes of a receiver, and the reply to it; `zero` is what the body of a block 0
+/// stands for.
 pub fn hears(stand: Stand, zero: &Result<Zero, HeaderFault>, heard: &Heard) -> (Stand, Reply)
     requires retries { stand.state ≡ RecvState.Running → stand.retries < 10 }
     requires files { stand.files ≤ 65535 }

@@ -28,8 +28,9 @@ fn one_file(alloc: Global, length: usize, failing: Option<u64>) -> Result<Sender
     Ok(SenderFrom::new(batch, Shape::Short).map_err(|_| "batch")?)
 }
 
-/// A delivery, and then the sender's state, how many files are done, how long the frame to be sent is (0: there is none), and how it
-/// begins. What a table tells is proved once, in the loop over it, and so a long table costs a proof little.
+/// A delivery, and then the sender's state, how many files are done, how long the frame to be sent
+/// is (0: there is none), and how it begins. What a table tells is proved once, in the loop over
+/// it, and so a long table costs a proof little.
 type Turn<'a> = (&'a [u8], SendState, usize, usize, &'a [u8]);
 
 /// Whether the frame to be sent has this length, and begins with these bytes.
@@ -159,7 +160,8 @@ const CANCELLED: [Turn; 5] = [
     (&[ACK, CAN, 0x00, CAN], SendState::Cancelled, 1, 0, &[]),
 ];
 
-/// How a sender ends: its source fails, ten deliveries bring no progress, or two CAN in a row cancel it.
+/// How a sender ends: its source fails, ten deliveries bring no progress, or two CAN in a row
+/// cancel it.
 #[test]
 fn each_end(rt: HostRuntime) -> Result<(), Fail> {
     let followed = [
