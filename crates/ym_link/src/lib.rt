@@ -30,6 +30,3 @@ pub use sender::{BatchFault, Sender, SenderFrom};
 pub use sweep::MOST_READS;
 pub use ym_core::{Confirm, Heard, RecvState, SendState, heard};
 pub use ym_file::{Received, SendFile, SourceFile};
-
-#[cfg(test)]
-mod tests;
