@@ -4,13 +4,13 @@
 ghost use Rattle.std.specs.Prelude.{◌<◌};
 
 use super::folders::same;
-use crate::{SocketCarrier, SocketPort};
 use std::alloc::Global;
 use std::io::{Read, Write};
 use std::net::{TcpListener, TcpStream};
 use std::test::Fail;
 use std::time::{Duration, Instant};
 use std::{io, thread};
+use ym_host::{SocketCarrier, SocketPort};
 use ym_line::{Carrier, CarryFault, Way};
 use ym_link::{Got, Port, PortFault, Wait};
 
@@ -65,12 +65,16 @@ fn is_quiet(
     wait: Wait,
     least: u128,
     most: u128,
-) -> Result<bool, Fail> {
+) -> bool {
     let mut buf = [0; 8];
-    let start = Instant::now(rt)?;
+    let Ok(start) = Instant::now(rt) else {
+        return false;
+    };
     let is_quiet = gets(port, wait, &mut buf, Got::Quiet);
-    let took = start.elapsed(rt)?.as_millis();
-    Ok(is_quiet && took >= least && took < most)
+    match start.elapsed(rt) {
+        Ok(took) => is_quiet && took.as_millis() >= least && took.as_millis() < most,
+        Err(_) => false,
+    }
 }
 
 #[test]
@@ -78,15 +82,23 @@ fn a_port_reads_what_is_there(rt: HostRuntime) -> Result<(), Fail> {
     let (mut near, mut port) = port(&rt, 3000, 100)?;
     let mut buf = [0; 8];
     write(&mut near, b"abcdefghij")?;
-    assert!(rt; gets(&mut port, Wait::Reply, &mut buf, Got::Bytes(8)));
-    assert!(rt; same(&buf, b"abcdefgh"));
-    assert!(rt; gets(&mut port, Wait::Within, &mut buf, Got::Bytes(2)));
-    assert!(rt; buf.starts_with(b"ij"));
-    assert!(rt; is_quiet(&rt, &mut port, Wait::Within, 90, 2990)?);
-    assert!(rt; is_quiet(&rt, &mut port, Wait::Reply, 2990, 60_000)?);
+    let there = [
+        gets(&mut port, Wait::Reply, &mut buf, Got::Bytes(8)),
+        same(&buf, b"abcdefgh"),
+        gets(&mut port, Wait::Within, &mut buf, Got::Bytes(2)),
+        buf.starts_with(b"ij"),
+        is_quiet(&rt, &mut port, Wait::Within, 90, 2990),
+        is_quiet(&rt, &mut port, Wait::Reply, 2990, 60_000),
+    ];
     drop(near);
-    assert!(rt; gets(&mut port, Wait::Within, &mut buf, Got::Closed));
-    assert!(rt; gets(&mut port, Wait::Reply, &mut buf, Got::Closed));
+    let closed = [
+        gets(&mut port, Wait::Within, &mut buf, Got::Closed),
+        gets(&mut port, Wait::Reply, &mut buf, Got::Closed),
+    ];
+    assert!(rt;
+        same(&(there, closed), &([true; 6], [true; 2])),
+        "{there:?} {closed:?}"
+    );
     Ok(())
 }
 
@@ -115,6 +127,17 @@ fn last_read(rt: &HostRuntime, port: &mut SocketPort<&HostRuntime>) -> Result<Go
     last
 }
 
+/// Whether a port that is asked again and again gets a byte each time.
+fn gets_bytes(rt: &HostRuntime, port: &mut SocketPort<&HostRuntime>, wait: Wait) -> bool {
+    for _ in 0..30 {
+        thread::sleep(rt, Duration::from_millis(100));
+        if !gets(port, wait, &mut [0; 1], Got::Bytes(1)) {
+            return false;
+        }
+    }
+    true
+}
+
 /// A delivery ends ten times both waits after it has begun, though more has come: every byte is there before the first is read, so that
 /// no byte is late.
 #[test]
@@ -123,34 +146,50 @@ fn a_port_hears_no_delivery_for_ever(rt: HostRuntime) -> Result<(), Fail> {
     write(&mut near, [b'x'; 1000].as_slice())?;
     let mut buf = [0; 1];
     let start = Instant::now(&rt)?;
-    assert!(rt; same(&first_read(&mut port), &Ok(Got::Bytes(1))));
-    assert!(rt; same(&last_read(&rt, &mut port), &Ok(Got::Quiet)));
-    assert!(rt; start.elapsed(&rt)?.as_millis() >= 2000);
-    // quiet until something is written
-    assert!(rt; gets(&mut port, Wait::Within, &mut buf, Got::Quiet));
-    // a write, and a wait for a reply, begin a new delivery
-    assert!(rt; takes(&mut port, b"y"));
-    assert!(rt; gets(&mut port, Wait::Within, &mut buf, Got::Bytes(1)));
-    for _ in 0..30 {
-        thread::sleep(&rt, Duration::from_millis(100));
-        assert!(rt; gets(&mut port, Wait::Reply, &mut buf, Got::Bytes(1)));
-    }
+    let delivery = [
+        same(&first_read(&mut port), &Ok(Got::Bytes(1))),
+        same(&last_read(&rt, &mut port), &Ok(Got::Quiet)),
+    ];
+    let took = start.elapsed(&rt)?.as_millis();
+    let next = [
+        // quiet until something is written
+        gets(&mut port, Wait::Within, &mut buf, Got::Quiet),
+        // a write, and a wait for a reply, begin a new delivery
+        takes(&mut port, b"y"),
+        gets(&mut port, Wait::Within, &mut buf, Got::Bytes(1)),
+        gets_bytes(&rt, &mut port, Wait::Reply),
+    ];
+    assert!(rt; took >= 2000);
+    assert!(rt;
+        same(&(delivery, next), &([true; 2], [true; 4])),
+        "{delivery:?} {next:?}"
+    );
     Ok(())
+}
+
+/// Whether these bytes come to one end of a connection.
+fn comes(stream: &mut TcpStream, want: &[u8; 5]) -> bool {
+    let mut buf = [0; 5];
+    stream.read_exact(&mut buf).is_ok() && same(&buf, want)
 }
 
 #[test]
 fn a_port_writes(rt: HostRuntime) -> Result<(), Fail> {
     let (mut near, mut port) = port(&rt, 3000, 100)?;
-    assert!(rt; takes(&mut port, b"abc"));
-    assert!(rt; takes(&mut port, b""));
-    assert!(rt; takes(&mut port, b"de"));
-    let mut buf = [0; 5];
-    near.read_exact(&mut buf)?;
-    assert!(rt; same(&buf, b"abcde"));
-    // a peer that ends with bytes unread is closed as well
-    assert!(rt; takes(&mut port, b"unread"));
+    let written = [
+        takes(&mut port, b"abc"),
+        takes(&mut port, b""),
+        takes(&mut port, b"de"),
+        comes(&mut near, b"abcde"),
+        // a peer that ends with bytes unread is closed as well
+        takes(&mut port, b"unread"),
+    ];
     drop(near);
-    assert!(rt; gets(&mut port, Wait::Reply, &mut buf, Got::Closed));
+    let is_closed = gets(&mut port, Wait::Reply, &mut [0; 5], Got::Closed);
+    assert!(rt;
+        is_closed && same(&written, &[true; 5]),
+        "{written:?} {is_closed}"
+    );
     Ok(())
 }
 
@@ -196,13 +235,16 @@ fn a_carrier_passes_bytes_both_ways(rt: HostRuntime) -> Result<(), Fail> {
     let (near, far) = pair(&rt)?;
     let mut carrier = SocketCarrier::new(near, far);
     let long = [0x5A; 2048];
-    assert!(rt; carries(&mut carrier, alloc, Way::There, b"abc"));
-    assert!(rt; carries(&mut carrier, alloc, Way::Back, b"\x06C"));
-    assert!(rt; carries(&mut carrier, alloc, Way::There, b""));
-    assert!(rt; carries(&mut carrier, alloc, Way::There, &long));
-    assert!(rt; carries(&mut carrier, alloc, Way::Back, &long));
-    assert!(rt; carries(&mut carrier, alloc, Way::Back, b""));
-    assert!(rt; carries(&mut carrier, alloc, Way::There, b"\x04"));
+    let carried = [
+        carries(&mut carrier, alloc, Way::There, b"abc"),
+        carries(&mut carrier, alloc, Way::Back, b"\x06C"),
+        carries(&mut carrier, alloc, Way::There, b""),
+        carries(&mut carrier, alloc, Way::There, &long),
+        carries(&mut carrier, alloc, Way::Back, &long),
+        carries(&mut carrier, alloc, Way::Back, b""),
+        carries(&mut carrier, alloc, Way::There, b"\x04"),
+    ];
+    assert!(rt; same(&carried, &[true; 7]), "{carried:?}");
     Ok(())
 }
 
@@ -230,13 +272,16 @@ fn a_carrier_compares_what_came(rt: HostRuntime) -> Result<(), Fail> {
     let alloc = rt.alloc();
     for way in [Way::There, Way::Back] {
         let mut carrier = strayed(&rt, way)?;
-        assert!(rt; carries(&mut carrier, alloc, other(way), b"abc"));
-        assert!(rt; fails(&mut carrier, alloc, way, b"abc"));
-        // and every later one fails, also of no bytes
-        assert!(rt; fails(&mut carrier, alloc, way, b"abc"));
-        assert!(rt; fails(&mut carrier, alloc, way, b""));
-        assert!(rt; fails(&mut carrier, alloc, other(way), b"abc"));
-        assert!(rt; fails(&mut carrier, alloc, other(way), b""));
+        let seen = [
+            carries(&mut carrier, alloc, other(way), b"abc"),
+            fails(&mut carrier, alloc, way, b"abc"),
+            // and every later one fails, also of no bytes
+            fails(&mut carrier, alloc, way, b"abc"),
+            fails(&mut carrier, alloc, way, b""),
+            fails(&mut carrier, alloc, other(way), b"abc"),
+            fails(&mut carrier, alloc, other(way), b""),
+        ];
+        assert!(rt; same(&seen, &[true; 6]), "{seen:?}");
     }
     Ok(())
 }
@@ -246,8 +291,11 @@ fn a_carrier_takes_no_more_than_a_delivery(rt: HostRuntime) -> Result<(), Fail> 
     let alloc = rt.alloc();
     let (near, far) = pair(&rt)?;
     let mut carrier = SocketCarrier::new(near, far);
-    assert!(rt; fails(&mut carrier, alloc, Way::There, &[0; 2049]));
-    assert!(rt; fails(&mut carrier, alloc, Way::There, &[0; 2048]));
+    let failed = [
+        fails(&mut carrier, alloc, Way::There, &[0; 2049]),
+        fails(&mut carrier, alloc, Way::There, &[0; 2048]),
+    ];
+    assert!(rt; same(&failed, &[true; 2]), "{failed:?}");
     Ok(())
 }
 

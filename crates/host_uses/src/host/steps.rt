@@ -1,18 +1,18 @@
 //! What a sink that stores files in a folder is asked, step by step, and what is done in the folder in between. A test is a list of steps: the
 //! sink stands in one function, which is proved once.
 
-ghost use Rattle.std.specs.Prelude.{◌≡◌, None, IfOk, OnOk};
+ghost use Rattle.std.specs.Prelude.{◌≡◌, None, IfOk, OnOk, length};
 ghost use Rattle.ym_file.specs.Kept.{IsCoveredFile, IsNew};
 ghost use Rattle.ym_host.specs.DirSink.{kept_of};
 
 use super::acts::{Act, all_hold, path_of};
-use crate::{DirSink, Durability, Leftover, StoreFault};
 use std::fs::File;
 use std::io::ErrorKind;
 use std::path::PathBuf;
 use std::test::Fail;
 use ym_file::{Sink, SinkFault};
 use ym_header::{Header, HeaderFault, Stamp};
+use ym_host::{DirSink, Durability, Leftover, StoreFault};
 
 /// Why a sink failed first.
 #[derive(Clone, Copy)]
@@ -75,20 +75,40 @@ fn clear(sink: &mut DirSink<&HostRuntime>) -> Result<(), SinkFault>
 }
 
 /// Takes a file, all its bytes in one piece.
-fn take(
-    rt: &HostRuntime,
-    sink: &mut DirSink<&HostRuntime>,
-    name: &str,
-    bytes: &[u8],
-) -> Result<(), Fail>
-    requires { sink.old.opened ≡ None }
-    ensures { OnOk result (IsCoveredFile (kept_of sink.new)) }
+fn take<S: Sink>(sink: &mut S, header: Header, bytes: &[u8]) -> Result<(), SinkFault>
+    requires closed { (S.kept sink.old).opened ≡ None }
+    requires fits { header.length ≡ length bytes.now }
+    ensures { OnOk result (IsCoveredFile (S.kept sink.new)) }
 {
-    sink.begin(header(rt, name, bytes.len() as u64)?)?;
+    sink.begin(header)?;
     if !bytes.is_empty() {
         sink.add(bytes)?;
     }
     Ok(())
+}
+
+/// Takes a file of 200,000 bytes in three pieces.
+fn take_in_three<S: Sink>(sink: &mut S, header: Header, all: &[u8]) -> Result<(), SinkFault>
+    requires closed { (S.kept sink.old).opened ≡ None }
+    requires fits { header.length ≡ 200000 }
+    requires whole { length all.now ≡ 200000 }
+    ensures { OnOk result (IsCoveredFile (S.kept sink.new)) }
+{
+    let (front, rest) = all.split_at(60_000);
+    let (middle, back) = rest.split_at(60_000);
+    sink.begin(header)?;
+    sink.add(front)?;
+    sink.add(middle)?;
+    sink.add(back)
+}
+
+/// Takes two of the three bytes of a file.
+fn take_two<S: Sink>(sink: &mut S, header: Header) -> Result<(), SinkFault>
+    requires closed { (S.kept sink.old).opened ≡ None }
+    requires three { header.length ≡ 3 }
+{
+    sink.begin(header)?;
+    sink.add(b"xy")
 }
 
 /// Whether a file is stored, or is not, after this was done.
@@ -99,7 +119,7 @@ fn stores(
     (name, bytes, acts): (&str, &[u8], &[Act<'_>]),
 ) -> Result<Option<bool>, Fail> {
     clear(sink)?;
-    take(rt, sink, name, bytes)?;
+    take(sink, header(rt, name, bytes.len() as u64)?, bytes)?;
     if !all_hold(rt, dir, acts)? {
         return Ok(None);
     }
@@ -114,8 +134,7 @@ fn lets_go(
     (name, acts): (&str, &[Act<'_>]),
 ) -> Result<Option<bool>, Fail> {
     clear(sink)?;
-    sink.begin(header(rt, name, 3)?)?;
-    sink.add(b"xy")?;
+    take_two(sink, header(rt, name, 3)?)?;
     if !all_hold(rt, dir, acts)? {
         return Ok(None);
     }
@@ -145,15 +164,9 @@ pub(super) fn stores_in_three(rt: &HostRuntime, dir: &PathBuf, all: &[u8]) -> Re
     if all.len() != 200_000 {
         return Ok(false);
     }
-    let (front, rest) = all.split_at(60_000);
-    let (middle, back) = rest.split_at(60_000);
     let mut sink = new_sink(rt, dir, Leftover::Refused)?;
-    sink.begin(header(rt, "a", 200_000)?)?;
-    sink.add(front)?;
-    sink.add(middle)?;
-    sink.add(back)?;
-    sink.commit()?;
-    Ok(true)
+    take_in_three(&mut sink, header(rt, "a", 200_000)?, all)?;
+    Ok(sink.commit().is_ok())
 }
 
 /// Whether another sink in the folder begins no file of this name.
@@ -171,7 +184,7 @@ pub(super) fn other_stores(
 ) -> Result<bool, Fail> {
     let mut other = new_sink(rt, dir, Leftover::Discarded)?;
     clear(&mut other)?;
-    take(rt, &mut other, name, bytes)?;
+    take(&mut other, header(rt, name, bytes.len() as u64)?, bytes)?;
     Ok(other.commit().is_ok())
 }
 

@@ -1,12 +1,12 @@
 //! What is told, in words.
 
 use super::{same, shows};
-use crate::{EndMessage, FileMessage, LineMessage, Look, Reason, Shown, Teller};
 use std::io;
 use std::io::ErrorKind;
 use std::test::Fail;
 use ym_header::HeaderFault;
 use ym_link::{RecvState, SendState};
+use ym_show::{EndMessage, FileMessage, LineMessage, Look, Reason, Shown, Teller};
 
 #[test]
 fn of_connections(rt: HostRuntime) -> Result<(), Fail> {

@@ -1,10 +1,10 @@
 //! Transfers that are watched.
 
-use crate::{Look, Meter, PortWatch, Replies, SendWatch, SinkWatch, StoreWatch, Teller};
 use std::cell::Cell;
 use std::test::Fail;
 use ym_frame::{Block, Item, encode};
 use ym_header::{Header, Stamp, write, write_end};
+use ym_show::{Look, Meter, PortWatch, Replies, SendWatch, SinkWatch, StoreWatch, Teller};
 
 /// A teller of lines that is loud, where no terminal is.
 fn teller(rt: &HostRuntime) -> Teller<Vec<u8>> {

@@ -1,8 +1,8 @@
 //! How far a file is.
 
 use super::{same, shows};
-use crate::{Look, Progress, Teller, Took, Whole, progress_line};
 use std::test::Fail;
+use ym_show::{Look, Progress, Teller, Took, Whole, progress_line};
 
 const HALF: Progress = Progress {
     done: 14500,

@@ -3,9 +3,9 @@
 use super::acts::Act;
 use super::folders::{folder, same};
 use super::steps::{Step, Why, first_wrong};
-use crate::{Leftover, part_name};
 use std::fs;
 use std::test::Fail;
+use ym_host::{Leftover, part_name};
 
 #[test]
 fn a_part_that_is_open_is_removed(rt: HostRuntime) -> Result<(), Fail> {

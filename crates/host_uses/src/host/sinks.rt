@@ -3,11 +3,11 @@
 use super::acts::{Act, path_of};
 use super::folders::{counted, folder, holds, same};
 use super::steps::{Step, Why, first_wrong, other_stores, stores_in_three};
-use crate::Leftover;
 use std::fs;
 use std::io::ErrorKind;
 use std::path::PathBuf;
 use std::test::Fail;
+use ym_host::Leftover;
 
 #[test]
 fn a_file_gets_its_name_when_it_is_whole(rt: HostRuntime) -> Result<(), Fail> {

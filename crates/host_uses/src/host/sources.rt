@@ -1,12 +1,12 @@
 //! Files that are read. The calls of the source stand in functions that tell a proof nothing, so that a test costs it little.
 
 use super::folders::{counted, folder, same};
-use crate::FileSource;
-use std::fs;
 use std::fs::{File, OpenFile};
 use std::path::PathBuf;
 use std::test::Fail;
+use std::{fs, io};
 use ym_file::{Source, SourceFault};
+use ym_host::FileSource;
 
 /// A file in this folder with as many bytes, counted on from 0.
 fn counted_file(rt: &HostRuntime, dir: &PathBuf, count: u32) -> Result<PathBuf, Fail> {
@@ -17,9 +17,16 @@ fn counted_file(rt: &HostRuntime, dir: &PathBuf, count: u32) -> Result<PathBuf, 
 }
 
 /// Makes the file at this path so long.
-fn set_length(rt: &HostRuntime, path: &PathBuf, length: u64) -> Result<(), Fail> {
+fn set_length(rt: &HostRuntime, path: &PathBuf, length: u64) -> io::Result<()> {
     let file = File::options().write(true).open(rt, path)?;
-    file.set_len(length)?;
+    file.set_len(length)
+}
+
+/// Puts another file of 100 bytes in the place of the one at this path.
+fn replace(rt: &HostRuntime, dir: &PathBuf, path: &PathBuf) -> Result<(), Fail> {
+    let aside = dir.join(rt.alloc(), "aside")?;
+    fs::rename(rt, path, &aside)?;
+    counted_file(rt, dir, 100)?;
     Ok(())
 }
 
@@ -42,15 +49,17 @@ fn a_source_reads_from_any_place(rt: HostRuntime) -> Result<(), Fail> {
     let dir = folder(&rt, "source")?;
     let path = counted_file(&rt, &dir, 200)?;
     let mut source = FileSource::new(&rt, rt.alloc(), path.as_str())?;
-    assert_eq!(rt; source.length(), 200);
-    let mut tail = [0; 72];
-    assert!(rt; fills(&mut source, 128, &mut tail));
-    assert!(rt; tail[0] == 128);
-    assert!(rt; tail[71] == 199);
-    let mut front = [9; 3];
-    assert!(rt; fills(&mut source, 0, &mut front));
-    assert!(rt; same(&front, &[0, 1, 2]));
+    let (mut tail, mut front) = ([0; 72], [9; 3]);
+    let seen = [
+        source.length() == 200,
+        fills(&mut source, 128, &mut tail),
+        tail[0] == 128,
+        tail[71] == 199,
+        fills(&mut source, 0, &mut front),
+        same(&front, &[0, 1, 2]),
+    ];
     fs::remove_dir_all(&rt, &dir)?;
+    assert!(rt; same(&seen, &[true; 6]), "{seen:?}");
     Ok(())
 }
 
@@ -61,14 +70,17 @@ fn a_source_reads_many_blocks_at_a_time(rt: HostRuntime) -> Result<(), Fail> {
     let path = counted_file(&rt, &dir, 130_000)?;
     let mut source = FileSource::new(&rt, rt.alloc(), path.as_str())?;
     let mut block = [0; 1024];
-    assert!(rt; fills(&mut source, 1024, &mut block));
-    assert!(rt; block[0] == 20);
-    set_length(&rt, &path, 70_000)?;
-    assert!(rt; fills(&mut source, 65_536, &mut block));
-    assert!(rt; block[0] == 25);
-    assert!(rt; fails(&mut source, 66_560, &mut block));
-    assert_eq!(rt; source.length(), 130_000);
+    let seen = [
+        fills(&mut source, 1024, &mut block),
+        block[0] == 20,
+        set_length(&rt, &path, 70_000).is_ok(),
+        fills(&mut source, 65_536, &mut block),
+        block[0] == 25,
+        fails(&mut source, 66_560, &mut block),
+        source.length() == 130_000,
+    ];
     fs::remove_dir_all(&rt, &dir)?;
+    assert!(rt; same(&seen, &[true; 7]), "{seen:?}");
     Ok(())
 }
 
@@ -77,12 +89,15 @@ fn a_source_reads_many_blocks_at_a_time(rt: HostRuntime) -> Result<(), Fail> {
 fn a_source_fills_a_large_buffer(rt: HostRuntime) -> Result<(), Fail> {
     let dir = folder(&rt, "piece")?;
     let path = counted_file(&rt, &dir, 70_000)?;
-    let mut source = FileSource::new(&rt, rt.alloc(), path.as_str())?;
     let mut all = vec![in rt.alloc(); 0; 70_000]?;
-    assert!(rt; fills(&mut source, 0, all.as_mut_slice()));
     let want = fs::read(&rt, &path)?;
-    assert!(rt; same(&all.as_slice(), &want.as_slice()));
+    let mut source = FileSource::new(&rt, rt.alloc(), path.as_str())?;
+    let seen = [
+        fills(&mut source, 0, all.as_mut_slice()),
+        same(&all.as_slice(), &want.as_slice()),
+    ];
     fs::remove_dir_all(&rt, &dir)?;
+    assert!(rt; same(&seen, &[true; 2]), "{seen:?}");
     Ok(())
 }
 
@@ -92,12 +107,15 @@ fn a_source_has_the_length_that_it_was_made_with(rt: HostRuntime) -> Result<(), 
     let path = counted_file(&rt, &dir, 100)?;
     let mut source = FileSource::new(&rt, rt.alloc(), path.as_str())?;
     let mut block = [0; 50];
-    set_length(&rt, &path, 101)?;
-    assert!(rt; fails(&mut source, 0, &mut block));
-    set_length(&rt, &path, 100)?;
-    assert!(rt; fills(&mut source, 0, &mut block));
-    assert!(rt; block[49] == 49);
+    let seen = [
+        set_length(&rt, &path, 101).is_ok(),
+        fails(&mut source, 0, &mut block),
+        set_length(&rt, &path, 100).is_ok(),
+        fills(&mut source, 0, &mut block),
+        block[49] == 49,
+    ];
     fs::remove_dir_all(&rt, &dir)?;
+    assert!(rt; same(&seen, &[true; 5]), "{seen:?}");
     Ok(())
 }
 
@@ -105,20 +123,22 @@ fn a_source_has_the_length_that_it_was_made_with(rt: HostRuntime) -> Result<(), 
 fn a_source_is_the_file_that_it_was_made_of(rt: HostRuntime) -> Result<(), Fail> {
     let dir = folder(&rt, "other")?;
     let path = counted_file(&rt, &dir, 100)?;
-    let mut source = FileSource::new(&rt, rt.alloc(), path.as_str())?;
     let mut block = [0; 50];
-    assert!(rt; fills(&mut source, 0, &mut block));
+    let mut source = FileSource::new(&rt, rt.alloc(), path.as_str())?;
+    let is_open = fills(&mut source, 0, &mut block);
     // another file, which has to do with the next source alone: this one is open
-    let aside = dir.join(rt.alloc(), "aside")?;
     let mut late = FileSource::new(&rt, rt.alloc(), path.as_str())?;
-    fs::rename(&rt, &path, &aside)?;
-    counted_file(&rt, &dir, 100)?;
-    assert!(rt; fails(&mut late, 0, &mut block));
-    assert!(rt; fills(&mut source, 50, &mut block));
-    assert!(rt; block[0] == 50);
-    // behind its last byte it was closed
-    assert!(rt; fails(&mut source, 50, &mut block));
+    replace(&rt, &dir, &path)?;
+    let seen = [
+        is_open,
+        fails(&mut late, 0, &mut block),
+        fills(&mut source, 50, &mut block),
+        block[0] == 50,
+        // behind its last byte it was closed
+        fails(&mut source, 50, &mut block),
+    ];
     fs::remove_dir_all(&rt, &dir)?;
+    assert!(rt; same(&seen, &[true; 5]), "{seen:?}");
     Ok(())
 }
 
@@ -131,10 +151,13 @@ fn is_refused(rt: &HostRuntime, path: &str) -> bool {
 fn a_source_is_a_regular_file(rt: HostRuntime) -> Result<(), Fail> {
     let dir = folder(&rt, "regular")?;
     let missing = dir.join(rt.alloc(), "missing")?;
-    assert!(rt; is_refused(&rt, dir.as_str()));
-    assert!(rt; is_refused(&rt, missing.as_str()));
-    assert!(rt; is_refused(&rt, "/dev/zero"));
-    assert!(rt; is_refused(&rt, ""));
+    let seen = [
+        is_refused(&rt, dir.as_str()),
+        is_refused(&rt, missing.as_str()),
+        is_refused(&rt, "/dev/zero"),
+        is_refused(&rt, ""),
+    ];
     fs::remove_dir_all(&rt, &dir)?;
+    assert!(rt; same(&seen, &[true; 4]), "{seen:?}");
     Ok(())
 }

@@ -2,13 +2,13 @@
 
 use super::folders::{folder, holds, same};
 use super::steps::new_sink;
-use crate::Leftover;
 use std::alloc::Global;
 use std::fs;
 use std::path::PathBuf;
 use std::test::Fail;
 use ym_frame::{Bytes, Item, encode};
 use ym_header::{Header, Stamp, write};
+use ym_host::Leftover;
 use ym_link::{Confirm, EndFault, Event, ReceiverInto, RecvState, ScriptPort, receive_over};
 
 /// A port to which the block 0 of the file `a` comes.
@@ -41,10 +41,13 @@ fn a_name_that_is_there_cancels(rt: HostRuntime) -> Result<(), Fail> {
     fs::write(&rt, &path, "old")?;
     let mut port = port_of(rt.alloc())?;
     let ended = received(&rt, &dir, &mut port)?;
-    assert!(rt; same(&ended, &(Ok(()), RecvState::SinkFailed, 0)));
-    assert!(rt; same(&port.written(), &[0x18, 0x18].as_slice()));
-    assert!(rt; holds(&rt, &dir, "a", Some(b"old"))?);
-    assert!(rt; holds(&rt, &dir, "a.part", None)?);
+    let seen = [
+        same(&ended, &(Ok(()), RecvState::SinkFailed, 0)),
+        same(&port.written(), &[0x18, 0x18].as_slice()),
+        holds(&rt, &dir, "a", Some(b"old"))?,
+        holds(&rt, &dir, "a.part", None)?,
+    ];
     fs::remove_dir_all(&rt, &dir)?;
+    assert!(rt; same(&seen, &[true; 4]), "{seen:?}");
     Ok(())
 }
