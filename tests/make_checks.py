@@ -91,18 +91,40 @@ def build_under_terminal():
             raise AssertionError("rt goes on")
 
 
+def edit(it, crate):
+    """Another source of a crate, which means the same."""
+    with open(os.path.join(it.top, "crates", crate, "src", "lib.rt"), "a", encoding="utf-8") as edited:
+        edited.write("// edited\n")
+
+
 def check():
-    """The tests of the crates that changed since the last green run, and no others."""
+    """The tests of the crates that changed since the last green run, where they stand, and no others."""
     with tree() as it:
         wants("the first check", it.make("check")[0], 0)
-        first = it.called()
-        has(first, "run", "try --test")
+        has(it.called(), "run", "try --test", "try")
         wants("the second check", it.make("check")[0], 0)
         wants("its calls", it.called(), ["run"])
-        with open(os.path.join(it.top, "crates", "ym_check", "src", "check.rt"), "a", encoding="utf-8") as edited:
-            edited.write("// edited\n")
-        wants("a check behind an edit", it.make("check")[0], 0)
-        wants("its calls", it.called(), ["run", "try --test"])
+        for crate, *calls in ("ym_command", "try --test"), ("ym_words", "try"), ("host_uses", "check", "try --test"):
+            edit(it, crate)
+            wants("a check behind an edit of " + crate, it.make("check")[0], 0)
+            wants("its calls", it.called(), ["run", *calls])
+
+
+def check_that_fails():
+    """What a crate of tests finds of another one is found again, until that is mended."""
+    with tree() as it:
+        wants("the first check", it.make("check")[0], 0)
+        edit(it, "ym_words")
+        it.mark("else")
+        for _ in range(2):
+            status, _, err = it.make("check")
+            wants("its status", status, 2)
+            has(err, "-ymodem play: play\n", "+else\n", "changed since the last green run: ym_words; failed: words_cases")
+        it.unmark("else")
+        wants("a check behind the mend", it.make("check")[0], 0)
+        it.called()
+        wants("the last check", it.make("check")[0], 0)
+        wants("its calls", it.called(), ["run"])
 
 
 def layout():
@@ -186,6 +208,7 @@ CHECKS = [
     ("make build shows which crate it proves", build),
     ("make build under a terminal, and interrupted", build_under_terminal),
     ("make check tries what changed", check),
+    ("make check where a case is answered otherwise", check_that_fails),
     ("make layout of sources that are not laid out", layout),
     ("the version in one place", version),
     ("the gate, and beside it the tests of what it proved", gate),

@@ -9,7 +9,8 @@ import tempfile
 from program import PROGRAM, ROOT
 from skipping import needs
 
-# It tells what it was called with in the file `called`. Where the file `slow` is there, `rt run` and `rt ci` wait for their end.
+# It tells what it was called with in the file `called`. Where the file `slow` is there, `rt run` and `rt ci` wait for their end, and
+# where `else` is there, a program for tests prints something else than its cases want.
 STAND_IN = r"""#!/bin/sh
 echo "$*" >> "$CALLED/called"
 case $1 in
@@ -38,6 +39,7 @@ ci)
 try)
     [ ! -e "$CALLED/wrong" ] || { echo "src/check.rt:1:1: error: not so" >&2; exit 2; }
     [ "$2" != -- ] || "$YMODEM" play
+    [ -n "$2" ] || { [ -e "$CALLED/else" ] && echo else || cat stdout; }
     echo "checked: ended status=0" >&2
     echo "run=ended status=0 runners=1 proved=no" >&2
     ;;
@@ -92,6 +94,9 @@ class Tree:
     def mark(self, name):
         with open(os.path.join(self.calls, name), "w", encoding="utf-8"):
             pass
+
+    def unmark(self, name):
+        os.remove(os.path.join(self.calls, name))
 
     def called(self):
         """The calls of rt since the last time."""
