@@ -104,15 +104,31 @@ def build_under_terminal():
 
 
 def check():
-    """The tests of the crates that changed since the last green run, and no others."""
+    """The tests of the crates that changed since the last green run, where they stand, and no others."""
     with tree() as it:
         wants("the first check", it.make("check")[0], 0)
-        first = it.called()
-        has(first, "run", "try --test")
+        has(it.called(), "run", "try --test", "try")
         wants("the second check", (it.make("check")[0], it.called()), (0, []))
-        it.edit("ym_check")
-        wants("a check behind an edit", it.make("check")[0], 0)
-        wants("its calls", it.called(), ["run", "try --test"])
+        for crate, *calls in ("ym_command", "run", "try --test"), ("ym_words", "run", "try"), ("host_uses", "check", "try --test"):
+            it.edit(crate)
+            wants("a check behind an edit of " + crate, it.make("check")[0], 0)
+            wants("its calls", it.called(), calls)
+
+
+def check_that_fails():
+    """What a crate of tests finds of another one is found again, until that is mended."""
+    with tree() as it:
+        wants("the first check", it.make("check")[0], 0)
+        it.edit("ym_words")
+        it.mark("else")
+        for _ in range(2):
+            status, _, err = it.make("check")
+            wants("its status", status, 2)
+            has(err, "-ymodem play: play\n", "+else\n", "changed since the last green run: ym_words; failed: words_cases")
+        it.unmark("else")
+        wants("a check behind the mend", it.make("check")[0], 0)
+        it.called()
+        wants("the last check", (it.make("check")[0], it.called()), (0, []))
 
 
 def layout():
@@ -211,6 +227,7 @@ CHECKS = [
     ("make build over what stands here", build_over_what_stands_here),
     ("make build under a terminal, and interrupted", build_under_terminal),
     ("make check tries what changed", check),
+    ("make check where a case is answered otherwise", check_that_fails),
     ("make layout of sources that are not laid out", layout),
     ("the version in one place", version),
     ("the gate, and beside it the tests of what it proved", gate),

@@ -10,7 +10,8 @@ from program import PROGRAM, ROOT
 from skipping import needs
 from waits import wait_until
 
-# It tells what it was called with in the file `called`. Where the file `slow` is there, `rt run` and `rt ci` wait for their end.
+# It tells what it was called with in the file `called`. Where the file `slow` is there, `rt run` and `rt ci` wait for their end, and
+# where `else` is there, a program for tests prints something else than its cases want.
 STAND_IN = r"""#!/bin/sh
 [ "$1" = version ] || echo "$*" >> "$CALLED/called"
 case $1 in
@@ -43,6 +44,7 @@ ci)
 try)
     [ ! -e "$CALLED/wrong" ] || { echo "src/check.rt:1:1: error: not so" >&2; exit 2; }
     [ "$2" != -- ] || "$YMODEM" play
+    [ -n "$2" ] || { [ -e "$CALLED/else" ] && echo else || cat stdout; }
     echo "checked: ended status=0" >&2
     echo "run=ended status=0 runners=1 proved=no" >&2
     ;;
@@ -96,8 +98,7 @@ class Tree:
 
     def edit(self, crate):
         """Adds a comment to a crate's source."""
-        folder = os.path.join(self.top, "crates", crate, "src")
-        with open(os.path.join(folder, sorted(os.listdir(folder))[0]), "a", encoding="utf-8") as edited:
+        with open(os.path.join(self.top, "crates", crate, "src", "lib.rt"), "a", encoding="utf-8") as edited:
             edited.write("// edited\n")
 
     def mark(self, name, text=""):
@@ -109,6 +110,9 @@ class Tree:
         with open(os.path.join(self.calls, "process"), encoding="utf-8") as told:
             process = "/proc/" + told.read().strip()
         wait_until(lambda: not os.path.exists(process), "rt had ended")
+
+    def unmark(self, name):
+        os.remove(os.path.join(self.calls, name))
 
     def called(self):
         """The calls of rt since the last time."""

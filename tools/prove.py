@@ -12,11 +12,12 @@ kept in out/build.log, and is shown where it fails. A build that is interrupted 
 usage: prove.py [play|check]
   play    plays the example session, by the program where it is built and no source has changed since,
           else by `rt try`, which proves nothing
-  check   proves what changed, and tries the tests of the crates that changed since the last green
-          run, unproved
+  check   proves what changed, and tries unproved the tests of the crates that changed since the last
+          green run, in them and in the crates of tests that use them
 """
 
 import contextlib
+import difflib
 import json
 import os
 import re
@@ -241,32 +242,68 @@ def has_tests(name):
     return False
 
 
+def is_of_cases(name):
+    """Whether a crate is a program for tests: run on its `stdin`, it has to print its `stdout`."""
+    return name != "ymodem" and os.path.isfile(os.path.join(CRATES, name, "stdout"))
+
+
+def tried_for(changed):
+    """The crates that are tried where these changed: these, and those of tests and of cases, on which nothing stands, that use one of them."""
+    used = crates()
+    below = {it for names in used.values() for it in names}
+    tops = [it for it in used if it not in below and (has_tests(it) or is_of_cases(it))]
+    return [it for it in used if it in changed or (it in tops and not changed.isdisjoint(used[it]))]
+
+
+def tries(name, is_checked):
+    """The commands that try a crate, of which the first proves it, if that is asked for."""
+    return [["check"]] * is_checked + [["try", "--test"]] * has_tests(name) + [["try"]] * is_of_cases(name)
+
+
+def wrong_in(name, words):
+    """What is wrong where a command tries a crate, or nothing."""
+    folder = os.path.join(CRATES, name)
+    is_run = words == ["try"]
+    with open(os.path.join(folder, "stdin") if is_run else os.devnull, "rb") as it:
+        tried = subprocess.run(["rt", *words], cwd=folder, stdin=it, capture_output=True, check=False)
+    if tried.returncode:
+        return (tried.stdout + tried.stderr).decode(errors="replace")
+    if is_run:
+        with open(os.path.join(folder, "stdout"), encoding="utf-8") as it:
+            wanted = it.read().splitlines(keepends=True)
+        printed = tried.stdout.decode(errors="replace").splitlines(keepends=True)
+        return "".join(difflib.unified_diff(wanted, printed, os.path.join(os.path.relpath(folder, ROOT), "stdout"), "printed"))
+    return ""
+
+
 def check():
     try:
         with open(GREEN, encoding="utf-8") as it:
             green = json.load(it)
     except (OSError, ValueError):
         green = {}
-    now = {name: proved.sum_of([name]) for name in crates()}
-    changed = [name for name in now if green.get(name) != now[name]]
+    used = crates()
+    now = {name: proved.sum_of([name]) for name in used}
+    changed = {name for name in now if green.get(name) != now[name]}
     build(here=True)
-    shown, wrong, built = Shown(sys.stderr), [], of_program()
-    for at, name in enumerate(changed, 1):
-        verbs = [["check"]] * (name not in built) + [["try", "--test"]] * has_tests(name)
-        for words in verbs:
-            shown.tell("rt %s: %s, crate %d of the %d that changed" % (" ".join(words), name, at, len(changed)))
-            tried = subprocess.run(["rt", *words], cwd=os.path.join(CRATES, name), stdin=subprocess.DEVNULL, capture_output=True, check=False)
-            if tried.returncode:
-                wrong.append(name)
-                sys.stderr.write("\n" + (tried.stdout + tried.stderr).decode(errors="replace"))
+    shown, red, built, names = Shown(sys.stderr), set(), of_program(), tried_for(changed)
+    for at, name in enumerate(names, 1):
+        for words in tries(name, name in changed and name not in built):
+            shown.tell("rt %s: %s, crate %d of the %d that are tried" % (" ".join(words), name, at, len(names)))
+            wrong = wrong_in(name, words)
+            if wrong:
+                red.add(name)
+                sys.stderr.write("\n" + wrong)
                 break
-        if name not in wrong:
-            green[name] = now[name]
     shown.clear()
+    # A crate is green once its tests are, those in other crates too.
+    not_green = red.union(*(used[name] for name in red))
+    green.update({name: now[name] for name in changed - not_green})
     with open(GREEN, "w", encoding="utf-8") as it:
         json.dump(green, it)
-    print("changed since the last green run: %s; failed: %s" % (" ".join(changed) or "nothing", " ".join(wrong) or "nothing"), file=sys.stderr)
-    return 1 if wrong else 0
+    told = [" ".join(it for it in used if it in some) or "nothing" for some in (changed, red)]
+    print("changed since the last green run: %s; failed: %s" % tuple(told), file=sys.stderr)
+    return 1 if red else 0
 
 
 def main(words):
