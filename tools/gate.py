@@ -185,31 +185,36 @@ def tried(gate, before, library):
     return None
 
 
+def judged(gate, beside):
+    """Begins all that goes on beside the gate, and waits for its end. Gives the gate's status, or the name of what failed."""
+    works = (("packages", packages), ("the library for C and the page", library_and_page), ("tests/memory.py", memory))
+    beside += [Beside(name, work, gate) for name, work in works]
+    failed = tried(gate, *beside[:2])
+    for it in beside:
+        failed = failed or (None if it.has_ended_well() else it.name)
+    return failed or gate.ended()
+
+
 def main():
     if len(sys.argv) > 1:
         sys.exit(__doc__)
     signal.signal(signal.SIGTERM, lambda *_: sys.exit(143))
     os.makedirs(OUT, exist_ok=True)
-    gate = Gate()
-    beside = []
+    gate, beside = Gate(), []
     try:
-        works = (("packages", packages), ("the library for C and the page", library_and_page), ("tests/memory.py", memory))
-        beside += [Beside(name, work, gate) for name, work in works]
-        failed = [it for it in [tried(gate, *beside[:2])] if it]
-        failed += [it.name for it in beside if not failed and not it.has_ended_well()]
-        if failed:
-            if gate.is_over:
-                gate.ended()
-            tell("%s failed" % failed[0])
-            return 1
-        status = gate.ended()
-        if not status:
-            proved.note("ymodem")
-        return status
+        result = judged(gate, beside)
     except KeyboardInterrupt:
-        return 130
+        result = 130
     finally:
         stop_all(gate, beside)
+    if isinstance(result, str):
+        if gate.is_over:
+            gate.ended()
+        tell("%s failed" % result)
+        return 1
+    if not result:
+        proved.note("ymodem")
+    return result
 
 
 sys.exit(main())
