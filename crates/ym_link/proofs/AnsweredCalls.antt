@@ -1,12 +1,12 @@
 -- Over a line that answers each copy, an end hears for each call nothing as often as it waited in vain, and then the answer.
 use Rattle.std.proofs.Common.{◌≡◌, Bool, ◌<◌, ◌≤◌, ◌+◌, ℕ, zero, suc, true, false, nat_eq, min, List, [], ◌∷◌, ◌++◌, length, Ok, refl, sym, ◌∙◌, ap, arith, lit<}
 use Rattle.std.proofs.lemmas.Bool.{and_right, ne_eqb, lt-ltb, lt-leb, eq-eqb}
-use Rattle.ym_link.proofs.Names.{cleared, said, front_of, AreLate, late_and_quiet, Seen, Data, STALE_READS, Talk, Event, Exchange, Role, Sender, DELIVERY_LIMIT, brings, heeded_bytes, heeds_all}
+use Rattle.ym_link.proofs.Names.{cleared, said, front_of, AreLate, late_and_quiet, Seen, Data, STALE_READS, Talk, Event, Exchange, Role, Sender, DELIVERY_LIMIT, brings, heeded_bytes}
 use Rattle.ym_link.specs.Clearing.{new_talk}
 use Rattle.ym_link.specs.Exchange.{new_exchange, is_same, is_taken, wrote, all_ask, is_opening}
 use Rattle.ym_link.specs.LateAnswers.{waits, Act, Writes, Reads, gives, Call, acts_of, hears, behind, comes, all_acts, all_comes, all_hears, AreCalls, one}
 use Rattle.ym_link.specs.Port.{Silence}
-use Rattle.ym_link.specs.Withdrawn.{heard_by}
+use Rattle.ym_link.specs.Withdrawn.{cancels_all, heard_by}
 use Rattle.ym_link.specs.declared.event.Event.TheVariants as event
 use Rattle.ym_link.specs.declared.exchange.Front.{Front}
 use Rattle.ym_link.specs.declared.exchange.Role.TheVariants.{Receiver}
@@ -45,7 +45,7 @@ heeded-by heed.Open bytes = record { some = λ e. e; short = λ e. e; answers = 
 heeded-by heed.Other bytes = record { some = λ e. e; short = λ e. e; answers = λ e. e }
 
 heeded-of : (role : Role) (bytes : List ℕ) → Heeded bytes (heeded_bytes role bytes)
-heeded-of Sender bytes = heeded-by (heeds_all Sender heed.Open bytes) bytes
+heeded-of Sender bytes = heeded-by (cancels_all heed.Open bytes) bytes
 heeded-of Receiver bytes = record { some = λ e. e; short = λ e. e; answers = λ e. e }
 
 -- ---- One act

@@ -119,6 +119,11 @@ withdrawn_ack : gives (Writes block ∷ Reads ∷ Reads ∷ []) (new_talk Sender
 unfolding gives swept fresh
 withdrawn_ack = refl
 
+-- noise between the two is no reply
+noisy_cancel : gives (Writes block ∷ Reads ∷ []) (new_talk Sender) (Piece (0x06 ∷ 0x18 ∷ 0x55 ∷ 0x18 ∷ 0x55 ∷ []) ∷ []) ≡ Data cancel ∷ []
+unfolding gives swept fresh
+noisy_cancel = refl
+
 cancelled_ack : gives (Writes block ∷ Reads ∷ []) (new_talk Sender) (Piece (0x06 ∷ 0x18 ∷ 0x18 ∷ []) ∷ []) ≡ Data cancel ∷ []
 unfolding gives swept fresh
 cancelled_ack = refl

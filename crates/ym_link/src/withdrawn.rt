@@ -4,11 +4,35 @@ ghost use Rattle.std.specs.Prelude.{◌≡◌, ◌<◌, ◌≤◌, ◌++◌, ◌
 ghost use Rattle.ym_file.specs.Counts.{Rose};
 ghost use Rattle.ym_link.specs.Port.{Tape, seen_of, read_leaves};
 ghost use Rattle.ym_link.specs.Withdrawn as table;
+ghost use Rattle.ym_link.specs.declared.sweep.Heed.TheVariants as Heed;
 ghost use Rattle.ym_link.specs.declared.port.Wait.{Wait as Asked};
 
 use crate::exchange::Role;
 use crate::port::{Got, Port, PortFault, Wait};
 use crate::sweep::{CAN, Heed};
+
+/// How much of CAN CAN stands at the end of the control bytes, after one more byte.
+fn after(heed: Heed, byte: u8) -> Heed
+    ensures { result ≡ table.cancels heed byte }
+{
+    match (heed, byte) {
+        (Heed::CanCan, _) | (Heed::Can, CAN) => Heed::CanCan,
+        (_, CAN) => Heed::Can,
+        (_, b'\x06' | b'\x15' | b'C') => Heed::Other,
+        _ => heed,
+    }
+}
+
+/// The same of these bytes.
+fn heed_of(bytes: &[u8]) -> Heed
+    ensures { result ≡ table.cancels_all Heed.Open bytes.now }
+{
+    let mut heed = Heed::Open;
+    for byte in bytes {
+        heed = after(heed, *byte);
+    }
+    heed
+}
 
 /// Takes what stands before a cancel out of the bytes that a sender has read, and answers how many
 /// are left.
@@ -20,7 +44,7 @@ fn withdraw(buf: &mut [u8], count: usize) -> usize
     ensures fits { result ≤ count }
     ensures heard { take result buf.new ≡ table.withdrawn (take count buf.old) }
 {
-    match Heed::Open.after_all(Role::Sender, &buf[..count]) {
+    match heed_of(&buf[..count]) {
         Heed::CanCan if 1 < count => {
             buf[..2].copy_from_slice(&[CAN, CAN]);
             2
