@@ -244,7 +244,8 @@ def in_node():
     wants(ran.returncode == 0, ran.stdout + ran.stderr)
 
 
-COMPILERS = (("gcc", "c", "c99"), ("gcc", "c", "c11"), ("clang", "c", "c99"), ("clang", "c", "c11"), ("g++", "c++", "c++17"), ("clang++", "c++", "c++17"))
+LANGUAGES = (("gcc", "clang"), "c", ("c99", "c11")), (("g++", "clang++"), "c++", ("c++98", "c++11", "c++17"))
+COMPILERS = [(it, language, standard) for some, language, standards in LANGUAGES for it in some for standard in standards]
 CHECKS = [
     *(("ymodem.h alone: %s, %s" % (compiler, standard), header_alone(compiler, language, standard)) for compiler, language, standard in COMPILERS),
     ("the sizes of the structs", sizes),
