@@ -54,6 +54,10 @@ STANDARDS = ("c99", "c11")
 LEVELS = ("-O0", "-Os", "-O2", "-O3")
 FEW = (("c99", "-Os"), ("c11", "-O2"))
 
+# A program for QEMU's board of a Cortex-M3, whose standard output and words are those of QEMU.
+ON_A_BOARD = "--specs=rdimon.specs -Wl,--section-start=.vectors=0,-Ttext-segment=0x10000,-Tdata=0x20000000"
+BOARD = "qemu-system-arm -M mps2-an385 -display none -monitor none -serial none -semihosting-config enable=on,target=native"
+
 # What plays the calls: how it is compiled, and what runs it.
 RUNS = {
     "gcc -O0": ("gcc -O0", ""),
@@ -66,7 +70,8 @@ RUNS = {
     "ARM, Linux": ("arm-linux-gnueabihf-gcc -Os -static", "qemu-arm"),
     "RISC-V, 64 bits": ("riscv64-linux-gnu-gcc -O2 -static", "qemu-riscv64"),
     "MIPS, little-endian": ("mipsel-linux-gnu-gcc -O2 -static", "qemu-mipsel"),
-    "Cortex-M3": ("arm-none-eabi-gcc -mthumb -mcpu=cortex-m3 -Os --specs=rdimon.specs", "qemu-arm -cpu cortex-m3"),
+    "Cortex-M3": ("arm-none-eabi-gcc -mthumb -mcpu=cortex-m3 -Os " + ON_A_BOARD, BOARD),
+    "Cortex-M0+, on the same board": ("arm-none-eabi-gcc -mthumb -mcpu=cortex-m0plus -Os " + ON_A_BOARD, BOARD),
 }
 CALLS, SEEDS = 100_000, (1, 20261124)
 
@@ -149,6 +154,8 @@ def rubbish(words, rounds, seed, *before):
 
 
 def played(made, run, calls, seed):
+    if run == BOARD:
+        return command(*BOARD.split()[:-1], "%s,arg=calls,arg=%d,arg=%d" % (BOARD.split()[-1], calls, seed), "-kernel", made).splitlines()
     return command(*run.split(), made, str(calls), str(seed)).splitlines()
 
 
@@ -166,7 +173,8 @@ def answers_as_the_archive(words, run, name):
         needs(*run.split()[:1])
         # an archive by the toolchain is for x86-64
         proved = driver("cc -O2", "proved-" + re.sub(r"\W", "-", name), LIBRARY)
-        made = driver(words, "played-" + re.sub(r"\W", "-", name), SOURCE)
+        more = [os.path.join(ROOT, "tests", "portable_vectors.c")] if run == BOARD else []
+        made = driver(words, "played-" + re.sub(r"\W", "-", name), SOURCE, *more)
         for seed in SEEDS[: 1 if run else None]:
             one, other = played(proved, "", CALLS, seed), played(made, run, CALLS, seed)
             wants(len(one) == CALLS == len(other), "seed %d: %d and %d calls" % (seed, len(one), len(other)))
