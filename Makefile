@@ -55,10 +55,11 @@ install: build
 deb: build
 	packaging/package.py deb $(PROGRAM) out
 	@$(MAKE) --no-print-directory lib TARGETS=x86_64-unknown-linux-gnu
-	packaging/package.py dev out/lib/x86_64-unknown-linux-gnu/libymodem.a out
+	@$(MAKE) --no-print-directory portable
+	packaging/package.py dev out/lib/x86_64-unknown-linux-gnu/libymodem.a out out/portable
 
-dist: build
-	packaging/package.py dist $(PROGRAM) out
+dist: build portable
+	packaging/package.py dist $(PROGRAM) out out/portable
 
 charts: build
 	docs/pictures/draw.py $(PROGRAM)

@@ -13,6 +13,7 @@ FILES = (
     "lib/x86_64-linux-gnu/libymodem.a",
     "lib/x86_64-linux-gnu/pkgconfig/ymodem.pc",
     "share/doc/libymodem-dev/library.md",
+    "share/doc/libymodem-dev/portable.md",
     "share/doc/libymodem-dev/examples/c/line.h",
     "share/doc/libymodem-dev/examples/c/receive.c",
     "share/doc/libymodem-dev/examples/c/send.c",
@@ -20,8 +21,11 @@ FILES = (
     "share/doc/libymodem-dev/copyright",
     "share/doc/libymodem-dev/changelog.gz",
 )
+# The library as two files, where they have been made, and what the package has then.
+PORTABLE = os.path.join(ROOT, "out", "portable")
+PORTABLE_FILES = tuple("share/ymodem/portable/" + it for it in ("ymodem.c", "ymodem.h"))
 # What a package is made of.
-PARTS = ("packaging", "include", "examples", "docs")
+PARTS = ("packaging", "include", "examples", "docs", "tools")
 
 
 def copied(to, umask):
@@ -32,9 +36,13 @@ def copied(to, umask):
     return to
 
 
+def portable():
+    return [PORTABLE] if os.path.isdir(PORTABLE) else []
+
+
 def packed(tree, library, umask="022", **environment):
     needs("strip", "readelf", "dpkg-deb")
-    words = ["sh", "-c", 'umask "$1"; shift; exec "$@"', "", umask, tree + "/packaging/package.py", "dev", library, tree + "/out"]
+    words = ["sh", "-c", 'umask "$1"; shift; exec "$@"', "", umask, tree + "/packaging/package.py", "dev", library, tree + "/out", *portable()]
     return subprocess.run(words, env={**FIXED, **environment}, capture_output=True, text=True, check=True).stdout.strip()
 
 
@@ -68,7 +76,7 @@ def unpacked(top, library):
     """The folder `usr` of a package that was taken apart, with its files in it."""
     file = packed(copied(top + "/one", "022"), library)
     subprocess.run(["dpkg-deb", "--extract", file, top + "/root"], check=True)
-    missing = [it for it in FILES if not os.path.isfile(os.path.join(top, "root", "usr", it))]
+    missing = [it for it in FILES + PORTABLE_FILES * len(portable()) if not os.path.isfile(os.path.join(top, "root", "usr", it))]
     if missing:
         raise AssertionError("it lacks %s" % missing)
     with open(os.path.join(ROOT, "include", "ymodem.h"), encoding="utf-8") as one, open(top + "/root/usr/include/ymodem.h", encoding="utf-8") as other:
