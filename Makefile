@@ -2,8 +2,8 @@
 # make build             proves and builds the program
 # make check             while you write: proves what changed, and tries the tests of the crates that changed since the last green run
 # make layout            whether each source is laid out as `rt fmt` does it, which the gate wants, and the version is spelled alike: a second
-# make test              everything that is checked before a change lands: want of memory, and the gate, whose last line is 'N passed, M failed',
-#                        with the program that it proved on sockets and files, what is shipped beside it, the library and the page
+# make test              everything that is checked before a change lands: the gate, whose last line is 'N passed, M failed', and beside it
+#                        want of memory, the library, the page, and the program that it proved on sockets and files
 # make memory            each growth of memory refused in turn, alone
 # make interop           the program against lrzsz, which has to be installed
 # make install           puts the program, ymodem-tty, the manual pages and the completion below $(DESTDIR)$(PREFIX)
@@ -35,8 +35,7 @@ layout:
 	    | xargs -0 "$$(dirname "$$(readlink -f "$$(command -v rt)")")/rattle" fmt --check \
 	    || { echo "run rt fmt in the folder of its crate" >&2; exit 1; }
 
-test: layout lib web
-	tests/memory.py
+test: layout
 	@tools/gate.py
 
 # The program that plays recorded reads to the engines, for tests/transfer.py.

@@ -25,6 +25,7 @@ new_exchange = record {
   is_quiet = false;
   waited = false;
   was_prompt = false;
+  is_quick = false;
   last = record { length = 0; first = 0; second = 0 };
   is_repeat = false;
 }
@@ -60,6 +61,18 @@ is_confirming Sender x next =
     nat_lt 0 x.came && not x.waited && x.was_prompt && (nat_eq next.length 1 && is_same x.last next && not x.is_repeat)
 is_confirming Receiver x next = false
 
+-- A sender writes a frame again that it was asked for late, on a line where answers come at once. The answer to the frame would have come
+-- by then: it was lost, or the frame was. So no answer is under way but the one to come.
+abbrev pub is_overdue : Role → Exchange → Front → Bool
+is_overdue Sender x next = nat_lt 0 x.came && (x.waited && (x.is_quick && is_same x.last next))
+is_overdue Receiver x next = false
+
+-- The line has been quiet for the first of the waits for which it is let clear: the last read found it so. Or it is a sender's on which
+-- answers come at once, where none of the copies was written in vain: if nothing comes within one wait, nothing is under way.
+abbrev pub is_calm : Role → Exchange → Bool
+is_calm Sender x = x.is_quiet || x.is_quick
+is_calm Receiver x = x.is_quiet
+
 -- The line has to clear before a write where an answer came to one of several writes, for the answers to the others may be under way; and
 -- where what came filled a delivery.
 abbrev pub must_clear : Role → Exchange → Front → Bool
@@ -68,11 +81,13 @@ must_clear role x next = is_full x || (is_taken role x next && nat_lt 1 x.owed)
 -- something was written
 abbrev pub wrote : Role → Exchange → Front → Exchange
 wrote role x next = record {
-  owed = if is_taken role x next then 1 else (if is_confirming role x next then x.owed else (if nat_eq x.owed 0 then 1 else 2));
+  owed = if is_taken role x next then 1
+      else (if is_confirming role x next || is_overdue role x next then x.owed else (if nat_eq x.owed 0 then 1 else 2));
   came = 0;
   is_quiet = false;
   waited = false;
   was_prompt = if is_same x.last next then x.was_prompt else (not x.waited && not (must_clear role x next));
+  is_quick = if is_taken role x next then nat_lt 0 x.owed && not x.waited else nat_lt 0 x.came && x.is_quick;
   last = next;
   is_repeat = is_same x.last next;
 }

@@ -15,6 +15,7 @@ mod send_engine;
 mod sender;
 mod shaped_batch;
 mod sweep;
+mod withdrawn;
 
 pub use clearing::{Clearing, STALE_READS};
 pub use end_fault::EndFault;

@@ -88,7 +88,7 @@ impl Heed {
     }
 
     /// After these bytes.
-    fn after_all(self, role: Role, bytes: &[u8]) -> Heed
+    pub fn after_all(self, role: Role, bytes: &[u8]) -> Heed
         ensures { result ≡ table.heeds_all role self bytes.now }
     {
         let mut heed = self;

@@ -1,0 +1,34 @@
+#!/bin/sh
+# Which of Debian's packages the tests need beside Python, and whether they are there. A check that
+# needs what is not there is skipped, and says so.
+#
+# usage: packages.sh           names those that are not installed
+#        packages.sh install   installs them, as root
+set -eu
+packages="lrzsz socat picocom strace mandoc lintian bash zsh fish binutils qemu-system-arm u-boot-qemu
+    gcc-aarch64-linux-gnu chromium g++ clang lld llvm valgrind nodejs pkgconf locales"
+
+missing() {
+    for package in $packages; do
+        dpkg-query -W -f '${Status}' "$package" 2> /dev/null | grep -q 'ok installed' || echo "$package"
+    done
+}
+
+get() {
+    DEBIAN_FRONTEND=noninteractive apt-get install -y --no-install-recommends "$@" \
+        > /dev/null 2>&1
+}
+
+# All at once, and where one of them cannot be had each by itself.
+install() {
+    apt-get update > /dev/null 2>&1 || true
+    get $(missing) || for package in $(missing); do get "$package" || true; done
+}
+
+case ${1-} in
+'') ;;
+install) [ -z "$(missing)" ] || install ;;
+*) sed -n '2,6s/^# \{0,1\}//p' "$0" >&2; exit 2 ;;
+esac
+left=$(missing | tr '\n' ' ')
+[ -z "$left" ] || echo "not installed, so what needs them is skipped: $left"
