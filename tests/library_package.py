@@ -24,15 +24,16 @@ FILES = (
 # The library as two files, where they have been made, and what the package has then.
 PORTABLE = os.path.join(ROOT, "out", "portable")
 PORTABLE_FILES = tuple("share/ymodem/portable/" + it for it in ("ymodem.c", "ymodem.h"))
-# What a package is made of.
-PARTS = ("packaging", "include", "examples", "docs", "tools")
+# What a package is made of. The version stands in a source of the program.
+PARTS = ("packaging", "include", "examples", "docs", "tools", "crates/ym_words/src/command.rt")
 
 
 def copied(to, umask):
     """A copy of what the package is made of, as a user with this umask has it."""
     os.mkdir(to)
     for name in PARTS:
-        subprocess.run(["sh", "-c", 'umask "$1"; exec cp -R "$2" "$3"', "", umask, os.path.join(ROOT, name), to], check=True)
+        words = ["sh", "-c", 'umask "$1"; cd "$2"; exec cp -R --parents "$3" "$4"', "", umask, ROOT, name, to]
+        subprocess.run(words, check=True)
     return to
 
 
