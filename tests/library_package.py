@@ -32,8 +32,8 @@ def copied(to, umask):
     """A copy of what the package is made of, as a user with this umask has it."""
     os.mkdir(to)
     for name in PARTS:
-        words = ["sh", "-c", 'umask "$1"; cd "$2"; exec cp -R --parents "$3" "$4"', "", umask, ROOT, name, to]
-        subprocess.run(words, check=True)
+        copy = 'umask "$1"; cd "$2"; exec cp -R --parents "$3" "$4"'
+        subprocess.run(["sh", "-c", copy, "", umask, ROOT, name, to], check=True)
     return to
 
 
@@ -43,7 +43,8 @@ def portable():
 
 def packed(tree, library, umask="022", **environment):
     needs("strip", "readelf", "dpkg-deb")
-    words = ["sh", "-c", 'umask "$1"; shift; exec "$@"', "", umask, tree + "/packaging/package.py", "dev", library, tree + "/out", *portable()]
+    package = [tree + "/packaging/package.py", "dev", library, tree + "/out", *portable()]
+    words = ["sh", "-c", 'umask "$1"; shift; exec "$@"', "", umask, *package]
     return subprocess.run(words, env={**FIXED, **environment}, capture_output=True, text=True, check=True).stdout.strip()
 
 
@@ -77,7 +78,8 @@ def unpacked(top, library):
     """The folder `usr` of a package that was taken apart, with its files in it."""
     file = packed(copied(top + "/one", "022"), library)
     subprocess.run(["dpkg-deb", "--extract", file, top + "/root"], check=True)
-    missing = [it for it in FILES + PORTABLE_FILES * len(portable()) if not os.path.isfile(os.path.join(top, "root", "usr", it))]
+    wanted = FILES + PORTABLE_FILES * len(portable())
+    missing = [it for it in wanted if not os.path.isfile(os.path.join(top, "root", "usr", it))]
     if missing:
         raise AssertionError("it lacks %s" % missing)
     with open(os.path.join(ROOT, "include", "ymodem.h"), encoding="utf-8") as one, open(top + "/root/usr/include/ymodem.h", encoding="utf-8") as other:

@@ -1,5 +1,6 @@
-/* Random calls of the library for C, the same for each seed. Tells a line a call: its number, which call, what it answered, and a sum
-   of all that the calls read and write; two builds of the library have to tell the same. usage: portable_calls CALLS SEED */
+/* Random calls of the library for C, the same for each seed. Tells a line a call: its number, which
+   call, what it answered, and a sum of all that the calls read and write; two builds of the library
+   have to tell the same. usage: portable_calls CALLS SEED */
 #include "ymodem.h"
 
 #include <stdio.h>
@@ -95,7 +96,8 @@ static void anything(void) {
     all.reader.len = (uint32_t)below(1040);
 }
 
-/* Bytes of a delivery: control bytes, rubbish, the frame of the sender, a part of it, or damaged. Gives how many. */
+/* Bytes of a delivery: control bytes, rubbish, the frame of the sender, a part of it, or damaged.
+ * Gives how many. */
 static size_t delivery(void) {
     static const uint8_t controls[] = { 0x06, 0x15, 0x18, 0x43, 0x04, 0x01, 0x02 };
     size_t len = (size_t)below(8);
@@ -114,7 +116,8 @@ static size_t delivery(void) {
     return len;
 }
 
-static const char *const names[] = { "a.bin", "a file (2)", "\xC3\xA4.bin", "..", ".", "a/b", "\xFF", "\x01", "" };
+static const char *const names[] = { "a.bin", "a file (2)", "\xC3\xA4.bin", "..", ".", "a/b",
+    "\xFF", "\x01", "" };
 
 /* A name into `bytes`: one of these, long, or rubbish. Gives its length. */
 static size_t name(void) {
@@ -126,11 +129,14 @@ static size_t name(void) {
         return len;
     }
     len = (size_t)below(300);
-    for (size_t i = 0; i < len; i++) all.bytes[i] = kind == 9 ? (uint8_t)chance() : (uint8_t)('a' + below(26));
+    for (size_t i = 0; i < len; i++)
+        all.bytes[i] = kind == 9 ? (uint8_t)chance() : (uint8_t)('a' + below(26));
     return len;
 }
 
-static size_t body_size(void) { return below(4) ? (below(2) ? 128 : 1024) : (size_t)below(LONGEST + 1); }
+static size_t body_size(void) {
+    return below(4) ? (below(2) ? 128 : 1024) : (size_t)below(LONGEST + 1);
+}
 
 /* The numbers that a call is given, each drawn in its turn. */
 static struct {
@@ -151,10 +157,12 @@ static void draw(void) {
 
 static uint32_t fill_header(void) {
     given.name_len = name();
-    return ym_sender_header(&all.sender, all.bytes, given.name_len, given.length, given.stamp, given.time, given.mode);
+    return ym_sender_header(
+        &all.sender, all.bytes, given.name_len, given.length, given.stamp, given.time, given.mode);
 }
 
-/* A receiver that runs, and holds what it may hear there: the frame of a header or of a block, or an EOT. */
+/* A receiver that runs, and holds what it may hear there: the frame of a header or of a block, or
+ * an EOT. */
 static void meet(void) {
     any_stand(&all.receiver.stand);
     all.receiver.stand.state = YM_RUNNING;
@@ -169,9 +177,7 @@ static void meet(void) {
     switch (below(3)) {
     case 0: fill_header(); break;
     case 1: ym_sender_block(&all.sender, all.bytes, below(2) ? 128 : 1024); break;
-    default:
-        all.sender.frame[0] = 0x04;
-        all.sender.len = 1;
+    default: all.sender.frame[0] = 0x04; all.sender.len = 1;
     }
     memcpy(all.receiver.held, all.sender.frame, sizeof all.receiver.held);
     all.receiver.len = all.sender.len;
@@ -213,9 +219,7 @@ static uint64_t call_sender(uint64_t which, size_t len, size_t files) {
 static uint64_t call_frames(uint64_t which, size_t len) {
     switch (which) {
     case 12: return ym_check(all.bytes, given.room);
-    case 13:
-        ym_frame_read(all.bytes, len, &all.front);
-        return all.front.kind;
+    case 13: ym_frame_read(all.bytes, len, &all.front); return all.front.kind;
     case 14: return ym_frame_write(given.word, all.bytes, given.size, all.out, given.room);
     case 15:
         if (given.word % 4 == 0) ym_reader_init(&all.reader);
@@ -226,7 +230,8 @@ static uint64_t call_frames(uint64_t which, size_t len) {
         return all.header.kind;
     default:
         given.name_len = name();
-        return ym_header_write(all.bytes, given.name_len, given.length, given.stamp, given.time, given.mode, all.out, given.room);
+        return ym_header_write(all.bytes, given.name_len, given.length, given.stamp, given.time,
+            given.mode, all.out, given.room);
     }
 }
 
@@ -243,7 +248,8 @@ int main(int words, char **word) {
         if (which < 5) answer = call_receiver(which, len);
         else if (which < 12) answer = call_sender(which, len, files);
         else answer = call_frames(which, len);
-        printf("%ld %d %llu %016llx\n", i, (int)which, (unsigned long long)answer, (unsigned long long)sum(&all, sizeof all));
+        printf("%ld %d %llu %016llx\n", i, (int)which, (unsigned long long)answer,
+            (unsigned long long)sum(&all, sizeof all));
     }
     return 0;
 }

@@ -1,4 +1,5 @@
-"""What the library for C as one pair of files takes on a processor without an operating system: text, RAM, and the stack of its calls."""
+"""What the library for C as one pair of files takes on a processor without an operating system: its
+text, its RAM, and the stack of its calls."""
 
 import os
 import re
@@ -40,11 +41,14 @@ USES = {
     "receiver": RECEIVER + "void use(void);\nvoid use(void) { receive(); }\n",
     "both": RECEIVER + SENDER + "void use(void);\nvoid use(void) { receive(); send(); }\n",
 }
-RECEIVES = ("ym_receiver_init", "ym_receiver_wants", "ym_receiver_feed", "ym_receiver_hear", "ym_receiver_answer")
+RECEIVES = ["ym_receiver_" + it for it in ("init", "wants", "feed", "hear", "answer")]
+# A line of what gcc tells of the stack: the place of a function with its name, and its frame.
+FRAME = re.compile(r"^.*:(\w+)\S*\t(\d+)\t", re.M)
 
 
 def deepest(source, frames, name):
-    """The bytes of stack of a function with all that it calls. One that was put into its caller has no frame of its own."""
+    """The bytes of stack of a function with all that it calls. One that the compiler put into its
+    caller has no frame of its own."""
     body = re.search(r"^[^\n;]*\b%s\([^;{]*\) \{\n(.*?)^\}" % name, source, re.M | re.S)[1]
     called = set(re.findall(r"\b(core_\w+)\(", body)) - {name}
     return frames.get(name, 0) + max([deepest(source, frames, it) for it in called] or [0])
@@ -59,14 +63,15 @@ def sizes(words, portable, use):
         for name, text in (("use.c", USES[use]), ("use.ld", SCRIPT)):
             with open(os.path.join(top, name), "w") as it:
                 it.write(text)
-        sections = ["-std=c99", "-ffunction-sections", "-fdata-sections", "-fstack-usage", "-I", portable]
+        how = ["-std=c99", "-ffunction-sections", "-fdata-sections", "-fstack-usage"]
+        how += ["-I", portable]
         for path in (os.path.join(portable, "ymodem.c"), "use.c"):
-            command(compiler, *flags, *sections, "-c", path, cwd=top)
-        linked = ["-nostartfiles", "-specs=nano.specs", "-Wl,--gc-sections", "-T", "use.ld", "use.o", "ymodem.o", "-o", "use.elf"]
-        command(compiler, *flags, *linked, cwd=top)
+            command(compiler, *flags, *how, "-c", path, cwd=top)
+        how = ["-nostartfiles", "-specs=nano.specs", "-Wl,--gc-sections", "-T", "use.ld"]
+        command(compiler, *flags, *how, "use.o", "ymodem.o", "-o", "use.elf", cwd=top)
         text, data, rest = map(int, command(tool, "use.elf", cwd=top).splitlines()[1].split()[:3])
         with open(os.path.join(top, "ymodem.su")) as it:
-            frames = {line.split("\t")[0].rpartition(":")[2].partition(".")[0]: int(line.split("\t")[1]) for line in it}
+            frames = {name: int(size) for name, size in FRAME.findall(it.read())}
     with open(os.path.join(portable, "ymodem.c"), encoding="utf-8") as it:
         source = it.read()
     return text, data + rest, max(deepest(source, frames, it) for it in RECEIVES)
