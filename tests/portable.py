@@ -20,6 +20,7 @@ import re
 import subprocess
 import sys
 import tempfile
+import threading
 
 sys.dont_write_bytecode = True
 sys.path.insert(0, os.path.dirname(os.path.abspath(__file__)))
@@ -37,6 +38,7 @@ SOURCE, HEADER = (os.path.join(PORTABLE, "ymodem." + it) for it in "ch")
 WASM = os.path.join(ROOT, "out", "lib", "wasm64-unknown-unknown", "libymodem.a")
 BUILT = tempfile.TemporaryDirectory(prefix="ymodem-portable-")
 AT_ONCE = 4
+SUITE = threading.Lock()
 
 # gcc for x86-64 makes programs for i386 too, with gcc-12-multilib, and Linux's headers for x86-64.
 WORDS_32 = "-m32 -idirafter /usr/include/x86_64-linux-gnu"
@@ -239,7 +241,9 @@ def suite(words, *chosen):
             command("ar", "rcD", top + "/libymodem.a", top + "/ymodem.o")
             where = {**os.environ, "YM_LIBRARY": top + "/libymodem.a", "YM_CFLAGS": words}
             how = {"env": where, "capture_output": True, "text": True, "check": False}
-            ran = subprocess.run([os.path.join(TESTS, "library.py"), *chosen], **how)
+            # hundreds of processes each: one behind the other
+            with SUITE:
+                ran = subprocess.run([os.path.join(TESTS, "library.py"), *chosen], **how)
         failed = [it for it in ran.stdout.splitlines() if it.startswith("FAILED")]
         wants(ran.returncode == 0, "\n".join(failed) or ran.stdout[-900:] + ran.stderr[-900:])
 
