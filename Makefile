@@ -105,6 +105,7 @@ portable:
 test-portable: build portable
 	@$(MAKE) --no-print-directory lib TARGETS=$(TARGET)
 	tests/portable.py --long
+	tests/cortex_m.py
 
 install-lib: lib
 	install -D -m 644 out/lib/$(TARGET)/libymodem.a "$(DESTDIR)$(PREFIX)/lib/libymodem.a"
