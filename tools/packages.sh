@@ -6,7 +6,10 @@
 #        packages.sh install   installs them, as root
 set -eu
 packages="lrzsz socat picocom strace mandoc lintian bash zsh fish binutils qemu-system-arm u-boot-qemu
-    gcc-aarch64-linux-gnu chromium g++ clang lld llvm valgrind nodejs pkgconf locales"
+    gcc-aarch64-linux-gnu chromium g++ clang lld llvm valgrind nodejs pkgconf locales
+    binaryen wabt qemu-user gcc-12-multilib gcc-arm-none-eabi libnewlib-arm-none-eabi
+    gcc-arm-linux-gnueabihf libc6-dev-armhf-cross gcc-mipsel-linux-gnu libc6-dev-mipsel-cross
+    gcc-riscv64-linux-gnu libc6-dev-riscv64-cross gcc-riscv64-unknown-elf picolibc-riscv64-unknown-elf"
 
 missing() {
     for package in $packages; do
@@ -14,8 +17,9 @@ missing() {
     done
 }
 
+# Nothing is removed for another one: `gcc-multilib`, say, would take the other compilers away.
 get() {
-    DEBIAN_FRONTEND=noninteractive apt-get install -y --no-install-recommends "$@" \
+    DEBIAN_FRONTEND=noninteractive apt-get install -y --no-remove --no-install-recommends "$@" \
         > /dev/null 2>&1
 }
 
