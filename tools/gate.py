@@ -87,12 +87,17 @@ class Gate:
             self.child.wait()
 
     def ended(self):
-        """Waits for its end, and writes all that it said. Gives its status."""
+        """Waits for its end, and writes what it took and all that it said. Gives its status."""
         with self.changed:
             self.changed.wait_for(lambda: self.is_over)
+        if self.child.returncode is None:
+            _, status, used = os.wait4(self.child.pid, 0)
+            self.child.returncode = os.waitstatus_to_exitcode(status)
+            took = (time.monotonic() - self.began) / 60, (used.ru_utime + used.ru_stime) / 60
+            tell("the gate took %.1f minutes, and %.1f processor minutes" % took)
         sys.stdout.write("".join(self.lines))
         sys.stdout.flush()
-        return self.child.wait()
+        return self.child.returncode
 
 
 class Beside:
