@@ -1,0 +1,10 @@
+pub mod Clearing
+pub mod Ear
+pub mod Heard
+pub mod Hold
+pub mod Out
+pub mod Pace
+pub mod Sent
+pub mod Times
+pub mod Timing
+pub mod Writing

@@ -1,0 +1,25 @@
+//! When an end of a line waits, asks again, lets the line clear, and what it does not hear: a
+//! machine without IO, for which time is an input.
+#![tactic(auto)]
+
+mod heard;
+mod hold;
+mod limits;
+mod out;
+mod clearing;
+mod ear;
+mod pace;
+mod role;
+mod sent;
+mod timing;
+mod writing;
+
+pub use clearing::{Clearing, Heed, Need};
+pub use ear::{Ear, Echo, Listened};
+pub use heard::Heard;
+pub use hold::{Hold, Said, Say, Wary};
+pub use out::{Out, Owed};
+pub use pace::{Pace, Trust};
+pub use role::Role;
+pub use sent::{Kind, Sent};
+pub use timing::{Front, Timing, Vain, Wait};
