@@ -1,327 +1,315 @@
-"""The rule for the line with time as an input: a decision core without IO, and a port that drives it. Times of the core are milliseconds."""
+"""The rule for the line with time as an input, as the crate `ym_timing` has it, name by name.
 
-from ends import ACK, CAN, CANCEL, CONTROLS, EOT, LIMIT, NAK, START, WITHIN
+`Timing` is the decision core, without IO; `Timed` is a port that drives it. Times of the core are
+milliseconds.
+"""
+
+from dataclasses import dataclass
+
+from ends import ACK, CAN, CANCEL, CONTROLS, WITHIN
 from line import MS, Read, Write
+from replies import WITHIN_MS, Ear, Hold, Sent
 
 FIRST = {"sender": 10_000, "receiver": 3_000}
-SHORT = 1_000
 LONGEST = 60_000
 MARGIN = 250
 QUIET = {"sender": 1_250, "receiver": 1_000}
 APART = 2_000
-PEER = 2_750
+UNASKED = 2_750
 SOON = 1_750
 HELD_UP = 2_000
 MOMENT = 100
-STALE = 10
-JUNK = 4
 FRAGMENT = 64
-NONE, DOUBTFUL, SURE = range(3)
+FULL = 2_048
+HALVINGS = 4
+PATIENCE = 2_500
 
 
-class Core:
+@dataclass
+class Heard:
+    count: int = 0
+    since: int = 0
+    last: int = 0
+    first: int = 0
+    second: int = 0
+    is_quiet: bool = False
+    has_waited: bool = False
+    is_late: bool = False
+
+    def take(self, byte, now):
+        if self.count == 0:
+            self.since, self.first, self.is_late = now, byte, self.has_waited
+        if self.count == 1:
+            self.second = byte
+        self.count = min(FULL, self.count + 1)
+        self.last, self.is_quiet = now, False
+
+    def is_noise(self):
+        return self.count >= FULL and not self.is_quiet
+
+
+@dataclass
+class Out:
+    owed: str = "nothing"
+    copies: int = 0
+    first_at: int = 0
+    last_at: int = 0
+    gap: int = 0
+
+    def again(self, now):
+        gap = max(self.gap, now - self.last_at)
+        return Out("several", min(255, self.copies + 1), self.first_at, now, gap)
+
+
+@dataclass
+class Clearing:
+    need: str
+    frm: int
+    owed: int
+    answered_at: int
+    end_at: int
+    has_brought: bool = False
+    heed: str = "open"
+
+
+class Timing:
     """What an end and its line have said of late, and when."""
 
     def __init__(self, role):
         self.role = role
-        # writes whose answer did not come: how many, the first, the last, the greatest time between two, and whether one was made unasked
-        self.out, self.first_at, self.last_at, self.gap, self.is_long = 0, 0, 0, 0, False
-        self.vain, self.is_brief = 0, False
-        # what came since the last write or quiet
-        self.came_count, self.came_at, self.heard_at = 0, 0, 0
-        self.is_quiet, self.waited, self.asked = False, False, False
-        self.led_at = 0
-        # how long answers take
-        self.slowest, self.trust = 0, NONE
-        # what was written last, and for a receiver the frame that it heard last
-        self.last, self.is_repeat = b"", False
-        self.front, self.heard_front = b"", None
-        # what is held back or dropped
-        self.holds, self.stale_left, self.stale_at = False, 0, 0
-        self.echo, self.head, self.junk, self.byte_at = -1, b"", 0, 0
-        self.cancel = False
-        self.owed = 0
-        # whether the block 0 before an EOT was answered doubtfully: then the first ACK C of the EOT may be its
-        self.wary = self.drops = self.shaken = False
+        self.slowest, self.trust = 0, "unknown"
+        self.out, self.sent, self.led_at, self.heard = Out(), Sent(), 0, Heard()
+        self.ear, self.hold, self.echoed, self.front = Ear(), Hold(), 0, None
+        self.is_shaken, self.vain, self.has_cancel = False, 0, False
 
-    # ---- how long an answer takes
+    # ---- how long answers take
 
     def bound(self):
         return self.slowest + self.slowest // 2 + MARGIN
 
-    def sample(self, took, is_sure):
-        if not is_sure:
-            if self.trust != SURE or took > self.slowest:
-                self.slowest, self.trust = took, DOUBTFUL
-        elif self.trust != SURE or took >= self.slowest:
-            self.slowest, self.trust = took, SURE
-        else:
+    def doubtful(self, took):
+        if self.trust != "sure" or took > self.slowest:
+            self.slowest, self.trust = took, "doubtful"
+
+    def sure(self, took):
+        if self.trust == "sure" and took < self.slowest:
             self.slowest -= (self.slowest - took) // 4
-
-    def reply_wait(self):
-        first = FIRST[self.role]
-        return min(LONGEST, max(first, self.bound())) if self.trust != NONE else first
-
-    # ---- what comes
-
-    def came(self, data, now):
-        """What of these bytes is to be heard."""
-        if self.role == "receiver":
-            return self.came_frame(data, now)
-        if now - self.byte_at >= SHORT:
-            self.echo, self.head, self.junk = -1, b"", 0
-        self.byte_at = now
-        data = self.without_echo(data)
-        controls = bytes(b for b in data if b in CONTROLS)
-        if CANCEL in controls:
-            self.holds = False
-            return self.counted(CANCEL, now)
-        return self.counted(self.unheld(self.fresh(controls, now), now), now)
-
-    def counted(self, data, now):
-        if data:
-            if not self.came_count:
-                self.came_at = now
-            self.came_count += len(data)
-            self.heard_at = now
-            self.is_quiet = False
-            self.asked = True
-        return data
-
-    def came_frame(self, data, now):
-        if not self.came_count:
-            written, at = self.last, 0
-            while at < min(len(data), len(written)) and self.echo + 1 + at < len(written) and data[at] == written[self.echo + 1 + at]:
-                at += 1
-            self.echo += at
-            data = data[at:]
-        if data:
-            self.echo = len(self.last)
-            if not self.came_count:
-                self.came_at, self.front = now, b""
-            self.front = (self.front + data)[:3]
-            self.came_count = min(LIMIT, self.came_count + len(data))
-            self.heard_at = now
-            self.is_quiet = False
-        return data
-
-    def without_echo(self, data):
-        """Drops what comes back of what was written: exactly, as far as it goes; and where it stops to be that, all until the line is quiet."""
-        out = bytearray()
-        for byte in data:
-            if self.echo >= 0:
-                if self.echo < len(self.last) and byte == self.last[self.echo]:
-                    self.echo += 1
-                    if self.echo == len(self.last):
-                        self.echo = -1
-                else:
-                    self.echo = LIMIT
-                continue
-            self.head = (self.head + bytes([byte]))[-3:]
-            if self.head[0] in (1, 2) and len(self.head) == 3 and self.head[1] + self.head[2] == 255:
-                self.echo = 3 if self.head == self.last[:3] else LIMIT
-                self.head = b""
-                continue
-            if len(self.head) > 1 and self.head[-2] in (1, 2):
-                continue
-            if byte not in CONTROLS:
-                self.junk += 1
-            elif byte != ACK or self.junk < JUNK:
-                out.append(byte)
-        return bytes(out)
-
-    def is_opening(self):
-        return len(self.last) > 3 and self.last[1] == 0 and self.last[3] != 0 and not self.is_repeat
-
-    def fresh(self, data, now):
-        """C alone right behind a new block 0 asks for what is on its way."""
-        if data and self.stale_left and set(data) == {START} and not self.came_count and now - self.stale_at < SHORT:
-            self.stale_left -= 1
-            self.stale_at = now
-            return b""
-        return data
-
-    def unheld(self, data, now):
-        """The ACK of an EOT is heard with the C behind it, and that of the end block when nothing came behind it for a moment."""
-        is_eot, is_end = self.last == bytes([EOT]), len(self.last) > 3 and self.last[1] == 0 == self.last[3]
-        if not (is_eot or is_end):
-            return data
-        out = bytearray()
-        for byte in data:
-            if self.wary and byte == ACK:
-                self.wary, self.drops = False, True
-            elif self.drops and byte == START:
-                self.drops = False
-            elif byte == ACK:
-                if not self.holds:
-                    self.holds, self.heard_at = True, now
-            elif byte == START and self.holds and is_eot:
-                self.holds = False
-                out += bytes([ACK, START])
-            else:
-                self.holds = self.drops = False
-                self.wary = self.wary and byte != NAK
-                out.append(byte)
-        return bytes(out)
-
-    def until(self, kind, start, now):
-        """Until when a read waits."""
-        if kind == WITHIN:
-            end = start + SHORT
         else:
-            end = start + self.reply_wait()
-        if self.holds:
-            return self.heard_at + MOMENT if self.last != bytes([EOT]) else max(end, self.heard_at + SHORT)
-        return end
+            self.slowest, self.trust = took, "sure"
 
-    def expired(self, now):
-        """A read waited in vain: what is to be heard yet."""
-        if self.holds and self.last != bytes([EOT]):
-            self.holds = False
-            return self.counted(bytes([ACK]), now)
-        self.holds = False
-        self.is_quiet = self.waited = True
+    def wait(self):
+        first = FIRST[self.role]
+        return first if self.trust == "unknown" else min(LONGEST, max(first, self.bound()))
+
+    # ---- waits and what comes
+
+    def is_early(self, kind):
+        return kind != WITHIN and self.role == "sender" and not self.heard.has_waited
+
+    def until(self, kind, start):
+        if kind == WITHIN:
+            end = start + WITHIN_MS
+        else:
+            end = start + (PATIENCE if self.is_early(kind) else self.wait())
+        if not self.hold.is_held:
+            return end
+        if self.sent.kind == "end":
+            return self.hold.at + MOMENT
+        return max(end, self.hold.at + WITHIN_MS)
+
+    def expired(self, kind, now):
+        """What a read that waited in vain comes to: "ack", "again" or "quiet"."""
+        if self.sent.kind == "end" and self.hold.is_held:
+            self.hold.is_held = False
+            self.heard.take(ACK, now)
+            return "ack"
+        if self.is_early(kind):
+            self.heard.is_quiet, self.heard.has_waited = False, True
+            return "again"
+        self.hold.is_held = False
+        self.heard.is_quiet = self.heard.has_waited = True
+        return "quiet"
+
+    def byte(self, byte, written, now):
+        """What of a byte that came is to be heard."""
         if self.role == "receiver":
-            self.echo = len(self.last)
-        return b""
+            is_echo = not self.heard.count and self.echoed < len(written)
+            if is_echo and written[self.echoed] == byte:
+                self.echoed += 1
+                return b""
+            self.heard.take(byte, now)
+            return bytes([byte])
+        if not self.ear.listen(byte, written, now):
+            return b""
+        said = self.hold.control(self.sent.kind, byte, self.heard.count == 0, now)
+        if said:
+            self.heard.take(byte, now)
+        return said
 
-    # ---- before a write
+    # ---- clearing
 
-    def is_taken(self, data):
+    def is_taken(self, following):
         if self.role == "sender":
-            return self.came_count > 0 and data != self.last
-        return 0 < self.came_count < LIMIT and not self.is_quiet
+            return self.heard.count > 0 and not self.sent.is_same(following)
+        return self.heard.count > 0 and not self.heard.is_noise() and not self.heard.is_quiet
 
-    def must_clear(self, data, now):
-        self.is_full = self.came_count >= LIMIT and not self.is_quiet
-        self.late_self = self.came_count > 0 and self.heard_at + HELD_UP <= now and not self.waited and not self.is_quiet
-        return self.is_full or self.late_self or (self.is_taken(data) and (self.is_long or self.is_brief))
+    def was_held_up(self, now):
+        heard = self.heard
+        return heard.count > 0 and not heard.is_quiet and heard.last + HELD_UP <= now
 
-    def clear_until(self):
-        """When the line is clear: all answers came, by how long they take, or by how far apart they may be; and it is quiet."""
-        if self.is_full or self.late_self:
-            return self.heard_at + QUIET[self.role]
-        if not self.is_long:
-            quiet = min(QUIET[self.role], self.slowest + 2 * MOMENT)
-            return self.heard_at + max(MOMENT, quiet >> self.vain)
-        apart = self.heard_at + self.gap + APART
-        late = self.last_at + self.bound() if self.trust != NONE else apart
-        return max(self.heard_at + QUIET[self.role], min(late, apart))
+    def need(self, following, now):
+        taken = self.is_taken(following)
+        if self.out.owed == "several" and taken:
+            return "several"
+        if self.heard.is_noise() or self.was_held_up(now):
+            return "quiet"
+        return "late" if self.out.owed == "late" and taken else "nothing"
 
-    def begin_clear(self, now):
-        self.owed = self.out - 1
-        self.tail = b""
-        self.give_up_at = now + LONGEST
-        self.was_vain = True
-        if self.late_self:
-            self.heard_at = now
+    def clearing(self, data, now):
+        need = self.need(self.sent.then(data), now)
+        frm = now if self.was_held_up(now) else self.heard.last
+        return Clearing(need, frm, max(0, self.out.copies - 1), self.heard.last, now + LONGEST)
 
-    def dropped(self, data, now):
-        """Takes what comes while the line clears; answers whether it is over."""
-        self.was_vain = False
-        if self.role == "receiver":
-            self.heard_at = now
-            self.tail = (self.tail + data)[:2] if len(self.tail) < 2 else self.tail
-            if self.tail == CANCEL:
-                self.cancel = True
-            return self.cancel or now >= self.give_up_at
-        if now - self.byte_at >= SHORT:
-            self.echo, self.head, self.junk = -1, b"", 0
-        self.byte_at = now
-        heard = self.without_echo(data)
-        if self.is_full or self.late_self or ACK in heard:
-            self.heard_at = now
-        self.tail = (self.tail + heard)[-20:]
-        if CANCEL in self.tail:
-            self.cancel = True
-        if ACK in heard and len(self.last) > 3 and self.owed:
-            self.owed -= 1
-            if not self.owed:
-                return True
-        return self.cancel or now >= self.give_up_at
+    def clear_at(self, clearing):
+        """Until when what comes is dropped; 0 where nothing is to be."""
+        quiet, frm = QUIET[self.role], clearing.frm
+        if self.has_cancel or clearing.need == "nothing":
+            return 0
+        if clearing.need == "quiet":
+            until = frm + quiet
+        elif clearing.need == "late":
+            soon = min(quiet, self.slowest + 2 * MOMENT) // (1 << self.vain)
+            until = frm + max(MOMENT, soon)
+        else:
+            counts = self.role == "sender" and self.sent.kind in ("data", "opening")
+            if counts and clearing.has_brought and clearing.owed == 0:
+                return 0
+            apart = frm + self.out.gap + APART
+            late = apart if self.trust == "unknown" else self.out.last_at + self.bound()
+            until = max(frm + quiet, min(apart, late))
+        return min(until, clearing.end_at)
+
+    def dropped(self, clearing, byte, written, now):
+        is_heard = self.role == "receiver" or self.ear.listen(byte, written, now)
+        answers = is_heard and byte == ACK
+        if answers or self.role == "receiver" or clearing.need == "quiet":
+            clearing.frm = now
+        if answers and clearing.answered_at < now:
+            clearing.owed = max(0, clearing.owed - 1)
+        if answers:
+            clearing.answered_at = now
+        clearing.has_brought = True
+        if is_heard:
+            if clearing.heed == "can" and byte == CAN:
+                self.has_cancel = True
+            may = clearing.heed == "open" or (clearing.heed == "other" and self.role == "sender")
+            clearing.heed = "can" if may and byte == CAN else "other"
 
     # ---- a write
 
-    def is_prompted(self):
-        """Whether the copy that is written now was asked for by the answer to the write before, and by nothing else."""
-        if self.role == "receiver":
-            return self.heard_front is not None and self.came_count >= FRAGMENT
-        took = self.came_at - self.led_at
-        limit = max(SOON, PEER - self.slowest) if self.trust != NONE else SOON
-        return self.asked and not self.waited and self.out == 1 and took <= limit
+    def took(self, written_at):
+        took = max(0, self.heard.since - written_at)
+        return max(took, PATIENCE) if self.role == "sender" and self.heard.is_late else took
 
-    def wrote(self, data, now, cleared=False):
-        taken, same = self.is_taken(data), data == self.last
-        if not same:
-            is_header = len(self.last) > 3 and self.last[1] == 0
-            if self.is_long or self.is_brief or cleared:
-                self.shaken = True
-            elif len(self.last) > 3 and not is_header:
-                self.shaken = False
-            self.wary = self.shaken and is_header and data == bytes([EOT])
-        leads = taken and (self.role == "sender" or self.front[:2] != self.heard_front)
-        if leads and self.out:
-            vain = cleared and self.was_vain and self.role == "sender"
-            start = self.last_at if vain else self.first_at
-            self.sample(max(0, self.came_at - start), vain or not self.is_long)
-        if taken or self.out == 0 or self.is_prompted():
-            self.out, self.first_at, self.gap, self.is_long, self.is_brief = 1, now, 0, False, False
+    def learn(self, clearing, taken):
+        is_other = self.role == "sender" or self.front != (self.heard.first, self.heard.second)
+        if not (taken and is_other and self.out.owed != "nothing"):
+            return
+        vain = clearing.need in ("late", "several") and not clearing.has_brought
+        if self.role == "sender" and vain:
+            self.sure(self.took(self.out.last_at))
+        elif self.out.owed == "several":
+            self.doubtful(self.took(self.out.first_at))
         else:
-            is_late = self.trust == SURE and self.last_at + self.bound() <= self.came_at and self.asked
-            if is_late and not self.is_long:
-                self.first_at, self.is_brief = now, True
-            else:
-                self.out += 1
-                self.gap = max(self.gap, now - self.last_at)
-                self.is_long = True
-        if cleared and not self.late_self and not self.is_full:
-            self.vain = min(4, self.vain + 1) if self.was_vain else 0
-        if taken and self.role == "receiver":
-            self.heard_front = self.front[:2]
-        self.led_at = self.came_at if self.came_count else now
-        self.last_at = now
-        self.last, self.is_repeat = data, same
-        self.came_count, self.is_quiet, self.waited, self.asked, self.holds = 0, False, False, False, False
-        self.stale_left, self.stale_at = (STALE, now) if self.is_opening() else (0, 0)
-        self.front, self.junk = b"", 0
+            self.sure(self.took(self.out.first_at))
+
+    def is_prompted(self):
         if self.role == "receiver":
-            self.echo = -1
+            return self.front is not None and self.heard.count >= FRAGMENT
+        soon = SOON if self.trust == "unknown" else max(SOON, UNASKED - self.slowest)
+        took = max(0, self.heard.since - self.led_at)
+        is_one = self.out.owed in ("one", "late")
+        return is_one and self.heard.count > 0 and not self.heard.has_waited and took <= soon
+
+    def is_late(self):
+        is_one = self.role == "sender" and self.out.owed in ("one", "late")
+        is_overdue = self.out.last_at + self.bound() <= self.heard.since
+        return is_one and self.trust == "sure" and self.heard.count > 0 and is_overdue
+
+    def out_after(self, taken, now):
+        if self.out.owed == "nothing" or taken or self.is_prompted():
+            return Out("one", 1, now, now, 0)
+        return Out("late", 1, now, now, 0) if self.is_late() else self.out.again(now)
+
+    def wrote(self, data, clearing, now):
+        following = self.sent.then(data)
+        repeat, taken = self.sent.is_same(following), self.is_taken(following)
+        shaken = self.is_shaken
+        if not repeat:
+            calm = self.sent.kind == "data"
+            shaken = clearing.need != "nothing" or (self.is_shaken and not calm)
+        empty = self.sent.kind == "opening" and following.kind == "eot"
+        out = self.out_after(taken, now)
+        self.learn(clearing, taken)
+        if clearing.need in ("late", "several"):
+            self.vain = 0 if clearing.has_brought else min(HALVINGS, self.vain + 1)
+        self.hold.wrote(following.kind == "opening", repeat, shaken and empty, now)
+        if self.role == "receiver" and taken:
+            self.front = (self.heard.first, self.heard.second)
+        self.led_at = self.heard.since if self.heard.count else now
+        self.out, self.sent, self.is_shaken = out, following, shaken
+        self.heard, self.echoed, self.ear.others = Heard(), 0, 0
+
+
+def cancels(data):
+    """Whether CAN CAN stands among the control bytes of what came."""
+    return CANCEL in bytes(byte for byte in data if byte in CONTROLS)
 
 
 class Timed:
     """A port that drives the core over a line."""
 
     def __init__(self, role, line):
-        self.core, self.line, self.held = Core(role), line, b""
+        self.core, self.line, self.written = Timing(role), line, b""
 
     def now(self):
         return self.line.now // MS
 
+    def heard_of(self, data):
+        now, heard = self.now(), b""
+        for byte in data:
+            heard += self.core.byte(byte, self.written, now)
+        return CANCEL if self.core.role == "sender" and cancels(heard) else heard
+
     def read(self, kind, room):
         core, start = self.core, self.now()
-        if core.cancel:
-            core.cancel = False
-            return core.counted(CANCEL, start)
+        if core.has_cancel:
+            core.has_cancel = False
+            return CANCEL
         while True:
-            until = core.until(kind, start, self.now())
+            until = core.until(kind, start)
             got = yield Read(max(0, until * MS - self.line.now), room)
-            if got is None:
-                return core.expired(self.now()) or None
-            heard = core.came(got, self.now())
-            if heard:
-                return heard
+            if got is not None:
+                heard = self.heard_of(got)
+                if heard:
+                    return heard
+                continue
+            vain = core.expired(kind, self.now())
+            if vain != "again":
+                return bytes([ACK]) if vain == "ack" else None
 
     def write(self, data):
         core = self.core
-        cleared = core.must_clear(data, self.now()) and not core.cancel
-        if cleared:
-            core.begin_clear(self.now())
-            while True:
-                wait = core.clear_until() * MS - self.line.now
-                got = yield Read(max(0, wait))
-                if got is None or core.dropped(got, self.now()):
-                    break
-        core.wrote(data, self.now(), cleared)
+        clearing = core.clearing(data, self.now())
+        while True:
+            until = core.clear_at(clearing)
+            if until <= self.now():
+                break
+            got = yield Read(max(0, until * MS - self.line.now))
+            if got is None:
+                break
+            for byte in got:
+                core.dropped(clearing, byte, self.written, self.now())
+        core.wrote(data, clearing, self.now())
+        self.written = data
         yield Write(data)
-
-

@@ -12,6 +12,7 @@ new_heard = record {
   second = 0;
   is_quiet = false;
   has_waited = false;
+  is_late = false;
 }
 
 abbrev pub take_byte : ℕ → ℕ → Heard → Heard
@@ -22,6 +23,7 @@ take_byte byte now h = record h {
   first = if nat_eq h.count 0 then byte else h.first;
   second = if nat_eq h.count 1 then byte else h.second;
   is_quiet = false;
+  is_late = if nat_eq h.count 0 then h.has_waited else h.is_late;
 }
 
 abbrev pub waited : Bool → Heard → Heard

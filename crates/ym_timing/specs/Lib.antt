@@ -1,3 +1,4 @@
+pub mod Cancel
 pub mod Clearing
 pub mod Ear
 pub mod Heard
@@ -5,6 +6,8 @@ pub mod Hold
 pub mod Out
 pub mod Pace
 pub mod Sent
+pub mod Session
 pub mod Times
 pub mod Timing
+pub mod TimingExamples
 pub mod Writing

@@ -67,11 +67,11 @@ leads_on taken t = taken && is_other t.role t && is_out t.out.owed
 
 -- as long as a sender waited in vain, whatever its clock says
 abbrev pub took_by : Role → Bool → ℕ → ℕ
-took_by Sender has_waited took = if has_waited then max took PATIENCE else took
-took_by Receiver has_waited took = took
+took_by Sender is_late took = if is_late then max took PATIENCE else took
+took_by Receiver is_late took = took
 
 abbrev pub took : ℕ → Timing → ℕ
-took written_at t = took_by t.role t.heard.has_waited (t.heard.since - written_at)
+took written_at t = took_by t.role t.heard.is_late (t.heard.since - written_at)
 
 abbrev pub sample : Owed → Timing → Pace
 sample owed.Several t = doubtful (took t.out.first_at t) t.pace

@@ -24,6 +24,8 @@ pub struct Heard {
     pub is_quiet: bool,
     /// Whether any read did, or a part of one.
     pub has_waited: bool,
+    /// Whether any did before the first byte came.
+    pub is_late: bool,
 }
 
 impl Heard {
@@ -39,6 +41,7 @@ impl Heard {
             second: 0,
             is_quiet: false,
             has_waited: false,
+            is_late: false,
         }
     }
 
@@ -58,6 +61,11 @@ impl Heard {
             second: if self.count == 1 { byte } else { self.second },
             is_quiet: false,
             has_waited: self.has_waited,
+            is_late: if self.count == 0 {
+                self.has_waited
+            } else {
+                self.is_late
+            },
         }
     }
 
@@ -73,6 +81,7 @@ impl Heard {
             second: self.second,
             is_quiet,
             has_waited: true,
+            is_late: self.is_late,
         }
     }
 

@@ -6,6 +6,7 @@ mod heard;
 mod hold;
 mod limits;
 mod out;
+mod cancel;
 mod clearing;
 mod ear;
 mod pace;
@@ -14,6 +15,7 @@ mod sent;
 mod timing;
 mod writing;
 
+pub use cancel::{Cans, Opening, cancels};
 pub use clearing::{Clearing, Heed, Need};
 pub use ear::{Ear, Echo, Listened};
 pub use heard::Heard;

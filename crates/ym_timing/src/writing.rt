@@ -64,7 +64,7 @@ impl Timing {
     {
         let took = self.heard.since.saturating_sub(written_at);
         match self.role {
-            Role::Sender if self.heard.has_waited => took.max(PATIENCE),
+            Role::Sender if self.heard.is_late => took.max(PATIENCE),
             _ => took,
         }
     }
