@@ -64,7 +64,7 @@ abbrev pub until : Wait → ℕ → Timing → ℕ
 until wait start t =
     if t.hold.is_held
     then (if is_end t.sent.kind then later t.hold.at MOMENT
-        else max (end_of wait start t) (later t.hold.at WITHIN))
+    else max (end_of wait start t) (later t.hold.at WITHIN))
     else end_of wait start t
 
 abbrev pub is_last : Timing → Bool

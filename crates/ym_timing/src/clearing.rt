@@ -4,9 +4,7 @@ ghost use Rattle.std.specs.Prelude.{◌≡◌, false};
 ghost use Rattle.ym_timing.specs.Clearing as table;
 
 use crate::ear::{ACK, CAN};
-use crate::limits::{
-    APART, HALVINGS, HELD_UP, LONGEST, MOMENT, RECEIVER_QUIET, SENDER_QUIET,
-};
+use crate::limits::{APART, HALVINGS, HELD_UP, LONGEST, MOMENT, RECEIVER_QUIET, SENDER_QUIET};
 use crate::out::Owed;
 use crate::pace::Trust;
 use crate::role::Role;
@@ -166,7 +164,8 @@ impl Timing {
             Trust::Unknown => apart,
             Trust::Doubtful | Trust::Sure => self.out.last_at.saturating_add(self.pace.bound()),
         };
-        from.saturating_add(quiet_of(self.role)).max(apart.min(late))
+        from.saturating_add(quiet_of(self.role))
+            .max(apart.min(late))
     }
 
     /// When what was stuck has come: soon behind the first of it. The time is halved where it was in
@@ -296,12 +295,6 @@ pub(crate) fn vain_after(vain: u8, clearing: Clearing) -> u8
     match clearing.need {
         Need::Nothing | Need::Quiet => vain,
         Need::Late | Need::Several if clearing.has_brought => 0,
-        Need::Late | Need::Several => {
-            if vain < HALVINGS {
-                vain + 1
-            } else {
-                HALVINGS
-            }
-        }
+        Need::Late | Need::Several => { if vain < HALVINGS { vain + 1 } else { HALVINGS } }
     }
 }

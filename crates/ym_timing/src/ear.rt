@@ -164,11 +164,7 @@ impl Ear {
     {
         if byte == 255 - number {
             let is_ours = 3 < frame.len() && frame[0] == first && frame[1] == number;
-            self.deaf(if is_ours {
-                Echo::Goes(3)
-            } else {
-                Echo::Broken
-            })
+            self.deaf(if is_ours { Echo::Goes(3) } else { Echo::Broken })
         } else if is_first(number) {
             self.deaf(Echo::Number(number, byte))
         } else {

@@ -84,7 +84,11 @@ impl Hold {
             is_held: false,
             at: self.at,
             wary,
-            asks_left: if is_opening && !is_repeat { STALE_ASKS } else { 0 },
+            asks_left: if is_opening && !is_repeat {
+                STALE_ASKS
+            } else {
+                0
+            },
             asked_at: now,
         }
     }

@@ -2,13 +2,14 @@
 //! machine without IO, for which time is an input.
 #![tactic(auto)]
 
-mod heard;
-mod hold;
-mod limits;
-mod out;
 mod cancel;
 mod clearing;
 mod ear;
+mod heard;
+mod hold;
+pub mod laws;
+mod limits;
+mod out;
 mod pace;
 mod role;
 mod sent;
@@ -20,6 +21,10 @@ pub use clearing::{Clearing, Heed, Need};
 pub use ear::{Ear, Echo, Listened};
 pub use heard::Heard;
 pub use hold::{Hold, Said, Say, Wary};
+pub use limits::{
+    APART, FIRST_FRAME, FIRST_REPLY, FRAGMENT, FULL, HALVINGS, HELD_UP, LONGEST, MARGIN, MOMENT, OTHERS,
+    PATIENCE, RECEIVER_QUIET, SENDER_QUIET, SOON, STALE_ASKS, UNASKED, WITHIN,
+};
 pub use out::{Out, Owed};
 pub use pace::{Pace, Trust};
 pub use role::Role;

@@ -37,11 +37,7 @@ pub struct Sent {
 fn byte_at(bytes: &[u8], place: usize) -> u8
     ensures { result ≡ table.byte_at bytes.now place }
 {
-    if place < bytes.len() {
-        bytes[place]
-    } else {
-        0
-    }
+    if place < bytes.len() { bytes[place] } else { 0 }
 }
 
 impl Sent {
