@@ -3,7 +3,7 @@
 -- Answers to several writes come no later than answers take, and no farther apart than the writes were: both
 -- are enough. Where an end or the line stood still they come in a row, as soon as it goes on. While a peer
 -- waits in vain it asks; such asks are no answers, and lengthen nothing.
-use Rattle.std.specs.Prelude.{ℕ, ◌+◌, ◌-◌, ◌*◌, ◌/◌, zero, suc, nat_eq, nat_lt, nat_le, ◌&&◌, ◌||◌, not, Bool, true, false, List, length, slice_index, max, min, if◌then◌else◌}
+use Rattle.std.specs.Prelude.{ℕ, ◌+◌, ◌-◌, ◌*◌, ◌/◌, nat_eq, nat_lt, nat_le, ◌&&◌, ◌||◌, not, Bool, true, false, List, max, min, if◌then◌else◌}
 use Rattle.ym_timing.specs.Ear.{listen}
 use Rattle.ym_timing.specs.Heard.{is_noise}
 use Rattle.ym_timing.specs.Pace.{bound}
@@ -14,7 +14,6 @@ use Rattle.ym_timing.specs.declared.clearing.Heed.{Heed}
 use Rattle.ym_timing.specs.declared.clearing.Heed.TheVariants as heed
 use Rattle.ym_timing.specs.declared.clearing.Need.{Need}
 use Rattle.ym_timing.specs.declared.clearing.Need.TheVariants as need
-use Rattle.ym_timing.specs.declared.ear.Listened.{Listened}
 use Rattle.ym_timing.specs.declared.limits.TheConstants.{APART, HALVINGS, HELD_UP, LONGEST, MOMENT, RECEIVER_QUIET, SENDER_QUIET}
 use Rattle.ym_timing.specs.declared.out.Owed.{Owed}
 use Rattle.ym_timing.specs.declared.out.Owed.TheVariants as owed

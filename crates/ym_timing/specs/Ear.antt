@@ -3,7 +3,7 @@
 -- No reply begins as a block does: 01 or 02, a number, and its complement. Where a block comes, it is the
 -- echo of one that was written. As long as its bytes are those that were written last, what stands behind
 -- the whole of it may be a reply; else nothing is heard until the line was quiet.
-use Rattle.std.specs.Prelude.{ℕ, ◌+◌, ◌-◌, zero, suc, nat_eq, nat_lt, nat_le, ◌&&◌, ◌||◌, not, Bool, true, false, List, length, slice_index, if◌then◌else◌}
+use Rattle.std.specs.Prelude.{ℕ, ◌+◌, ◌-◌, nat_eq, nat_lt, nat_le, ◌&&◌, ◌||◌, not, Bool, true, false, List, length, slice_index, if◌then◌else◌}
 use Rattle.ym_timing.specs.Times.{later}
 use Rattle.ym_timing.specs.declared.ear.Ear.{Ear}
 use Rattle.ym_timing.specs.declared.ear.Echo.{Echo}

@@ -1,6 +1,7 @@
 pub mod Cancel
 pub mod Clearing
 pub mod Ear
+pub mod Echoes
 pub mod Heard
 pub mod Hold
 pub mod Out

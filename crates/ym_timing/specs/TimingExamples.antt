@@ -1,11 +1,10 @@
 -- Lines, computed. A block is shortened to its head and two more bytes.
 use Rattle.std.specs.Prelude.{◌≡◌, ℕ, List, [], ◌∷◌, ◌++◌, refl}
-use Rattle.ym_timing.specs.Clearing.{clearing, clear_at, dropped, after_dropped}
+use Rattle.ym_timing.specs.Clearing.{clearing, clear_at}
 use Rattle.ym_timing.specs.Out.{one, late}
 use Rattle.ym_timing.specs.Pace.{bound}
 use Rattle.ym_timing.specs.Session.{heard_of, after_bytes, writes}
 use Rattle.ym_timing.specs.Timing.{new_timing, until}
-use Rattle.ym_timing.specs.declared.pace.Pace.{Pace}
 use Rattle.ym_timing.specs.declared.pace.Trust.TheVariants.{Doubtful, Sure}
 use Rattle.ym_timing.specs.declared.role.Role.TheVariants.{Sender, Receiver}
 use Rattle.ym_timing.specs.declared.timing.Timing.{Timing}

@@ -1,14 +1,18 @@
 //! Laws of the rule: what it promises beside each single step.
 
-ghost use Rattle.std.specs.Prelude.{◌≡◌, ◌≤◌, ◌<◌, ◌-◌, ◌+◌, ◌^◌, ℕ, Bool, List, true, false};
+ghost use Rattle.std.specs.Prelude.{◌≡◌, ◌≤◌, ◌<◌, ◌-◌, ◌+◌, ◌^◌, ℕ, Bool, List, length, true, false};
 ghost use Rattle.ym_timing.specs.Clearing.{clearing, clear_at, is_unsure, apart_until, late_until, several_until};
+ghost use Rattle.ym_timing.specs.Ear.{is_first, rested};
+ghost use Rattle.ym_timing.specs.Echoes.{block_of, IsDropped};
 ghost use Rattle.ym_timing.specs.Hold.{control};
 ghost use Rattle.ym_timing.specs.Pace.{bound, doubtful, sure};
 ghost use Rattle.ym_timing.specs.Times.{later};
 ghost use Rattle.ym_timing.specs.Writing.{is_prompted};
+ghost use Rattle.ym_timing.specs.declared.ear.Ear.{Ear};
+ghost use Rattle.ym_timing.specs.declared.ear.Echo.{Echo};
 ghost use Rattle.ym_timing.specs.declared.hold.Hold.{Hold};
 ghost use Rattle.ym_timing.specs.declared.hold.Say.TheVariants as say;
-ghost use Rattle.ym_timing.specs.declared.limits.TheConstants.{SENDER_QUIET, UNASKED};
+ghost use Rattle.ym_timing.specs.declared.limits.TheConstants.{SENDER_QUIET, UNASKED, WITHIN};
 ghost use Rattle.ym_timing.specs.declared.out.Owed.{Owed};
 ghost use Rattle.ym_timing.specs.declared.pace.Pace.{Pace};
 ghost use Rattle.ym_timing.specs.declared.role.Role.{Role};
@@ -51,4 +55,11 @@ pub fn prompt_asks_are_asked_for()
 pub fn last_acks_are_held()
     ensures eot { (is_first : Bool) (now : ℕ) (h : Hold) → (control Kind.Eot 0x06 is_first now h).say ≡ say.Nothing }
     ensures end { (is_first : Bool) (now : ℕ) (h : Hold) → (control Kind.End 0x06 is_first now h).say ≡ say.Nothing }
+{}
+
+/// The echo of a block is dropped whole, whatever bytes its data has, and what stands behind it is
+/// listened to as if it had not come.
+pub fn an_echo_is_dropped_whole()
+    ensures { (first number : ℕ) (body : List ℕ) (now : ℕ) (e : Ear) → is_first first ≡ true → 0 < length body
+        → now + WITHIN < 2 ^ 64 → (rested now e).echo ≡ Echo.Open → IsDropped (block_of first number body) now e }
 {}
