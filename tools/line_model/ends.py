@@ -1,4 +1,4 @@
-"""Both ends of this program, as their tables say, over any port; the ports themselves are elsewhere."""
+"""Both ends of this program, as their tables say, over any port."""
 
 import binascii
 
@@ -37,14 +37,18 @@ def frames_of(files):
     out = []
     for name, data in files:
         out.append(("header", frame_of(0, header_of(name, data))))
-        out += [("block", frame_of(number + 1, body)) for number, body in enumerate(blocks_of(data))]
+        for number, body in enumerate(blocks_of(data)):
+            out.append(("block", frame_of(number + 1, body)))
         out.append(("eot", bytes([EOT])))
     out.append(("end", frame_of(0, bytes(128))))
     return out
 
 
 def whole_at(data):
-    """The kind, the number and the body of the frame at the front, or None where more may come, or False where none can."""
+    """The kind, the number and the body of the frame at the front.
+
+    None where more may come, and False where none can.
+    """
     if not data:
         return None
     if data[0] == EOT:
@@ -138,7 +142,11 @@ class Sender:
 
 
 class Receiver:
-    """The receiver's table. With `twice` it confirms each EOT twice; with `minds` it ends where another block 0 comes in place of a repeat."""
+    """The receiver's table.
+
+    With `twice` it confirms each EOT twice; with `minds` it ends where another block 0 comes in
+    place of a repeat.
+    """
 
     def __init__(self, twice=True, minds=False):
         self.twice, self.minds = twice, minds

@@ -1,7 +1,7 @@
 """A line between two ends, and the time on it: a discrete-event simulation without a wall clock.
 
-An end is a generator. It yields `Read(wait)`, and is sent the bytes that came, or None where nothing came for so long; `Write(data)`; or `Sleep(wait)`. All
-times are whole microseconds.
+An end is a generator. It yields `Read(wait)`, and is sent the bytes that came, or None where
+nothing came for so long; `Write(data)`; or `Sleep(wait)`. All times are whole microseconds.
 """
 
 import heapq
@@ -42,13 +42,13 @@ class Way:
     doubled: float = 0.0
     # (from, to): what would arrive between these moments arrives at the second one
     stalls: tuple = ()
-    # bytes of this many writes are damaged, from the given write on
+    # the numbers of the writes that lose a byte
     damaged: tuple = ()
 
 
 @dataclass
 class Echo:
-    """What an end's own line gives back to it: how late, how much of each write, and with which chance a byte of it is lost."""
+    """What an end's own line gives back to it: how late, and how much of each write."""
 
     after: int = 0
     keep: int = 1 << 20
@@ -169,12 +169,15 @@ class Line:
         self.carry(side, self.damage(side, data))
         echo = self.echoes[side]
         if echo is not None:
-            kept = bytes(b for b in data[: echo.keep] if not echo.lost or self.chance.random() >= echo.lost)
+            kept = bytes(b for b in data[: echo.keep] if self.keeps(echo))
             at = max(self.now + echo.after, self.echoed[side])
             for start in range(0, len(kept), 256):
                 at += len(kept[start : start + 256]) * 10 * SECOND // self.ways[side].baud
                 self.after(at - self.now, end.came, kept[start : start + 256])
             self.echoed[side] = at
+
+    def keeps(self, echo):
+        return not echo.lost or self.chance.random() >= echo.lost
 
     def carry(self, side, data):
         """Paces the bytes out, and hands them on in pieces, in order."""

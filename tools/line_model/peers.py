@@ -76,7 +76,10 @@ def sb_asked(line):
 
 
 def sb(files, start=0):
-    """lrzsz's sender: it writes a block again at NAK, C or after ten seconds, and drops nothing but before an EOT."""
+    """lrzsz's sender: it writes a block again at NAK, C or after ten seconds.
+
+    It drops what came only before an EOT.
+    """
     line, done = Bytes(), 0
     if start:
         yield Sleep(start)
@@ -125,7 +128,10 @@ def rb_sector(line, ask, wait):
 
 
 def rb(start=0):
-    """lrzsz's receiver: ten seconds for each block, four once it has asked again; it drops what comes for a second before it asks."""
+    """lrzsz's receiver: ten seconds for each block, four once it has asked again.
+
+    Before it asks it drops what comes until a second was quiet.
+    """
     line, files = Bytes(), []
     if start:
         yield Sleep(start)
@@ -174,7 +180,10 @@ def uboot_flush(line):
 
 
 def uboot_frame(line):
-    """One frame, or why there is none: after a wait in vain it drops what comes until two seconds were quiet."""
+    """One frame, or why there is none.
+
+    After a wait in vain it drops what comes until two seconds were quiet.
+    """
     cans, seen = 0, 0
     while True:
         byte = yield from line.byte(WAIT)
@@ -231,7 +240,7 @@ def uboot_cancels():
 
 
 def uboot(start=0):
-    """U-Boot's loady: two seconds for each byte, C for a bad frame, one file, cancelled by three CAN."""
+    """U-Boot's loady: two seconds for each byte, C for a bad frame, one file, three CAN."""
     line = Bytes()
     if start:
         yield Sleep(start)

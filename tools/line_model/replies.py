@@ -1,4 +1,4 @@
-"""What a sender wrote last, and what of that which comes it does not hear: as `ym_timing` has it."""
+"""What a sender wrote last, and what of that which comes it does not hear."""
 
 from dataclasses import dataclass
 

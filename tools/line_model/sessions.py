@@ -44,7 +44,8 @@ class Told:
     is_true: bool
 
     def mark(self):
-        return ("" if self.is_whole else "part ") + ("" if self.is_true else "FALSE ") + "%d" % self.seconds
+        part, false = "" if self.is_whole else "part ", "" if self.is_true else "FALSE "
+        return "%s%s%d" % (part, false, self.seconds)
 
 
 def started(program, wait):
@@ -54,17 +55,33 @@ def started(program, wait):
 
 
 def judge(files, near, far, seconds, is_ours):
-    """A report is true where the files that an end counts are stored, and whole; and where all is finished, the other end says so too."""
+    """A report is true where the files that an end counts are stored, and whole.
+
+    Where all is finished, the other end has to say so too.
+    """
     outcome, done = near or ("", 0)
     ended, stored = far or ("", [])
     says_all = outcome == "finished"
     is_true = stored[:done] == files[:done] and not (is_ours and stored != files[: len(stored)])
     if says_all:
         is_true = is_true and stored == files and (is_ours or ended == "finished")
-    return Told(seconds / SECOND, near, far, says_all and stored == files and done == len(files), is_true)
+    is_whole = says_all and stored == files and done == len(files)
+    return Told(seconds / SECOND, near, far, is_whole, is_true)
 
 
-def session(seed, sender="rule", receiver="rule", files=None, there=None, back=None, echoes=(None, None), late=(0, 0), stalls=({}, {}), twice=True, log=None):
+def session(
+    seed,
+    sender="rule",
+    receiver="rule",
+    files=None,
+    there=None,
+    back=None,
+    echoes=(None, None),
+    late=(0, 0),
+    stalls=({}, {}),
+    twice=True,
+    log=None,
+):
     """Runs one session; an end is the name of a rule for our own engine, or of a peer."""
     files = files_of(seed) if files is None else files
     line = Line(seed, there or Way(), back or Way(), echoes, log)
@@ -75,6 +92,7 @@ def session(seed, sender="rule", receiver="rule", files=None, there=None, back=N
     if receiver in ("rb", "uboot"):
         far = getattr(peers, receiver)()
     else:
-        far = Receiver(twice, minds=receiver == "rule").run(Stalling(RULES[receiver]("receiver", line), stalls[1]))
+        port = Stalling(RULES[receiver]("receiver", line), stalls[1])
+        far = Receiver(twice, minds=receiver == "rule").run(port)
     (near, far), at = line.run(started(near, late[0]), started(far, late[1]))
     return judge(files, near, far, at, receiver not in ("rb", "uboot"))

@@ -1,6 +1,6 @@
 """The rule of the port that lets the line clear as it is without a clock, to compare with."""
 
-from ends import CAN, LIMIT, START, WITHIN
+from ends import CANCEL, LIMIT, START, WITHIN
 from line import SECOND, Read, Write
 
 WAITS = {"sender": (10 * SECOND, SECOND), "receiver": (3 * SECOND, SECOND)}
@@ -20,7 +20,10 @@ class Plain:
 
 
 class Clearing:
-    """It counts the writes whose answer did not come, and drops what comes before a write where more than one may be under way."""
+    """It counts the writes whose answer did not come.
+
+    Where more than one may be under way it drops what comes before it writes on.
+    """
 
     def __init__(self, role, line):
         self.role = role
@@ -70,8 +73,9 @@ class Clearing:
                 continue
             left = want
             tail += got
-            if bytes([CAN, CAN]) in tail if self.role == "sender" else tail[:2] == bytes([CAN, CAN]):
-                self.held = bytes([CAN, CAN])
+            place = tail if self.role == "sender" else tail[:2]
+            if CANCEL in place:
+                self.held = CANCEL
                 return
 
     def write(self, data):
