@@ -1,5 +1,6 @@
 -- CAN CAN among what came, and block 0 that comes in place of a repeat (this profile).
-use Rattle.std.specs.Prelude.{ℕ, ◌-◌, nat_eq, ◌&&◌, ◌||◌, Bool, true, false, List, [], ◌∷◌, length, slice_index, if◌then◌else◌}
+use Rattle.std.specs.Prelude.{ℕ, ◌-◌, nat_eq, ◌&&◌, ◌||◌, Bool, true, false, List, [], ◌∷◌, length}
+use Rattle.std.specs.Prelude.{slice_index, if◌then◌else◌}
 use Rattle.ym_timing.specs.declared.cancel.Cans.{Cans}
 use Rattle.ym_timing.specs.declared.cancel.Cans.TheVariants.{Zero, One, Two}
 use Rattle.ym_timing.specs.declared.cancel.Opening.{Opening}

@@ -1,9 +1,10 @@
 -- When a line has to clear before a write, and when it is clear (this profile).
 --
--- Answers to several writes come no later than answers take, and no farther apart than the writes were: both
--- are enough. Where an end or the line stood still they come in a row, as soon as it goes on. While a peer
--- waits in vain it asks; such asks are no answers, and lengthen nothing.
-use Rattle.std.specs.Prelude.{ℕ, ◌+◌, ◌-◌, ◌*◌, ◌/◌, nat_eq, nat_lt, nat_le, ◌&&◌, ◌||◌, not, Bool, true, false, List, max, min, if◌then◌else◌}
+-- Answers to several writes come no later than answers take, and no farther apart than the writes
+-- were: both are enough. Where an end or the line stood still they come in a row, as soon as it
+-- goes on. While a peer waits in vain it asks; such asks are no answers, and lengthen nothing.
+use Rattle.std.specs.Prelude.{ℕ, ◌+◌, ◌-◌, ◌*◌, ◌/◌, nat_eq, nat_lt, nat_le, ◌&&◌, ◌||◌, not, Bool}
+use Rattle.std.specs.Prelude.{true, false, List, max, min, if◌then◌else◌}
 use Rattle.ym_timing.specs.Ear.{listen}
 use Rattle.ym_timing.specs.Heard.{is_noise}
 use Rattle.ym_timing.specs.Pace.{bound}
@@ -14,7 +15,8 @@ use Rattle.ym_timing.specs.declared.clearing.Heed.{Heed}
 use Rattle.ym_timing.specs.declared.clearing.Heed.TheVariants as heed
 use Rattle.ym_timing.specs.declared.clearing.Need.{Need}
 use Rattle.ym_timing.specs.declared.clearing.Need.TheVariants as need
-use Rattle.ym_timing.specs.declared.limits.TheConstants.{APART, HALVINGS, HELD_UP, LONGEST, MOMENT, RECEIVER_QUIET, SENDER_QUIET}
+use Rattle.ym_timing.specs.declared.limits.TheConstants.{APART, HALVINGS, HELD_UP, LONGEST, MOMENT}
+use Rattle.ym_timing.specs.declared.limits.TheConstants.{RECEIVER_QUIET, SENDER_QUIET}
 use Rattle.ym_timing.specs.declared.out.Owed.{Owed}
 use Rattle.ym_timing.specs.declared.out.Owed.TheVariants as owed
 use Rattle.ym_timing.specs.declared.pace.Trust.{Trust}
@@ -178,7 +180,10 @@ dropped c byte written now t =
 abbrev pub after_dropped : Clearing → ℕ → List ℕ → ℕ → Timing → Timing
 after_dropped c byte written now t =
     if is_heard byte written now t
-    then record (with_ear t.role byte written now t) { has_cancel = t.has_cancel || ends byte c.heed }
+    then record (with_ear t.role byte written now t) {
+      has_cancel =
+          t.has_cancel || ends byte c.heed;
+    }
     else with_ear t.role byte written now t
 
 -- how often in a row nothing came

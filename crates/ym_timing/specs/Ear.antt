@@ -1,9 +1,10 @@
 -- What of that which comes to a sender is no reply (this profile).
 --
--- No reply begins as a block does: 01 or 02, a number, and its complement. Where a block comes, it is the
--- echo of one that was written. As long as its bytes are those that were written last, what stands behind
--- the whole of it may be a reply; else nothing is heard until the line was quiet.
-use Rattle.std.specs.Prelude.{ℕ, ◌+◌, ◌-◌, nat_eq, nat_lt, nat_le, ◌&&◌, ◌||◌, not, Bool, true, false, List, length, slice_index, if◌then◌else◌}
+-- No reply begins as a block does: 01 or 02, a number, and its complement. Where a block comes, it
+-- is the echo of one that was written. As long as its bytes are those that were written last, what
+-- stands behind the whole of it may be a reply; else nothing is heard until the line was quiet.
+use Rattle.std.specs.Prelude.{ℕ, ◌+◌, ◌-◌, nat_eq, nat_lt, nat_le, ◌&&◌, ◌||◌, not, Bool, true}
+use Rattle.std.specs.Prelude.{false, List, length, slice_index, if◌then◌else◌}
 use Rattle.ym_timing.specs.Times.{later}
 use Rattle.ym_timing.specs.declared.ear.Ear.{Ear}
 use Rattle.ym_timing.specs.declared.ear.Echo.{Echo}
@@ -51,11 +52,13 @@ outside byte e =
 
 abbrev pub is_ours : ℕ → ℕ → List ℕ → Bool
 is_ours first number frame =
-    nat_lt 3 (length frame) && (nat_eq (slice_index frame 0) first && nat_eq (slice_index frame 1) number)
+    nat_lt 3 (length frame) && (nat_eq (slice_index frame 0) first
+    && nat_eq (slice_index frame 1) number)
 
 abbrev pub numbered : ℕ → ℕ → ℕ → List ℕ → Ear → Listened
 numbered first number byte frame e =
-    if nat_eq byte (255 - number) then deaf (if is_ours first number frame then Goes 3 else Broken) e
+    if nat_eq byte (255 - number) then deaf (if is_ours first number frame then Goes 3
+    else Broken) e
     else (if is_first number then deaf (Number number byte) e else outside byte e)
 
 abbrev pub goes : ℕ → ℕ → List ℕ → Ear → Listened

@@ -1,5 +1,6 @@
 -- What an end heard since it wrote (this profile).
-use Rattle.std.specs.Prelude.{ℕ, ◌+◌, nat_eq, nat_lt, nat_le, ◌&&◌, not, Bool, true, false, if◌then◌else◌}
+use Rattle.std.specs.Prelude.{ℕ, ◌+◌, nat_eq, nat_lt, nat_le, ◌&&◌, not, Bool, true, false}
+use Rattle.std.specs.Prelude.{if◌then◌else◌}
 use Rattle.ym_timing.specs.declared.heard.Heard.{Heard}
 use Rattle.ym_timing.specs.declared.limits.TheConstants.{FULL}
 

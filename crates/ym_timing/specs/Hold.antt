@@ -1,7 +1,8 @@
 -- What of a reply a sender hears later, or not at all (this profile).
 --
--- Replies carry no number. What an EOT is answered shows whether the ACK before was its own: C follows
--- where the file is stored, and NAK where the EOT was refused. An ACK behind which the peer cancels is none.
+-- Replies carry no number. What an EOT is answered shows whether the ACK before was its own: C
+-- follows where the file is stored, and NAK where the EOT was refused. An ACK behind which the
+-- peer cancels is none.
 use Rattle.std.specs.Prelude.{ℕ, ◌-◌, nat_eq, nat_lt, ◌&&◌, not, Bool, true, false, if◌then◌else◌}
 use Rattle.ym_timing.specs.Times.{later}
 use Rattle.ym_timing.specs.declared.hold.Hold.{Hold}
@@ -27,7 +28,15 @@ wrote is_opening is_repeat is_wary now h = record h {
 }
 
 abbrev pub holding : Bool → ℕ → Wary → Say → Hold → Said
-holding is_held at w s h = record { hold = record h { is_held = is_held; at = at; wary = w }; say = s }
+holding is_held at w s h = record {
+  hold = record h {
+    is_held = is_held;
+    at = at;
+    wary =
+        w;
+  };
+  say = s;
+}
 
 abbrev pub ack : Wary → ℕ → Hold → Said
 ack w now h = holding true (if h.is_held then h.at else now) w say.Nothing h

@@ -1,7 +1,7 @@
 -- The writes whose answers may still be under way (this profile).
 --
--- Each write may be answered once. So where an end has written more than once before an answer came, as
--- many answers may come, and they come no farther apart than it wrote.
+-- Each write may be answered once. So where an end has written more than once before an answer
+-- came, as many answers may come, and they come no farther apart than it wrote.
 use Rattle.std.specs.Prelude.{ℕ, ◌+◌, ◌-◌, ◌^◌, max, min}
 use Rattle.ym_timing.specs.declared.out.Out.{Out}
 use Rattle.ym_timing.specs.declared.out.Owed.TheVariants.{Nothing, One, Late, Several}

@@ -1,7 +1,8 @@
 -- How long answers take on a line (this profile).
 --
--- An answer that came while one write was out is a sure sample; one that came while several were is a doubtful one, and counts from the
--- oldest. A repeat may be the other end's own timeout, and is none.
+-- An answer that came while one write was out is a sure sample; one that came while several were
+-- is a doubtful one, and counts from the oldest. A repeat may be the other end's own timeout, and
+-- is none.
 use Rattle.std.specs.Prelude.{ℕ, ◌-◌, ◌/◌, nat_lt, nat_le, max, min, if◌then◌else◌}
 use Rattle.ym_timing.specs.Times.{later}
 use Rattle.ym_timing.specs.declared.limits.TheConstants.{MARGIN, FIRST_REPLY, FIRST_FRAME, LONGEST}
@@ -30,12 +31,14 @@ doubtful took p = by p.trust
     by Doubtful = taken_as took Doubtful
     by Unknown = taken_as took Doubtful
 
--- a sure one replaces a doubtful one, and a smaller one; a greater one falls by a quarter of the difference
+-- a sure one replaces a doubtful one, and a smaller one; a greater one falls by a quarter of the
+-- difference
 abbrev pub sure : ℕ → Pace → Pace
 sure took p = by p.trust
   where
     by : Trust → Pace
-    by Sure = if nat_lt took p.slowest then taken_as (p.slowest - (p.slowest - took) / 4) Sure else taken_as took Sure
+    by Sure = if nat_lt took p.slowest
+        then taken_as (p.slowest - (p.slowest - took) / 4) Sure else taken_as took Sure
     by Doubtful = taken_as took Sure
     by Unknown = taken_as took Sure
 

@@ -17,11 +17,13 @@ bytes_of say.AckAndByte byte = 0x06 ∷ byte ∷ []
 abbrev pub heard_of : List ℕ → List ℕ → ℕ → Timing → List ℕ
 heard_of [] written now t = []
 heard_of (byte ∷ bytes) written now t =
-    bytes_of (said byte written now t) byte ++ heard_of bytes written now (after_byte byte written now t)
+    bytes_of (said byte written now t) byte
+    ++ heard_of bytes written now (after_byte byte written now t)
 
 abbrev pub after_bytes : List ℕ → List ℕ → ℕ → Timing → Timing
 after_bytes [] written now t = t
-after_bytes (byte ∷ bytes) written now t = after_bytes bytes written now (after_byte byte written now t)
+after_bytes (byte ∷ bytes) written now t =
+    after_bytes bytes written now (after_byte byte written now t)
 
 -- a write at this moment
 abbrev pub writes : List ℕ → ℕ → Timing → Timing

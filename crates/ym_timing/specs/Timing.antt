@@ -1,5 +1,6 @@
 -- The machine: until when an end waits, and what it hears (this profile).
-use Rattle.std.specs.Prelude.{ℕ, ◌+◌, nat_eq, nat_lt, ◌&&◌, not, Bool, true, false, List, length, slice_index, max, if◌then◌else◌}
+use Rattle.std.specs.Prelude.{ℕ, ◌+◌, nat_eq, nat_lt, ◌&&◌, not, Bool, true, false, List, length}
+use Rattle.std.specs.Prelude.{slice_index, max, if◌then◌else◌}
 use Rattle.ym_timing.specs.Ear.{new_ear, listen}
 use Rattle.ym_timing.specs.Heard.{new_heard, take_byte, waited}
 use Rattle.ym_timing.specs.Hold.{new_hold, control, released}
@@ -59,7 +60,8 @@ abbrev pub is_end : Kind → Bool
 is_end kind.End = true
 is_end _ = false
 
--- an ACK that is held is waited for no longer than a moment at the end, and as long as a C may take before
+-- an ACK that is held is waited for no longer than a moment at the end, and as long as a C may
+-- take before
 abbrev pub until : Wait → ℕ → Timing → ℕ
 until wait start t =
     if t.hold.is_held
@@ -72,7 +74,8 @@ is_last t = is_end t.sent.kind && t.hold.is_held
 
 -- a read that waited in vain
 abbrev pub vain_of : Wait → Timing → Vain
-vain_of wait t = if is_last t then vain.Ack else (if is_early wait t then vain.Again else vain.Quiet)
+vain_of wait t = if is_last t then vain.Ack else (if is_early wait t then vain.Again
+    else vain.Quiet)
 
 abbrev pub after_vain : Wait → ℕ → Timing → Timing
 after_vain wait now t =
@@ -113,7 +116,8 @@ after_reply byte frame now t = after_ear (listened_to byte frame now t) byte now
 -- what comes back of a receiver's reply, at the front, is no frame
 abbrev pub is_echo : ℕ → List ℕ → Timing → Bool
 is_echo byte reply t =
-    nat_eq t.heard.count 0 && (nat_lt t.echoed (length reply) && nat_eq (slice_index reply t.echoed) byte)
+    nat_eq t.heard.count 0 && (nat_lt t.echoed (length reply)
+    && nat_eq (slice_index reply t.echoed) byte)
 
 abbrev pub frame_said : ℕ → List ℕ → Timing → Say
 frame_said byte reply t = if is_echo byte reply t then say.Nothing else say.Byte

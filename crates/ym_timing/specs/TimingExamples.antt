@@ -54,7 +54,8 @@ quick-pace : quick.pace ≡ record { slowest = 12; trust = Sure }
 quick-pace = refl
 
 -- each write was answered: nothing is let clear, and nothing waits
-quick-clear : clear_at (clearing block_3 1036 (after_bytes ack block_2 1036 quick)) (after_bytes ack block_2 1036 quick) ≡ 0
+quick-clear : clear_at (clearing block_3 1036 (after_bytes ack block_2 1036 quick))
+    (after_bytes ack block_2 1036 quick) ≡ 0
 quick-clear = refl
 
 -- ---- U-Boot, and a damaged block
@@ -66,11 +67,12 @@ asked = writes block_2 3100 (after_bytes start block_2 3100 quick)
 asked-out : asked.out ≡ one 3100
 asked-out = refl
 
-asked-clear : clear_at (clearing block_3 3112 (after_bytes ack block_2 3112 asked)) (after_bytes ack block_2 3112 asked) ≡ 0
+asked-clear : clear_at (clearing block_3 3112 (after_bytes ack block_2 3112 asked))
+    (after_bytes ack block_2 3112 asked) ≡ 0
 asked-clear = refl
 
--- Where a whole block was lost it asks after 4250: the answer was overdue. What was stuck in the line is let
--- pass for 212, and the next time for half of it; its own two seconds are not met.
+-- Where a whole block was lost it asks after 4250: the answer was overdue. What was stuck in the
+-- line is let pass for 212, and the next time for half of it; its own two seconds are not met.
 abbrev asked_late : Timing
 asked_late = writes block_2 5274 (after_bytes start block_2 5274 quick)
 
@@ -93,7 +95,8 @@ ended = writes end_block 9000 (after_bytes ack_start eot 9000 (writes eot 8988 q
 cancelled : heard_of (ack ++ cancel) end_block 11270 ended ≡ cancel
 cancelled = refl
 
-cancelled_later : heard_of cancel end_block 11274 (after_bytes (0x06 ∷ 0x18 ∷ []) end_block 11270 ended) ≡ cancel
+cancelled_later : heard_of cancel end_block 11274 (after_bytes
+    (0x06 ∷ 0x18 ∷ []) end_block 11270 ended) ≡ cancel
 cancelled_later = refl
 
 -- and where nothing comes behind it, it is waited for a tenth of a second
@@ -103,7 +106,8 @@ end_until = refl
 -- ---- A line that delays by two seconds each way
 
 abbrev far : Timing
-far = writes block_1 9000 (after_bytes ack_start opening 9000 (writes opening 5000 (new_timing Sender)))
+far = writes block_1 9000 (after_bytes ack_start opening 9000 (writes opening 5000
+    (new_timing Sender)))
 
 far-pace : far.pace ≡ record { slowest = 4000; trust = Sure }
 far-pace = refl
@@ -111,10 +115,11 @@ far-pace = refl
 far-bound : bound far.pace ≡ 6250
 far-bound = refl
 
--- An EOT is refused once, as a receiver that confirms twice refuses it, and no one can tell whether it had waited. The
--- answer to either EOT may still come, until the second one is overdue.
+-- An EOT is refused once, as a receiver that confirms twice refuses it, and no one can tell
+-- whether it had waited. The answer to either EOT may still come, until the second one is overdue.
 abbrev far_ended : Timing
-far_ended = after_bytes ack_start eot 21000 (writes eot 17000 (after_bytes nak eot 17000 (writes eot 13000 (after_bytes ack block_1 13000 far))))
+far_ended = after_bytes ack_start eot 21000 (writes eot 17000 (after_bytes nak eot 17000
+    (writes eot 13000 (after_bytes ack block_1 13000 far))))
 
 far_ended-clear : clear_at (clearing opening 21000 far_ended) far_ended ≡ 23250
 far_ended-clear = refl
@@ -123,17 +128,21 @@ far_ended-clear = refl
 
 -- a receiver has asked at 3, 6 and 9 seconds when its peer starts
 abbrev late_start : Timing
-late_start = after_bytes opening start 20000 (writes start 9000 (writes start 6000 (writes start 3000 (new_timing Receiver))))
+late_start =
+    after_bytes opening start 20000 (writes start 9000 (writes start 6000 (writes start 3000
+    (new_timing Receiver))))
 
 -- its peer may answer each of them, three seconds apart and a jitter
 late_start-clear : clear_at (clearing ack_start 20000 late_start) late_start ≡ 25000
 late_start-clear = refl
 
-late_start-pace : (writes ack_start 25000 late_start).pace ≡ record { slowest = 17000; trust = Doubtful }
+late_start-pace : (writes ack_start 25000 late_start).pace
+    ≡ record { slowest = 17000; trust = Doubtful }
 late_start-pace = refl
 
 -- the first answer to one write says how long answers take
-late_start-falls : (writes ack 25012 (after_bytes block_1 ack_start 25012 (writes ack_start 25000 late_start))).pace
+late_start-falls : (writes ack 25012 (after_bytes block_1 ack_start 25012
+    (writes ack_start 25000 late_start))).pace
     ≡ record { slowest = 12; trust = Sure }
 late_start-falls = refl
 
@@ -152,7 +161,8 @@ echoed_late : heard_of (block_1 ++ ack) block_2 1036 quick ≡ []
 echoed_late = refl
 
 -- a receiver's own ACK C, in front of a block
-echoed_reply : heard_of (ack_start ++ block_1) ack_start 4000 (writes ack_start 3990 (new_timing Receiver)) ≡ block_1
+echoed_reply : heard_of (ack_start
+    ++ block_1) ack_start 4000 (writes ack_start 3990 (new_timing Receiver)) ≡ block_1
 echoed_reply = refl
 
 -- ---- The end of a file

@@ -1,9 +1,10 @@
 -- What a write makes of the machine (this profile).
 --
--- An ask answers the write before it where it came so soon behind the reply before that no peer can have asked
--- because it waited. Where it came when the answer was overdue, no answer is awaited but the next; else each
--- copy may be answered.
-use Rattle.std.specs.Prelude.{ℕ, ◌-◌, nat_eq, nat_lt, nat_le, ◌&&◌, ◌||◌, not, Bool, true, false, List, max, if◌then◌else◌}
+-- An ask answers the write before it where it came so soon behind the reply before that no peer
+-- can have asked because it waited. Where it came when the answer was overdue, no answer is
+-- awaited but the next; else each copy may be answered.
+use Rattle.std.specs.Prelude.{ℕ, ◌-◌, nat_eq, nat_lt, nat_le, ◌&&◌, ◌||◌, not, Bool, true, false}
+use Rattle.std.specs.Prelude.{List, max, if◌then◌else◌}
 use Rattle.ym_timing.specs.Clearing.{is_taken, vain_after}
 use Rattle.ym_timing.specs.Ear as ear
 use Rattle.ym_timing.specs.Heard.{new_heard}
@@ -51,7 +52,8 @@ has_cleared c = cleared_by c.need
 
 abbrev pub is_new_frame : Timing → Bool
 is_new_frame t =
-    not (t.front.is_there && nat_eq t.front.first t.heard.first && nat_eq t.front.second t.heard.second)
+    not (t.front.is_there && nat_eq t.front.first t.heard.first
+    && nat_eq t.front.second t.heard.second)
 
 abbrev pub is_other : Role → Timing → Bool
 is_other Sender t = true
@@ -132,7 +134,12 @@ out_after taken now t = out_by t.out.owed taken now t
 
 abbrev pub front_by : Role → Bool → Timing → Front
 front_by Receiver taken t =
-    if taken then record { is_there = true; first = t.heard.first; second = t.heard.second } else t.front
+    if taken then record {
+      is_there = true;
+      first = t.heard.first;
+      second =
+          t.heard.second;
+    } else t.front
 front_by Sender taken t = t.front
 
 abbrev pub front_after : Bool → Timing → Front

@@ -69,8 +69,8 @@ impl Opening {
         }
     }
 
-    /// Whether this frame, which stands where only a repeat of it can, is one. If not, the ends are out
-    /// of step.
+    /// Whether this frame, which stands where only a repeat of it can, is one. If not, the ends
+    /// are out of step.
     pub fn is_repeated_by(self, frame: &[u8]) -> bool
         requires { 2 ≤ length frame.now }
         ensures { result ≡ table.is_repeated_by frame.now self }

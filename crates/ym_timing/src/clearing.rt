@@ -78,8 +78,8 @@ fn quiet_of(role: Role) -> u64
 }
 
 impl Heed {
-    /// After one more byte: to a sender CAN CAN is that wherever it stands, and a receiver knows it at
-    /// the front alone.
+    /// After one more byte: to a sender CAN CAN is that wherever it stands, and a receiver knows
+    /// it at the front alone.
     fn after(self, role: Role, byte: u8) -> Heed
         ensures { result ≡ table.heeds role byte self }
     {
@@ -101,8 +101,8 @@ impl Heed {
 }
 
 impl Timing {
-    /// Whether what was heard was waited for, as the next write shows: for a sender another frame, for
-    /// a receiver any one.
+    /// Whether what was heard was waited for, as the next write shows: for a sender another frame,
+    /// for a receiver any one.
     pub(crate) fn is_taken(&self, next: Sent) -> bool
         ensures { result ≡ table.is_taken next self.now }
     {
@@ -168,8 +168,8 @@ impl Timing {
             .max(apart.min(late))
     }
 
-    /// When what was stuck has come: soon behind the first of it. The time is halved where it was in
-    /// vain, so that it does not meet a peer's own wait again and again.
+    /// When what was stuck has come: soon behind the first of it. The time is halved where it was
+    /// in vain, so that it does not meet a peer's own wait again and again.
     fn late_until(&self, from: u64) -> u64
         ensures { result ≡ table.late_until from self.now }
     {

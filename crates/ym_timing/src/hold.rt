@@ -1,5 +1,5 @@
-//! What of a reply a sender hears later, or not at all: the ACK of an EOT with the C behind it, that
-//! of the end block when nothing came behind it, and C that ask for what is on its way.
+//! What of a reply a sender hears later, or not at all: the ACK of an EOT with the C behind it,
+//! that of the end block when nothing came behind it, and C that ask for what is on its way.
 
 ghost use Rattle.std.specs.Prelude.{◌≡◌};
 ghost use Rattle.ym_timing.specs.Hold as table;

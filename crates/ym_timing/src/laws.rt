@@ -1,7 +1,9 @@
 //! Laws of the rule: what it promises beside each single step.
 
-ghost use Rattle.std.specs.Prelude.{◌≡◌, ◌≤◌, ◌<◌, ◌-◌, ◌+◌, ◌^◌, ℕ, Bool, List, length, true, false};
-ghost use Rattle.ym_timing.specs.Clearing.{clearing, clear_at, is_unsure, apart_until, late_until, several_until};
+ghost use Rattle.std.specs.Prelude.{◌≡◌, ◌≤◌, ◌<◌, ◌-◌, ◌+◌, ◌^◌, ℕ, Bool, List, length, true};
+ghost use Rattle.std.specs.Prelude.{false};
+ghost use Rattle.ym_timing.specs.Clearing.{clearing, clear_at, is_unsure, apart_until, late_until};
+ghost use Rattle.ym_timing.specs.Clearing.{several_until};
 ghost use Rattle.ym_timing.specs.Ear.{is_first, rested};
 ghost use Rattle.ym_timing.specs.Echoes.{block_of, IsDropped};
 ghost use Rattle.ym_timing.specs.Hold.{control};
@@ -22,7 +24,8 @@ ghost use Rattle.ym_timing.specs.declared.timing.Timing.{Timing};
 /// Where one answer is awaited, and neither noise came nor an end was held up, nothing is dropped
 /// before a write, and nothing waits.
 pub fn nothing_waits_where_nothing_went_wrong()
-    ensures { (t : Timing) (bytes : List ℕ) (now : ℕ) → t.out.owed ≡ Owed.One → is_unsure now t ≡ false
+    ensures { (t : Timing) (bytes : List ℕ) (now : ℕ) → t.out.owed ≡ Owed.One
+        → is_unsure now t ≡ false
         → clear_at (clearing bytes now t) t ≡ 0 }
 {}
 
@@ -36,7 +39,8 @@ pub fn answers_are_not_thought_quicker()
 /// An answer that is not overdue, and comes no farther behind the one before than the writes were
 /// apart and a jitter, comes before the line counts as clear.
 pub fn late_answers_come_before_the_line_is_clear()
-    ensures { (t : Timing) (from at : ℕ) → at ≤ later t.out.last_at (bound t.pace) → at ≤ apart_until from t
+    ensures { (t : Timing) (from at : ℕ) → at ≤ later t.out.last_at (bound t.pace)
+        → at ≤ apart_until from t
         → at ≤ several_until from t }
 {}
 
@@ -48,18 +52,23 @@ pub fn late_quiet_meets_no_peers_wait()
 
 /// A sender takes an ask for the answer to its frame only where no peer can have asked unasked.
 pub fn prompt_asks_are_asked_for()
-    ensures { (t : Timing) → t.role ≡ Role.Sender → is_prompted t ≡ true → t.heard.since - t.led_at ≤ UNASKED }
+    ensures { (t : Timing) → t.role ≡ Role.Sender → is_prompted t ≡ true
+        → t.heard.since - t.led_at ≤ UNASKED }
 {}
 
 /// The ACK of an EOT, and that of the end block, is not heard when it comes.
 pub fn last_acks_are_held()
-    ensures eot { (is_first : Bool) (now : ℕ) (h : Hold) → (control Kind.Eot 0x06 is_first now h).say ≡ say.Nothing }
-    ensures end { (is_first : Bool) (now : ℕ) (h : Hold) → (control Kind.End 0x06 is_first now h).say ≡ say.Nothing }
+    ensures eot { (is_first : Bool) (now : ℕ) (h : Hold)
+        → (control Kind.Eot 0x06 is_first now h).say ≡ say.Nothing }
+    ensures end { (is_first : Bool) (now : ℕ) (h : Hold)
+        → (control Kind.End 0x06 is_first now h).say ≡ say.Nothing }
 {}
 
 /// The echo of a block is dropped whole, whatever bytes its data has, and what stands behind it is
 /// listened to as if it had not come.
 pub fn an_echo_is_dropped_whole()
-    ensures { (first number : ℕ) (body : List ℕ) (now : ℕ) (e : Ear) → is_first first ≡ true → 0 < length body
-        → now + WITHIN < 2 ^ 64 → (rested now e).echo ≡ Echo.Open → IsDropped (block_of first number body) now e }
+    ensures { (first number : ℕ) (body : List ℕ) (now : ℕ) (e : Ear) → is_first first ≡ true
+        → 0 < length body
+        → now + WITHIN < 2 ^ 64 → (rested now e).echo ≡ Echo.Open
+        → IsDropped (block_of first number body) now e }
 {}

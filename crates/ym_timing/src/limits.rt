@@ -15,7 +15,8 @@ pub const LONGEST: u64 = 60_000;
 /// What an answer may take beyond half as much again as the slowest of late.
 pub const MARGIN: u64 = 250;
 
-/// How long a sender's line is quiet before it is clear: more than the second that receivers take before they answer, and less than two.
+/// How long a sender's line is quiet before it is clear: more than the second that receivers take
+/// before they answer, and less than two.
 pub const SENDER_QUIET: u64 = 1_250;
 
 /// How long a receiver's line is quiet before it is clear.
@@ -33,7 +34,8 @@ pub const SOON: u64 = 1_750;
 /// An end that took so long between what it heard and its next write was held up.
 pub const HELD_UP: u64 = 2_000;
 
-/// How long an end listens for CAN CAN behind an ACK that ends the batch; twice this is the margin behind a late ask.
+/// How long an end listens for CAN CAN behind an ACK that ends the batch; twice this is the margin
+/// behind a late ask.
 pub const MOMENT: u64 = 100;
 
 /// How many C behind a new block 0 are passed over.

@@ -10,8 +10,8 @@ pub enum Owed {
     Nothing,
     /// The last one.
     One,
-    /// The last one, which the peer asked for when the one before was overdue: only what was stuck in
-    /// the line may come beside it.
+    /// The last one, which the peer asked for when the one before was overdue: only what was stuck
+    /// in the line may come beside it.
     Late,
     /// Each of several.
     Several,

@@ -75,7 +75,8 @@ impl Pace {
         }
     }
 
-    /// How long a reply is waited for, or a frame: as long as at first, and longer where answers take longer.
+    /// How long a reply is waited for, or a frame: as long as at first, and longer where answers
+    /// take longer.
     pub fn wait(self, role: Role) -> u64
         ensures { result ≡ table.wait role self }
     {

@@ -100,8 +100,8 @@ impl Timing {
         }
     }
 
-    /// Whether a sender's wait for a reply is in its first part. It has two, so that an end knows of
-    /// an answer that came late even where its clock stands still.
+    /// Whether a sender's wait for a reply is in its first part. It has two, so that an end knows
+    /// of an answer that came late even where its clock stands still.
     fn is_early(&self, wait: Wait) -> bool
         ensures { result ≡ table.is_early wait self.now }
     {
@@ -170,8 +170,8 @@ impl Timing {
         said.say
     }
 
-    /// Takes a byte that came to a receiver behind this reply: what comes back of the reply itself, at
-    /// the front, is no frame.
+    /// Takes a byte that came to a receiver behind this reply: what comes back of the reply
+    /// itself, at the front, is no frame.
     fn frame_byte(&mut self, byte: u8, reply: &[u8], now: u64) -> Say
         ensures new { self.new ≡ table.after_frame byte reply.now now self.old }
         ensures say { result ≡ table.frame_said byte reply.now self.old }

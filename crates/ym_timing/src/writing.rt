@@ -57,8 +57,8 @@ impl Timing {
         is_taken && is_other && is_out
     }
 
-    /// How long the answer to what was written then took; where a sender's clock stood still, as long
-    /// as it waited in vain.
+    /// How long the answer to what was written then took; where a sender's clock stood still, as
+    /// long as it waited in vain.
     fn took(&self, written_at: u64) -> u64
         ensures { result ≡ table.took written_at self.now }
     {
@@ -69,8 +69,8 @@ impl Timing {
         }
     }
 
-    /// What an answer says of how long answers take. Where a sender let the line clear in vain, it was
-    /// that of the last write.
+    /// What an answer says of how long answers take. Where a sender let the line clear in vain, it
+    /// was that of the last write.
     fn pace_after(&self, clearing: Clearing) -> Pace
         ensures { result ≡ table.pace_after clearing self.now }
     {
@@ -93,8 +93,8 @@ impl Timing {
         }
     }
 
-    /// Whether what was heard answers the write before, which is written again: a peer's ask that came
-    /// too soon to be unasked, or to a receiver a damaged frame.
+    /// Whether what was heard answers the write before, which is written again: a peer's ask that
+    /// came too soon to be unasked, or to a receiver a damaged frame.
     fn is_prompted(&self) -> bool
         ensures { result ≡ table.is_prompted self.now }
     {
