@@ -266,14 +266,34 @@ def cancels(data):
     return CANCEL in bytes(byte for byte in data if byte in CONTROLS)
 
 
+class Clock:
+    """A clock that never runs backwards, over one that may, or that stands still."""
+
+    def __init__(self):
+        self.at, self.behind = 0, 0
+
+    def read(self, now):
+        self.behind = max(self.behind, self.at - now)
+        self.at = now + self.behind
+        return self.at
+
+    def waited(self, until):
+        """A read waited until then, whatever the clock below says."""
+        self.behind += max(0, until - self.at)
+        self.at = max(self.at, until)
+
+
 class Timed:
     """A port that drives the core over a line."""
 
     def __init__(self, role, line):
-        self.core, self.line, self.written = Timing(role), line, b""
+        self.core, self.clock, self.line, self.written = Timing(role), Clock(), line, b""
+
+    def told(self):
+        return self.line.now // MS
 
     def now(self):
-        return self.line.now // MS
+        return self.clock.read(self.told())
 
     def heard_of(self, data):
         now, heard = self.now(), b""
@@ -288,12 +308,13 @@ class Timed:
             return CANCEL
         while True:
             until = core.until(kind, start)
-            got = yield Read(max(0, until * MS - self.line.now), room)
+            got = yield Read(max(0, until - self.now()) * MS, room)
             if got is not None:
                 heard = self.heard_of(got)
                 if heard:
                     return heard
                 continue
+            self.clock.waited(until)
             vain = core.expired(kind, self.now())
             if vain != "again":
                 return bytes([ACK]) if vain == "ack" else None
@@ -305,11 +326,26 @@ class Timed:
             until = core.clear_at(clearing)
             if until <= self.now():
                 break
-            got = yield Read(max(0, until * MS - self.line.now))
+            got = yield Read((until - self.now()) * MS)
             if got is None:
+                self.clock.waited(until)
                 break
             for byte in got:
                 core.dropped(clearing, byte, self.written, self.now())
         core.wrote(data, clearing, self.now())
         self.written = data
         yield Write(data)
+
+
+class Still(Timed):
+    """The same, with a clock that stands still."""
+
+    def told(self):
+        return 5_000
+
+
+class Back(Timed):
+    """The same, with a clock that jumps back by four seconds every seven."""
+
+    def told(self):
+        return 100_000 + self.line.now // MS - self.line.now // (7_000 * MS) * 4_000

@@ -6,10 +6,10 @@ from dataclasses import dataclass
 import peers
 from ends import Receiver, Sender
 from line import SECOND, Line, Sleep, Way
-from rule import Timed
+from rule import Back, Still, Timed
 from today import Clearing, Plain
 
-RULES = {"plain": Plain, "today": Clearing, "rule": Timed}
+RULES = {"plain": Plain, "today": Clearing, "rule": Timed, "still": Still, "back": Back}
 
 
 def files_of(seed, sizes=(1, 300, 3000, 9000, 20000)):
@@ -93,6 +93,6 @@ def session(
         far = getattr(peers, receiver)()
     else:
         port = Stalling(RULES[receiver]("receiver", line), stalls[1])
-        far = Receiver(twice, minds=receiver == "rule").run(port)
+        far = Receiver(twice, minds=receiver not in ("plain", "today")).run(port)
     (near, far), at = line.run(started(near, late[0]), started(far, late[1]))
     return judge(files, near, far, at, receiver not in ("rb", "uboot"))

@@ -19,6 +19,8 @@ PAIRS = (
     ("sb", "today"),
     ("rule", "rb"),
     ("sb", "rb"),
+    ("still", "still"),
+    ("back", "back"),
 )
 
 

@@ -4,6 +4,7 @@ use Rattle.ym_timing.specs.Clearing.{clearing, clear_at}
 use Rattle.ym_timing.specs.Out.{one, late}
 use Rattle.ym_timing.specs.Pace.{bound}
 use Rattle.ym_timing.specs.Session.{heard_of, after_bytes, writes}
+use Rattle.ym_timing.specs.Times.{new_clock, told, waited}
 use Rattle.ym_timing.specs.Timing.{new_timing, until}
 use Rattle.ym_timing.specs.declared.pace.Trust.TheVariants.{Doubtful, Sure}
 use Rattle.ym_timing.specs.declared.role.Role.TheVariants.{Sender, Receiver}
@@ -173,3 +174,13 @@ refused = refl
 
 stored : heard_of ack_start eot 9000 (writes eot 8988 quick) ≡ ack_start
 stored = refl
+
+-- ---- A clock that runs backwards
+
+-- at 9 seconds it tells 5: time stands still, and goes on from there
+jumped_back : told 5500 (told 5000 (told 9000 new_clock)) ≡ record { at = 9500; behind = 4000 }
+jumped_back = refl
+
+-- it stands still, and a read waited for ten seconds
+stood_still : told 5000 (waited 15000 (told 5000 new_clock)) ≡ record { at = 15000; behind = 10000 }
+stood_still = refl

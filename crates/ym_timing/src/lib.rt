@@ -4,6 +4,7 @@
 
 mod cancel;
 mod clearing;
+mod clock;
 mod ear;
 mod heard;
 mod hold;
@@ -18,6 +19,7 @@ mod writing;
 
 pub use cancel::{Cans, Opening, cancels};
 pub use clearing::{Clearing, Heed, Need};
+pub use clock::Clock;
 pub use ear::{Ear, Echo, Listened};
 pub use heard::Heard;
 pub use hold::{Hold, Said, Say, Wary};
