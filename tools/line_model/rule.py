@@ -209,7 +209,9 @@ class Timing:
 
     def took(self, written_at):
         took = max(0, self.heard.since - written_at)
-        return max(took, PATIENCE) if self.role == "sender" and self.heard.is_late else took
+        # no time has passed since the first part of the wait: the clock stands still
+        is_still = self.heard.is_late and took <= PATIENCE
+        return self.wait() if self.role == "sender" and is_still else took
 
     def learn(self, clearing, taken):
         is_other = self.role == "sender" or self.front != (self.heard.first, self.heard.second)
@@ -277,8 +279,9 @@ class Clock:
         self.at = now + self.behind
         return self.at
 
-    def waited(self, until):
+    def waited(self, until, now):
         """A read waited until then, whatever the clock below says."""
+        self.read(now)
         self.behind += max(0, until - self.at)
         self.at = max(self.at, until)
 
@@ -314,7 +317,7 @@ class Timed:
                 if heard:
                     return heard
                 continue
-            self.clock.waited(until)
+            self.clock.waited(until, self.told())
             vain = core.expired(kind, self.now())
             if vain != "again":
                 return bytes([ACK]) if vain == "ack" else None
@@ -328,7 +331,7 @@ class Timed:
                 break
             got = yield Read((until - self.now()) * MS)
             if got is None:
-                self.clock.waited(until)
+                self.clock.waited(until, self.told())
                 break
             for byte in got:
                 core.dropped(clearing, byte, self.written, self.now())

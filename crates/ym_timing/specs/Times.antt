@@ -17,5 +17,8 @@ abbrev pub told : ℕ → Clock → Clock
 told now c = record { at = later now (behind_at now c); behind = behind_at now c }
 
 -- a read waited until then, whatever that clock tells
-abbrev pub waited : ℕ → Clock → Clock
-waited until c = record { at = max c.at until; behind = later c.behind (until - c.at) }
+abbrev pub at_least : ℕ → Clock → Clock
+at_least until c = record { at = max c.at until; behind = later c.behind (until - c.at) }
+
+abbrev pub waited : ℕ → ℕ → Clock → Clock
+waited until now c = at_least until (told now c)

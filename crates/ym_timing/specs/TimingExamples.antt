@@ -175,12 +175,16 @@ refused = refl
 stored : heard_of ack_start eot 9000 (writes eot 8988 quick) ≡ ack_start
 stored = refl
 
--- ---- A clock that runs backwards
+-- ---- A clock that runs backwards, and one that stands still
+
+-- a read waited from 5 seconds to 15, as the clock says too: nothing is added
+went_on : waited 15000 15000 (told 5000 new_clock) ≡ record { at = 15000; behind = 0 }
+went_on = refl
 
 -- at 9 seconds it tells 5: time stands still, and goes on from there
 jumped_back : told 5500 (told 5000 (told 9000 new_clock)) ≡ record { at = 9500; behind = 4000 }
 jumped_back = refl
 
 -- it stands still, and a read waited for ten seconds
-stood_still : told 5000 (waited 15000 (told 5000 new_clock)) ≡ record { at = 15000; behind = 10000 }
+stood_still : told 5000 (waited 15000 5000 (told 5000 new_clock)) ≡ record { at = 15000; behind = 10000 }
 stood_still = refl

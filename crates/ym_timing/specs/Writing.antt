@@ -10,7 +10,7 @@ use Rattle.ym_timing.specs.Ear as ear
 use Rattle.ym_timing.specs.Heard.{new_heard}
 use Rattle.ym_timing.specs.Hold as hold
 use Rattle.ym_timing.specs.Out.{one, late, again}
-use Rattle.ym_timing.specs.Pace.{bound, doubtful, sure}
+use Rattle.ym_timing.specs.Pace.{bound, doubtful, sure, wait}
 use Rattle.ym_timing.specs.Sent.{next, is_same}
 use Rattle.ym_timing.specs.Times.{later}
 use Rattle.ym_timing.specs.declared.clearing.Clearing.{Clearing}
@@ -67,13 +67,17 @@ is_out _ = true
 abbrev pub leads_on : Bool → Timing → Bool
 leads_on taken t = taken && is_other t.role t && is_out t.out.owed
 
--- as long as a sender waited in vain, whatever its clock says
-abbrev pub took_by : Role → Bool → ℕ → ℕ
-took_by Sender is_late took = if is_late then max took PATIENCE else took
-took_by Receiver is_late took = took
+-- a sender's answer came behind the first part of its wait, and no more time has passed: its clock
+-- stands still, and the answer may have taken the whole wait
+abbrev pub is_still : ℕ → Timing → Bool
+is_still passed t = t.heard.is_late && nat_le passed PATIENCE
+
+abbrev pub took_by : Role → ℕ → Timing → ℕ
+took_by Sender passed t = if is_still passed t then wait t.role t.pace else passed
+took_by Receiver passed t = passed
 
 abbrev pub took : ℕ → Timing → ℕ
-took written_at t = took_by t.role t.heard.is_late (t.heard.since - written_at)
+took written_at t = took_by t.role (t.heard.since - written_at) t
 
 abbrev pub sample : Owed → Timing → Pace
 sample owed.Several t = doubtful (took t.out.first_at t) t.pace

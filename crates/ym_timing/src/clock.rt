@@ -31,11 +31,16 @@ impl Clock {
         self.at
     }
 
-    /// Takes that a read waited until then in vain, whatever the clock below tells.
-    pub fn waited(&mut self, until: u64)
-        ensures { self.new ≡ table.waited until self.old }
+    /// The time, where a read waited until then in vain and the clock below tells this.
+    pub fn waited(&mut self, until: u64, now: u64) -> u64
+        ensures new { self.new ≡ table.waited until now self.old }
+        ensures result { result ≡ self.new.at }
+        ensures onward { self.old.at ≤ self.new.at }
+        ensures until { until ≤ self.new.at }
     {
-        self.behind = self.behind.saturating_add(until.saturating_sub(self.at));
-        self.at = self.at.max(until);
+        let told = self.read(now);
+        self.behind = self.behind.saturating_add(until.saturating_sub(told));
+        self.at = told.max(until);
+        self.at
     }
 }

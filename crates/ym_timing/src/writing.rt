@@ -57,14 +57,16 @@ impl Timing {
         is_taken && is_other && is_out
     }
 
-    /// How long the answer to what was written then took; where a sender's clock stood still, as
-    /// long as it waited in vain.
+    /// How long the answer to what was written then took. Where a sender's clock told no more than the
+    /// first part of its wait, and the answer came behind that, it stands still: then it may have
+    /// taken the whole wait.
     fn took(&self, written_at: u64) -> u64
         ensures { result ≡ table.took written_at self.now }
     {
         let took = self.heard.since.saturating_sub(written_at);
+        let is_still = self.heard.is_late && took <= PATIENCE;
         match self.role {
-            Role::Sender if self.heard.is_late => took.max(PATIENCE),
+            Role::Sender if is_still => self.pace.wait(self.role),
             _ => took,
         }
     }
