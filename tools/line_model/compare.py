@@ -1,4 +1,4 @@
-"""Runs of the machine of this model, as rows of a test of `ym_timing`: `python3 compare.py COUNT SEED`.
+"""Runs of the machine, as rows of a test of `ym_timing`: `python3 compare.py COUNT SEED`.
 
 It prints the two tables of `crates/ym_timing/src/tests.rt`. For a longer comparison put more rows
 into a copy of the crate, and `rt try --test` there.

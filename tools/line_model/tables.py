@@ -66,7 +66,8 @@ def late(wanted):
                     wait[side] = start * SECOND + 137 * MS
                     ways = both(delay=delay)
                     told.append(session(start, sender, receiver, late=wait, **ways))
-                row("%s to %s, late %s, delay %.1f" % (sender, receiver, name, delay / SECOND), told)
+                names = (sender, receiver, name, delay / SECOND)
+                row("%s to %s, late %s, delay %.1f" % names, told)
 
 
 STALLS = (1, 2, 3, 4, 5, 7, 9, 9.95, 10, 10.05, 12, 15, 20, 21, 25, 30)
@@ -140,7 +141,7 @@ ECHOES = (
 
 
 def echo(wanted):
-    files = files_of(7, (1, 0, 300, 3000, 9000))
+    files = files_of(7, (1, 0, 300, 9000, 40000))
     for sender, receiver in pairs_of(wanted):
         for name, made in ECHOES:
             places = (

@@ -186,5 +186,6 @@ jumped_back : told 5500 (told 5000 (told 9000 new_clock)) ≡ record { at = 9500
 jumped_back = refl
 
 -- it stands still, and a read waited for ten seconds
-stood_still : told 5000 (waited 15000 5000 (told 5000 new_clock)) ≡ record { at = 15000; behind = 10000 }
+stood_still : told 5000 (waited 15000 5000 (told 5000 new_clock))
+    ≡ record { at = 15000; behind = 10000 }
 stood_still = refl

@@ -57,9 +57,9 @@ impl Timing {
         is_taken && is_other && is_out
     }
 
-    /// How long the answer to what was written then took. Where a sender's clock told no more than the
-    /// first part of its wait, and the answer came behind that, it stands still: then it may have
-    /// taken the whole wait.
+    /// How long the answer to what was written then took. Where a sender's clock told no more than
+    /// the first part of its wait, and the answer came behind that, it stands still: then it may
+    /// have taken the whole wait.
     fn took(&self, written_at: u64) -> u64
         ensures { result ≡ table.took written_at self.now }
     {
