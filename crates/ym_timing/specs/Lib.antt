@@ -1,5 +1,6 @@
+pub mod ByteRows
 pub mod Cancel
-pub mod Clearing
+pub mod Clears
 pub mod Ear
 pub mod Echoes
 pub mod Heard
@@ -7,7 +8,6 @@ pub mod Hold
 pub mod Out
 pub mod Pace
 pub mod Sent
-pub mod Session
 pub mod Times
 pub mod Timing
 pub mod TimingExamples

@@ -1,9 +1,9 @@
 -- Lines, computed. A block is shortened to its head and two more bytes.
 use Rattle.std.specs.Prelude.{◌≡◌, ℕ, List, [], ◌∷◌, ◌++◌, refl}
-use Rattle.ym_timing.specs.Clearing.{clearing, clear_at}
+use Rattle.ym_timing.specs.Clears.{clearing, clear_at}
 use Rattle.ym_timing.specs.Out.{one, late}
 use Rattle.ym_timing.specs.Pace.{bound}
-use Rattle.ym_timing.specs.Session.{heard_of, after_bytes, writes}
+use Rattle.ym_timing.specs.ByteRows.{heard_of, after_bytes, writes}
 use Rattle.ym_timing.specs.Times.{new_clock, told, waited}
 use Rattle.ym_timing.specs.Timing.{new_timing, until}
 use Rattle.ym_timing.specs.declared.pace.Trust.TheVariants.{Doubtful, Sure}

@@ -5,7 +5,7 @@
 -- awaited but the next; else each copy may be answered.
 use Rattle.std.specs.Prelude.{ℕ, ◌-◌, nat_eq, nat_lt, nat_le, ◌&&◌, ◌||◌, not, Bool, true, false}
 use Rattle.std.specs.Prelude.{List, max, if◌then◌else◌}
-use Rattle.ym_timing.specs.Clearing.{is_taken, vain_after}
+use Rattle.ym_timing.specs.Clears.{is_taken, vain_after}
 use Rattle.ym_timing.specs.Ear as ear
 use Rattle.ym_timing.specs.Heard.{new_heard}
 use Rattle.ym_timing.specs.Hold as hold

@@ -1,7 +1,7 @@
 //! When a line has to clear before a write, and when it is clear.
 
 ghost use Rattle.std.specs.Prelude.{◌≡◌, false};
-ghost use Rattle.ym_timing.specs.Clearing as table;
+ghost use Rattle.ym_timing.specs.Clears as table;
 
 use crate::ear::{ACK, CAN};
 use crate::limits::{APART, HALVINGS, HELD_UP, LONGEST, MOMENT, RECEIVER_QUIET, SENDER_QUIET};

@@ -2,8 +2,8 @@
 
 ghost use Rattle.std.specs.Prelude.{◌≡◌, ◌≤◌, ◌<◌, ◌-◌, ◌+◌, ◌^◌, ℕ, Bool, List, length, true};
 ghost use Rattle.std.specs.Prelude.{false};
-ghost use Rattle.ym_timing.specs.Clearing.{clearing, clear_at, is_unsure, apart_until, late_until};
-ghost use Rattle.ym_timing.specs.Clearing.{several_until};
+ghost use Rattle.ym_timing.specs.Clears.{clearing, clear_at, is_unsure, apart_until, late_until};
+ghost use Rattle.ym_timing.specs.Clears.{several_until};
 ghost use Rattle.ym_timing.specs.Ear.{is_first, rested};
 ghost use Rattle.ym_timing.specs.Echoes.{block_of, IsDropped};
 ghost use Rattle.ym_timing.specs.Hold.{control};

@@ -1,6 +1,6 @@
 -- What an end hears of a row of bytes, and a write behind which nothing was dropped (this profile).
 use Rattle.std.specs.Prelude.{ℕ, List, [], ◌∷◌, ◌++◌}
-use Rattle.ym_timing.specs.Clearing.{clearing}
+use Rattle.ym_timing.specs.Clears.{clearing}
 use Rattle.ym_timing.specs.Timing.{said, after_byte}
 use Rattle.ym_timing.specs.Writing.{wrote}
 use Rattle.ym_timing.specs.declared.hold.Say.{Say}
