@@ -101,7 +101,7 @@ class Tried:
         """What make came to: its status, and its lines."""
         words = ["make", "--no-print-directory", "-C", self.top, *words]
         ran = subprocess.run(words, capture_output=True, text=True, check=False)
-        wants("what went wrong", re.sub(r"make: \*\*\* .*\n", "", ran.stderr), "")
+        wants("what went wrong", re.sub(r"make(\[\d+\])?: \*\*\* .*\n", "", ran.stderr), "")
         return ran.returncode, ran.stdout.splitlines()
 
 
