@@ -2,11 +2,14 @@
 # make build             proves and builds the program
 # make check             while you write: proves what changed, and tries the tests of the crates that changed since the last green run
 # make layout            whether each source is laid out as `rt fmt` does it, which the gate wants, and the version is spelled alike: a second
-# make test              everything that is checked before a change lands: want of memory, and the gate, whose last line is 'N passed, M failed',
-#                        with the program that it proved on sockets and files, what is shipped beside it, the library and the page
+# make test              everything that is checked before a change lands: the gate, whose last line is 'N passed, M failed', and beside it
+#                        want of memory, the library, the page, and the program that it proved on sockets and files
 # make memory            each growth of memory refused in turn, alone
+# make edits             tries every edit of the crates, many in a check; the gate tries a few of them.
+#                        CRATES="A B" takes those of these crates, ANEW=1 also what was settled
 # make interop           the program against lrzsz, which has to be installed
 # make install           puts the program, ymodem-tty, the manual pages and the completion below $(DESTDIR)$(PREFIX)
+# make portable          the library for C as two files for every processor, 32 bits too: out/portable
 # make deb, make dist    the same as a Debian package, with one of the library for C beside it, and as a tar file, in out/
 # make charts            draws the charts of docs/pictures from the traces that the program prints
 # make bench             measures the program
@@ -15,7 +18,7 @@
 PREFIX ?= /usr/local
 PROGRAM = crates/ymodem/out/ymodem
 
-.PHONY: play build check layout test replay memory interop install deb dist charts bench clean
+.PHONY: play build check layout test replay memory edits interop install deb dist charts bench clean
 
 play:
 	@tools/prove.py play
@@ -34,8 +37,7 @@ layout:
 	    | xargs -0 "$$(dirname "$$(readlink -f "$$(command -v rt)")")/rattle" fmt --check \
 	    || { echo "run rt fmt in the folder of its crate" >&2; exit 1; }
 
-test: layout lib web
-	tests/memory.py
+test: layout
 	@tools/gate.py
 
 # The program that plays recorded reads to the engines, for tests/transfer.py.
@@ -44,6 +46,9 @@ replay:
 
 memory:
 	tests/memory.py
+
+edits:
+	@tools/edits.py $(if $(ANEW),--anew) $(if $(JOBS),--jobs $(JOBS)) $(CRATES)
 
 interop: build
 	tests/transfer.py --interop
@@ -54,10 +59,11 @@ install: build
 deb: build
 	packaging/package.py deb $(PROGRAM) out
 	@$(MAKE) --no-print-directory lib TARGETS=x86_64-unknown-linux-gnu
-	packaging/package.py dev out/lib/x86_64-unknown-linux-gnu/libymodem.a out
+	@$(MAKE) --no-print-directory portable
+	packaging/package.py dev out/lib/x86_64-unknown-linux-gnu/libymodem.a out out/portable
 
-dist: build
-	packaging/package.py dist $(PROGRAM) out
+dist: build portable
+	packaging/package.py dist $(PROGRAM) out out/portable
 
 charts: build
 	docs/pictures/draw.py $(PROGRAM)
@@ -75,12 +81,15 @@ clean:
 # make lib               proves and builds it: out/lib/TARGET/libymodem.a for each of TARGETS
 # make test-lib          the checks of the library, which `make test` runs too: on this machine, on a board without an operating system (QEMU), and
 #                        of `ymodem send` to U-Boot
+# make portable          the same library as out/portable/ymodem.c and ymodem.h, for any C99 compiler and little-endian processor of 32 or 64
+#                        bits; needs wasm-opt and wasm2c (Debian's binaryen and wabt)
+# make test-portable     the checks of these two files
 # make install-lib       puts the archive of TARGET, the header and the file for pkg-config below $(DESTDIR)$(PREFIX)
 
 TARGETS = x86_64-unknown-linux-gnu aarch64-unknown-linux-gnu wasm64-unknown-unknown
 TARGET = x86_64-unknown-linux-gnu
 
-.PHONY: lib test-lib install-lib
+.PHONY: lib test-lib install-lib portable test-portable
 
 lib:
 	@mkdir -p out; for target in $(TARGETS); do \
@@ -93,6 +102,15 @@ test-lib: build
 	tests/library.py
 	tests/bare.py
 	tests/uboot.py
+
+portable:
+	@$(MAKE) --no-print-directory lib TARGETS=$(WASM)
+	@tools/portable.py out/lib/$(WASM)/libymodem.a out/portable
+
+test-portable: build portable
+	@$(MAKE) --no-print-directory lib TARGETS=$(TARGET)
+	tests/portable.py --long
+	tests/cortex_m.py
 
 install-lib: lib
 	install -D -m 644 out/lib/$(TARGET)/libymodem.a "$(DESTDIR)$(PREFIX)/lib/libymodem.a"

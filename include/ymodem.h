@@ -5,7 +5,10 @@
    ended, and a call at the wrong time does nothing.
 
    What the caller keeps: a pointer is never NULL, not even with length 0, and points to as many bytes as its length says; no other
-   pointer of the same call points into what a call writes; a struct is used by one call at a time. */
+   pointer of the same call points into what a call writes; a struct is used by one call at a time.
+
+   The structs have one layout in every ABI, which the end of this header asserts: each member stands at
+   a multiple of its size, and what a compiler would fill in to a multiple of 8 is a member too. */
 #ifndef YMODEM_H
 #define YMODEM_H
 
@@ -14,6 +17,17 @@
 
 /* The version of this header, and of the library and the program beside it. */
 #define YM_VERSION "0.2.0"
+
+/* At the first member of a struct: at a multiple of 8, on i386 too, where `uint64_t` is at one of 4. */
+#if defined(__cplusplus) && __cplusplus >= 201103L
+#define YM_ALIGNED alignas(8)
+#elif defined(__STDC_VERSION__) && __STDC_VERSION__ >= 201112L
+#define YM_ALIGNED _Alignas(8)
+#elif defined(__GNUC__)
+#define YM_ALIGNED __attribute__((aligned(8)))
+#else
+#define YM_ALIGNED
+#endif
 
 #ifdef __cplusplus
 extern "C" {
@@ -40,7 +54,7 @@ enum ym_kind { YM_NOTHING, YM_BEGIN, YM_ADD, YM_COMMIT };
 
 /* Where a receiver stands. */
 typedef struct ym_stand {
-    uint64_t length;    /* while a file is taken: the length that its header states, */
+    YM_ALIGNED uint64_t length;    /* while a file is taken: the length that its header states, */
     uint64_t taken;     /* how many of its bytes were taken, */
     uint64_t blocks;    /* and how many data blocks */
     uint32_t files;     /* files committed */
@@ -50,27 +64,31 @@ typedef struct ym_stand {
     uint32_t first_eot; /* 1 where its first EOT has come */
     uint32_t retries;   /* deliveries in a row without progress; the tenth ends it */
     uint32_t confirm;   /* 0: the first EOT of a file is questioned; 1: it is not */
+    uint32_t unused;
 } ym_stand;
 
 /* A receiver, and the bytes of the delivery that is coming. Read it, and let the functions write it. */
 typedef struct ym_receiver {
-    ym_stand stand;     /* where it stands */
+    YM_ALIGNED ym_stand stand;     /* where it stands */
     ym_stand next;      /* where it will stand once ym_receiver_answer is called */
     uint32_t reply;
     uint32_t len;       /* how many bytes of the delivery are held */
     uint8_t held[1029];
+    uint8_t unused[3];
 } ym_receiver;
 
 typedef struct ym_ask {
-    uint64_t length;    /* YM_BEGIN: the length of the file */
+    YM_ALIGNED uint64_t length;    /* YM_BEGIN: the length of the file */
     uint64_t time;      /* YM_BEGIN, where stamp is 1 or 2: seconds since 1970 */
     uint64_t count;     /* YM_BEGIN, YM_ADD: how many bytes the name has, or are to be stored; they stand at held + at */
     uint32_t kind;      /* enum ym_kind */
     uint32_t at;
     uint32_t stamp;     /* YM_BEGIN: 0 none, 1 a time, 2 a time and a mode */
     uint32_t mode;      /* YM_BEGIN, where stamp is 2 */
-    uint32_t bad;       /* 1: no frame was heard. Where bytes came (len is not 0), and bad or the receiver's stand.retries is not 0, read on until the line
-                           has been quiet for a second, and then answer */
+    uint32_t bad;       /* 1: no frame was heard. Where bytes came (len is not 0), and bad or the receiver's
+                           stand.retries is not 0, read on until the line has been quiet for a second,
+                           and then answer */
+    uint32_t unused;
 } ym_ask;
 
 /* Makes a receiver that awaits its first file, whatever stood there. confirm 0: the first EOT of a file is questioned. */
@@ -101,7 +119,7 @@ enum ym_fill_kind { YM_FILL_NOTHING, YM_FILL_HEADER, YM_FILL_BLOCK };
 
 /* A sender, and the frame that was filled last. */
 typedef struct ym_sender {
-    uint64_t number;    /* at a data block: its number, counted from 1 */
+    YM_ALIGNED uint64_t number;    /* at a data block: its number, counted from 1 */
     uint32_t file;      /* the file, counted from 0 */
     uint32_t len;       /* how many bytes the frame has */
     uint32_t place;     /* 0 block 0, 1 a data block, 2 EOT, 3 the end block */
@@ -110,10 +128,11 @@ typedef struct ym_sender {
     uint32_t state;     /* enum ym_send_state */
     uint32_t cancel_pending; /* 1 where CAN CAN is still to go */
     uint8_t frame[1029];
+    uint8_t unused[7];
 } ym_sender;
 
 typedef struct ym_fill {
-    uint64_t number;    /* YM_FILL_BLOCK: the data block, counted from 1 */
+    YM_ALIGNED uint64_t number;    /* YM_FILL_BLOCK: the data block, counted from 1 */
     uint32_t kind;      /* enum ym_fill_kind */
     uint32_t file;      /* the file, counted from 0 */
 } ym_fill;
@@ -149,7 +168,7 @@ uint32_t ym_sender_out(const ym_sender *sender, const uint64_t *blocks, size_t f
 enum ym_front_kind { YM_FRONT_OPEN, YM_FRONT_BLOCK, YM_FRONT_EOT, YM_FRONT_CANCEL, YM_FRONT_NONE };
 
 typedef struct ym_front {
-    uint32_t kind;      /* enum ym_front_kind; YM_FRONT_OPEN: it may go on to a frame */
+    YM_ALIGNED uint32_t kind;      /* enum ym_front_kind; YM_FRONT_OPEN: it may go on to a frame */
     uint32_t number;    /* YM_FRONT_BLOCK: the block's number, 0 to 255 */
     uint64_t size;      /* YM_FRONT_BLOCK: its body's bytes, 128 or 1024, which stand behind the first three bytes */
     uint64_t length;    /* how many bytes the frame has; without one: where no frame can go on */
@@ -172,10 +191,11 @@ enum ym_why { YM_WHY_FIRST_BYTE = 1, YM_WHY_COMPLEMENT, YM_WHY_CHECK, YM_WHY_SEC
 
 /* A reader, and the bytes of the frame that is coming. Read it, and let the functions write it. */
 typedef struct ym_reader {
-    uint64_t place;     /* where why is not 0: the place of the first byte that no frame can have there */
+    YM_ALIGNED uint64_t place;     /* where why is not 0: the place of the first byte that no frame can have there */
     uint32_t len;       /* how many bytes are held; 0 behind a whole frame */
     uint32_t why;       /* 0, or an enum ym_why */
     uint8_t held[1029];
+    uint8_t unused[3];
 } ym_reader;
 
 /* Makes a reader to which nothing came, whatever stood there. */
@@ -190,13 +210,14 @@ size_t ym_reader_feed(ym_reader *reader, const uint8_t *bytes, size_t len, ym_fr
 enum ym_header_kind { YM_HEADER_NONE, YM_HEADER_FILE, YM_HEADER_END };
 
 typedef struct ym_header {
-    uint64_t length;    /* YM_HEADER_FILE: the length of the file */
+    YM_ALIGNED uint64_t length;    /* YM_HEADER_FILE: the length of the file */
     uint64_t time;      /* YM_HEADER_FILE, where stamp is 1 or 2: seconds since 1970 */
     uint32_t kind;      /* enum ym_header_kind */
     uint32_t fault;     /* YM_HEADER_NONE: enum ym_fault; 0 where the body has neither 128 nor 1024 bytes */
     uint32_t name_len;  /* YM_HEADER_FILE: how many bytes the name has, which stands at the front of the body */
     uint32_t stamp;     /* YM_HEADER_FILE: 0 none, 1 a time, 2 a time and a mode */
     uint32_t mode;      /* YM_HEADER_FILE, where stamp is 2 */
+    uint32_t unused;
 } ym_header;
 
 /* Tells what the body of a block 0 stands for. */
@@ -205,6 +226,89 @@ void ym_header_read(const uint8_t *body, size_t len, ym_header *header);
 /* Writes the body of a file's block 0 to the front of `body`, which has room for 1024 bytes. Answers how many it has, 128 or 1024; or why
    there is no such header, an enum ym_fault; or 0 where there is less room. The body that ends a batch is 128 bytes 00. */
 uint32_t ym_header_write(const uint8_t *name, size_t name_len, uint64_t length, uint32_t stamp, uint64_t time, uint32_t mode, uint8_t *body, size_t room);
+
+/* ---- The layout of the structs ---- */
+
+#if defined(__cplusplus) && __cplusplus >= 201103L
+#define YM_ASSERT(holds) static_assert(holds, "the layout of the structs of ymodem.h")
+#elif defined(__STDC_VERSION__) && __STDC_VERSION__ >= 201112L
+#define YM_ASSERT(holds) _Static_assert(holds, "the layout of the structs of ymodem.h")
+#else
+#define YM_ASSERT(holds) extern char ym_layout[(holds) ? 1 : -1]
+#endif
+#define YM_SIZE(type, size) YM_ASSERT(sizeof(type) == (size))
+#define YM_AT(type, member, offset) YM_ASSERT(offsetof(type, member) == (offset))
+
+YM_SIZE(ym_stand, 56);
+YM_AT(ym_stand, length, 0);
+YM_AT(ym_stand, taken, 8);
+YM_AT(ym_stand, blocks, 16);
+YM_AT(ym_stand, files, 24);
+YM_AT(ym_stand, state, 28);
+YM_AT(ym_stand, fault, 32);
+YM_AT(ym_stand, in_file, 36);
+YM_AT(ym_stand, first_eot, 40);
+YM_AT(ym_stand, retries, 44);
+YM_AT(ym_stand, confirm, 48);
+
+YM_SIZE(ym_receiver, 1152);
+YM_AT(ym_receiver, stand, 0);
+YM_AT(ym_receiver, next, 56);
+YM_AT(ym_receiver, reply, 112);
+YM_AT(ym_receiver, len, 116);
+YM_AT(ym_receiver, held, 120);
+
+YM_SIZE(ym_ask, 48);
+YM_AT(ym_ask, length, 0);
+YM_AT(ym_ask, time, 8);
+YM_AT(ym_ask, count, 16);
+YM_AT(ym_ask, kind, 24);
+YM_AT(ym_ask, at, 28);
+YM_AT(ym_ask, stamp, 32);
+YM_AT(ym_ask, mode, 36);
+YM_AT(ym_ask, bad, 40);
+
+YM_SIZE(ym_sender, 1072);
+YM_AT(ym_sender, number, 0);
+YM_AT(ym_sender, file, 8);
+YM_AT(ym_sender, len, 12);
+YM_AT(ym_sender, place, 16);
+YM_AT(ym_sender, mode, 20);
+YM_AT(ym_sender, retries, 24);
+YM_AT(ym_sender, state, 28);
+YM_AT(ym_sender, cancel_pending, 32);
+YM_AT(ym_sender, frame, 36);
+
+YM_SIZE(ym_fill, 16);
+YM_AT(ym_fill, number, 0);
+YM_AT(ym_fill, kind, 8);
+YM_AT(ym_fill, file, 12);
+
+YM_SIZE(ym_front, 24);
+YM_AT(ym_front, kind, 0);
+YM_AT(ym_front, number, 4);
+YM_AT(ym_front, size, 8);
+YM_AT(ym_front, length, 16);
+
+YM_SIZE(ym_reader, 1048);
+YM_AT(ym_reader, place, 0);
+YM_AT(ym_reader, len, 8);
+YM_AT(ym_reader, why, 12);
+YM_AT(ym_reader, held, 16);
+
+YM_SIZE(ym_header, 40);
+YM_AT(ym_header, length, 0);
+YM_AT(ym_header, time, 8);
+YM_AT(ym_header, kind, 16);
+YM_AT(ym_header, fault, 20);
+YM_AT(ym_header, name_len, 24);
+YM_AT(ym_header, stamp, 28);
+YM_AT(ym_header, mode, 32);
+
+#undef YM_AT
+#undef YM_SIZE
+#undef YM_ASSERT
+#undef YM_ALIGNED
 
 #ifdef __cplusplus
 }

@@ -1,12 +1,15 @@
 #!/usr/bin/env python3
 """Makes a Debian package or a tar file of the program, ymodem-tty, the manual pages, the completion and the documents, or a Debian package of the
-library for C: the archive, the header, the file for pkg-config, the examples and their document.
+library for C: the archive, the header, the file for pkg-config, the examples and their documents.
+
+The tar file and the package of the library also have the library as two files in C, where PORTABLE, the folder that they are in, is given.
 
 Two packages of one commit are the same, byte for byte: all times are that of the commit, or the environment variable SOURCE_DATE_EPOCH, and the
 version is the program's with the commit behind it, or the environment variable VERSION.
 
-usage: package.py deb|dist PROGRAM FOLDER
-       package.py dev ARCHIVE FOLDER
+usage: package.py deb PROGRAM FOLDER
+       package.py dist PROGRAM FOLDER [PORTABLE]
+       package.py dev ARCHIVE FOLDER [PORTABLE]
 """
 
 import gzip
@@ -96,8 +99,8 @@ def number():
 class Build:
     """What a package is made of."""
 
-    def __init__(self, subject):
-        self.subject = subject
+    def __init__(self, subject, portable=None):
+        self.subject, self.portable = subject, portable
         self.epoch = int(os.environ.get("SOURCE_DATE_EPOCH") or said("git", "log", "-1", "--format=%ct"))
         self.version = os.environ.get("VERSION") or self.version_by_commit()
 
@@ -132,9 +135,19 @@ class Build:
             text = it.read().replace("@PREFIX@", "/usr").replace("@LIBDIR@", "${prefix}/lib/x86_64-linux-gnu")
             text = text.replace("@VERSION@", number())
         write(os.path.join(libraries, "pkgconfig", "ymodem.pc"), text)
-        shutil.copy(os.path.join(ROOT, "docs", "library.md"), documents)
+        for name in ("library.md", "portable.md"):
+            shutil.copy(os.path.join(ROOT, "docs", name), documents)
         shutil.copytree(os.path.join(ROOT, "examples"), os.path.join(documents, "examples"), ignore=shutil.ignore_patterns("out"))
         return documents
+
+
+    def install_portable(self, prefix):
+        """The same for the library as two files in C, for processors that the archive is not for."""
+        if self.portable:
+            to = os.path.join(prefix, "share", "ymodem", "portable")
+            os.makedirs(to)
+            for name in ("ymodem.c", "ymodem.h"):
+                shutil.copy(os.path.join(self.portable, name), to)
 
 
 def linked_to(program):
@@ -193,6 +206,7 @@ def deb(build, to):
 def dev(build, to):
     with tempfile.TemporaryDirectory(prefix="ymodem-deb-") as top:
         documents = build.install_library(os.path.join(top, "usr"))
+        build.install_portable(os.path.join(top, "usr"))
         return packed(build, top, documents, DEV_CONTROL, os.path.join(to, "libymodem-dev_%s_amd64.deb" % build.version))
 
 
@@ -226,6 +240,7 @@ def dist(build, to):
     with tempfile.TemporaryDirectory(prefix="ymodem-dist-") as top:
         os.mkdir(os.path.join(top, name))
         build.install(os.path.join(top, name))
+        build.install_portable(os.path.join(top, name))
         settle(top, build.epoch)
         packed = io.BytesIO()
         with tarfile.open(fileobj=packed, mode="w", format=tarfile.GNU_FORMAT) as it:
@@ -237,13 +252,13 @@ def dist(build, to):
 
 def main(words):
     kinds = {"deb": deb, "dist": dist, "dev": dev}
-    if len(words) != 3 or words[0] not in kinds:
+    if len(words) < 3 or words[0] not in kinds or len(words) > 3 + (words[0] != "deb"):
         sys.exit(__doc__)
     for tool in ("strip", "readelf", *(["dpkg-deb"] if words[0] != "dist" else [])):
         if not shutil.which(tool):
             sys.exit("%s is missing" % tool)
     os.makedirs(words[2], exist_ok=True)
-    print(kinds[words[0]](Build(os.path.abspath(words[1])), words[2]))
+    print(kinds[words[0]](Build(os.path.abspath(words[1]), *words[3:]), words[2]))
 
 
 main(sys.argv[1:])

@@ -6,7 +6,8 @@ Prints a line for each check, and ends with the line 'N passed, M failed, K skip
 compiler; a check that needs clang, valgrind, g++, lrzsz, node or a tool for packages is skipped where that is missing, and says so.
 
 usage: library.py [WORD..]     only the checks whose names have one of these words
-The library is the archive that YM_LIBRARY names, else out/lib/x86_64-unknown-linux-gnu/libymodem.a; the program as for transfer.py.
+The library is the archive that YM_LIBRARY names, else out/lib/x86_64-unknown-linux-gnu/libymodem.a; YM_CFLAGS are flags of the compiler for what is
+linked to it; the program as for transfer.py.
 """
 
 import contextlib
@@ -24,7 +25,7 @@ import library_late
 import library_lines
 import library_package
 from calls import receiving, sending
-from library_built import BUILT, INCLUDE, LIBRARY, STRICT, built, example
+from library_built import BUILT, FLAGS, INCLUDE, LIBRARY, STRICT, built, example
 from program import LIMIT, PROGRAM, ROOT, connected, folders, wants_stored, write_files
 from relay import Seeded
 from reporting import report
@@ -57,7 +58,7 @@ def sizes():
     with open(path, "w") as it:
         it.write('#include "ymodem.h"\n#include <stdio.h>\nint main(void) { printf("%zu %zu\\n", sizeof(ym_receiver), sizeof(ym_sender)); return 0; }\n')
     out = os.path.join(BUILT.name, "sizes")
-    command("cc", "-I", INCLUDE, path, "-o", out)
+    command("cc", *FLAGS, "-I", INCLUDE, path, "-o", out)
     receiver, sender = map(int, command(out).split())
     wants(receiver <= 1228 and sender <= 1331, "receiver %d, sender %d bytes" % (receiver, sender))
 
@@ -244,7 +245,8 @@ def in_node():
     wants(ran.returncode == 0, ran.stdout + ran.stderr)
 
 
-COMPILERS = (("gcc", "c", "c99"), ("gcc", "c", "c11"), ("clang", "c", "c99"), ("clang", "c", "c11"), ("g++", "c++", "c++17"), ("clang++", "c++", "c++17"))
+LANGUAGES = (("gcc", "clang"), "c", ("c99", "c11")), (("g++", "clang++"), "c++", ("c++98", "c++11", "c++17"))
+COMPILERS = [(it, language, standard) for some, language, standards in LANGUAGES for it in some for standard in standards]
 CHECKS = [
     *(("ymodem.h alone: %s, %s" % (compiler, standard), header_alone(compiler, language, standard)) for compiler, language, standard in COMPILERS),
     ("the sizes of the structs", sizes),

@@ -9,6 +9,8 @@ from wanting import command
 
 INCLUDE = os.path.join(ROOT, "include")
 LIBRARY = os.path.abspath(os.environ.get("YM_LIBRARY", os.path.join(ROOT, "out", "lib", "x86_64-unknown-linux-gnu", "libymodem.a")))
+# What the programs of the checks are compiled with besides: for another processor, say, as the library that is named.
+FLAGS = os.environ.get("YM_CFLAGS", "").split()
 STRICT = ["-Wall", "-Wextra", "-Wpedantic", "-Werror"]
 BUILT = tempfile.TemporaryDirectory(prefix="ymodem-c-")
 
@@ -18,7 +20,7 @@ ONE_BY_ONE = threading.Lock()
 def built(source, name, *flags, compiler="cc"):
     """A program, made of a source of the repository and the library."""
     path = os.path.join(BUILT.name, name)
-    command(compiler, "-std=gnu11", "-O2", *STRICT, *flags, "-I", INCLUDE, *(os.path.join(ROOT, it) for it in source.split()), LIBRARY, "-o", path)
+    command(compiler, "-std=gnu11", "-O2", *STRICT, *FLAGS, *flags, "-I", INCLUDE, *(os.path.join(ROOT, it) for it in source.split()), LIBRARY, "-o", path)
     return path
 
 

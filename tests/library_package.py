@@ -13,6 +13,7 @@ FILES = (
     "lib/x86_64-linux-gnu/libymodem.a",
     "lib/x86_64-linux-gnu/pkgconfig/ymodem.pc",
     "share/doc/libymodem-dev/library.md",
+    "share/doc/libymodem-dev/portable.md",
     "share/doc/libymodem-dev/examples/c/line.h",
     "share/doc/libymodem-dev/examples/c/receive.c",
     "share/doc/libymodem-dev/examples/c/send.c",
@@ -20,21 +21,30 @@ FILES = (
     "share/doc/libymodem-dev/copyright",
     "share/doc/libymodem-dev/changelog.gz",
 )
-# What a package is made of.
-PARTS = ("packaging", "include", "examples", "docs")
+# The library as two files, where they have been made, and what the package has then.
+PORTABLE = os.path.join(ROOT, "out", "portable")
+PORTABLE_FILES = tuple("share/ymodem/portable/" + it for it in ("ymodem.c", "ymodem.h"))
+# What a package is made of. The version stands in a source of the program.
+PARTS = ("packaging", "include", "examples", "docs", "tools", "crates/ym_words/src/command.rt")
 
 
 def copied(to, umask):
     """A copy of what the package is made of, as a user with this umask has it."""
     os.mkdir(to)
     for name in PARTS:
-        subprocess.run(["sh", "-c", 'umask "$1"; exec cp -R "$2" "$3"', "", umask, os.path.join(ROOT, name), to], check=True)
+        copy = 'umask "$1"; cd "$2"; exec cp -R --parents "$3" "$4"'
+        subprocess.run(["sh", "-c", copy, "", umask, ROOT, name, to], check=True)
     return to
+
+
+def portable():
+    return [PORTABLE] if os.path.isdir(PORTABLE) else []
 
 
 def packed(tree, library, umask="022", **environment):
     needs("strip", "readelf", "dpkg-deb")
-    words = ["sh", "-c", 'umask "$1"; shift; exec "$@"', "", umask, tree + "/packaging/package.py", "dev", library, tree + "/out"]
+    package = [tree + "/packaging/package.py", "dev", library, tree + "/out", *portable()]
+    words = ["sh", "-c", 'umask "$1"; shift; exec "$@"', "", umask, *package]
     return subprocess.run(words, env={**FIXED, **environment}, capture_output=True, text=True, check=True).stdout.strip()
 
 
@@ -68,7 +78,8 @@ def unpacked(top, library):
     """The folder `usr` of a package that was taken apart, with its files in it."""
     file = packed(copied(top + "/one", "022"), library)
     subprocess.run(["dpkg-deb", "--extract", file, top + "/root"], check=True)
-    missing = [it for it in FILES if not os.path.isfile(os.path.join(top, "root", "usr", it))]
+    wanted = FILES + PORTABLE_FILES * len(portable())
+    missing = [it for it in wanted if not os.path.isfile(os.path.join(top, "root", "usr", it))]
     if missing:
         raise AssertionError("it lacks %s" % missing)
     with open(os.path.join(ROOT, "include", "ymodem.h"), encoding="utf-8") as one, open(top + "/root/usr/include/ymodem.h", encoding="utf-8") as other:

@@ -2,13 +2,11 @@
 
 import contextlib
 import os
-import signal
 
 from program import ROOT
 from telling import wants
 from terminal import UnderTerminal
 from tree import session, tree
-from waits import wait_until
 
 NOT_PROVED = "this run is not proved: make build proves it (minutes the first time)\n"
 
@@ -40,7 +38,7 @@ def play():
         wants("the first play", (status, out, it.called()), (0, session(), ["try -- play"]))
         has(err, NOT_PROVED)
         wants("the build", it.make("build")[0], 0)
-        wants("its calls", it.called(), ["run"])
+        wants("its calls", it.called(), ["ci"])
         wants("play where it is built", (*it.make("play"), it.called()), (0, session(), "", []))
         os.utime(os.path.join(it.top, "crates", "ym_check", "src", "check.rt"), (2**32 - 1, 2**32 - 1))
         status, out, err = it.make("play")
@@ -57,13 +55,31 @@ def play_that_fails():
 
 
 def build():
-    """A line a crate where there is no terminal; all that rt said is kept, and where it fails what it said of that crate is shown."""
+    """A line a crate where there is no terminal; what was proved is taken as it lies here; all that rt said is kept, and shown where it fails."""
     with tree() as it:
         status, out, err = it.make("build")
-        wants("its status and output", (status, out), (0, ""))
+        wants("its status, output and calls", (status, out, it.called()), (0, "", ["ci"]))
+        count = crates_of_program()
+        has(err, "proving %d crates (0:" % count, "proved 1 of %d crates, the last one ymodem (" % count, "is proved and built (")
+        wants("the lines", err.count("\n"), 3)
+        wants("a second build", (it.make("build")[0], it.called()), (0, []))
+        it.edit("ym_check")
+        it.mark("wrong")
+        status, out, err = it.make("build")
+        wants("its status, output and calls", (status, out, it.called()), (2, "", ["ci"]))
+        has(err, "FAILED: ym_check", "out/build.log")
+
+
+def build_over_what_stands_here():
+    """Where crates were proved in this tree, what changed is proved over that; where it fails, what was said of that crate is shown."""
+    with tree() as it:
+        os.makedirs(os.path.join(it.top, "crates", "ym_check", "out", "incremental"))
+        status, out, err = it.make("build")
+        wants("its status, output and calls", (status, out, it.called()), (0, "", ["run"]))
         count = crates_of_program()
         has(err, "proving crate 1 of %d, ym_check (0:" % count, "proving crate %d of %d, ymodem (" % (count, count), "is proved and built")
         wants("the lines", err.count("\n"), 4)
+        it.edit("ym_check")
         it.mark("wrong")
         status, out, err = it.make("build")
         wants("its status and output", (status, out), (2, ""))
@@ -78,31 +94,41 @@ def build_under_terminal():
         it.mark("slow")
         shown = UnderTerminal([*it.words, "build"], cwd=it.top, env=it.environment)
         try:
-            shown.sees(b"\r\x1b[Kproving crate 1 of %d, ym_check: 40 of 91 functions, 0:" % crates_of_program())
+            shown.sees(b"\r\x1b[Kproved 1 of %d crates, the last one ymodem, 0:" % crates_of_program())
             shown.type(b"\x03")
             shown.sees(b"interrupted: the next build goes on where this one was")
             shown.ended()
         finally:
             shown.stop()
-        with open(os.path.join(it.calls, "process"), encoding="utf-8") as told:
-            process = int(told.read())
-        if os.path.exists("/proc/%d" % process):
-            os.kill(process, signal.SIGKILL)
-            raise AssertionError("rt goes on")
+        it.wants_ended()
 
 
 def check():
-    """The tests of the crates that changed since the last green run, and no others."""
+    """The tests of the crates that changed since the last green run, where they stand, and no others."""
     with tree() as it:
         wants("the first check", it.make("check")[0], 0)
-        first = it.called()
-        has(first, "run", "try --test")
-        wants("the second check", it.make("check")[0], 0)
-        wants("its calls", it.called(), ["run"])
-        with open(os.path.join(it.top, "crates", "ym_check", "src", "check.rt"), "a", encoding="utf-8") as edited:
-            edited.write("// edited\n")
-        wants("a check behind an edit", it.make("check")[0], 0)
-        wants("its calls", it.called(), ["run", "try --test"])
+        has(it.called(), "run", "try --test", "try")
+        wants("the second check", (it.make("check")[0], it.called()), (0, []))
+        for crate, *calls in ("ym_command", "run", "try --test"), ("ym_words", "run", "try"), ("host_uses", "check", "try --test"):
+            it.edit(crate)
+            wants("a check behind an edit of " + crate, it.make("check")[0], 0)
+            wants("its calls", it.called(), calls)
+
+
+def check_that_fails():
+    """What a crate of tests finds of another one is found again, until that is mended."""
+    with tree() as it:
+        wants("the first check", it.make("check")[0], 0)
+        it.edit("ym_words")
+        it.mark("else")
+        for _ in range(2):
+            status, _, err = it.make("check")
+            wants("its status", status, 2)
+            has(err, "-ymodem play: play\n", "+else\n", "changed since the last green run: ym_words; failed: words_cases")
+        it.unmark("else")
+        wants("a check behind the mend", it.make("check")[0], 0)
+        it.called()
+        wants("the last check", (it.make("check")[0], it.called()), (0, []))
 
 
 def layout():
@@ -134,30 +160,39 @@ def version():
         wants("calls of rt", it.called(), [])
 
 
-# In place of each program of tests: it tells its name and the program that it was given. Where the file `fails` is there it fails.
+# In place of each program of tests: it tells its name and the program that it was given. Where its name stands in the file `fails` it fails.
 TEST = """#!/bin/sh
-echo "$(basename "$0" .py) $YMODEM" >> "$CALLED/called"
-[ ! -e "$CALLED/fails" ]
+name=$(basename "$0" .py)
+echo "$name $YMODEM" >> "$CALLED/called"
+! grep -qx "$name" "$CALLED/fails" 2> /dev/null
 """
 TESTS = ["transfer", "shipped", "library", "bare", "uboot", "web", "counts"]
+# The page is made of one of the archives once more.
+TARGETS = ["x86_64-unknown-linux-gnu", "aarch64-unknown-linux-gnu", "wasm64-unknown-unknown", "wasm64-unknown-unknown"]
 
 
 @contextlib.contextmanager
 def tree_with_gate():
     with tree() as it:
-        for name in TESTS:
+        for name in ["memory", *TESTS]:
             it.write("tests/%s.py" % name, TEST)
+        it.write("web/build.py", '#!/bin/sh\nmkdir -p "$2"\n')
         yield it
 
 
 def gate():
-    """The tests get the program that the gate has built, and what the gate said comes last."""
+    """Memory, library and page go on beside the gate, the tests get the program that it has built, and what it said comes last."""
     with tree_with_gate() as it:
         status, out, err = it.run("tools/gate.py")
         wants("its status", (status, err), (0, ""))
-        wants("its calls", it.called(), ["ci", *("%s %s/out/tried/ymodem" % (name, it.top) for name in TESTS)])
+        called = it.called()
+        tests = ["%s %s/out/tried/ymodem" % (name, it.top) for name in TESTS]
+        wants("its tests, in order", [call for call in called if call in tests], tests)
+        beside = ["ci", "memory " + it.environment["YMODEM"], *("lib --target " + name for name in TARGETS)]
+        wants("its other calls", sorted(call for call in called if call not in tests), sorted(beside))
         wants("its last line", out.splitlines()[-1], "18 passed, 0 failed")
         has(out, "gate, 0:0", " min: rt: ymodem proved\n", "tests/transfer.py\n")
+        wants("a build behind it", (it.make("build")[0], it.called()), (0, []))
 
 
 def gate_that_refuses():
@@ -167,28 +202,36 @@ def gate_that_refuses():
         wants("its status and its last line", (status, out.splitlines()[-1]), (1, "17 passed, 1 failed"))
 
 
-def gate_behind_a_test_that_fails():
+def gate_where(name, failed):
     """The gate is stopped, with all that it started, and the last line is no verdict."""
     with tree_with_gate() as it:
-        it.mark("fails")
+        it.mark("fails", name)
         it.mark("slow")
         status, out, _ = it.run("tools/gate.py")
-        wants("its status and its last line", (status, out.splitlines()[-1]), (1, "tests/transfer.py failed"))
-        wants("its calls", it.called(), ["ci", "transfer %s/out/tried/ymodem" % it.top])
-        with open(os.path.join(it.calls, "process"), encoding="utf-8") as told:
-            process = int(told.read())
-        wait_until(lambda: not os.path.exists("/proc/%d" % process), "the gate had ended")
+        wants("its status and its last line", (status, out.splitlines()[-1]), (1, failed + " failed"))
+        it.wants_ended()
+
+
+def gate_behind_a_test_that_fails():
+    gate_where("transfer", "tests/transfer.py")
+
+
+def gate_behind_memory_that_fails():
+    gate_where("memory", "tests/memory.py")
 
 
 CHECKS = [
     ("make play, before and after a build", play),
     ("make play of a tree that is wrong", play_that_fails),
     ("make build shows which crate it proves", build),
+    ("make build over what stands here", build_over_what_stands_here),
     ("make build under a terminal, and interrupted", build_under_terminal),
     ("make check tries what changed", check),
+    ("make check where a case is answered otherwise", check_that_fails),
     ("make layout of sources that are not laid out", layout),
     ("the version in one place", version),
     ("the gate, and beside it the tests of what it proved", gate),
     ("the gate where an edit is not refused", gate_that_refuses),
     ("the gate where a test fails", gate_behind_a_test_that_fails),
+    ("the gate where memory is not told", gate_behind_memory_that_fails),
 ]

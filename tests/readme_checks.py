@@ -1,4 +1,7 @@
-"""The README's commands, as they stand there: each is run, on a port that is free and with the program that is tested."""
+"""The commands of pages, as they stand there.
+
+Each is run, on a port that is free and with the program that is tested.
+"""
 
 import os
 import re
@@ -9,23 +12,25 @@ from program import LIMIT, PROGRAM, ROOT, free_port, wants_same
 from waits import listeners, wait_until
 
 PROGRAM_THERE = "crates/ymodem/out/ymodem"
+# The pages that show a session from a script, and a transfer over a connection.
+SCRIPTS, CONNECTIONS = "docs/scripts.md", "docs/serial.md"
 
 
-def readme():
-    with open(os.path.join(ROOT, "README.md"), encoding="utf-8") as it:
+def text_of(page):
+    with open(os.path.join(ROOT, page), encoding="utf-8") as it:
         return it.read()
 
 
-def line(words):
-    """The README's only line that begins so, without its remark."""
-    found = re.findall(r"^%s.*$" % re.escape(words), readme(), re.M)
+def line(page, words):
+    """The page's only line that begins so, without its remark."""
+    found = re.findall(r"^%s.*$" % re.escape(words), text_of(page), re.M)
     if len(found) != 1:
-        raise AssertionError("the README has %d lines that begin with %r" % (len(found), words))
+        raise AssertionError("%s has %d lines that begin with %r" % (page, len(found), words))
     return found[0].partition(" # ")[0].strip()
 
 
 def started(words, folder):
-    """A line of the README in a shell, in a folder."""
+    """A line of a page in a shell, in a folder."""
     how = {"stdin": subprocess.DEVNULL, "stdout": subprocess.PIPE, "stderr": subprocess.PIPE, "text": True}
     script = 'ymodem() { "$YMODEM" "$@"; }; ' + words
     return subprocess.Popen(["bash", "-c", script], cwd=folder, env={**os.environ, "YMODEM": PROGRAM}, **how)
@@ -44,10 +49,10 @@ def ended(child, words):
 
 
 def example():
-    """The session that it shows is what the program prints."""
-    found = re.search(r"^\$ (printf .*)\n((?:.+\n)+?)```", readme(), re.M)
+    """The session that is shown is what the program prints."""
+    found = re.search(r"^\$ (printf .*)\n((?:.+\n)+?)```", text_of(SCRIPTS), re.M)
     if not found or PROGRAM_THERE not in found[1]:
-        raise AssertionError("the README shows no session")
+        raise AssertionError("%s shows no session" % SCRIPTS)
     words = found[1].replace(PROGRAM_THERE, "ymodem")
     with tempfile.TemporaryDirectory(prefix="ymodem-") as top:
         wants_same({"the session": ended(started(words, top), words)}, {"the session": found[2]})
@@ -55,7 +60,8 @@ def example():
 
 def send_and_receive():
     port = free_port()
-    receive, send = (line("ymodem %s --port 4000" % it).replace("4000", str(port)) for it in ("receive", "send"))
+    shown = [line(CONNECTIONS, "ymodem %s --port 4000" % it) for it in ("receive", "send")]
+    receive, send = (it.replace("4000", str(port)) for it in shown)
     with tempfile.TemporaryDirectory(prefix="ymodem-") as top:
         os.mkdir(os.path.join(top, "downloads"))
         for name in ("firmware.bin", "settings.txt"):
@@ -72,7 +78,7 @@ def send_and_receive():
 
 
 def loop():
-    words = line("ymodem loop --port 4000").replace("4000", str(free_port()))
+    words = line(SCRIPTS, "ymodem loop --port 4000").replace("4000", str(free_port()))
     with tempfile.TemporaryDirectory(prefix="ymodem-") as top:
         with open(os.path.join(top, "script"), "w", encoding="utf-8") as it:
             it.write("file a.txt 48656C6C6F\nok 6\n")
@@ -80,7 +86,7 @@ def loop():
 
 
 CHECKS = [
-    ("the README's session", example),
-    ("the README's lines to receive and to send", send_and_receive),
-    ("the README's line to play over a connection", loop),
+    ("the session of docs/scripts.md", example),
+    ("the lines of docs/serial.md to receive and to send", send_and_receive),
+    ("the line of docs/scripts.md to play over a connection", loop),
 ]

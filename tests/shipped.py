@@ -17,6 +17,7 @@ sys.dont_write_bytecode = True
 sys.path.insert(0, os.path.dirname(os.path.abspath(__file__)))
 
 import chart_checks
+import edits_checks
 import gate_checks
 import house_checks
 import make_checks
@@ -44,6 +45,7 @@ BOOKS = (
     package_checks,
     gate_checks,
     house_checks,
+    edits_checks,
 )
 AT_ONCE = 8
 

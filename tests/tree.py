@@ -8,11 +8,16 @@ import tempfile
 
 from program import PROGRAM, ROOT
 from skipping import needs
+from waits import wait_until
 
-# It tells what it was called with in the file `called`. Where the file `slow` is there, `rt run` and `rt ci` wait for their end.
+# It tells what it was called with in the file `called`. Where the file `slow` is there, `rt run` and `rt ci` wait for their end, and
+# where `else` is there, a program for tests prints something else than its cases want.
 STAND_IN = r"""#!/bin/sh
-echo "$*" >> "$CALLED/called"
+[ "$1" = version ] || echo "$*" >> "$CALLED/called"
 case $1 in
+version)
+    echo "a toolchain"
+    ;;
 run)
     echo "logic: read"
     echo "rt: chose --jobs 4 for ym_check"
@@ -27,17 +32,19 @@ lib)
     mkdir -p out && echo "$*" > out/libym_c.a
     ;;
 ci)
+    [ ! -e "$CALLED/slow" ] || echo $$ > "$CALLED/process"
     for name in replay ymodem; do
         mkdir -p "crates/$name/out" && cp "$YMODEM" "crates/$name/out/$name"
         echo "rt: $name proved"
     done
-    [ ! -e "$CALLED/slow" ] || { echo $$ > "$CALLED/process"; sleep 1000; }
+    [ ! -e "$CALLED/slow" ] || exec sleep 1000
     [ ! -e "$CALLED/wrong" ] || { echo "rt: FAILED: ym_check/check.add.byte_shifted_in.edit"; echo "17 passed, 1 failed"; exit 1; }
     echo "18 passed, 0 failed"
     ;;
 try)
     [ ! -e "$CALLED/wrong" ] || { echo "src/check.rt:1:1: error: not so" >&2; exit 2; }
     [ "$2" != -- ] || "$YMODEM" play
+    [ -n "$2" ] || { [ -e "$CALLED/else" ] && echo else || cat stdout; }
     echo "checked: ended status=0" >&2
     echo "run=ended status=0 runners=1 proved=no" >&2
     ;;
@@ -89,9 +96,23 @@ class Tree:
             it.write(text)
         os.chmod(it.name, 0o755)
 
-    def mark(self, name):
-        with open(os.path.join(self.calls, name), "w", encoding="utf-8"):
-            pass
+    def edit(self, crate):
+        """Adds a comment to a crate's source."""
+        with open(os.path.join(self.top, "crates", crate, "src", "lib.rt"), "a", encoding="utf-8") as edited:
+            edited.write("// edited\n")
+
+    def mark(self, name, text=""):
+        with open(os.path.join(self.calls, name), "w", encoding="utf-8") as it:
+            it.write(text)
+
+    def wants_ended(self):
+        """The stand-in that waited for its end has to be gone."""
+        with open(os.path.join(self.calls, "process"), encoding="utf-8") as told:
+            process = "/proc/" + told.read().strip()
+        wait_until(lambda: not os.path.exists(process), "rt had ended")
+
+    def unmark(self, name):
+        os.remove(os.path.join(self.calls, name))
 
     def called(self):
         """The calls of rt since the last time."""

@@ -1,11 +1,18 @@
 #!/usr/bin/env python3
-"""Runs the gate, `rt ci`, and beside it, as soon as it has proved and built the program, the tests of that very program.
+"""Runs the gate, `rt ci`, and beside it all that is tried before a change lands.
 
-The gate takes every proof from nothing, so a program that is built for the tests alone would be proved twice; and most of the tests wait for
-lines and peers, while the gate needs the processors. What the gate does is told in a line each as it comes. All that it says stands in
-out/gate.log and is written last, so that the last line is its verdict. Where a test fails the gate is stopped.
+The gate proves every crate, tries the edits that have to be refused, and runs the crates' tests.
+Beside it come want of memory (tests/memory.py), the library for C with the page, made in a copy
+of the tree since the gate holds the crates' folders, and, as soon as the gate has proved and built
+the program, the tests of that very program. So nothing of the program is proved twice, and most
+tests wait for lines and peers while the gate needs the processors.
 
-usage: gate.py     (the library's archives and the page have to be built: make lib web)
+What the gate does is told in a line each as it comes. All that it says stands in out/gate.log and
+is written last, so that the last line is its verdict. Where anything else fails the gate is
+stopped. Once all has passed, the program lies where a build leaves it, and `make install` takes it.
+
+usage: gate.py
+The environment variable INSTALL=install has the packages installed that the tests need, as root.
 """
 
 import os
@@ -14,18 +21,26 @@ import shutil
 import signal
 import subprocess
 import sys
+import tempfile
 import threading
 import time
 
-ROOT = os.path.dirname(os.path.dirname(os.path.abspath(__file__)))
-LOG = os.path.join(ROOT, "out", "gate.log")
+sys.dont_write_bytecode = True
+import proved
+
+ROOT = proved.ROOT
+OUT = os.path.join(ROOT, "out")
+LOG = os.path.join(OUT, "gate.log")
 # Copies, since the gate is at work in the crates' own folders, by the variables that name them to the tests.
 TRIED = {"YMODEM": "ymodem", "REPLAY": "replay"}
-TESTS = ("transfer", "shipped", "library", "bare", "uboot", "web", "counts")
+# The tests that need the library or the page come last: these are made meanwhile.
+TESTS = ("transfer", "shipped")
+# The last one tells what was skipped in the others.
+TESTS_OF_LIBRARY = ("library", "bare", "uboot", "web", "counts")
 
 # The lines that are passed on as they come, and the one of a crate that is proved, by which time its program is built.
-TOLD = re.compile(r"rt: \w+(: its tests are)? (proved|NOT PROVED)|rt: \w+: trying its must-fail edits")
-PROVED = re.compile(r"rt: (\w+) proved\n")
+TOLD = re.compile(r"rt: \w+(: its tests are)? (proved|NOT PROVED)|rt: \w+ is kept|rt: \w+: trying its must-fail edits")
+PROVED = re.compile(r"rt: (\w+) (proved|is kept: .*)\n")
 
 
 class Gate:
@@ -36,21 +51,20 @@ class Gate:
         how = {"stdin": subprocess.DEVNULL, "stdout": subprocess.PIPE, "stderr": subprocess.STDOUT, "text": True, "errors": "replace"}
         # a group of its own, so that all that it started can be stopped
         self.child = subprocess.Popen(["rt", "ci"], cwd=ROOT, start_new_session=True, **how)
-        self.is_over = False
+        self.is_over = self.is_given_up = False
         threading.Thread(target=self.follow, daemon=True).start()
 
     def follow(self):
-        os.makedirs(os.path.dirname(LOG), exist_ok=True)
         with open(LOG, "w", encoding="utf-8", buffering=1) as kept:
             for line in self.child.stdout:
                 kept.write(line)
                 if TOLD.match(line.rstrip("\n")):
-                    print("gate, %d:%02d min: %s" % (*divmod(time.monotonic() - self.began, 60), line.rstrip("\n")), flush=True)
-                proved = PROVED.fullmatch(line)
+                    tell("gate, %d:%02d min: %s" % (*divmod(time.monotonic() - self.began, 60), line.rstrip("\n")))
+                found = PROVED.fullmatch(line)
                 with self.changed:
                     self.lines.append(line)
-                    if proved:
-                        self.proved.add(proved[1])
+                    if found:
+                        self.proved.add(found[1])
                         self.changed.notify_all()
         with self.changed:
             self.is_over = True
@@ -59,8 +73,13 @@ class Gate:
     def has_proved(self, *names):
         """Waits until these crates are proved. Gives whether they are: it may end before."""
         with self.changed:
-            self.changed.wait_for(lambda: self.is_over or self.proved.issuperset(names))
+            self.changed.wait_for(lambda: self.is_over or self.is_given_up or self.proved.issuperset(names))
             return self.proved.issuperset(names)
+
+    def give_up(self):
+        with self.changed:
+            self.is_given_up = True
+            self.changed.notify_all()
 
     def stop(self):
         if self.child.poll() is None:
@@ -68,43 +87,139 @@ class Gate:
             self.child.wait()
 
     def ended(self):
-        """Waits for its end, and writes all that it said. Gives its status."""
+        """Waits for its end, and writes what it took and all that it said. Gives its status."""
         with self.changed:
             self.changed.wait_for(lambda: self.is_over)
+        if self.child.returncode is None:
+            _, status, used = os.wait4(self.child.pid, 0)
+            self.child.returncode = os.waitstatus_to_exitcode(status)
+            took = (time.monotonic() - self.began) / 60, (used.ru_utime + used.ru_stime) / 60
+            tell("the gate took %.1f minutes, and %.1f processor minutes" % took)
         sys.stdout.write("".join(self.lines))
-        return self.child.wait()
+        sys.stdout.flush()
+        return self.child.returncode
 
 
-def tried():
+class Beside:
+    """Work that goes on beside the gate. What it says is shown in one piece when it has ended."""
+
+    def __init__(self, name, work, gate):
+        self.name, self.work, self.gate, self.has_failed = name, work, gate, False
+        self.thread = threading.Thread(target=self.run, daemon=True)
+        self.thread.start()
+
+    def run(self):
+        try:
+            self.has_failed = bool(self.work())
+        except OSError as fault:
+            tell("%s: %s" % (self.name, fault))
+            self.has_failed = True
+        if self.has_failed:
+            self.gate.give_up()
+
+    def has_ended_well(self):
+        self.thread.join()
+        return not self.has_failed
+
+
+PRINTING = threading.Lock()
+# What runs beside the gate, so that it can be stopped.
+RUNNING = set()
+
+
+def tell(text):
+    with PRINTING:
+        print(text, flush=True)
+
+
+def shown(title, words, folder=ROOT, env=None):
+    """Runs a command, and tells what it said when it has ended. Gives its status."""
+    how = {"stdin": subprocess.DEVNULL, "stdout": subprocess.PIPE, "stderr": subprocess.STDOUT, "text": True, "errors": "replace"}
+    child = subprocess.Popen(words, cwd=folder, env=env, start_new_session=True, **how)
+    RUNNING.add(child)
+    said = child.communicate()[0]
+    RUNNING.discard(child)
+    tell(title + "\n" + said.rstrip("\n"))
+    return child.returncode
+
+
+def stop_all(gate, beside):
+    gate.stop()
+    for child in list(RUNNING):
+        os.killpg(child.pid, signal.SIGTERM)
+    for it in beside:
+        it.thread.join()
+
+
+def packages():
+    shown("packages of the tests", [os.path.join(ROOT, "tools", "packages.sh"), *os.environ.get("INSTALL", "").split()])
+
+
+def memory():
+    return shown("tests/memory.py", [os.path.join(ROOT, "tests", "memory.py")])
+
+
+def library_and_page():
+    """Makes the library for C and the page in a copy of the tree, where no gate holds the crates' folders."""
+    with tempfile.TemporaryDirectory(prefix="ymodem-lib-") as top:
+        copy = os.path.join(top, "tree")
+        shutil.copytree(ROOT, copy, ignore=shutil.ignore_patterns("out", ".git", "must-fail", "edits", "__pycache__"))
+        if shown("the library for C and the page", ["make", "--no-print-directory", "lib", "web"], copy):
+            return 1
+        for part in ("lib", "web"):
+            shutil.rmtree(os.path.join(OUT, part), ignore_errors=True)
+            shutil.copytree(os.path.join(copy, "out", part), os.path.join(OUT, part))
+    return 0
+
+
+def tried(gate, before, library):
     """The tests, of copies of the programs that the gate built. Gives the name of the first that fails."""
-    there = os.path.join(ROOT, "out", "tried")
+    if not gate.has_proved(*TRIED.values()):
+        return None
+    there = os.path.join(OUT, "tried")
     os.makedirs(there, exist_ok=True)
     for name in TRIED.values():
         shutil.copy2(os.path.join(ROOT, "crates", name, "out", name), there)
     environment = {**os.environ, **{variable: os.path.join(there, name) for variable, name in TRIED.items()}}
-    for name in TESTS:
-        words = [os.path.join(ROOT, "tests", name + ".py")]
-        print("tests/%s.py" % name, flush=True)
-        if subprocess.run(words, cwd=ROOT, env=environment, check=False).returncode:
-            return name
+    before.thread.join()
+    for name in TESTS + TESTS_OF_LIBRARY:
+        if name in TESTS_OF_LIBRARY and not library.has_ended_well() or gate.is_given_up:
+            return None
+        if shown("tests/%s.py" % name, [os.path.join(ROOT, "tests", name + ".py")], env=environment):
+            return "tests/%s.py" % name
     return None
+
+
+def judged(gate, beside):
+    """Begins all that goes on beside the gate, and waits for its end. Gives the gate's status, or the name of what failed."""
+    works = (("packages", packages), ("the library for C and the page", library_and_page), ("tests/memory.py", memory))
+    beside += [Beside(name, work, gate) for name, work in works]
+    failed = tried(gate, *beside[:2])
+    for it in beside:
+        failed = failed or (None if it.has_ended_well() else it.name)
+    return failed or gate.ended()
 
 
 def main():
     if len(sys.argv) > 1:
         sys.exit(__doc__)
     signal.signal(signal.SIGTERM, lambda *_: sys.exit(143))
-    gate = Gate()
+    os.makedirs(OUT, exist_ok=True)
+    gate, beside = Gate(), []
     try:
-        failed = tried() if gate.has_proved(*TRIED.values()) else None
-        if failed:
-            print("tests/%s.py failed" % failed, flush=True)
-            return 1
-        return gate.ended()
+        result = judged(gate, beside)
     except KeyboardInterrupt:
-        return 130
+        result = 130
     finally:
-        gate.stop()
+        stop_all(gate, beside)
+    if isinstance(result, str):
+        if gate.is_over:
+            gate.ended()
+        tell("%s failed" % result)
+        return 1
+    if not result:
+        proved.note("ymodem")
+    return result
 
 
 sys.exit(main())

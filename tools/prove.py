@@ -1,54 +1,52 @@
 #!/usr/bin/env python3
-"""Builds the program by `rt run`, which proves what changed, and shows meanwhile which crate is being proved.
+"""Proves the program and builds it, and shows meanwhile which crate is being proved.
 
-On a terminal that is one line, rewritten in place; elsewhere it is a line a crate. What `rt` says is kept in out/build.log, and is shown where it
-fails. A build that is interrupted goes on where it was, since `rt` keeps what it has proved.
+Where nothing was proved in this tree before, `rt ci` proves the program's crates side by side, in a
+copy without edits and tests; what it proves is kept for the gate, and what the gate proved is taken.
+Else `rt run` proves what changed, over what stands in the crates' out/. A program that was proved
+from the text as it is, by the gate too, is taken as it lies here.
+
+On a terminal that is one line, rewritten in place; elsewhere it is a line a crate. What `rt` says is
+kept in out/build.log, and is shown where it fails. A build that is interrupted goes on where it was.
 
 usage: prove.py [play|check]
-  play    plays the example session, by the program where it is built and no source has changed since, else by `rt try`, which proves nothing
-  check   builds, and tries the tests of the crates that changed since the last green run, unproved
+  play    plays the example session, by the program where it is built and no source has changed since,
+          else by `rt try`, which proves nothing
+  check   proves what changed, and tries unproved the tests of the crates that changed since the last
+          green run, in them and in the crates of tests that use them
 """
 
 import contextlib
-import hashlib
+import difflib
 import json
 import os
 import re
+import shutil
 import signal
 import subprocess
 import sys
+import tempfile
 import threading
 import time
 
-ROOT = os.path.dirname(os.path.dirname(os.path.abspath(__file__)))
-CRATES = os.path.join(ROOT, "crates")
+sys.dont_write_bytecode = True
+import proved
+from proved import CRATES, PROGRAM, ROOT, crates, sources
+
 TOP = os.path.join(CRATES, "ymodem")
-PROGRAM = os.path.join(TOP, "out", "ymodem")
 LOG = os.path.join(ROOT, "out", "build.log")
 GREEN = os.path.join(ROOT, "out", "green.json")
-# What a crate is made of. Its out/ is made by rt.
-PARTS = ("src", "specs", "proofs", "must-fail", "stdin", "stdout")
 
 BEGUN = re.compile(r"rt: chose --jobs \d+ for (\w+)")
+PROVED = re.compile(r"rt: (\w+) (?:proved$|is kept: )")
 COUNTED = re.compile(r"so far: (\d+) of (\d+) functions checked")
 # Lines of a proof that went well.
 QUIET = re.compile(r".*: proved$|statements |logic |library |so far: |rt: chose|by-macro: |only=0|crate \w+: modules|rt: the quick pass")
 
 
-def crates():
-    """The crates of this repository, lowest first, each with those that it uses."""
-    with open(os.path.join(ROOT, "crates.txt"), encoding="utf-8") as it:
-        lines = [line.partition(":") for line in it if line.strip() and not line.startswith("#")]
-    return {name.split()[0]: used.split() for name, _, used in lines}
-
-
 def of_program():
     """The names of the program's crates, lowest first."""
-    found, used = crates(), {"ymodem"}
-    for name in reversed(found):
-        if name in used:
-            used.update(found[name])
-    return [name for name in found if name in used]
+    return proved.made_of("ymodem")
 
 
 class Shown:
@@ -106,21 +104,29 @@ def log_file():
 def followed(words, folder, given, hear):
     """Runs a command, and has each line that it says heard. Gives its status. It ends with this script."""
     with open(given, "rb") as it:
-        child = subprocess.Popen(words, cwd=folder, stdin=it, stdout=subprocess.PIPE, stderr=subprocess.STDOUT, text=True, errors="replace")
+        how = {"stdin": it, "stdout": subprocess.PIPE, "stderr": subprocess.STDOUT, "text": True, "errors": "replace"}
+        # a group of its own, so that all that it started ends with it
+        child = subprocess.Popen(words, cwd=folder, start_new_session=True, **how)
     try:
         for line in child.stdout:
             hear(line)
         return child.wait()
     finally:
         if child.poll() is None:
-            child.terminate()
+            os.killpg(child.pid, signal.SIGTERM)
             child.wait()
 
 
-def build():
-    """Proves what changed, and builds. Whatever goes wrong ends this script."""
-    names, shown, said = of_program(), Shown(sys.stderr), []
-    kept = log_file()
+def failed(shown, said):
+    """Tells what rt said of what does not prove, and ends this script."""
+    shown.clear()
+    sys.stderr.write("".join(it for it in said if not QUIET.match(it)))
+    sys.exit("the build failed; all that rt said is in %s" % os.path.relpath(LOG))
+
+
+def build_here(shown, kept):
+    """Proves what changed, over what stands in the crates' out/, and builds."""
+    names, said = of_program(), []
 
     def hear(line):
         kept.write(line)
@@ -134,29 +140,67 @@ def build():
         elif counted:
             shown.tell(shown.what, ": %s of %s functions" % counted.groups())
 
-    with kept:
-        shown.tell("reading %d crates" % len(names))
-        status = followed(["rt", "run"], TOP, os.path.join(TOP, "stdin"), hear)
-        shown.clear()
-    if status:
-        sys.stderr.write("".join(it for it in said if not QUIET.match(it)))
-        sys.exit("the build failed; all that rt said is in %s" % os.path.relpath(LOG))
+    shown.tell("reading %d crates" % len(names))
+    if followed(["rt", "run"], TOP, os.path.join(TOP, "stdin"), hear):
+        failed(shown, said)
+
+
+def copied(names, to):
+    """A tree of these crates alone, without their edits."""
+    with open(os.path.join(ROOT, "crates.txt"), encoding="utf-8") as it:
+        lines = [line for line in it if line.partition(":")[0].split()[:1] in [[name] for name in names]]
+    with open(os.path.join(to, "crates.txt"), "w", encoding="utf-8") as it:
+        it.writelines(lines)
+    shutil.copy(os.path.join(ROOT, "HANDLES"), to)
+    for it in (file for name in names for file in sources(name)):
+        there = os.path.join(to, os.path.relpath(it, ROOT))
+        os.makedirs(os.path.dirname(there), exist_ok=True)
+        shutil.copy(it, there)
+
+
+def build_from_nothing(shown, kept):
+    """Has the program's crates proved side by side, or taken where the gate has kept them."""
+    names, said, done = of_program(), [], set()
+
+    def hear(line):
+        kept.write(line)
+        said.append(line)
+        found = PROVED.match(line)
+        if found and found[1] in names:
+            done.add(found[1])
+            shown.tell("proved %d of %d crates, the last one %s" % (len(done), len(names), found[1]))
+
+    shown.tell("proving %d crates" % len(names))
+    with tempfile.TemporaryDirectory(prefix="ymodem-build-") as top:
+        copied(names, top)
+        if followed(["rt", "ci"], top, os.devnull, hear):
+            failed(shown, said)
+        os.makedirs(os.path.dirname(PROGRAM), exist_ok=True)
+        shutil.copy2(os.path.join(top, "crates", "ymodem", "out", "ymodem"), PROGRAM)
+
+
+def can_keep():
+    """Whether `rt ci` can keep what it proves: that lies beside the toolchain."""
+    kit = os.path.dirname(os.path.dirname(os.path.realpath(shutil.which("rt") or "rt")))
+    store = kit + "-kept" if os.path.exists(kit + "-kept") else os.path.dirname(kit)
+    return os.access(store, os.W_OK)
+
+
+def build(here=False):
+    """Proves what changed, and builds. Whatever goes wrong ends this script."""
+    if proved.holds("ymodem"):
+        print("%s is proved and built" % os.path.relpath(PROGRAM), file=sys.stderr)
+        return
+    shown = Shown(sys.stderr)
+    has_begun = os.path.isdir(os.path.join(CRATES, "ym_check", "out", "incremental"))
+    with log_file() as kept:
+        (build_here if here or has_begun or not can_keep() else build_from_nothing)(shown, kept)
+    shown.clear()
     # It is newer than its sources now, also where nothing had to be built.
     with contextlib.suppress(OSError):
         os.utime(PROGRAM)
+    proved.note("ymodem")
     print("%s is proved and built (%s)" % (os.path.relpath(PROGRAM), shown.minutes()), file=sys.stderr)
-
-
-def sources(name):
-    """The files of a crate, in order."""
-    for part in PARTS:
-        top = os.path.join(CRATES, name, part)
-        if os.path.isfile(top):
-            yield top
-        for folder, folders, files in os.walk(top):
-            folders.sort()
-            for it in sorted(files):
-                yield os.path.join(folder, it)
 
 
 def is_current():
@@ -189,15 +233,6 @@ def play():
     return ran.returncode
 
 
-def sum_of(name):
-    found = hashlib.sha256()
-    for it in sources(name):
-        found.update(os.path.relpath(it, CRATES).encode() + b"\0")
-        with open(it, "rb") as opened:
-            found.update(hashlib.sha256(opened.read()).digest())
-    return found.hexdigest()
-
-
 def has_tests(name):
     for it in sources(name):
         if it.endswith(".rt"):
@@ -207,32 +242,68 @@ def has_tests(name):
     return False
 
 
+def is_of_cases(name):
+    """Whether a crate is a program for tests: run on its `stdin`, it has to print its `stdout`."""
+    return name != "ymodem" and os.path.isfile(os.path.join(CRATES, name, "stdout"))
+
+
+def tried_for(changed):
+    """The crates that are tried where these changed: these, and those of tests and of cases, on which nothing stands, that use one of them."""
+    used = crates()
+    below = {it for names in used.values() for it in names}
+    tops = [it for it in used if it not in below and (has_tests(it) or is_of_cases(it))]
+    return [it for it in used if it in changed or (it in tops and not changed.isdisjoint(used[it]))]
+
+
+def tries(name, is_checked):
+    """The commands that try a crate, of which the first proves it, if that is asked for."""
+    return [["check"]] * is_checked + [["try", "--test"]] * has_tests(name) + [["try"]] * is_of_cases(name)
+
+
+def wrong_in(name, words):
+    """What is wrong where a command tries a crate, or nothing."""
+    folder = os.path.join(CRATES, name)
+    is_run = words == ["try"]
+    with open(os.path.join(folder, "stdin") if is_run else os.devnull, "rb") as it:
+        tried = subprocess.run(["rt", *words], cwd=folder, stdin=it, capture_output=True, check=False)
+    if tried.returncode:
+        return (tried.stdout + tried.stderr).decode(errors="replace")
+    if is_run:
+        with open(os.path.join(folder, "stdout"), encoding="utf-8") as it:
+            wanted = it.read().splitlines(keepends=True)
+        printed = tried.stdout.decode(errors="replace").splitlines(keepends=True)
+        return "".join(difflib.unified_diff(wanted, printed, os.path.join(os.path.relpath(folder, ROOT), "stdout"), "printed"))
+    return ""
+
+
 def check():
     try:
         with open(GREEN, encoding="utf-8") as it:
             green = json.load(it)
     except (OSError, ValueError):
         green = {}
-    now = {name: sum_of(name) for name in crates()}
-    changed = [name for name in now if green.get(name) != now[name]]
-    build()
-    shown, failed, proved = Shown(sys.stderr), [], of_program()
-    for at, name in enumerate(changed, 1):
-        verbs = [["check"]] * (name not in proved) + [["try", "--test"]] * has_tests(name)
-        for words in verbs:
-            shown.tell("rt %s: %s, crate %d of the %d that changed" % (" ".join(words), name, at, len(changed)))
-            tried = subprocess.run(["rt", *words], cwd=os.path.join(CRATES, name), stdin=subprocess.DEVNULL, capture_output=True, check=False)
-            if tried.returncode:
-                failed.append(name)
-                sys.stderr.write("\n" + (tried.stdout + tried.stderr).decode(errors="replace"))
+    used = crates()
+    now = {name: proved.sum_of([name]) for name in used}
+    changed = {name for name in now if green.get(name) != now[name]}
+    build(here=True)
+    shown, red, built, names = Shown(sys.stderr), set(), of_program(), tried_for(changed)
+    for at, name in enumerate(names, 1):
+        for words in tries(name, name in changed and name not in built):
+            shown.tell("rt %s: %s, crate %d of the %d that are tried" % (" ".join(words), name, at, len(names)))
+            wrong = wrong_in(name, words)
+            if wrong:
+                red.add(name)
+                sys.stderr.write("\n" + wrong)
                 break
-        if name not in failed:
-            green[name] = now[name]
     shown.clear()
+    # A crate is green once its tests are, those in other crates too.
+    not_green = red.union(*(used[name] for name in red))
+    green.update({name: now[name] for name in changed - not_green})
     with open(GREEN, "w", encoding="utf-8") as it:
         json.dump(green, it)
-    print("changed since the last green run: %s; failed: %s" % (" ".join(changed) or "nothing", " ".join(failed) or "nothing"), file=sys.stderr)
-    return 1 if failed else 0
+    told = [" ".join(it for it in used if it in some) or "nothing" for some in (changed, red)]
+    print("changed since the last green run: %s; failed: %s" % tuple(told), file=sys.stderr)
+    return 1 if red else 0
 
 
 def main(words):

@@ -18,8 +18,8 @@ PLACE = ("crates/ym_words/src/command.rt", r'^const VERSION: &str = "(.*)";$')
 # Where it is spelled too.
 COPIES = (
     ("include/ymodem.h", r'^#define YM_VERSION "(.*)"$'),
-    ("share/man/ymodem.1", r"^\.Os ymodem (.*)$"),
-    ("share/man/ymodem-tty.1", r"^\.Os ymodem (.*)$"),
+    ("share/man/ymodem.1", r"^This page is that of version (.*)\.$"),
+    ("share/man/ymodem-tty.1", r"^This page is that of version (.*)\.$"),
 )
 NUMBER = re.compile(r"\d+\.\d+\.\d+")
 

@@ -1,3 +1,9 @@
+//! Tests of the uses, and of what they stand on.
+
+mod check;
+mod frame;
+mod header;
+
 use super::*;
 use std::test::Fail;
 use ym_header::{Stamp, write_body};

@@ -6,6 +6,3 @@ mod fold;
 pub mod laws;
 
 pub use check::{CheckState, check16};
-
-#[cfg(test)]
-mod tests;

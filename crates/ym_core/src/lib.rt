@@ -26,6 +26,3 @@ pub use stand::Stand;
 pub use standing::{SendStep, Standing};
 pub use state::{RecvState, SendState};
 pub use ym_machine::Confirm;
-
-#[cfg(test)]
-mod tests;

@@ -15,6 +15,3 @@ pub use file_source::FileSource;
 pub use part::part_name;
 pub use socket_carrier::SocketCarrier;
 pub use socket_port::SocketPort;
-
-#[cfg(test)]
-mod tests;

@@ -18,6 +18,3 @@ pub use looped::looped_session;
 pub use receiving::{Order, receive_batch};
 pub use sending::{send, send_batch};
 pub use store::Store;
-
-#[cfg(test)]
-mod tests;

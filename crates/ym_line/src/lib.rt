@@ -23,6 +23,3 @@ pub use rounds::{round, run};
 pub use text::trace_text;
 pub use trace::{How, Seen, Trace, What};
 pub use ym_link::DELIVERY_LIMIT;
-
-#[cfg(test)]
-mod tests;

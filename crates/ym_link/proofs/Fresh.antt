@@ -1,10 +1,10 @@
 -- One read past what asks for the block 0 that was just written.
 use Rattle.std.proofs.Common.{◌≡◌, ◌<◌, ◌≤◌, ◌-◌, ◌+◌, ℕ, zero, suc, true, false, List, Result, Ok, Err, OnOk, refl, ◌∙◌, ap, arith}
-use Rattle.ym_link.proofs.Names.{IsRead, fresh, is_stale, after_seen, Tape, Seen, seen_of, read_gives, read_leaves, Talk, Event, Exchange, Role, Got, PortFault}
+use Rattle.ym_link.proofs.Names.{IsRead, fresh, is_stale, after_seen, Tape, Seen, seen_of, read_leaves, brings, Talk, Event, Exchange, Role, Got, PortFault}
 use Rattle.ym_link.specs.Clearing.{Read, once}
 
 -- it goes on
-pub fresh-on : (most i room : ℕ) (talk : Talk) (events : List Event) (seen : Seen) → i < most → seen ≡ read_gives room events → is_stale talk.role talk.exchange seen ≡ true
+pub fresh-on : (most i room : ℕ) (talk : Talk) (events : List Event) (seen : Seen) → i < most → seen ≡ brings talk.role room events → is_stale talk.role talk.exchange seen ≡ true
     → fresh (most - i) room talk events ≡ fresh (most - (i + 1)) room talk (read_leaves room events)
 unfolding fresh
 fresh-on most i room talk events seen more gives stale =
@@ -12,7 +12,7 @@ fresh-on most i room talk events seen more gives stale =
     rw (e, ← gives, stale) refl
 
 -- it ends with what it read
-pub fresh-over : (most i room : ℕ) (talk : Talk) (events : List Event) (seen : Seen) → i < most → seen ≡ read_gives room events → is_stale talk.role talk.exchange seen ≡ false
+pub fresh-over : (most i room : ℕ) (talk : Talk) (events : List Event) (seen : Seen) → i < most → seen ≡ brings talk.role room events → is_stale talk.role talk.exchange seen ≡ false
     → fresh (most - i) room talk events ≡ once room talk events
 unfolding fresh
 fresh-over most i room talk events seen more gives new =

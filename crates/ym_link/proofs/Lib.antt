@@ -29,4 +29,3 @@ pub mod Steps
 pub mod TableRows
 pub mod Taking
 pub mod Sweeping
-pub mod TwoControls

@@ -1,5 +1,5 @@
 -- What a delivery does to the place of a sender: it stays, or goes past a frame that was sent and acknowledged; and so it finishes behind the end block.
-use Rattle.std.proofs.Common.{◌≡◌, ◌∙◌, ◌+◌, ◌⊎◌, inl, inr, ℕ, Bool, true, nat_lt, List, [], ◌∷◌, Option, None, Some, refl, sym, ap, subst, arith}
+use Rattle.std.proofs.Common.{◌≡◌, ◌∙◌, ◌+◌, ◌⊎◌, inl, inr, ℕ, Bool, true, nat_lt, List, ◌∷◌, Option, None, Some, refl, sym, ap, subst}
 use Rattle.std.proofs.lemmas.Bool.{cond_both}
 use Rattle.ym_link.proofs.Names.{Control, Ack, Can, next_of, reads, SenderParts, IsStep, counts, missed, read_through, after_reading, hears, hears_in, Place, Block, End, Mode, Waiting, Sent, Reading, Standing, Running, GIVE_UP}
 use Rattle.ym_core.specs.Standing.{after_fill}

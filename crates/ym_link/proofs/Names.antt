@@ -68,6 +68,7 @@ pub use Rattle.ym_link.specs.declared.clearing.Talk.{Talk}
 pub use Rattle.ym_link.specs.declared.clearing.TheConstants.{STALE_READS}
 pub use Rattle.ym_link.specs.declared.end_fault.EndFault.{EndFault}
 pub use Rattle.ym_link.specs.declared.event.Event.{Event}
+pub use Rattle.ym_link.specs.Withdrawn.{brings, heeded_bytes, withdrawn}
 pub use Rattle.ym_link.specs.declared.exchange.Exchange.{Exchange}
 pub use Rattle.ym_link.specs.declared.exchange.Role.{Role}
 pub use Rattle.ym_link.specs.declared.exchange.Role.TheVariants.{Sender}

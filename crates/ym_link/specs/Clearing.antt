@@ -1,8 +1,9 @@
 -- A port that lets the line clear: which events it drops, and when (this profile).
 use Rattle.std.specs.Prelude.{◌≡◌, ℕ, zero, suc, nat_lt, ◌&&◌, Bool, true, false, List, [], ◌∷◌, ◌++◌, length, Result, Ok, Err, is_ok, if◌then◌else◌}
-use Rattle.ym_link.specs.Exchange.{new_exchange, front_of, heard, after_seen, is_stale, must_clear, wrote}
-use Rattle.ym_link.specs.Port.{Tape, Seen, Data, Silence, End, Failed, read_gives, read_leaves, after_write}
+use Rattle.ym_link.specs.Exchange.{new_exchange, front_of, heard, after_seen, is_stale, must_clear, is_calm, wrote}
+use Rattle.ym_link.specs.Port.{Tape, Seen, Data, Silence, End, Failed, read_leaves, after_write}
 use Rattle.ym_link.specs.Sweep.{Swept, swept, new_sweep}
+use Rattle.ym_link.specs.Withdrawn.{brings}
 use Rattle.ym_link.specs.declared.sweep.TheConstants.{MOST_READS}
 use Rattle.ym_link.specs.declared.clearing.Talk.{Talk}
 use Rattle.ym_link.specs.declared.clearing.TheConstants.{STALE_READS}
@@ -29,7 +30,7 @@ holds_nothing _ = false
 abbrev pub cleared : Talk → List ℕ → List Event → Swept
 cleared talk bytes events =
     if holds_nothing talk.held && must_clear talk.role talk.exchange (front_of bytes)
-    then swept MOST_READS talk.role (new_sweep talk.role talk.exchange.is_quiet) events
+    then swept MOST_READS talk.role (new_sweep talk.role (is_calm talk.role talk.exchange)) events
     else record { answer = Ok talk.held; rest = events }
 
 -- and then the bytes are written
@@ -63,11 +64,11 @@ gave count left talk = record talk { exchange = heard count talk.exchange; held 
 abbrev pub given : List ℕ → Held → Talk → List Event → Read
 given bytes left talk events = record { seen = Data bytes; talk = gave (length bytes) left talk; rest = events }
 
--- one read of the port below
+-- one read of the port below, without a reply that is withdrawn
 abbrev pub once : ℕ → Talk → List Event → Read
 once room talk events = record {
-  seen = read_gives room events;
-  talk = record talk { exchange = after_seen (read_gives room events) talk.exchange };
+  seen = brings talk.role room events;
+  talk = record talk { exchange = after_seen (brings talk.role room events) talk.exchange };
   rest = read_leaves room events;
 }
 
@@ -75,7 +76,7 @@ once room talk events = record {
 unfoldable pub fresh : ℕ → ℕ → Talk → List Event → Read
 fresh zero room talk events = once room talk events
 fresh (suc reads) room talk events =
-    if is_stale talk.role talk.exchange (read_gives room events) then fresh reads room talk (read_leaves room events) else once room talk events
+    if is_stale talk.role talk.exchange (brings talk.role room events) then fresh reads room talk (read_leaves room events) else once room talk events
 
 -- It is a short wait and the rest of it, so that the port knows whether an answer came at once.
 abbrev pub rest_of : Seen → ℕ → Read → Read

@@ -25,6 +25,7 @@ new_exchange = record {
   is_quiet = false;
   waited = false;
   was_prompt = false;
+  is_quick = false;
   last = record { length = 0; first = 0; second = 0 };
   is_repeat = false;
 }
@@ -60,6 +61,12 @@ is_confirming Sender x next =
     nat_lt 0 x.came && not x.waited && x.was_prompt && (nat_eq next.length 1 && is_same x.last next && not x.is_repeat)
 is_confirming Receiver x next = false
 
+-- The line has been quiet for the first of the waits for which it is let clear: the last read found it so. Or it is a sender's on which
+-- answers come at once, where none of the copies was written in vain: if nothing comes within one wait, nothing is under way.
+abbrev pub is_calm : Role → Exchange → Bool
+is_calm Sender x = x.is_quiet || x.is_quick
+is_calm Receiver x = x.is_quiet
+
 -- The line has to clear before a write where an answer came to one of several writes, for the answers to the others may be under way; and
 -- where what came filled a delivery.
 abbrev pub must_clear : Role → Exchange → Front → Bool
@@ -73,6 +80,7 @@ wrote role x next = record {
   is_quiet = false;
   waited = false;
   was_prompt = if is_same x.last next then x.was_prompt else (not x.waited && not (must_clear role x next));
+  is_quick = if is_taken role x next then nat_lt 0 x.owed && not x.waited else nat_lt 0 x.came && x.is_quick;
   last = next;
   is_repeat = is_same x.last next;
 }

@@ -5,6 +5,7 @@ use Rattle.ym_link.specs.Clearing.{cleared, said, read_by}
 use Rattle.ym_link.specs.Exchange.{front_of, is_same, all_ask}
 use Rattle.ym_link.specs.Port.{Seen, Data, Silence}
 use Rattle.ym_link.specs.Sweep.{heeds_all, is_cancel, quiet_waits}
+use Rattle.ym_link.specs.Withdrawn.{heeded_bytes}
 use Rattle.ym_link.specs.declared.clearing.Talk.{Talk}
 use Rattle.ym_link.specs.declared.event.Event.{Event}
 use Rattle.ym_link.specs.declared.event.Event.TheVariants as event
@@ -106,9 +107,10 @@ abbrev pub all_comes : Role → List Call → List Event → List Event
 all_comes role [] more = more
 all_comes role (call ∷ calls) more = comes role call (all_comes role calls more)
 
-abbrev pub all_hears : List Call → List Seen
-all_hears [] = []
-all_hears (call ∷ calls) = hears call.again call.answer ++ all_hears calls
+-- a sender hears of an answer what is not withdrawn
+abbrev pub all_hears : Role → List Call → List Seen
+all_hears role [] = []
+all_hears role (call ∷ calls) = hears call.again (heeded_bytes role call.answer) ++ all_hears role calls
 
 -- each call is one, and what a sender writes is not what it wrote before: the answer led on
 pub data AreCalls (role : Role) : List ℕ → List Call → Type 0 where

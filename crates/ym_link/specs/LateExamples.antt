@@ -13,6 +13,9 @@ opening = 0x01 ∷ 0x00 ∷ 0xFF ∷ 0x61 ∷ []
 abbrev block : List ℕ
 block = 0x01 ∷ 0x01 ∷ 0xFE ∷ []
 
+abbrev second : List ℕ
+second = 0x01 ∷ 0x02 ∷ 0xFD ∷ []
+
 abbrev eot : List ℕ
 eot = 0x04 ∷ []
 
@@ -73,12 +76,57 @@ crossed_nak : gives (Writes block ∷ Reads ∷ Writes block ∷ Reads ∷ Write
 unfolding gives swept fresh
 crossed_nak = refl
 
+-- A block is damaged, on a line where answers come at once, and the receiver asks for it, at once or once it has waited: one quiet wait
+-- is enough, which is shorter than a boot loader's own.
+asked_late : gives (Writes block ∷ Reads ∷ Writes second ∷ Reads ∷ Writes second ∷ Reads ∷ Writes eot ∷ Reads ∷ []) (new_talk Sender)
+    (Piece ack ∷ Quiet ∷ Piece start ∷ Piece ack ∷ Quiet ∷ Piece nak ∷ [])
+    ≡ Data ack ∷ Data start ∷ Data ack ∷ Data nak ∷ []
+unfolding gives swept fresh
+asked_late = refl
+
+asked_at_once : gives (Writes block ∷ Reads ∷ Writes second ∷ Reads ∷ Writes second ∷ Reads ∷ Writes eot ∷ Reads ∷ []) (new_talk Sender)
+    (Piece ack ∷ Piece start ∷ Piece ack ∷ Quiet ∷ Piece nak ∷ [])
+    ≡ Data ack ∷ Data start ∷ Data ack ∷ Data nak ∷ []
+unfolding gives swept fresh
+asked_at_once = refl
+
+-- It asked while the block was under way, and answers it and its copy: the second answer is dropped, and two quiet waits follow it.
+crossed_start : gives (Writes block ∷ Reads ∷ Writes second ∷ Reads ∷ Writes second ∷ Reads ∷ Writes eot ∷ Reads ∷ []) (new_talk Sender)
+    (Piece ack ∷ Piece start ∷ Piece ack ∷ Piece ack ∷ Quiet ∷ Quiet ∷ Piece nak ∷ [])
+    ≡ Data ack ∷ Data start ∷ Data ack ∷ Data nak ∷ []
+unfolding gives swept fresh
+crossed_start = refl
+
+-- A receiver that answered at once stalls: the copy was written in vain, and the line is let clear by two quiet waits.
+stalled_later : gives (Writes block ∷ Reads ∷ Writes second ∷ Reads ∷ Writes second ∷ Reads ∷ Writes eot ∷ Reads ∷ []) (new_talk Sender)
+    (Piece ack ∷ Quiet ∷ Quiet ∷ Piece ack ∷ Quiet ∷ Piece ack ∷ Quiet ∷ Quiet ∷ Piece nak ∷ [])
+    ≡ Data ack ∷ Silence ∷ Data ack ∷ Data nak ∷ []
+unfolding gives swept fresh
+stalled_later = refl
+
 -- A receiver's answer to the last block comes late, and a NAK behind it; the receiver confirms once, and answers both EOTs.
 late_nak_at_an_eot : gives (Writes block ∷ Reads ∷ Writes eot ∷ Reads ∷ Writes eot ∷ Reads ∷ Writes opening ∷ Reads ∷ []) (new_talk Sender)
     (Quiet ∷ Piece ack ∷ Piece nak ∷ Piece ack_start ∷ Piece ack_start ∷ Quiet ∷ Quiet ∷ Piece ack_start ∷ [])
     ≡ Data ack ∷ Data nak ∷ Data ack_start ∷ Data ack_start ∷ []
 unfolding gives swept fresh
 late_nak_at_an_eot = refl
+
+-- A boot loader gives up behind an ACK, as it does where an EOT came twice: what comes with the ACK takes it back, also where the second
+-- CAN comes a moment later.
+withdrawn_ack : gives (Writes block ∷ Reads ∷ Reads ∷ []) (new_talk Sender)
+    (Piece (0x06 ∷ 0x18 ∷ []) ∷ Piece (0x18 ∷ 0x18 ∷ 0x08 ∷ []) ∷ [])
+    ≡ Data (0x18 ∷ []) ∷ Data cancel ∷ []
+unfolding gives swept fresh
+withdrawn_ack = refl
+
+-- noise between the two is no reply
+noisy_cancel : gives (Writes block ∷ Reads ∷ []) (new_talk Sender) (Piece (0x06 ∷ 0x18 ∷ 0x55 ∷ 0x18 ∷ 0x55 ∷ []) ∷ []) ≡ Data cancel ∷ []
+unfolding gives swept fresh
+noisy_cancel = refl
+
+cancelled_ack : gives (Writes block ∷ Reads ∷ []) (new_talk Sender) (Piece (0x06 ∷ 0x18 ∷ 0x18 ∷ []) ∷ []) ≡ Data cancel ∷ []
+unfolding gives swept fresh
+cancelled_ack = refl
 
 -- CAN CAN among what is dropped is heard at the next read, and so is the end of the line.
 cancel_is_heard : gives (Writes block ∷ Reads ∷ Writes block ∷ Reads ∷ Writes eot ∷ Reads ∷ []) (new_talk Sender)

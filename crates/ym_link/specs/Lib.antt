@@ -11,6 +11,7 @@ pub mod Exchange
 pub mod LateAnswers
 pub mod LateExamples
 pub mod Sweep
+pub mod Withdrawn
 pub mod Deliveries
 pub mod ReceiveOver
 pub mod SendOver

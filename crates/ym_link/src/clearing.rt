@@ -10,6 +10,7 @@ ghost use Rattle.ym_link.specs.declared.port.Wait.{Wait as Asked};
 use crate::exchange::{Exchange, Front, Role};
 use crate::port::{Got, Port, PortFault, Wait};
 use crate::sweep::{CAN, Held, Sweep, let_clear};
+use crate::withdrawn::read_heeding;
 
 /// How many reads behind a new block 0 may bring C alone and be passed over. A receiver that was started long before its peer has asked
 /// no more often; one that asks on is heard, since it lacks block 0.
@@ -52,7 +53,7 @@ fn clear_for<P: Port>(port: &mut P, talk: &Talk, clears: bool) -> Result<Held, P
             let_clear(
                 port,
                 talk.role,
-                Sweep::new(talk.role, talk.exchange.is_quiet),
+                Sweep::new(talk.role, talk.exchange.is_calm(talk.role)),
             )
         }
         held => Ok(held),
@@ -102,7 +103,7 @@ impl<P: Port + Drop> Clearing<P> {
         ensures ok { OnOk result (P.failures self.new.port ≡ P.failures self.old.port) }
         ensures failed { OnErr result (Rose (P.failures self.old.port) (P.failures self.new.port)) }
     {
-        let got = self.port.read(wait, buf);
+        let got = read_heeding(&mut self.port, self.talk.role, wait, buf);
         self.talk.exchange.take(&got);
         got
     }
@@ -119,7 +120,7 @@ impl<P: Port + Drop> Clearing<P> {
         ensures failed { OnErr result (Rose (P.failures self.old.port) (P.failures self.new.port)) }
     {
         for _done in 0..STALE_READS {
-            let got = self.port.read(Wait::Within, buf);
+            let got = read_heeding(&mut self.port, self.talk.role, Wait::Within, buf);
             if !self.talk.exchange.is_stale(self.talk.role, &got, buf) {
                 self.talk.exchange.take(&got);
                 return got;

@@ -39,6 +39,9 @@ pub struct Exchange {
     pub waited: bool,
     /// Whether what was written before the last frame was answered at once.
     pub was_prompt: bool,
+    /// Whether the last answer that led on came at once, and each write since was answered or
+    /// asked for.
+    pub is_quick: bool,
     /// What was written last.
     pub last: Front,
     /// Whether that was the one before, written again.
@@ -90,6 +93,7 @@ impl Exchange {
             is_quiet: false,
             waited: false,
             was_prompt: false,
+            is_quick: false,
             last: Front {
                 length: 0,
                 first: 0,
@@ -176,6 +180,18 @@ impl Exchange {
         }
     }
 
+    /// Whether the line needs to be quiet for one wait less than else: it just was, or it is a
+    /// sender's on which answers come at once, and no copy was written in vain.
+    #[inline(always)]
+    pub fn is_calm(self, role: Role) -> bool
+        ensures { result ≡ table.is_calm role self }
+    {
+        match role {
+            Role::Sender => self.is_quiet || self.is_quick,
+            Role::Receiver => self.is_quiet,
+        }
+    }
+
     /// Whether the line has to clear before the next write, by whether it is the last one again.
     #[inline(always)]
     pub fn must_clear(self, role: Role, is_same: bool) -> bool
@@ -193,7 +209,13 @@ impl Exchange {
         requires clears { clears ≡ table.must_clear role self.old next }
         ensures { self.new ≡ table.wrote role self.old next }
     {
-        self.owed = if self.is_taken(role, is_same) {
+        let is_taken = self.is_taken(role, is_same);
+        let is_quick = if is_taken {
+            0 < self.owed && !self.waited
+        } else {
+            0 < self.came && self.is_quick
+        };
+        self.owed = if is_taken {
             1
         } else if self.is_confirming(role, next, is_same) {
             self.owed
@@ -202,6 +224,7 @@ impl Exchange {
         } else {
             2
         };
+        self.is_quick = is_quick;
         self.was_prompt = if is_same {
             self.was_prompt
         } else {

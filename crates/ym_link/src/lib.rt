@@ -15,6 +15,7 @@ mod send_engine;
 mod sender;
 mod shaped_batch;
 mod sweep;
+mod withdrawn;
 
 pub use clearing::{Clearing, STALE_READS};
 pub use end_fault::EndFault;
@@ -29,6 +30,3 @@ pub use sender::{BatchFault, Sender, SenderFrom};
 pub use sweep::MOST_READS;
 pub use ym_core::{Confirm, Heard, RecvState, SendState, heard};
 pub use ym_file::{Received, SendFile, SourceFile};
-
-#[cfg(test)]
-mod tests;

@@ -5,9 +5,6 @@ ghost use Rattle.ym_file.specs.Kept.{Kept, Told, IsNew};
 ghost use Rattle.ym_file.specs.Received.{ReceivedParts};
 ghost use Rattle.ym_link.specs.Calls.{CallGives, MayAsk};
 
-#[cfg(test)]
-mod stand;
-
 use std::alloc::{AllocError, Global};
 use std::marker::Model;
 use ym_core::{Ask, Confirm, Heard, HeardRef, ReceiverCore, RecvState, Step};

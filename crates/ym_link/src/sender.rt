@@ -10,9 +10,6 @@ ghost use Rattle.ym_link.specs.FrameAt.{IsFrameAt};
 ghost use Rattle.ym_link.specs.Sender.{IsFilled};
 ghost use Rattle.ym_machine.specs.declared.limits.TheConstants.{MOST_FILES};
 
-#[cfg(test)]
-mod stand;
-
 use crate::delivery::Listener;
 use crate::shaped_batch::ShapedBatch;
 use std::marker::Model;

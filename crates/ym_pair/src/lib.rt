@@ -5,6 +5,3 @@ mod calls;
 pub mod laws;
 
 pub use calls::{receive_from_any_peer, send_and_receive, send_to_any_peer};
-
-#[cfg(test)]
-mod tests;

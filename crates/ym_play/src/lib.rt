@@ -19,6 +19,3 @@ pub use play::{Played, play_script};
 pub use script::{Script, read_script};
 pub use sessions::{session, session_over};
 pub use streams::{Input, Output, StreamFault};
-
-#[cfg(test)]
-mod tests;

@@ -32,6 +32,3 @@ pub use store_watch::{Replies, StoreWatch};
 pub use teller::{Look, Teller};
 pub use watched::{SinkWatch, Watched};
 pub use watched_port::{PortWatch, WatchedPort};
-
-#[cfg(test)]
-mod tests;

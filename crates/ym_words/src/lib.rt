@@ -6,6 +6,3 @@ mod job;
 mod port;
 
 pub use job::{Job, JobFault, ReceiveFlags, TellFlags, job_of};
-
-#[cfg(test)]
-mod tests;

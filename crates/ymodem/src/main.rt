@@ -2,12 +2,10 @@
 //! over a connection.
 #![tactic(auto)]
 
-mod program;
-
-use program::command;
 use std::io::{ErrorKind, IsTerminal};
 use std::process::ExitCode;
 use std::{env, io};
+use ym_command::command;
 use ym_show::{Look, ShownOut, Teller};
 
 /// The status where a word is not UTF-8.
@@ -75,6 +73,3 @@ fn run(rt: &HostRuntime) -> u8 {
 fn main(rt: HostRuntime) -> ExitCode {
     ExitCode::from(run(&rt))
 }
-
-#[cfg(test)]
-mod tests;

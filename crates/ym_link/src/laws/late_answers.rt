@@ -20,5 +20,5 @@ pub fn late_answers_are_dropped()
 /// empty deliveries as it waited in vain, and then the answer: what it hears in as many rounds whose reply is lost, and one whose reply is whole.
 pub fn answered_calls_are_rounds()
     ensures { (role : Role) (calls : List Call) (more : List Event) → AreCalls role [] calls
-        → gives (all_acts calls) (new_talk role) (all_comes role calls more) ≡ all_hears calls }
+        → gives (all_acts calls) (new_talk role) (all_comes role calls more) ≡ all_hears role calls }
 {}

@@ -1,0 +1,249 @@
+//! What a sink that stores files in a folder is asked, step by step, and what is done in the folder in between. A test is a list of steps: the
+//! sink stands in one function, which is proved once.
+
+ghost use Rattle.std.specs.Prelude.{◌≡◌, None, IfOk, OnOk, length};
+ghost use Rattle.ym_file.specs.Kept.{IsCoveredFile, IsNew};
+ghost use Rattle.ym_host.specs.DirSink.{kept_of};
+
+use super::acts::{Act, all_hold, path_of};
+use std::fs::File;
+use std::io::ErrorKind;
+use std::path::PathBuf;
+use std::test::Fail;
+use ym_file::{Sink, SinkFault};
+use ym_header::{Header, HeaderFault, Stamp};
+use ym_host::{DirSink, Durability, Leftover, StoreFault};
+
+/// Why a sink failed first.
+#[derive(Clone, Copy)]
+pub(super) enum Why {
+    IsThere,
+    PartIsThere,
+    PartIsGone,
+    System(ErrorKind),
+}
+
+/// A step, and what it comes to.
+#[derive(Clone, Copy)]
+pub(super) enum Step<'a> {
+    /// A file of this name takes these bytes, this is done meanwhile, and then it is stored.
+    Stores(&'a str, &'a [u8], &'a [Act<'a>]),
+    /// The same, but it is not stored.
+    Fails(&'a str, &'a [u8], &'a [Act<'a>]),
+    /// A file of this name takes all of its bytes but one, this is done meanwhile, and then it is let go.
+    LetsGo(&'a str, &'a [Act<'a>]),
+    /// The same, but its part cannot be removed.
+    Leaves(&'a str, &'a [Act<'a>]),
+    /// What is open is let go, without a fault or with one.
+    Closes(bool),
+    /// No file of this name is begun.
+    Refuses(&'a str),
+    /// The same, while somebody has its part locked.
+    RefusesLocked(&'a str),
+    /// This is done in the folder.
+    Acts(&'a [Act<'a>]),
+    /// The files of these names are told as stored.
+    Told(&'a [&'a str]),
+    /// The first failure was told so.
+    First(Why),
+}
+
+/// A sink that stores files in this folder.
+pub(super) fn new_sink<'r>(
+    rt: &'r HostRuntime,
+    dir: &PathBuf,
+    leftover: Leftover,
+) -> Result<DirSink<&'r HostRuntime>, Fail>
+    ensures { IfOk result (λ sink. IsNew (kept_of sink)) }
+{
+    let sink = DirSink::new(rt, rt.alloc(), dir.as_str(), Durability::Disk, leftover)?;
+    Ok(sink)
+}
+
+/// The header of a file of this name and length.
+fn header(rt: &HostRuntime, name: &str, length: u64) -> Result<Header, HeaderFault>
+    ensures { IfOk result (λ header. header.length ≡ length) }
+{
+    Header::new(rt.alloc(), name, length, Stamp::Nothing)
+}
+
+/// Lets go of what is open: of nothing, before a file is begun.
+fn clear(sink: &mut DirSink<&HostRuntime>) -> Result<(), SinkFault>
+    ensures { sink.new.opened ≡ None }
+{
+    sink.close()
+}
+
+/// Takes a file, all its bytes in one piece.
+fn take<S: Sink>(sink: &mut S, header: Header, bytes: &[u8]) -> Result<(), SinkFault>
+    requires closed { (S.kept sink.old).opened ≡ None }
+    requires fits { header.length ≡ length bytes.now }
+    ensures { OnOk result (IsCoveredFile (S.kept sink.new)) }
+{
+    sink.begin(header)?;
+    if !bytes.is_empty() {
+        sink.add(bytes)?;
+    }
+    Ok(())
+}
+
+/// Takes a file of 200,000 bytes in three pieces.
+fn take_in_three<S: Sink>(sink: &mut S, header: Header, all: &[u8]) -> Result<(), SinkFault>
+    requires closed { (S.kept sink.old).opened ≡ None }
+    requires fits { header.length ≡ 200000 }
+    requires whole { length all.now ≡ 200000 }
+    ensures { OnOk result (IsCoveredFile (S.kept sink.new)) }
+{
+    let (front, rest) = all.split_at(60_000);
+    let (middle, back) = rest.split_at(60_000);
+    sink.begin(header)?;
+    sink.add(front)?;
+    sink.add(middle)?;
+    sink.add(back)
+}
+
+/// Takes two of the three bytes of a file.
+fn take_two<S: Sink>(sink: &mut S, header: Header) -> Result<(), SinkFault>
+    requires closed { (S.kept sink.old).opened ≡ None }
+    requires three { header.length ≡ 3 }
+{
+    sink.begin(header)?;
+    sink.add(b"xy")
+}
+
+/// Whether a file is stored, or is not, after this was done.
+fn stores(
+    rt: &HostRuntime,
+    dir: &PathBuf,
+    sink: &mut DirSink<&HostRuntime>,
+    (name, bytes, acts): (&str, &[u8], &[Act<'_>]),
+) -> Result<Option<bool>, Fail> {
+    clear(sink)?;
+    take(sink, header(rt, name, bytes.len() as u64)?, bytes)?;
+    if !all_hold(rt, dir, acts)? {
+        return Ok(None);
+    }
+    Ok(Some(sink.commit().is_ok()))
+}
+
+/// Whether a file that lacks a byte is let go of without a fault, or with one, after this was done.
+fn lets_go(
+    rt: &HostRuntime,
+    dir: &PathBuf,
+    sink: &mut DirSink<&HostRuntime>,
+    (name, acts): (&str, &[Act<'_>]),
+) -> Result<Option<bool>, Fail> {
+    clear(sink)?;
+    take_two(sink, header(rt, name, 3)?)?;
+    if !all_hold(rt, dir, acts)? {
+        return Ok(None);
+    }
+    Ok(Some(sink.close().is_ok()))
+}
+
+/// Whether no file of this name is begun.
+fn refuses(rt: &HostRuntime, sink: &mut DirSink<&HostRuntime>, name: &str) -> Result<bool, Fail> {
+    clear(sink)?;
+    Ok(sink.begin(header(rt, name, 3)?) == Err(SinkFault::Failed))
+}
+
+/// Whether no file of this name is begun while its part is locked.
+fn refuses_locked(
+    rt: &HostRuntime,
+    dir: &PathBuf,
+    sink: &mut DirSink<&HostRuntime>,
+    name: &str,
+) -> Result<bool, Fail> {
+    let held = File::open(rt, &path_of(rt, dir, name, ".part")?)?;
+    held.lock()?;
+    refuses(rt, sink, name)
+}
+
+/// Stores the 200,000 bytes of the file `a`. The first bytes wait, the second have no room beside them, and the third are more than ever wait.
+pub(super) fn stores_in_three(rt: &HostRuntime, dir: &PathBuf, all: &[u8]) -> Result<bool, Fail> {
+    if all.len() != 200_000 {
+        return Ok(false);
+    }
+    let mut sink = new_sink(rt, dir, Leftover::Refused)?;
+    take_in_three(&mut sink, header(rt, "a", 200_000)?, all)?;
+    Ok(sink.commit().is_ok())
+}
+
+/// Whether another sink in the folder begins no file of this name.
+pub(super) fn other_refuses(rt: &HostRuntime, dir: &PathBuf, name: &str) -> Result<bool, Fail> {
+    let mut other = new_sink(rt, dir, Leftover::Discarded)?;
+    refuses(rt, &mut other, name)
+}
+
+/// Whether another sink in the folder stores this file.
+pub(super) fn other_stores(
+    rt: &HostRuntime,
+    dir: &PathBuf,
+    name: &str,
+    bytes: &[u8],
+) -> Result<bool, Fail> {
+    let mut other = new_sink(rt, dir, Leftover::Discarded)?;
+    clear(&mut other)?;
+    take(&mut other, header(rt, name, bytes.len() as u64)?, bytes)?;
+    Ok(other.commit().is_ok())
+}
+
+/// Whether the files of these names are told as stored, in this order.
+fn tells(sink: &DirSink<&HostRuntime>, names: &[&str]) -> bool {
+    let headers = sink.headers();
+    headers.len() == names.len()
+        && headers
+            .iter()
+            .zip(names)
+            .all(|(it, name)| it.name() == *name)
+}
+
+/// Whether this is why a sink failed first.
+fn failed_by(sink: &DirSink<&HostRuntime>, why: Why) -> bool {
+    match (sink.first_fault(), why) {
+        (Some(StoreFault::IsThere), Why::IsThere)
+        | (Some(StoreFault::PartIsThere), Why::PartIsThere)
+        | (Some(StoreFault::PartIsGone), Why::PartIsGone) => true,
+        (Some(StoreFault::System(error)), Why::System(kind)) => error.kind() == kind,
+        _ => false,
+    }
+}
+
+/// Whether a step comes to what it says.
+fn holds(
+    rt: &HostRuntime,
+    dir: &PathBuf,
+    sink: &mut DirSink<&HostRuntime>,
+    step: &Step<'_>,
+) -> Result<bool, Fail> {
+    Ok(match *step {
+        Step::Stores(name, bytes, acts) => stores(rt, dir, sink, (name, bytes, acts))?
+            == Some(true),
+        Step::Fails(name, bytes, acts) => stores(rt, dir, sink, (name, bytes, acts))?
+            == Some(false),
+        Step::LetsGo(name, acts) => lets_go(rt, dir, sink, (name, acts))? == Some(true),
+        Step::Leaves(name, acts) => lets_go(rt, dir, sink, (name, acts))? == Some(false),
+        Step::Closes(is_well) => sink.close().is_ok() == is_well,
+        Step::Refuses(name) => refuses(rt, sink, name)?,
+        Step::RefusesLocked(name) => refuses_locked(rt, dir, sink, name)?,
+        Step::Acts(acts) => all_hold(rt, dir, acts)?,
+        Step::Told(names) => tells(sink, names),
+        Step::First(why) => failed_by(sink, why),
+    })
+}
+
+/// The first of some steps that does not come to what it says, with a new sink in this folder.
+pub(super) fn first_wrong(
+    rt: &HostRuntime,
+    dir: &PathBuf,
+    leftover: Leftover,
+    steps: &[Step<'_>],
+) -> Result<Option<usize>, Fail> {
+    let mut sink = new_sink(rt, dir, leftover)?;
+    for (at, step) in steps.iter().enumerate() {
+        if !holds(rt, dir, &mut sink, step)? {
+            return Ok(Some(at));
+        }
+    }
+    Ok(None)
+}

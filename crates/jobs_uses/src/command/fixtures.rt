@@ -1,0 +1,78 @@
+//! What the tests of the program share.
+
+use std::fmt::Write;
+use std::test::Fail;
+use ym_command::command;
+use ym_show::{Look, Teller};
+
+/// What a command did.
+#[derive(Drop)]
+pub(super) struct Ending {
+    pub(super) status: u8,
+    pub(super) out: Vec<u8>,
+    pub(super) err: Vec<u8>,
+    /// What was told besides.
+    pub(super) told: Vec<u8>,
+}
+
+/// Runs the words of a line, on this input.
+pub(super) fn ran(rt: &HostRuntime, line: &str, input: &[u8]) -> Result<Ending, Fail> {
+    let alloc = rt.alloc();
+    let mut words = Vec::new(alloc);
+    for word in line.split(' ') {
+        words.push(String::from_str(alloc, word)?)?;
+    }
+    let mut input = input;
+    let mut out = Vec::new(alloc);
+    let mut err = Vec::new(alloc);
+    let look = Look {
+        at_err: false,
+        columns: 80,
+    };
+    let mut teller = Teller::new(Vec::new(alloc), look);
+    let status = command(
+        rt,
+        alloc,
+        words,
+        &mut input,
+        &mut out,
+        &mut err,
+        &mut teller,
+    );
+    let told = teller.err;
+    Ok(Ending {
+        status,
+        out,
+        err,
+        told,
+    })
+}
+
+/// Whether a command of this line, on this input, ends with this status and these texts.
+pub(super) fn ends(
+    rt: &HostRuntime,
+    line: &str,
+    input: &[u8],
+    status: u8,
+    out: &str,
+    err: &str,
+) -> Result<bool, Fail> {
+    let ran = ran(rt, line, input)?;
+    Ok(
+        ran.status == status
+            && ran.out.as_slice() == out.as_bytes()
+            && ran.err.as_slice() == err.as_bytes(),
+    )
+}
+
+/// The script of a file of 128 bytes `A`, and further lines.
+pub(super) fn with_file(rt: &HostRuntime, rest: &str) -> Result<String, Fail> {
+    let mut script = String::new(rt.alloc());
+    script.push_str("file a.txt ")?;
+    for _ in 0..128 {
+        script.push_str("41")?;
+    }
+    writeln!(script)?;
+    script.push_str(rest)?;
+    Ok(script)
+}

@@ -1,0 +1,62 @@
+//! Commands that meet want of memory. `tests/memory.py` refuses each growth in turn.
+
+use super::fixtures::with_file;
+use std::io::Cursor;
+use std::test::Fail;
+use ym_command::command;
+use ym_show::{Look, Teller};
+
+/// What a test answers whose command met want of memory.
+const WANT: &str = "want of memory";
+
+/// A writer that takes no memory.
+fn page() -> Cursor<[u8; 512]> {
+    Cursor::new([0; 512])
+}
+
+/// What was written to it.
+fn text(page: &Cursor<[u8; 512]>) -> &[u8] {
+    page.get_ref()
+        .get(..page.position() as usize)
+        .unwrap_or(&[])
+}
+
+/// Runs these words on this input. It succeeds where they end with this status and this line on standard error; else they have to end in
+/// want of memory, and to print nothing else.
+fn run(rt: &HostRuntime, words: &[&str], input: &[u8], status: u8, line: &str) -> Result<(), Fail> {
+    let alloc = rt.alloc();
+    let mut list = Vec::new(alloc);
+    for word in words {
+        list.push(String::from_str(alloc, word)?)?;
+    }
+    let mut input = input;
+    let mut out = page();
+    let mut err = page();
+    let look = Look {
+        at_err: false,
+        columns: 80,
+    };
+    let mut teller = Teller::new(page(), look);
+    let ended = command(rt, alloc, list, &mut input, &mut out, &mut err, &mut teller);
+    if ended == status && text(&err) == line.as_bytes() {
+        return Ok(());
+    }
+    let told = text(&err) == b"fault: memory\n".as_slice();
+    if ended != 3 || !text(&out).is_empty() || !told {
+        return Err(Fail::from("another end"));
+    }
+    Err(Fail::from(WANT))
+}
+
+#[test]
+fn a_script_is_played(rt: HostRuntime) -> Result<(), Fail> {
+    let script = with_file(&rt, "ok 6\n")?;
+    run(&rt, &["ymodem", "play"], script.as_bytes(), 0, "")
+}
+
+/// A folder is no file.
+#[test]
+fn a_folder_is_sent(rt: HostRuntime) -> Result<(), Fail> {
+    let words = ["ymodem", "send", "--port", "1", "/"];
+    run(&rt, &words, b"", 3, "fault: device\n")
+}

@@ -1,0 +1,213 @@
+ghost use Rattle.std.specs.Prelude.{None};
+
+use super::calls::{ends, same, session_of};
+use super::fixtures::with_file;
+use std::alloc::Global;
+use std::io;
+use std::io::{ErrorKind, Read, Write};
+use std::test::Fail;
+use ym_line::Direct;
+use ym_play::{Input, Output, StreamFault, session_over};
+
+const ONE_FILE: &str = "1 > - whole < C whole\n\
+    2 > block 0 128 whole < ACK C whole\n\
+    3 > block 1 128 whole < ACK whole\n\
+    4 > eot whole < NAK whole\n\
+    5 > eot whole < ACK C whole\n\
+    6 > block 0 128 whole < ACK whole\n\
+    sender done 1 finished\n\
+    receiver files 1 finished\n";
+
+/// Gives its bytes in pieces of at most `most` bytes, and fails once `reads` reads were made.
+#[derive(Drop)]
+struct Pieces<'a> {
+    rest: &'a [u8],
+    most: usize,
+    reads: u32,
+    kind: ErrorKind,
+}
+
+impl Read for Pieces<'_> {
+    fn read(&mut self, buf: &mut [u8]) -> io::Result<usize> {
+        if self.reads == 0 {
+            return Err(io::Error::from(self.kind));
+        }
+        self.reads -= 1;
+        let count = self.rest.len().min(buf.len()).min(self.most);
+        let (piece, rest) = self.rest.split_at(count);
+        buf[..count].copy_from_slice(piece);
+        self.rest = rest;
+        Ok(count)
+    }
+}
+
+/// Gives line ends without end, and counts its reads and bytes.
+#[derive(Drop)]
+struct Endless {
+    bytes: u64,
+}
+
+impl Read for Endless {
+    fn read(&mut self, buf: &mut [u8]) -> io::Result<usize> {
+        for byte in buf.iter_mut() {
+            *byte = b'\n';
+        }
+        self.bytes = self.bytes.saturating_add(buf.len() as u64);
+        Ok(buf.len())
+    }
+}
+
+/// Fails at each read, and counts them.
+#[derive(Drop)]
+struct Broken {
+    failed: u64,
+}
+
+impl Input for Broken {
+    ghost remaining = { λ _. None };
+
+    ghost failures = { λ b. b.failed };
+
+    fn read_some(&mut self, _buf: &mut [u8]) -> Result<usize, StreamFault> {
+        self.failed = self.failed.saturating_add(1);
+        Err(StreamFault)
+    }
+}
+
+/// Keeps at most `most` bytes of each write, and fails once `writes` writes were made.
+#[derive(Drop)]
+struct Short {
+    kept: Vec<u8>,
+    most: usize,
+    writes: u32,
+}
+
+impl Write for Short {
+    fn write(&mut self, buf: &[u8]) -> io::Result<usize> {
+        if self.writes == 0 {
+            return Err(io::Error::from(ErrorKind::BrokenPipe));
+        }
+        self.writes -= 1;
+        let count = buf.len().min(self.most);
+        self.kept.extend_from_slice(&buf[..count])?;
+        Ok(count)
+    }
+
+    fn flush(&mut self) -> io::Result<()> {
+        Ok(())
+    }
+}
+
+#[test]
+fn one_byte_at_a_time(rt: HostRuntime) -> Result<(), Fail> {
+    let alloc = rt.alloc();
+    let script = with_file(alloc, "a.txt", "ok 6\n")?;
+    let mut input = Pieces {
+        rest: script.as_bytes(),
+        most: 1,
+        reads: 1000,
+        kind: ErrorKind::Other,
+    };
+    let mut out = Short {
+        kept: Vec::new(alloc),
+        most: 1,
+        writes: 1000,
+    };
+    let mut err = Vec::new(alloc);
+    let status = session_of(alloc, &mut input, &mut out, &mut err);
+    assert!(rt; same(&status, &0));
+    assert!(rt; same(&out.kept.as_slice(), &ONE_FILE.as_bytes()));
+    assert!(rt; err.is_empty());
+    Ok(())
+}
+
+/// A read fails, at first or in the middle, and is not tried again.
+#[test]
+fn a_read_fails(rt: HostRuntime) -> Result<(), Fail> {
+    let alloc = rt.alloc();
+    let script = with_file(alloc, "a.txt", "ok 6\n")?;
+    for reads in [0, 1, 3] {
+        for kind in [ErrorKind::Other, ErrorKind::Interrupted] {
+            let mut input = Pieces {
+                rest: script.as_bytes(),
+                most: 50,
+                reads,
+                kind,
+            };
+            assert!(rt; ends(alloc, &mut input, 3, "", "fault: device\n"));
+        }
+    }
+    Ok(())
+}
+
+/// Whether a session over this input ends in a failed device, and prints nothing.
+fn has_failed<I: Input>(alloc: Global, input: &mut I) -> bool {
+    let mut out = Vec::new(alloc);
+    let mut err = Vec::new(alloc);
+    let status = session_in(alloc, input, &mut out, &mut err);
+    status == 3 && out.is_empty() && err.as_slice() == b"fault: device\n".as_slice()
+}
+
+/// The status of a session over what counts its failures.
+fn session_in<I: Input, O: Output, E: Output>(
+    alloc: Global,
+    input: &mut I,
+    out: &mut O,
+    err: &mut E,
+) -> u8 {
+    session_over(alloc, input, out, err, &mut Direct::new(alloc))
+}
+
+/// Of an input that counts its failures too.
+#[test]
+fn a_counted_read_fails(rt: HostRuntime) -> Result<(), Fail> {
+    let mut input = Broken { failed: 0 };
+    assert!(rt; has_failed(rt.alloc(), &mut input));
+    assert!(rt; same(&input.failed, &1));
+    Ok(())
+}
+
+#[test]
+fn a_reader_never_ends(rt: HostRuntime) -> Result<(), Fail> {
+    let mut input = Endless { bytes: 0 };
+    assert!(rt; ends(rt.alloc(), &mut input, 2, "", "script: too large\n"));
+    assert!(rt; same(&input.bytes, &1_048_577));
+    Ok(())
+}
+
+/// The first write of the text fails, or its second.
+#[test]
+fn a_write_fails(rt: HostRuntime) -> Result<(), Fail> {
+    let alloc = rt.alloc();
+    let script = with_file(alloc, "a.txt", "ok 6\n")?;
+    for writes in [0, 1] {
+        let mut input = script.as_bytes();
+        let mut out = Short {
+            kept: Vec::new(alloc),
+            most: 20,
+            writes,
+        };
+        let mut err = Vec::new(alloc);
+        let status = session_of(alloc, &mut input, &mut out, &mut err);
+        assert!(rt; same(&status, &3));
+        assert!(rt; same(&err.as_slice(), &b"fault: device\n".as_slice()));
+    }
+    Ok(())
+}
+
+/// Where the line that tells a fault cannot be written, the status is that of a failed device.
+#[test]
+fn the_fault_line_fails(rt: HostRuntime) -> Result<(), Fail> {
+    let alloc = rt.alloc();
+    let mut input = b"foo".as_slice();
+    let mut out = Vec::new(alloc);
+    let mut err = Short {
+        kept: Vec::new(alloc),
+        most: 100,
+        writes: 0,
+    };
+    let status = session_of(alloc, &mut input, &mut out, &mut err);
+    assert!(rt; same(&status, &3));
+    assert!(rt; out.is_empty());
+    Ok(())
+}

@@ -1,0 +1,164 @@
+//! Worked examples: whole transfers with either end alone, and where a receiver may stand.
+
+ghost use Rattle.std.specs.Prelude.{◌≡◌, List, ℕ, ◌∷◌, []};
+
+use std::test::Fail;
+use ym_core::{
+    Ask, Batch, Confirm, Heard, HeardRef, OpenFile, Place, ReceiverCore, RecvState, SendState,
+    Stage, Stand, Standing, Step, first_place, heard_in,
+};
+use ym_frame::{Block, FrameBuf, Item, Reply, encode};
+use ym_header::{HeaderFault, HeaderRef, Stamp, write_body, write_end};
+
+/// The frame of block 0 of a file of so many bytes.
+fn header_frame(name: &str, length: u64) -> Result<FrameBuf, HeaderFault> {
+    let header = HeaderRef::new(name, length, Stamp::Time(8))?;
+    let mut body = [0; 1024];
+    let size = write_body(&header, &mut body);
+    Ok(encode(&Item::Block(Block::new(0, &body[..size]).unwrap())))
+}
+
+/// What a test keeps of what a step asks.
+#[derive(Clone, Copy, Debug, PartialEq, Eq)]
+enum Asked {
+    Nothing,
+    /// The header's name begins with this byte, and it states this length.
+    Begin(u8, u64),
+    /// So many bytes, all of them this one.
+    Add(u8, usize),
+    Commit,
+}
+
+/// What is asked, as a test compares it.
+fn demand_of(ask: Ask<'_>) -> Asked {
+    match ask {
+        Ask::Nothing => Asked::Nothing,
+        Ask::Begin(header) => {
+            let first = header.name().as_bytes().first().copied().unwrap_or(0);
+            Asked::Begin(first, header.length())
+        }
+        Ask::Add(bytes) => {
+            let first = bytes.first().copied().unwrap_or(0);
+            let alike = bytes.iter().filter(|byte| **byte == first).count();
+            Asked::Add(first, alike)
+        }
+        Ask::Commit => Asked::Commit,
+    }
+}
+
+/// The receiver behind one delivery whose host does what is asked, the reply, and what was asked.
+fn told(core: ReceiverCore, bytes: &[u8]) -> (ReceiverCore, Reply, Asked) {
+    let Step { core, reply, ask } = core.hear(&heard_in(bytes));
+    (core, reply, demand_of(ask))
+}
+
+/// A file of 130 bytes: its second block is cut at the length.
+#[test]
+fn receiver_of_one_file(rt: HostRuntime) -> Result<(), Fail> {
+    let header = header_frame("a.txt", 130)?;
+    let first = encode(&Item::Block(Block::new(1, &[0x41; 128]).unwrap()));
+    let second = encode(&Item::Block(Block::new(2, &[0x42; 128]).unwrap()));
+    let end = encode(&Item::Block(write_end()));
+    let deliveries: [(&[u8], Reply, Asked); 8] = [
+        (b"", Reply::Start, Asked::Nothing),
+        (header.as_bytes(), Reply::AckStart, Asked::Begin(b'a', 130)),
+        (first.as_bytes(), Reply::Ack, Asked::Add(0x41, 128)),
+        (first.as_bytes(), Reply::Ack, Asked::Nothing),
+        (second.as_bytes(), Reply::Ack, Asked::Add(0x42, 2)),
+        (b"\x04", Reply::Nak, Asked::Nothing),
+        (b"\x04", Reply::AckStart, Asked::Commit),
+        (end.as_bytes(), Reply::Ack, Asked::Nothing),
+    ];
+    let mut core = ReceiverCore::new(Confirm::Twice);
+    for (bytes, reply, ask) in deliveries {
+        let (behind, replied, done) = told(core, bytes);
+        assert_eq!(rt; replied, reply);
+        assert_eq!(rt; done, ask);
+        core = behind;
+    }
+    assert_eq!(rt; core.state(), RecvState::Finished);
+    assert_eq!(rt; core.files(), 1);
+    Ok(())
+}
+
+/// A host that fails at what is asked ends the receiver.
+#[test]
+fn failed_host(rt: HostRuntime) -> Result<(), Fail> {
+    let core = ReceiverCore::new(Confirm::Once);
+    let header = header_frame("a", 1)?;
+    let heard = Heard::Item(Item::Block(Block::new(1, &[0; 128]).unwrap()));
+    let (behind, reply, _) = told(core, header.as_bytes());
+    assert_eq!(rt; reply, Reply::AckStart);
+    let step = behind.hear(&HeardRef::of(&heard));
+    assert_eq!(rt; demand_of(step.ask), Asked::Add(0, 1));
+    assert_eq!(rt; behind.failed().state(), RecvState::SinkFailed);
+    Ok(())
+}
+
+/// A receiver is made again from where it stands, and from nowhere else.
+#[test]
+fn stands(rt: HostRuntime) -> Result<(), Fail> {
+    let core = ReceiverCore::new(Confirm::Twice);
+    let stand = core.stand();
+    let again = ReceiverCore::at(stand).ok_or("a new receiver")?;
+    assert_eq!(rt; again.stand(), stand);
+    let past = Stand {
+        retries: 10,
+        ..stand
+    };
+    assert!(rt; ReceiverCore::at(past).is_none());
+    let file = OpenFile {
+        length: 1,
+        taken: 2,
+        blocks: 1,
+        first_eot: false,
+    };
+    let covered = Stand {
+        stage: Stage::InFile(file),
+        ..stand
+    };
+    assert!(rt; ReceiverCore::at(covered).is_none());
+    Ok(())
+}
+
+/// Two files, the first one of two blocks and the second one empty.
+struct TwoFiles;
+
+impl Batch for TwoFiles {
+    ghost counts = { λ _. 2 ∷ 0 ∷ [] };
+
+    fn files(&self) -> usize {
+        2
+    }
+
+    fn blocks(&self, file: usize) -> u64 {
+        if file == 0 { 2 } else { 0 }
+    }
+}
+
+#[test]
+fn sender_of_two_files(rt: HostRuntime) {
+    let deliveries: [(&[u8], Option<Place>); 9] = [
+        (b"C", Some(Place::Header { file: 0 })),
+        (b"\x06C", Some(Place::Block { file: 0, number: 1 })),
+        (b"\x06", Some(Place::Block { file: 0, number: 2 })),
+        (b"\x15", None),
+        (b"\x06", Some(Place::Eot { file: 0 })),
+        (b"\x15", None),
+        (b"\x06C", Some(Place::Header { file: 1 })),
+        (b"\x06C", Some(Place::Eot { file: 1 })),
+        (b"\x06C", Some(Place::End)),
+    ];
+    let first = first_place(&TwoFiles);
+    let mut standing = Standing::new(first);
+    for (bytes, fills) in deliveries {
+        let step = standing.after(&TwoFiles, bytes);
+        assert_eq!(rt; step.fills, fills);
+        standing = step.standing;
+    }
+    assert_eq!(rt; standing.place.done(2), 2);
+    assert!(rt; !standing.settled(&TwoFiles, b""));
+    assert!(rt; standing.settled(&TwoFiles, b"\x06"));
+    let step = standing.after(&TwoFiles, b"\x06");
+    assert_eq!(rt; step.standing.state, SendState::Finished);
+}

@@ -1,0 +1,88 @@
+//! Jobs in words.
+
+use std::alloc::{AllocError, Global};
+use ym_words::{Job, JobFault, ReceiveFlags, TellFlags, job_of};
+
+/// Puts a word behind a text where the flag is set.
+fn push_flag(text: &mut String, flag: bool, word: &str) -> Result<(), AllocError> {
+    if flag {
+        text.push(' ')?;
+        text.push_str(word)?;
+    }
+    Ok(())
+}
+
+fn push_tell(text: &mut String, tell: TellFlags) -> Result<(), AllocError> {
+    push_flag(text, tell.verbose, "verbose")?;
+    push_flag(text, tell.quiet, "quiet")
+}
+
+fn push_receive(text: &mut String, flags: ReceiveFlags) -> Result<(), AllocError> {
+    push_flag(text, flags.single, "single")?;
+    push_flag(text, flags.no_sync, "no-sync")?;
+    push_flag(text, flags.discard_parts, "discard-parts")?;
+    push_flag(text, flags.eager, "eager")?;
+    push_flag(text, flags.keep, "keep")
+}
+
+/// A job, its values and the flags that are set.
+fn job_text(alloc: Global, job: &Job<'_>) -> Result<String, AllocError> {
+    match job {
+        Job::Play => format!(in alloc; "play"),
+        Job::Loop { port, tell } => {
+            let mut text = format!(in alloc; "loop {port}")?;
+            push_tell(&mut text, *tell)?;
+            Ok(text)
+        }
+        Job::Send {
+            port,
+            short,
+            files,
+            tell,
+        } => {
+            let mut text = format!(in alloc; "send {port}")?;
+            push_flag(&mut text, *short, "short")?;
+            push_tell(&mut text, *tell)?;
+            for file in files.as_slice() {
+                push_flag(&mut text, true, file)?;
+            }
+            Ok(text)
+        }
+        Job::Receive {
+            port,
+            flags,
+            dir,
+            tell,
+        } => {
+            let mut text = format!(in alloc; "receive {port}")?;
+            push_receive(&mut text, *flags)?;
+            push_tell(&mut text, *tell)?;
+            push_flag(&mut text, true, dir)?;
+            Ok(text)
+        }
+    }
+}
+
+/// Why words ask for nothing.
+fn fault_text(alloc: Global, fault: &JobFault) -> Result<String, AllocError> {
+    match fault {
+        JobFault::Value => format!(in alloc; "value"),
+        JobFault::Memory => format!(in alloc; "memory"),
+        JobFault::Words(error) => {
+            let status = error.exit_code();
+            format!(in alloc; "words {status}")
+        }
+    }
+}
+
+/// What the words of a line ask for.
+pub fn told(alloc: Global, line: &str) -> Result<String, AllocError> {
+    let mut words = Vec::new(alloc);
+    for word in line.split(' ') {
+        words.push(String::from_str(alloc, word)?)?;
+    }
+    match job_of(alloc, words.as_slice()) {
+        Ok(job) => job_text(alloc, &job),
+        Err(fault) => fault_text(alloc, &fault),
+    }
+}

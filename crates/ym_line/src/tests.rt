@@ -1,6 +1,0 @@
-mod direct;
-mod fixtures;
-mod refused;
-mod runs;
-mod text;
-mod texts;

@@ -1,0 +1,200 @@
+-- When a line has to clear before a write, and when it is clear (this profile).
+--
+-- Answers to several writes come no later than answers take, and no farther apart than the writes
+-- were: both are enough. Where an end or the line stood still they come in a row, as soon as it
+-- goes on. While a peer waits in vain it asks; such asks are no answers, and lengthen nothing.
+use Rattle.std.specs.Prelude.{ℕ, ◌+◌, ◌-◌, ◌*◌, ◌/◌, nat_eq, nat_lt, nat_le, ◌&&◌, ◌||◌, not, Bool}
+use Rattle.std.specs.Prelude.{true, false, List, max, min, if◌then◌else◌}
+use Rattle.ym_timing.specs.Ear.{listen}
+use Rattle.ym_timing.specs.Heard.{is_noise}
+use Rattle.ym_timing.specs.Pace.{bound}
+use Rattle.ym_timing.specs.Sent.{next, is_same}
+use Rattle.ym_timing.specs.Times.{later}
+use Rattle.ym_timing.specs.declared.clearing.Clearing.{Clearing}
+use Rattle.ym_timing.specs.declared.clearing.Heed.{Heed}
+use Rattle.ym_timing.specs.declared.clearing.Heed.TheVariants as heed
+use Rattle.ym_timing.specs.declared.clearing.Need.{Need}
+use Rattle.ym_timing.specs.declared.clearing.Need.TheVariants as need
+use Rattle.ym_timing.specs.declared.limits.TheConstants.{APART, HALVINGS, HELD_UP, LONGEST, MOMENT}
+use Rattle.ym_timing.specs.declared.limits.TheConstants.{RECEIVER_QUIET, SENDER_QUIET}
+use Rattle.ym_timing.specs.declared.out.Owed.{Owed}
+use Rattle.ym_timing.specs.declared.out.Owed.TheVariants as owed
+use Rattle.ym_timing.specs.declared.pace.Trust.{Trust}
+use Rattle.ym_timing.specs.declared.pace.Trust.TheVariants as trust
+use Rattle.ym_timing.specs.declared.role.Role.{Role}
+use Rattle.ym_timing.specs.declared.role.Role.TheVariants.{Sender, Receiver}
+use Rattle.ym_timing.specs.declared.sent.Kind.{Kind}
+use Rattle.ym_timing.specs.declared.sent.Kind.TheVariants as kind
+use Rattle.ym_timing.specs.declared.sent.Sent.{Sent}
+use Rattle.ym_timing.specs.declared.timing.Timing.{Timing}
+
+-- ---- Whether it has to
+
+-- what was heard was waited for
+abbrev pub taken_by : Role → Sent → Timing → Bool
+taken_by Sender n t = nat_lt 0 t.heard.count && not (is_same t.sent n)
+taken_by Receiver n t = nat_lt 0 t.heard.count && not (is_noise t.heard) && not t.heard.is_quiet
+
+abbrev pub is_taken : Sent → Timing → Bool
+is_taken n t = taken_by t.role n t
+
+-- this end was itself held up since it heard what it answers
+abbrev pub was_held_up : ℕ → Timing → Bool
+was_held_up now t =
+    nat_lt 0 t.heard.count && not t.heard.is_quiet && nat_le (later t.heard.last HELD_UP) now
+
+abbrev pub is_unsure : ℕ → Timing → Bool
+is_unsure now t = is_noise t.heard || was_held_up now t
+
+abbrev pub need_by : Owed → Bool → Bool → Need
+need_by owed.Several taken unsure =
+    if taken then need.Several else (if unsure then need.Quiet else need.Nothing)
+need_by owed.Late taken unsure =
+    if unsure then need.Quiet else (if taken then need.Late else need.Nothing)
+need_by owed.One taken unsure = if unsure then need.Quiet else need.Nothing
+need_by owed.Nothing taken unsure = if unsure then need.Quiet else need.Nothing
+
+abbrev pub need_of : Sent → ℕ → Timing → Need
+need_of n now t = need_by t.out.owed (is_taken n t) (is_unsure now t)
+
+abbrev pub clearing : List ℕ → ℕ → Timing → Clearing
+clearing bytes now t = record {
+  need = need_of (next t.sent bytes) now t;
+  from = if was_held_up now t then now else t.heard.last;
+  owed = t.out.copies - 1;
+  answered_at = t.heard.last;
+  end_at = later now LONGEST;
+  has_brought = false;
+  heed = heed.Open;
+}
+
+-- ---- Until when
+
+abbrev pub halved : ℕ → ℕ → ℕ
+halved quiet times =
+    if nat_eq times 0 then quiet
+    else (if nat_eq times 1 then quiet / 2
+    else (if nat_eq times 2 then quiet / 4
+    else (if nat_eq times 3 then quiet / 8 else quiet / 16)))
+
+abbrev pub quiet_of : Role → ℕ
+quiet_of Sender = SENDER_QUIET
+quiet_of Receiver = RECEIVER_QUIET
+
+-- as far apart as the writes, and a jitter
+abbrev pub apart_until : ℕ → Timing → ℕ
+apart_until from t = later (later from t.out.gap) APART
+
+-- as late as an answer may be
+abbrev pub overdue_at : Trust → ℕ → Timing → ℕ
+overdue_at trust.Unknown from t = apart_until from t
+overdue_at trust.Doubtful from t = later t.out.last_at (bound t.pace)
+overdue_at trust.Sure from t = later t.out.last_at (bound t.pace)
+
+abbrev pub several_until : ℕ → Timing → ℕ
+several_until from t =
+    max (later from (quiet_of t.role)) (min (apart_until from t) (overdue_at t.pace.trust from t))
+
+abbrev pub late_quiet : Timing → ℕ
+late_quiet t = min (later t.pace.slowest (2 * MOMENT)) (quiet_of t.role)
+
+abbrev pub late_until : ℕ → Timing → ℕ
+late_until from t = later from (max (halved (late_quiet t) t.vain) MOMENT)
+
+-- each copy of a block was answered
+abbrev pub counts_answers : Role → Kind → Bool
+counts_answers Sender kind.Data = true
+counts_answers Sender kind.Opening = true
+counts_answers _ _ = false
+
+abbrev pub is_answered : Clearing → Timing → Bool
+is_answered c t = counts_answers t.role t.sent.kind && (c.has_brought && nat_eq c.owed 0)
+
+abbrev pub until_by : Need → Clearing → Timing → ℕ
+until_by need.Nothing c t = 0
+until_by need.Quiet c t = later c.from (quiet_of t.role)
+until_by need.Late c t = late_until c.from t
+until_by need.Several c t = if is_answered c t then 0 else several_until c.from t
+
+-- CAN CAN ends it at once
+abbrev pub clear_at : Clearing → Timing → ℕ
+clear_at c t = min (if t.has_cancel then 0 else until_by c.need c t) c.end_at
+
+-- ---- What is dropped
+
+-- CAN, where CAN CAN may stand: a receiver knows it at the front alone
+abbrev pub may_stand : Role → Heed → Bool
+may_stand role heed.Open = true
+may_stand Sender heed.Other = true
+may_stand Receiver heed.Other = false
+may_stand role heed.Can = false
+
+abbrev pub heeds : Role → ℕ → Heed → Heed
+heeds role byte h = if may_stand role h && nat_eq byte 0x18 then heed.Can else heed.Other
+
+abbrev pub ends : ℕ → Heed → Bool
+ends byte heed.Can = nat_eq byte 0x18
+ends byte heed.Open = false
+ends byte heed.Other = false
+
+abbrev pub brings : Bool → Bool → ℕ → Clearing → Clearing
+brings counts answers now c = record c {
+  from = if counts then now else c.from;
+  owed = if answers && nat_lt c.answered_at now then c.owed - 1 else c.owed;
+  answered_at = if answers then now else c.answered_at;
+  has_brought = true;
+}
+
+abbrev pub heeds_in : Role → ℕ → Clearing → Clearing
+heeds_in role byte c = record c { heed = heeds role byte c.heed }
+
+abbrev pub counts_all : Role → Need → Bool
+counts_all Receiver n = true
+counts_all Sender need.Quiet = true
+counts_all Sender need.Nothing = false
+counts_all Sender need.Late = false
+counts_all Sender need.Several = false
+
+abbrev pub heard_by : Role → ℕ → List ℕ → ℕ → Timing → Bool
+heard_by Sender byte written now t = (listen byte written now t.ear).is_heard
+heard_by Receiver byte written now t = true
+
+abbrev pub with_ear : Role → ℕ → List ℕ → ℕ → Timing → Timing
+with_ear Sender byte written now t = record t { ear = (listen byte written now t.ear).ear }
+with_ear Receiver byte written now t = t
+
+abbrev pub is_heard : ℕ → List ℕ → ℕ → Timing → Bool
+is_heard byte written now t = heard_by t.role byte written now t
+
+abbrev pub brought : Bool → Clearing → ℕ → ℕ → Timing → Clearing
+brought heard c byte now t =
+    brings (heard && nat_eq byte 0x06 || counts_all t.role c.need) (heard && nat_eq byte 0x06) now c
+
+-- a byte that is dropped, where this was written last
+abbrev pub dropped : Clearing → ℕ → List ℕ → ℕ → Timing → Clearing
+dropped c byte written now t =
+    if is_heard byte written now t
+    then heeds_in t.role byte (brought true c byte now t)
+    else brought false c byte now t
+
+abbrev pub after_dropped : Clearing → ℕ → List ℕ → ℕ → Timing → Timing
+after_dropped c byte written now t =
+    if is_heard byte written now t
+    then record (with_ear t.role byte written now t) {
+      has_cancel =
+          t.has_cancel || ends byte c.heed;
+    }
+    else with_ear t.role byte written now t
+
+-- how often in a row nothing came
+abbrev pub one_more : ℕ → ℕ
+one_more times = if nat_lt times HALVINGS then times + 1 else HALVINGS
+
+abbrev pub vain_by : Need → Bool → ℕ → ℕ
+vain_by need.Nothing has_brought times = times
+vain_by need.Quiet has_brought times = times
+vain_by need.Late has_brought times = if has_brought then 0 else one_more times
+vain_by need.Several has_brought times = if has_brought then 0 else one_more times
+
+abbrev pub vain_after : ℕ → Clearing → ℕ
+vain_after times c = vain_by c.need c.has_brought times

@@ -1,0 +1,35 @@
+-- What an end heard since it wrote (this profile).
+use Rattle.std.specs.Prelude.{ℕ, ◌+◌, nat_eq, nat_lt, nat_le, ◌&&◌, not, Bool, true, false}
+use Rattle.std.specs.Prelude.{if◌then◌else◌}
+use Rattle.ym_timing.specs.declared.heard.Heard.{Heard}
+use Rattle.ym_timing.specs.declared.limits.TheConstants.{FULL}
+
+abbrev pub new_heard : Heard
+new_heard = record {
+  count = 0;
+  since = 0;
+  last = 0;
+  first = 0;
+  second = 0;
+  is_quiet = false;
+  has_waited = false;
+  is_late = false;
+}
+
+abbrev pub take_byte : ℕ → ℕ → Heard → Heard
+take_byte byte now h = record h {
+  count = if nat_lt h.count FULL then h.count + 1 else FULL;
+  since = if nat_eq h.count 0 then now else h.since;
+  last = now;
+  first = if nat_eq h.count 0 then byte else h.first;
+  second = if nat_eq h.count 1 then byte else h.second;
+  is_quiet = false;
+  is_late = if nat_eq h.count 0 then h.has_waited else h.is_late;
+}
+
+abbrev pub waited : Bool → Heard → Heard
+waited is_quiet h = record h { is_quiet = is_quiet; has_waited = true }
+
+-- what filled a delivery is noise, and more of it is under way
+abbrev pub is_noise : Heard → Bool
+is_noise h = nat_le FULL h.count && not h.is_quiet

@@ -1,0 +1,96 @@
+-- What of a reply a sender hears later, or not at all (this profile).
+--
+-- Replies carry no number. What an EOT is answered shows whether the ACK before was its own: C
+-- follows where the file is stored, and NAK where the EOT was refused. An ACK behind which the
+-- peer cancels is none.
+use Rattle.std.specs.Prelude.{ℕ, ◌-◌, nat_eq, nat_lt, ◌&&◌, not, Bool, true, false, if◌then◌else◌}
+use Rattle.ym_timing.specs.Times.{later}
+use Rattle.ym_timing.specs.declared.hold.Hold.{Hold}
+use Rattle.ym_timing.specs.declared.hold.Said.{Said}
+use Rattle.ym_timing.specs.declared.hold.Say.{Say}
+use Rattle.ym_timing.specs.declared.hold.Say.TheVariants as say
+use Rattle.ym_timing.specs.declared.hold.Wary.{Wary}
+use Rattle.ym_timing.specs.declared.hold.Wary.TheVariants as wary
+use Rattle.ym_timing.specs.declared.limits.TheConstants.{STALE_ASKS, WITHIN}
+use Rattle.ym_timing.specs.declared.sent.Kind.{Kind}
+use Rattle.ym_timing.specs.declared.sent.Kind.TheVariants as kind
+
+abbrev pub new_hold : Hold
+new_hold = record { is_held = false; at = 0; wary = wary.Calm; asks_left = 0; asked_at = 0 }
+
+-- behind a new block 0 some C are passed over; a repeat of an EOT is as wary as the first
+abbrev pub wrote : Bool → Bool → Bool → ℕ → Hold → Hold
+wrote is_opening is_repeat is_wary now h = record h {
+  is_held = false;
+  wary = if is_repeat then h.wary else (if is_wary then wary.Wary else wary.Calm);
+  asks_left = if is_opening && not is_repeat then STALE_ASKS else 0;
+  asked_at = now;
+}
+
+abbrev pub holding : Bool → ℕ → Wary → Say → Hold → Said
+holding is_held at w s h = record {
+  hold = record h {
+    is_held = is_held;
+    at = at;
+    wary =
+        w;
+  };
+  say = s;
+}
+
+abbrev pub ack : Wary → ℕ → Hold → Said
+ack w now h = holding true (if h.is_held then h.at else now) w say.Nothing h
+
+-- C behind an ACK that is held says that the file is stored
+abbrev pub start : Hold → Said
+start h = by h.wary
+  where
+    by : Wary → Said
+    by wary.Dropped = holding h.is_held h.at wary.Calm say.Nothing h
+    by wary.Wary = holding false h.at wary.Wary (if h.is_held then say.AckAndByte else say.Byte) h
+    by wary.Calm = holding false h.at wary.Calm (if h.is_held then say.AckAndByte else say.Byte) h
+
+-- the first ACK C may be that of a copy of block 0
+abbrev pub eot_ack : ℕ → Hold → Said
+eot_ack now h = by h.wary
+  where
+    by : Wary → Said
+    by wary.Wary = holding false h.at wary.Dropped say.Nothing h
+    by wary.Dropped = ack wary.Calm now h
+    by wary.Calm = ack wary.Calm now h
+
+abbrev pub at_eot : ℕ → ℕ → Hold → Said
+at_eot byte now h =
+    if nat_eq byte 0x06 then eot_ack now h
+    else (if nat_eq byte 0x43 then start h
+    else (if nat_eq byte 0x15 then holding false h.at wary.Calm say.Byte h
+    else holding false h.at h.wary say.Byte h))
+
+abbrev pub at_end : ℕ → ℕ → Hold → Said
+at_end byte now h =
+    if nat_eq byte 0x06 then ack h.wary now h else holding false h.at h.wary say.Byte h
+
+-- C alone right behind a new block 0 asks for what is on its way
+abbrev pub is_stale : ℕ → Bool → ℕ → Hold → Bool
+is_stale byte is_first now h =
+    nat_eq byte 0x43 && is_first && nat_lt 0 h.asks_left && nat_lt now (later h.asked_at WITHIN)
+
+abbrev pub by_kind : Kind → ℕ → ℕ → Hold → Said
+by_kind kind.Eot byte now h = at_eot byte now h
+by_kind kind.End byte now h = at_end byte now h
+by_kind kind.Nothing byte now h = record { hold = h; say = say.Byte }
+by_kind kind.Opening byte now h = record { hold = h; say = say.Byte }
+by_kind kind.Data byte now h = record { hold = h; say = say.Byte }
+by_kind kind.Short byte now h = record { hold = h; say = say.Byte }
+
+abbrev pub passed_over : ℕ → Hold → Said
+passed_over now h =
+    record { hold = record h { asks_left = h.asks_left - 1; asked_at = now }; say = say.Nothing }
+
+-- a control byte behind a write of this kind
+abbrev pub control : Kind → ℕ → Bool → ℕ → Hold → Said
+control kind byte is_first now h =
+    if is_stale byte is_first now h then passed_over now h else by_kind kind byte now h
+
+abbrev pub released : Hold → Hold
+released h = record h { is_held = false }

@@ -1,0 +1,144 @@
+-- The machine: until when an end waits, and what it hears (this profile).
+use Rattle.std.specs.Prelude.{ℕ, ◌+◌, nat_eq, nat_lt, ◌&&◌, not, Bool, true, false, List, length}
+use Rattle.std.specs.Prelude.{slice_index, max, if◌then◌else◌}
+use Rattle.ym_timing.specs.Ear.{new_ear, listen}
+use Rattle.ym_timing.specs.Heard.{new_heard, take_byte, waited}
+use Rattle.ym_timing.specs.Hold.{new_hold, control, released}
+use Rattle.ym_timing.specs.Out.{new_out}
+use Rattle.ym_timing.specs.Pace as pace
+use Rattle.ym_timing.specs.Sent as sent
+use Rattle.ym_timing.specs.Times.{later}
+use Rattle.ym_timing.specs.declared.ear.Listened.{Listened}
+use Rattle.ym_timing.specs.declared.hold.Said.{Said}
+use Rattle.ym_timing.specs.declared.hold.Say.{Say}
+use Rattle.ym_timing.specs.declared.hold.Say.TheVariants as say
+use Rattle.ym_timing.specs.declared.limits.TheConstants.{MOMENT, PATIENCE, WITHIN}
+use Rattle.ym_timing.specs.declared.role.Role.{Role}
+use Rattle.ym_timing.specs.declared.role.Role.TheVariants.{Sender, Receiver}
+use Rattle.ym_timing.specs.declared.sent.Kind.{Kind}
+use Rattle.ym_timing.specs.declared.sent.Kind.TheVariants as kind
+use Rattle.ym_timing.specs.declared.timing.Timing.{Timing}
+use Rattle.ym_timing.specs.declared.timing.Vain.{Vain}
+use Rattle.ym_timing.specs.declared.timing.Vain.TheVariants as vain
+use Rattle.ym_timing.specs.declared.timing.Wait.{Wait}
+use Rattle.ym_timing.specs.declared.timing.Wait.TheVariants.{Reply, Within}
+
+abbrev pub new_timing : Role → Timing
+new_timing role = record {
+  role = role;
+  pace = pace.new_pace;
+  out = new_out;
+  sent = sent.nothing;
+  led_at = 0;
+  heard = new_heard;
+  ear = new_ear;
+  hold = new_hold;
+  echoed = 0;
+  front = record { is_there = false; first = 0; second = 0 };
+  is_shaken = false;
+  vain = 0;
+  has_cancel = false;
+}
+
+-- ---- Until when an end waits
+
+-- a sender's wait for a reply has two parts
+abbrev pub early_in : Wait → Role → Bool → Bool
+early_in Within role has_waited = false
+early_in Reply Receiver has_waited = false
+early_in Reply Sender has_waited = not has_waited
+
+abbrev pub is_early : Wait → Timing → Bool
+is_early wait t = early_in wait t.role t.heard.has_waited
+
+abbrev pub end_of : Wait → ℕ → Timing → ℕ
+end_of Within start t = later start WITHIN
+end_of Reply start t =
+    if is_early Reply t then later start PATIENCE else later start (pace.wait t.role t.pace)
+
+abbrev pub is_end : Kind → Bool
+is_end kind.End = true
+is_end _ = false
+
+-- an ACK that is held is waited for no longer than a moment at the end, and as long as a C may
+-- take before
+abbrev pub until : Wait → ℕ → Timing → ℕ
+until wait start t =
+    if t.hold.is_held
+    then (if is_end t.sent.kind then later t.hold.at MOMENT
+    else max (end_of wait start t) (later t.hold.at WITHIN))
+    else end_of wait start t
+
+abbrev pub is_last : Timing → Bool
+is_last t = is_end t.sent.kind && t.hold.is_held
+
+-- a read that waited in vain
+abbrev pub vain_of : Wait → Timing → Vain
+vain_of wait t = if is_last t then vain.Ack else (if is_early wait t then vain.Again
+    else vain.Quiet)
+
+abbrev pub after_vain : Wait → ℕ → Timing → Timing
+after_vain wait now t =
+    if is_last t then record t { hold = released t.hold; heard = take_byte 0x06 now t.heard }
+    else (if is_early wait t then record t { heard = waited false t.heard }
+    else record t { hold = released t.hold; heard = waited true t.heard })
+
+-- ---- What comes
+
+abbrev pub takes : Say → ℕ → ℕ → Timing → Timing
+takes say.Nothing byte now t = t
+takes say.Byte byte now t = record t { heard = take_byte byte now t.heard }
+takes say.AckAndByte byte now t = record t { heard = take_byte byte now t.heard }
+
+abbrev pub listened_to : ℕ → List ℕ → ℕ → Timing → Listened
+listened_to byte frame now t = listen byte frame now t.ear
+
+-- what of a byte that its ear heard a sender says
+abbrev pub controlled : ℕ → ℕ → Timing → Said
+controlled byte now t = control t.sent.kind byte (nat_eq t.heard.count 0) now t.hold
+
+abbrev pub reply_said : ℕ → List ℕ → ℕ → Timing → Say
+reply_said byte frame now t =
+    if (listened_to byte frame now t).is_heard then (controlled byte now t).say else say.Nothing
+
+abbrev pub after_control : Said → ℕ → ℕ → Timing → Timing
+after_control s byte now t = takes s.say byte now (record t { hold = s.hold })
+
+abbrev pub after_ear : Listened → ℕ → ℕ → Timing → Timing
+after_ear l byte now t =
+    if l.is_heard
+    then after_control (controlled byte now t) byte now (record t { ear = l.ear })
+    else record t { ear = l.ear }
+
+abbrev pub after_reply : ℕ → List ℕ → ℕ → Timing → Timing
+after_reply byte frame now t = after_ear (listened_to byte frame now t) byte now t
+
+-- what comes back of a receiver's reply, at the front, is no frame
+abbrev pub is_echo : ℕ → List ℕ → Timing → Bool
+is_echo byte reply t =
+    nat_eq t.heard.count 0 && (nat_lt t.echoed (length reply)
+    && nat_eq (slice_index reply t.echoed) byte)
+
+abbrev pub frame_said : ℕ → List ℕ → Timing → Say
+frame_said byte reply t = if is_echo byte reply t then say.Nothing else say.Byte
+
+abbrev pub after_frame : ℕ → List ℕ → ℕ → Timing → Timing
+after_frame byte reply now t =
+    if is_echo byte reply t
+    then record t { echoed = t.echoed + 1 }
+    else record t { heard = take_byte byte now t.heard }
+
+abbrev pub said_by : Role → ℕ → List ℕ → ℕ → Timing → Say
+said_by Sender byte written now t = reply_said byte written now t
+said_by Receiver byte written now t = frame_said byte written t
+
+abbrev pub after_by : Role → ℕ → List ℕ → ℕ → Timing → Timing
+after_by Sender byte written now t = after_reply byte written now t
+after_by Receiver byte written now t = after_frame byte written now t
+
+-- a byte that came, where this was written last: what of it is heard, and the machine behind it
+abbrev pub said : ℕ → List ℕ → ℕ → Timing → Say
+said byte written now t = said_by t.role byte written now t
+
+abbrev pub after_byte : ℕ → List ℕ → ℕ → Timing → Timing
+after_byte byte written now t = after_by t.role byte written now t

@@ -1,0 +1,191 @@
+-- Lines, computed. A block is shortened to its head and two more bytes.
+use Rattle.std.specs.Prelude.{◌≡◌, ℕ, List, [], ◌∷◌, ◌++◌, refl}
+use Rattle.ym_timing.specs.Clears.{clearing, clear_at}
+use Rattle.ym_timing.specs.Out.{one, late}
+use Rattle.ym_timing.specs.Pace.{bound}
+use Rattle.ym_timing.specs.ByteRows.{heard_of, after_bytes, writes}
+use Rattle.ym_timing.specs.Times.{new_clock, told, waited}
+use Rattle.ym_timing.specs.Timing.{new_timing, until}
+use Rattle.ym_timing.specs.declared.pace.Trust.TheVariants.{Doubtful, Sure}
+use Rattle.ym_timing.specs.declared.role.Role.TheVariants.{Sender, Receiver}
+use Rattle.ym_timing.specs.declared.timing.Timing.{Timing}
+use Rattle.ym_timing.specs.declared.timing.Wait.TheVariants.{Reply}
+
+abbrev opening : List ℕ
+opening = 0x01 ∷ 0x00 ∷ 0xFF ∷ 0x61 ∷ 0x1A ∷ []
+
+abbrev block_1 : List ℕ
+block_1 = 0x01 ∷ 0x01 ∷ 0xFE ∷ 0x06 ∷ 0x1A ∷ []
+
+abbrev block_2 : List ℕ
+block_2 = 0x01 ∷ 0x02 ∷ 0xFD ∷ 0x06 ∷ 0x1A ∷ []
+
+abbrev block_3 : List ℕ
+block_3 = 0x01 ∷ 0x03 ∷ 0xFC ∷ 0x06 ∷ 0x1A ∷ []
+
+abbrev eot : List ℕ
+eot = 0x04 ∷ []
+
+abbrev end_block : List ℕ
+end_block = 0x01 ∷ 0x00 ∷ 0xFF ∷ 0x00 ∷ 0x1A ∷ []
+
+abbrev ack : List ℕ
+ack = 0x06 ∷ []
+
+abbrev start : List ℕ
+start = 0x43 ∷ []
+
+abbrev ack_start : List ℕ
+ack_start = 0x06 ∷ 0x43 ∷ []
+
+abbrev nak : List ℕ
+nak = 0x15 ∷ []
+
+abbrev cancel : List ℕ
+cancel = 0x18 ∷ 0x18 ∷ []
+
+-- ---- A clean line
+
+-- a sender whose block 1 was answered in 12, and which has just written block 2
+abbrev quick : Timing
+quick = writes block_2 1024 (after_bytes ack block_1 1024 (writes block_1 1012
+    (after_bytes ack_start opening 1012 (writes opening 1000 (new_timing Sender)))))
+
+quick-pace : quick.pace ≡ record { slowest = 12; trust = Sure }
+quick-pace = refl
+
+-- each write was answered: nothing is let clear, and nothing waits
+quick-clear : clear_at (clearing block_3 1036 (after_bytes ack block_2 1036 quick))
+    (after_bytes ack block_2 1036 quick) ≡ 0
+quick-clear = refl
+
+-- ---- U-Boot, and a damaged block
+
+-- it asks by C when two seconds brought no more of the block: no peer asks unasked so soon
+abbrev asked : Timing
+asked = writes block_2 3100 (after_bytes start block_2 3100 quick)
+
+asked-out : asked.out ≡ one 3100
+asked-out = refl
+
+asked-clear : clear_at (clearing block_3 3112 (after_bytes ack block_2 3112 asked))
+    (after_bytes ack block_2 3112 asked) ≡ 0
+asked-clear = refl
+
+-- Where a whole block was lost it asks after 4250: the answer was overdue. What was stuck in the
+-- line is let pass for 212, and the next time for half of it; its own two seconds are not met.
+abbrev asked_late : Timing
+asked_late = writes block_2 5274 (after_bytes start block_2 5274 quick)
+
+asked_late-out : asked_late.out ≡ late 5274
+asked_late-out = refl
+
+abbrev answered_late : Timing
+answered_late = after_bytes ack block_2 5286 asked_late
+
+asked_late-clear : clear_at (clearing block_3 5286 answered_late) answered_late ≡ 5498
+asked_late-clear = refl
+
+asked_late-vain : (writes block_3 5498 answered_late).vain ≡ 1
+asked_late-vain = refl
+
+-- it cancels behind the ACK of the end block: that ACK is not heard
+abbrev ended : Timing
+ended = writes end_block 9000 (after_bytes ack_start eot 9000 (writes eot 8988 quick))
+
+cancelled : heard_of (ack ++ cancel) end_block 11270 ended ≡ cancel
+cancelled = refl
+
+cancelled_later : heard_of cancel end_block 11274 (after_bytes
+    (0x06 ∷ 0x18 ∷ []) end_block 11270 ended) ≡ cancel
+cancelled_later = refl
+
+-- and where nothing comes behind it, it is waited for a tenth of a second
+end_until : until Reply 9000 (after_bytes ack end_block 9012 ended) ≡ 9112
+end_until = refl
+
+-- ---- A line that delays by two seconds each way
+
+abbrev far : Timing
+far = writes block_1 9000 (after_bytes ack_start opening 9000 (writes opening 5000
+    (new_timing Sender)))
+
+far-pace : far.pace ≡ record { slowest = 4000; trust = Sure }
+far-pace = refl
+
+far-bound : bound far.pace ≡ 6250
+far-bound = refl
+
+-- An EOT is refused once, as a receiver that confirms twice refuses it, and no one can tell
+-- whether it had waited. The answer to either EOT may still come, until the second one is overdue.
+abbrev far_ended : Timing
+far_ended = after_bytes ack_start eot 21000 (writes eot 17000 (after_bytes nak eot 17000
+    (writes eot 13000 (after_bytes ack block_1 13000 far))))
+
+far_ended-clear : clear_at (clearing opening 21000 far_ended) far_ended ≡ 23250
+far_ended-clear = refl
+
+-- ---- A late start
+
+-- a receiver has asked at 3, 6 and 9 seconds when its peer starts
+abbrev late_start : Timing
+late_start =
+    after_bytes opening start 20000 (writes start 9000 (writes start 6000 (writes start 3000
+    (new_timing Receiver))))
+
+-- its peer may answer each of them, three seconds apart and a jitter
+late_start-clear : clear_at (clearing ack_start 20000 late_start) late_start ≡ 25000
+late_start-clear = refl
+
+late_start-pace : (writes ack_start 25000 late_start).pace
+    ≡ record { slowest = 17000; trust = Doubtful }
+late_start-pace = refl
+
+-- the first answer to one write says how long answers take
+late_start-falls : (writes ack 25012 (after_bytes block_1 ack_start 25012
+    (writes ack_start 25000 late_start))).pace
+    ≡ record { slowest = 12; trust = Sure }
+late_start-falls = refl
+
+-- ---- An echo
+
+-- the block comes back, ACK among its data; the ACK behind the whole of it is heard
+echoed : heard_of (block_2 ++ ack) block_2 1036 quick ≡ ack
+echoed = refl
+
+-- an echo that lost a byte: nothing is heard
+echoed_in_part : heard_of ((0x01 ∷ 0x02 ∷ 0xFD ∷ 0x1A ∷ []) ++ ack) block_2 1036 quick ≡ []
+echoed_in_part = refl
+
+-- the echo of another block: neither
+echoed_late : heard_of (block_1 ++ ack) block_2 1036 quick ≡ []
+echoed_late = refl
+
+-- a receiver's own ACK C, in front of a block
+echoed_reply : heard_of (ack_start
+    ++ block_1) ack_start 4000 (writes ack_start 3990 (new_timing Receiver)) ≡ block_1
+echoed_reply = refl
+
+-- ---- The end of a file
+
+-- the ACK of something else, and the NAK of the EOT: only that is heard
+refused : heard_of (ack ++ nak) eot 9000 (writes eot 8988 quick) ≡ nak
+refused = refl
+
+stored : heard_of ack_start eot 9000 (writes eot 8988 quick) ≡ ack_start
+stored = refl
+
+-- ---- A clock that runs backwards, and one that stands still
+
+-- a read waited from 5 seconds to 15, as the clock says too: nothing is added
+went_on : waited 15000 15000 (told 5000 new_clock) ≡ record { at = 15000; behind = 0 }
+went_on = refl
+
+-- at 9 seconds it tells 5: time stands still, and goes on from there
+jumped_back : told 5500 (told 5000 (told 9000 new_clock)) ≡ record { at = 9500; behind = 4000 }
+jumped_back = refl
+
+-- it stands still, and a read waited for ten seconds
+stood_still : told 5000 (waited 15000 5000 (told 5000 new_clock))
+    ≡ record { at = 15000; behind = 10000 }
+stood_still = refl

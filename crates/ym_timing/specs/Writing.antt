@@ -1,0 +1,200 @@
+-- What a write makes of the machine (this profile).
+--
+-- An ask answers the write before it where it came so soon behind the reply before that no peer
+-- can have asked because it waited. Where it came when the answer was overdue, no answer is
+-- awaited but the next; else each copy may be answered.
+use Rattle.std.specs.Prelude.{ℕ, ◌-◌, nat_eq, nat_lt, nat_le, ◌&&◌, ◌||◌, not, Bool, true, false}
+use Rattle.std.specs.Prelude.{List, max, if◌then◌else◌}
+use Rattle.ym_timing.specs.Clears.{is_taken, vain_after}
+use Rattle.ym_timing.specs.Ear as ear
+use Rattle.ym_timing.specs.Heard.{new_heard}
+use Rattle.ym_timing.specs.Hold as hold
+use Rattle.ym_timing.specs.Out.{one, late, again}
+use Rattle.ym_timing.specs.Pace.{bound, doubtful, sure, wait}
+use Rattle.ym_timing.specs.Sent.{next, is_same}
+use Rattle.ym_timing.specs.Times.{later}
+use Rattle.ym_timing.specs.declared.clearing.Clearing.{Clearing}
+use Rattle.ym_timing.specs.declared.clearing.Need.{Need}
+use Rattle.ym_timing.specs.declared.clearing.Need.TheVariants as need
+use Rattle.ym_timing.specs.declared.limits.TheConstants.{FRAGMENT, PATIENCE, SOON, UNASKED}
+use Rattle.ym_timing.specs.declared.out.Out.{Out}
+use Rattle.ym_timing.specs.declared.out.Owed.{Owed}
+use Rattle.ym_timing.specs.declared.out.Owed.TheVariants as owed
+use Rattle.ym_timing.specs.declared.pace.Pace.{Pace}
+use Rattle.ym_timing.specs.declared.pace.Trust.{Trust}
+use Rattle.ym_timing.specs.declared.pace.Trust.TheVariants as trust
+use Rattle.ym_timing.specs.declared.role.Role.{Role}
+use Rattle.ym_timing.specs.declared.role.Role.TheVariants.{Sender, Receiver}
+use Rattle.ym_timing.specs.declared.sent.Kind.{Kind}
+use Rattle.ym_timing.specs.declared.sent.Kind.TheVariants as kind
+use Rattle.ym_timing.specs.declared.sent.Sent.{Sent}
+use Rattle.ym_timing.specs.declared.timing.Front.{Front}
+use Rattle.ym_timing.specs.declared.timing.Timing.{Timing}
+
+-- ---- How long answers take
+
+abbrev pub vain_by : Need → Bool → Bool
+vain_by need.Nothing has_brought = false
+vain_by need.Quiet has_brought = false
+vain_by need.Late has_brought = not has_brought
+vain_by need.Several has_brought = not has_brought
+
+-- answers were awaited while the line cleared, and none came
+abbrev pub was_vain : Clearing → Bool
+was_vain c = vain_by c.need c.has_brought
+
+abbrev pub cleared_by : Need → Bool
+cleared_by need.Nothing = false
+cleared_by _ = true
+
+abbrev pub has_cleared : Clearing → Bool
+has_cleared c = cleared_by c.need
+
+abbrev pub is_new_frame : Timing → Bool
+is_new_frame t =
+    not (t.front.is_there && nat_eq t.front.first t.heard.first
+    && nat_eq t.front.second t.heard.second)
+
+abbrev pub is_other : Role → Timing → Bool
+is_other Sender t = true
+is_other Receiver t = is_new_frame t
+
+abbrev pub is_out : Owed → Bool
+is_out owed.Nothing = false
+is_out _ = true
+
+-- only an answer that leads on is a sample: a repeat may be the other end's own timeout
+abbrev pub leads_on : Bool → Timing → Bool
+leads_on taken t = taken && is_other t.role t && is_out t.out.owed
+
+-- a sender's answer came behind the first part of its wait, and no more time has passed: its clock
+-- stands still, and the answer may have taken the whole wait
+abbrev pub is_still : ℕ → Timing → Bool
+is_still passed t = t.heard.is_late && nat_le passed PATIENCE
+
+abbrev pub took_by : Role → ℕ → Timing → ℕ
+took_by Sender passed t = if is_still passed t then wait t.role t.pace else passed
+took_by Receiver passed t = passed
+
+abbrev pub took : ℕ → Timing → ℕ
+took written_at t = took_by t.role (t.heard.since - written_at) t
+
+abbrev pub sample : Owed → Timing → Pace
+sample owed.Several t = doubtful (took t.out.first_at t) t.pace
+sample _ t = sure (took t.out.first_at t) t.pace
+
+-- Where a sender's line brought nothing while it cleared, the answer was that of the last write.
+abbrev pub pace_by : Role → Clearing → Timing → Pace
+pace_by Sender c t = if was_vain c then sure (took t.out.last_at t) t.pace else sample t.out.owed t
+pace_by Receiver c t = sample t.out.owed t
+
+abbrev pub pace_after : Clearing → Timing → Pace
+pace_after c t = pace_by t.role c t
+
+-- ---- Whose answers may be under way
+
+abbrev pub soon_by : Trust → ℕ → ℕ
+soon_by trust.Unknown slowest = SOON
+soon_by trust.Doubtful slowest = max (UNASKED - slowest) SOON
+soon_by trust.Sure slowest = max (UNASKED - slowest) SOON
+
+abbrev pub soon : Timing → ℕ
+soon t = soon_by t.pace.trust t.pace.slowest
+
+-- the ask came too soon to be unasked
+abbrev pub is_soon : Timing → Bool
+is_soon t =
+    nat_lt 0 t.heard.count && (not t.heard.has_waited && nat_le (t.heard.since - t.led_at) (soon t))
+
+abbrev pub prompted_by : Role → Owed → Timing → Bool
+prompted_by Receiver o t = t.front.is_there && nat_le FRAGMENT t.heard.count
+prompted_by Sender owed.One t = is_soon t
+prompted_by Sender owed.Late t = is_soon t
+prompted_by Sender owed.Several t = false
+prompted_by Sender owed.Nothing t = false
+
+abbrev pub is_prompted : Timing → Bool
+is_prompted t = prompted_by t.role t.out.owed t
+
+-- the ask came when the answer was overdue
+abbrev pub is_overdue : Timing → Bool
+is_overdue t = nat_lt 0 t.heard.count && nat_le (later t.out.last_at (bound t.pace)) t.heard.since
+
+abbrev pub late_by : Role → Owed → Trust → Timing → Bool
+late_by Sender owed.One trust.Sure t = is_overdue t
+late_by Sender owed.Late trust.Sure t = is_overdue t
+late_by _ _ _ t = false
+
+abbrev pub is_late : Timing → Bool
+is_late t = late_by t.role t.out.owed t.pace.trust t
+
+abbrev pub out_by : Owed → Bool → ℕ → Timing → Out
+out_by owed.Nothing taken now t = one now
+out_by _ taken now t =
+    if taken || is_prompted t then one now else (if is_late t then late now else again now t.out)
+
+abbrev pub out_after : Bool → ℕ → Timing → Out
+out_after taken now t = out_by t.out.owed taken now t
+
+abbrev pub front_by : Role → Bool → Timing → Front
+front_by Receiver taken t =
+    if taken then record {
+      is_there = true;
+      first = t.heard.first;
+      second =
+          t.heard.second;
+    } else t.front
+front_by Sender taken t = t.front
+
+abbrev pub front_after : Bool → Timing → Front
+front_after taken t = front_by t.role taken t
+
+-- ---- What an answer may be taken for
+
+abbrev pub is_data : Kind → Bool
+is_data kind.Data = true
+is_data _ = false
+
+-- the line had to clear since the last data block
+abbrev pub is_shaken_after : Bool → Clearing → Timing → Bool
+is_shaken_after is_repeat c t =
+    if is_repeat then t.is_shaken else (has_cleared c || (t.is_shaken && not (is_data t.sent.kind)))
+
+abbrev pub opening_kind : Kind → Bool
+opening_kind kind.Opening = true
+opening_kind _ = false
+
+abbrev pub is_opening : Sent → Bool
+is_opening s = opening_kind s.kind
+
+abbrev pub empty_kinds : Kind → Kind → Bool
+empty_kinds kind.Opening kind.Eot = true
+empty_kinds _ _ = false
+
+-- an EOT right behind block 0: an ACK C may be that of a copy of block 0
+abbrev pub is_empty_file : Sent → Sent → Bool
+is_empty_file last n = empty_kinds last.kind n.kind
+
+-- ---- The write
+
+abbrev pub wrote_next : Sent → Clearing → ℕ → Timing → Timing
+wrote_next n c now t = record {
+  role = t.role;
+  pace = if leads_on (is_taken n t) t then pace_after c t else t.pace;
+  out = out_after (is_taken n t) now t;
+  sent = n;
+  led_at = if nat_lt 0 t.heard.count then t.heard.since else now;
+  heard = new_heard;
+  ear = ear.wrote t.ear;
+  hold = hold.wrote (is_opening n) (is_same t.sent n)
+      (is_shaken_after (is_same t.sent n) c t && is_empty_file t.sent n) now t.hold;
+  echoed = 0;
+  front = front_after (is_taken n t) t;
+  is_shaken = is_shaken_after (is_same t.sent n) c t;
+  vain = vain_after t.vain c;
+  has_cancel = t.has_cancel;
+}
+
+-- these bytes were written, behind this clearing
+abbrev pub wrote : List ℕ → Clearing → ℕ → Timing → Timing
+wrote bytes c now t = wrote_next (next t.sent bytes) c now t

@@ -1,0 +1,300 @@
+//! When a line has to clear before a write, and when it is clear.
+
+ghost use Rattle.std.specs.Prelude.{◌≡◌, false};
+ghost use Rattle.ym_timing.specs.Clears as table;
+
+use crate::ear::{ACK, CAN};
+use crate::limits::{APART, HALVINGS, HELD_UP, LONGEST, MOMENT, RECEIVER_QUIET, SENDER_QUIET};
+use crate::out::Owed;
+use crate::pace::Trust;
+use crate::role::Role;
+use crate::sent::{Kind, Sent};
+use crate::timing::Timing;
+
+/// Why a line has to clear.
+#[derive(Clone, Copy)]
+pub enum Need {
+    /// It has not.
+    Nothing,
+    /// Noise, or what came while the end itself was held up, may be on it.
+    Quiet,
+    /// What was stuck in it may be on it.
+    Late,
+    /// The answers to several writes may be on it.
+    Several,
+}
+
+/// How much of CAN CAN was dropped.
+#[derive(Clone, Copy)]
+pub enum Heed {
+    /// No byte came.
+    Open,
+    /// CAN came last, where CAN CAN may stand.
+    Can,
+    /// Other bytes came.
+    Other,
+}
+
+/// How far a line is clear.
+#[derive(Clone, Copy)]
+pub struct Clearing {
+    /// Why it has to.
+    pub need: Need,
+    /// Since when nothing came that counts.
+    pub from: u64,
+    /// How many answers may come yet.
+    pub owed: u8,
+    /// When the last one came.
+    pub answered_at: u64,
+    /// When it has cleared in any case.
+    pub end_at: u64,
+    /// Whether anything came.
+    pub has_brought: bool,
+    /// How much of CAN CAN came.
+    pub heed: Heed,
+}
+
+/// Half of it so many times.
+fn halved(quiet: u64, times: u8) -> u64
+    ensures { result ≡ table.halved quiet times }
+{
+    match times {
+        0 => quiet,
+        1 => quiet / 2,
+        2 => quiet / 4,
+        3 => quiet / 8,
+        _ => quiet / 16,
+    }
+}
+
+/// How long a line is quiet before it is clear.
+fn quiet_of(role: Role) -> u64
+    ensures { result ≡ table.quiet_of role }
+{
+    match role {
+        Role::Sender => SENDER_QUIET,
+        Role::Receiver => RECEIVER_QUIET,
+    }
+}
+
+impl Heed {
+    /// After one more byte: to a sender CAN CAN is that wherever it stands, and a receiver knows
+    /// it at the front alone.
+    fn after(self, role: Role, byte: u8) -> Heed
+        ensures { result ≡ table.heeds role byte self }
+    {
+        match (self, role) {
+            (Heed::Open, _) | (Heed::Other, Role::Sender) if byte == CAN => Heed::Can,
+            _ => Heed::Other,
+        }
+    }
+
+    /// Whether one more byte makes it CAN CAN.
+    fn ends(self, byte: u8) -> bool
+        ensures { result ≡ table.ends byte self }
+    {
+        match self {
+            Heed::Can => byte == CAN,
+            Heed::Open | Heed::Other => false,
+        }
+    }
+}
+
+impl Timing {
+    /// Whether what was heard was waited for, as the next write shows: for a sender another frame,
+    /// for a receiver any one.
+    pub(crate) fn is_taken(&self, next: Sent) -> bool
+        ensures { result ≡ table.is_taken next self.now }
+    {
+        let is_any = 0 < self.heard.count;
+        match self.role {
+            Role::Sender => is_any && !self.sent.is(next),
+            Role::Receiver => is_any && !self.heard.is_noise() && !self.heard.is_quiet,
+        }
+    }
+
+    /// Whether this end was itself held up since it heard what it answers now.
+    fn was_held_up(&self, now: u64) -> bool
+        ensures { result ≡ table.was_held_up now self.now }
+    {
+        let is_late = self.heard.last.saturating_add(HELD_UP) <= now;
+        0 < self.heard.count && !self.heard.is_quiet && is_late
+    }
+
+    /// Why the line has to clear before this.
+    fn need(&self, next: Sent, now: u64) -> Need
+        ensures { result ≡ table.need_of next now self.now }
+    {
+        let is_taken = self.is_taken(next);
+        let is_unsure = self.heard.is_noise() || self.was_held_up(now);
+        match self.out.owed {
+            Owed::Several if is_taken => Need::Several,
+            _ if is_unsure => Need::Quiet,
+            Owed::Late if is_taken => Need::Late,
+            _ => Need::Nothing,
+        }
+    }
+
+    /// The start: why the line has to clear before these bytes are written, if it has to.
+    pub fn clearing(&self, bytes: &[u8], now: u64) -> Clearing
+        ensures { result ≡ table.clearing bytes.now now self.now }
+    {
+        let need = self.need(self.sent.then(bytes), now);
+        Clearing {
+            need,
+            from: if self.was_held_up(now) {
+                now
+            } else {
+                self.heard.last
+            },
+            owed: self.out.copies.saturating_sub(1),
+            answered_at: self.heard.last,
+            end_at: now.saturating_add(LONGEST),
+            has_brought: false,
+            heed: Heed::Open,
+        }
+    }
+
+    /// When several answers have come: no later than they may, or no farther apart than the writes.
+    fn several_until(&self, from: u64) -> u64
+        ensures { result ≡ table.several_until from self.now }
+    {
+        let apart = from.saturating_add(self.out.gap).saturating_add(APART);
+        let late = match self.pace.trust {
+            Trust::Unknown => apart,
+            Trust::Doubtful | Trust::Sure => self.out.last_at.saturating_add(self.pace.bound()),
+        };
+        from.saturating_add(quiet_of(self.role))
+            .max(apart.min(late))
+    }
+
+    /// When what was stuck has come: soon behind the first of it. The time is halved where it was
+    /// in vain, so that it does not meet a peer's own wait again and again.
+    fn late_until(&self, from: u64) -> u64
+        ensures { result ≡ table.late_until from self.now }
+    {
+        let soon = self.pace.slowest.saturating_add(2 * MOMENT);
+        let quiet = halved(soon.min(quiet_of(self.role)), self.vain);
+        from.saturating_add(quiet.max(MOMENT))
+    }
+
+    /// Whether each copy of a block was answered.
+    fn is_answered(&self, clearing: Clearing) -> bool
+        ensures { result ≡ table.is_answered clearing self.now }
+    {
+        match (self.role, self.sent.kind) {
+            (Role::Sender, Kind::Data) | (Role::Sender, Kind::Opening) => {
+                clearing.has_brought && clearing.owed == 0
+            }
+            _ => false,
+        }
+    }
+
+    /// Until when what comes is dropped; 0 where nothing is to be.
+    pub fn clear_at(&self, clearing: Clearing) -> u64
+        ensures { result ≡ table.clear_at clearing self.now }
+    {
+        let until = match clearing.need {
+            _ if self.has_cancel => 0,
+            Need::Nothing => 0,
+            Need::Quiet => clearing.from.saturating_add(quiet_of(self.role)),
+            Need::Late => self.late_until(clearing.from),
+            Need::Several if self.is_answered(clearing) => 0,
+            Need::Several => self.several_until(clearing.from),
+        };
+        until.min(clearing.end_at)
+    }
+}
+
+impl Clearing {
+    /// A byte came that counts, or that does not.
+    fn brings(self, counts: bool, answers: bool, now: u64) -> Clearing
+        ensures { result ≡ table.brings counts answers now self }
+    {
+        let is_next = answers && self.answered_at < now;
+        Clearing {
+            need: self.need,
+            from: if counts { now } else { self.from },
+            owed: if is_next {
+                self.owed.saturating_sub(1)
+            } else {
+                self.owed
+            },
+            answered_at: if answers { now } else { self.answered_at },
+            end_at: self.end_at,
+            has_brought: true,
+            heed: self.heed,
+        }
+    }
+
+    /// Takes a byte that its end heeds.
+    fn heeds(self, role: Role, byte: u8) -> Clearing
+        ensures { result ≡ table.heeds_in role byte self }
+    {
+        Clearing {
+            need: self.need,
+            from: self.from,
+            owed: self.owed,
+            answered_at: self.answered_at,
+            end_at: self.end_at,
+            has_brought: self.has_brought,
+            heed: self.heed.after(role, byte),
+        }
+    }
+
+    /// Whether each byte counts: where noise is let pass, and at a receiver.
+    fn counts_all(self, role: Role) -> bool
+        ensures { result ≡ table.counts_all role self.need }
+    {
+        match (role, self.need) {
+            (Role::Receiver, _) | (_, Need::Quiet) => true,
+            _ => false,
+        }
+    }
+}
+
+impl Timing {
+    /// Takes a byte that is dropped while the line clears, where this was written last.
+    pub fn dropped(&mut self, clearing: Clearing, byte: u8, written: &[u8], now: u64) -> Clearing
+        ensures new { self.new ≡ table.after_dropped clearing byte written.now now self.old }
+        ensures clearing { result ≡ table.dropped clearing byte written.now now self.old }
+    {
+        let is_heard = match self.role {
+            Role::Sender => {
+                let listened = self.ear.listen(byte, written, now);
+                self.ear = listened.ear;
+                listened.is_heard
+            }
+            Role::Receiver => true,
+        };
+        let is_answer = is_heard && byte == ACK;
+        let counts = is_answer || clearing.counts_all(self.role);
+        let brought = clearing.brings(counts, is_answer, now);
+        if !is_heard {
+            return brought;
+        }
+        self.has_cancel = self.has_cancel || clearing.heed.ends(byte);
+        brought.heeds(self.role, byte)
+    }
+
+    /// Whether CAN CAN, which came while the line cleared, is to be heard now; it is so once.
+    pub fn hears_cancel(&mut self) -> bool
+        ensures new { self.new ≡ record self.old { has_cancel = false } }
+        ensures result { result ≡ self.old.has_cancel }
+    {
+        let was = self.has_cancel;
+        self.has_cancel = false;
+        was
+    }
+}
+
+/// How often in a row a line was let clear in vain, after one more time.
+pub(crate) fn vain_after(vain: u8, clearing: Clearing) -> u8
+    ensures { result ≡ table.vain_after vain clearing }
+{
+    match clearing.need {
+        Need::Nothing | Need::Quiet => vain,
+        Need::Late | Need::Several if clearing.has_brought => 0,
+        Need::Late | Need::Several => { if vain < HALVINGS { vain + 1 } else { HALVINGS } }
+    }
+}

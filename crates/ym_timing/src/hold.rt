@@ -1,0 +1,202 @@
+//! What of a reply a sender hears later, or not at all: the ACK of an EOT with the C behind it,
+//! that of the end block when nothing came behind it, and C that ask for what is on its way.
+
+ghost use Rattle.std.specs.Prelude.{◌≡◌};
+ghost use Rattle.ym_timing.specs.Hold as table;
+
+use crate::ear::{ACK, NAK, START};
+use crate::limits::{STALE_ASKS, WITHIN};
+use crate::sent::Kind;
+
+/// Whether the first ACK C of an EOT may be that of a copy of block 0.
+#[derive(Clone, Copy)]
+pub enum Wary {
+    /// No.
+    Calm,
+    /// Yes: it is dropped.
+    Wary,
+    /// Its ACK was dropped, and its C is.
+    Dropped,
+}
+
+/// What a sender holds back.
+#[derive(Clone, Copy)]
+pub struct Hold {
+    /// Whether an ACK.
+    pub is_held: bool,
+    /// When it came.
+    pub at: u64,
+    /// Whether the next ACK C counts.
+    pub wary: Wary,
+    /// How many more C may be passed over.
+    pub asks_left: u8,
+    /// When the last of them came, or block 0 was written.
+    pub asked_at: u64,
+}
+
+/// What is to be heard of a byte that came.
+#[derive(Clone, Copy)]
+pub enum Say {
+    /// Nothing.
+    Nothing,
+    /// The byte.
+    Byte,
+    /// An ACK that came before, and the byte.
+    AckAndByte,
+}
+
+/// What is held behind a byte, and what is to be heard of it.
+#[derive(Clone, Copy)]
+pub struct Said {
+    /// What is held.
+    pub hold: Hold,
+    /// What is heard.
+    pub say: Say,
+}
+
+impl Hold {
+    /// Nothing is held.
+    pub fn new() -> Hold
+        ensures { result ≡ table.new_hold }
+    {
+        Hold {
+            is_held: false,
+            at: 0,
+            wary: Wary::Calm,
+            asks_left: 0,
+            asked_at: 0,
+        }
+    }
+
+    /// What was written may be a new block 0, behind which C are passed over, or an EOT whose first
+    /// ACK C may be that of a copy of block 0; a repeat leaves the latter as it is.
+    pub fn wrote(self, is_opening: bool, is_repeat: bool, is_wary: bool, now: u64) -> Hold
+        ensures { result ≡ table.wrote is_opening is_repeat is_wary now self }
+    {
+        let wary = if is_repeat {
+            self.wary
+        } else if is_wary {
+            Wary::Wary
+        } else {
+            Wary::Calm
+        };
+        Hold {
+            is_held: false,
+            at: self.at,
+            wary,
+            asks_left: if is_opening && !is_repeat {
+                STALE_ASKS
+            } else {
+                0
+            },
+            asked_at: now,
+        }
+    }
+
+    /// The same, with an ACK held or not.
+    fn holding(self, is_held: bool, at: u64, wary: Wary, say: Say) -> Said
+        ensures { result ≡ table.holding is_held at wary say self }
+    {
+        Said {
+            hold: Hold {
+                is_held,
+                at,
+                wary,
+                asks_left: self.asks_left,
+                asked_at: self.asked_at,
+            },
+            say,
+        }
+    }
+
+    /// An ACK that is held from now on, or still.
+    fn ack(self, wary: Wary, now: u64) -> Said
+        ensures { result ≡ table.ack wary now self }
+    {
+        let at = if self.is_held { self.at } else { now };
+        self.holding(true, at, wary, Say::Nothing)
+    }
+
+    /// A C behind an EOT: with the ACK before it, it says that the file is stored.
+    fn start(self) -> Said
+        ensures { result ≡ table.start self }
+    {
+        match self.wary {
+            Wary::Dropped => self.holding(self.is_held, self.at, Wary::Calm, Say::Nothing),
+            wary if self.is_held => self.holding(false, self.at, wary, Say::AckAndByte),
+            wary => self.holding(false, self.at, wary, Say::Byte),
+        }
+    }
+
+    /// A control byte behind an EOT.
+    fn at_eot(self, byte: u8, now: u64) -> Said
+        ensures { result ≡ table.at_eot byte now self }
+    {
+        match byte {
+            ACK => match self.wary {
+                Wary::Wary => self.holding(false, self.at, Wary::Dropped, Say::Nothing),
+                Wary::Calm | Wary::Dropped => self.ack(Wary::Calm, now),
+            },
+            START => self.start(),
+            NAK => self.holding(false, self.at, Wary::Calm, Say::Byte),
+            _ => self.holding(false, self.at, self.wary, Say::Byte),
+        }
+    }
+
+    /// A control byte behind the end block.
+    fn at_end(self, byte: u8, now: u64) -> Said
+        ensures { result ≡ table.at_end byte now self }
+    {
+        match byte {
+            ACK => self.ack(self.wary, now),
+            _ => self.holding(false, self.at, self.wary, Say::Byte),
+        }
+    }
+
+    /// Whether this byte asks for the block 0 that was just written, as others before it did.
+    fn is_stale(self, byte: u8, is_first: bool, now: u64) -> bool
+        ensures { result ≡ table.is_stale byte is_first now self }
+    {
+        let is_soon = now < self.asked_at.saturating_add(WITHIN);
+        byte == START && is_first && 0 < self.asks_left && is_soon
+    }
+
+    /// A control byte that came behind a write of this kind; `is_first` where none was heard since.
+    pub fn control(self, kind: Kind, byte: u8, is_first: bool, now: u64) -> Said
+        ensures { result ≡ table.control kind byte is_first now self }
+    {
+        if self.is_stale(byte, is_first, now) {
+            return Said {
+                hold: Hold {
+                    is_held: self.is_held,
+                    at: self.at,
+                    wary: self.wary,
+                    asks_left: self.asks_left.saturating_sub(1),
+                    asked_at: now,
+                },
+                say: Say::Nothing,
+            };
+        }
+        match kind {
+            Kind::Eot => self.at_eot(byte, now),
+            Kind::End => self.at_end(byte, now),
+            Kind::Nothing | Kind::Opening | Kind::Data | Kind::Short => Said {
+                hold: self,
+                say: Say::Byte,
+            },
+        }
+    }
+
+    /// Nothing is held any more.
+    pub fn released(self) -> Hold
+        ensures { result ≡ table.released self }
+    {
+        Hold {
+            is_held: false,
+            at: self.at,
+            wary: self.wary,
+            asks_left: self.asks_left,
+            asked_at: self.asked_at,
+        }
+    }
+}

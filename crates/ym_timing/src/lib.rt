@@ -1,0 +1,37 @@
+//! When an end of a line waits, asks again, lets the line clear, and what it does not hear: a
+//! machine without IO, for which time is an input.
+#![tactic(auto)]
+
+mod cancel;
+mod clearing;
+mod clock;
+mod ear;
+mod heard;
+mod hold;
+pub mod laws;
+mod limits;
+mod out;
+mod pace;
+mod role;
+mod sent;
+mod timing;
+mod writing;
+
+pub use cancel::{Cans, Opening, cancels};
+pub use clearing::{Clearing, Heed, Need};
+pub use clock::Clock;
+pub use ear::{Ear, Echo, Listened};
+pub use heard::Heard;
+pub use hold::{Hold, Said, Say, Wary};
+pub use limits::{
+    APART, FIRST_FRAME, FIRST_REPLY, FRAGMENT, FULL, HALVINGS, HELD_UP, LONGEST, MARGIN, MOMENT,
+    OTHERS, PATIENCE, RECEIVER_QUIET, SENDER_QUIET, SOON, STALE_ASKS, UNASKED, WITHIN,
+};
+pub use out::{Out, Owed};
+pub use pace::{Pace, Trust};
+pub use role::Role;
+pub use sent::{Kind, Sent};
+pub use timing::{Front, Timing, Vain, Wait};
+
+#[cfg(test)]
+mod tests;

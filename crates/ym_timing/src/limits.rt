@@ -1,0 +1,58 @@
+//! The numbers of the rule, in milliseconds where nothing else is said.
+
+/// How long more of a delivery is waited for, and how long a line is quiet behind what is dropped.
+pub const WITHIN: u64 = 1_000;
+
+/// How long a sender waits for a reply before it knows its line.
+pub const FIRST_REPLY: u64 = 10_000;
+
+/// How long a receiver waits for a frame before it knows its line.
+pub const FIRST_FRAME: u64 = 3_000;
+
+/// The longest wait of any kind.
+pub const LONGEST: u64 = 60_000;
+
+/// What an answer may take beyond half as much again as the slowest of late.
+pub const MARGIN: u64 = 250;
+
+/// How long a sender's line is quiet before it is clear: more than the second that receivers take
+/// before they answer, and less than two.
+pub const SENDER_QUIET: u64 = 1_250;
+
+/// How long a receiver's line is quiet before it is clear.
+pub const RECEIVER_QUIET: u64 = 1_000;
+
+/// How much farther apart than the writes their answers may come.
+pub const APART: u64 = 2_000;
+
+/// No peer asks unasked sooner than this behind its last reply, less what an answer takes.
+pub const UNASKED: u64 = 2_750;
+
+/// Nor sooner than this, whatever an answer takes.
+pub const SOON: u64 = 1_750;
+
+/// An end that took so long between what it heard and its next write was held up.
+pub const HELD_UP: u64 = 2_000;
+
+/// How long an end listens for CAN CAN behind an ACK that ends the batch; twice this is the margin
+/// behind a late ask.
+pub const MOMENT: u64 = 100;
+
+/// How many C behind a new block 0 are passed over.
+pub const STALE_ASKS: u8 = 10;
+
+/// Behind so many bytes that are no control byte no ACK is heard.
+pub const OTHERS: u8 = 4;
+
+/// A delivery that is no frame and has so many bytes is a damaged one.
+pub const FRAGMENT: u64 = 64;
+
+/// A delivery of so many bytes is noise.
+pub const FULL: u64 = 2_048;
+
+/// How often in a row the quiet time behind a late ask is halved at most.
+pub const HALVINGS: u8 = 4;
+
+/// How long the first part of a sender's wait is: what asks behind it has waited, whatever a clock
+/// says.
+pub const PATIENCE: u64 = 2_500;

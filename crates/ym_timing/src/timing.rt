@@ -1,0 +1,197 @@
+//! The machine: what an end and its line have said of late, and when.
+
+ghost use Rattle.std.specs.Prelude.{◌≡◌};
+ghost use Rattle.ym_timing.specs.Timing as table;
+
+use crate::ear::{ACK, Ear};
+use crate::heard::Heard;
+use crate::hold::{Hold, Say};
+use crate::limits::{MOMENT, PATIENCE, WITHIN};
+use crate::out::Out;
+use crate::pace::Pace;
+use crate::role::Role;
+use crate::sent::{Kind, Sent};
+
+/// The frame that a receiver heard last.
+#[derive(Clone, Copy)]
+pub struct Front {
+    /// Whether it heard any.
+    pub is_there: bool,
+    /// Its first byte.
+    pub first: u8,
+    /// Its second byte.
+    pub second: u8,
+}
+
+/// For what a read waits.
+#[derive(Clone, Copy)]
+pub enum Wait {
+    /// For the first bytes of a delivery.
+    Reply,
+    /// For more of it.
+    Within,
+}
+
+/// What a read that waited in vain comes to.
+#[derive(Clone, Copy)]
+pub enum Vain {
+    /// It waits on.
+    Again,
+    /// An ACK that came before is heard.
+    Ack,
+    /// Nothing came.
+    Quiet,
+}
+
+/// What an end and its line have said of late, and when.
+#[derive(Clone, Copy)]
+pub struct Timing {
+    /// Which end it is.
+    pub role: Role,
+    /// How long answers take.
+    pub pace: Pace,
+    /// The writes whose answers may be under way.
+    pub out: Out,
+    /// What was written last.
+    pub sent: Sent,
+    /// When that was heard which the last write answers.
+    pub led_at: u64,
+    /// What was heard since.
+    pub heard: Heard,
+    /// What of that which comes is no reply.
+    pub ear: Ear,
+    /// What is held back of a reply.
+    pub hold: Hold,
+    /// How many bytes of the last reply came back to a receiver.
+    pub echoed: usize,
+    /// The frame that a receiver heard last.
+    pub front: Front,
+    /// Whether the line had to clear since the last data block.
+    pub is_shaken: bool,
+    /// How often in a row a line was let clear and nothing came.
+    pub vain: u8,
+    /// Whether CAN CAN came while it was.
+    pub has_cancel: bool,
+}
+
+impl Timing {
+    /// An end that said and heard nothing.
+    pub fn new(role: Role) -> Timing
+        ensures { result ≡ table.new_timing role }
+    {
+        Timing {
+            role,
+            pace: Pace::new(),
+            out: Out::new(),
+            sent: Sent::nothing(),
+            led_at: 0,
+            heard: Heard::new(),
+            ear: Ear::new(),
+            hold: Hold::new(),
+            echoed: 0,
+            front: Front {
+                is_there: false,
+                first: 0,
+                second: 0,
+            },
+            is_shaken: false,
+            vain: 0,
+            has_cancel: false,
+        }
+    }
+
+    /// Whether a sender's wait for a reply is in its first part. It has two, so that an end knows
+    /// of an answer that came late even where its clock stands still.
+    fn is_early(&self, wait: Wait) -> bool
+        ensures { result ≡ table.is_early wait self.now }
+    {
+        match (wait, self.role) {
+            (Wait::Reply, Role::Sender) => !self.heard.has_waited,
+            _ => false,
+        }
+    }
+
+    /// Until when a read waits that began then.
+    pub fn until(&self, wait: Wait, start: u64) -> u64
+        ensures { result ≡ table.until wait start self.now }
+    {
+        let end = match wait {
+            Wait::Within => start.saturating_add(WITHIN),
+            Wait::Reply if self.is_early(wait) => start.saturating_add(PATIENCE),
+            Wait::Reply => start.saturating_add(self.pace.wait(self.role)),
+        };
+        match self.sent.kind {
+            Kind::End if self.hold.is_held => self.hold.at.saturating_add(MOMENT),
+            _ if self.hold.is_held => end.max(self.hold.at.saturating_add(WITHIN)),
+            _ => end,
+        }
+    }
+
+    /// Takes that a read waited until then, and nothing came.
+    pub fn expired(&mut self, wait: Wait, now: u64) -> Vain
+        ensures new { self.new ≡ table.after_vain wait now self.old }
+        ensures vain { result ≡ table.vain_of wait self.old }
+    {
+        match self.sent.kind {
+            Kind::End if self.hold.is_held => {
+                self.hold = self.hold.released();
+                self.heard = self.heard.take(ACK, now);
+                Vain::Ack
+            }
+            _ if self.is_early(wait) => {
+                self.heard = self.heard.wait(false);
+                Vain::Again
+            }
+            _ => {
+                self.hold = self.hold.released();
+                self.heard = self.heard.wait(true);
+                Vain::Quiet
+            }
+        }
+    }
+
+    /// Takes a byte that came to a sender behind this frame.
+    fn reply_byte(&mut self, byte: u8, frame: &[u8], now: u64) -> Say
+        ensures new { self.new ≡ table.after_reply byte frame.now now self.old }
+        ensures say { result ≡ table.reply_said byte frame.now now self.old }
+    {
+        let listened = self.ear.listen(byte, frame, now);
+        self.ear = listened.ear;
+        if !listened.is_heard {
+            return Say::Nothing;
+        }
+        let is_first = self.heard.count == 0;
+        let said = self.hold.control(self.sent.kind, byte, is_first, now);
+        self.hold = said.hold;
+        match said.say {
+            Say::Nothing => {}
+            Say::Byte | Say::AckAndByte => self.heard = self.heard.take(byte, now),
+        }
+        said.say
+    }
+
+    /// Takes a byte that came to a receiver behind this reply: what comes back of the reply
+    /// itself, at the front, is no frame.
+    fn frame_byte(&mut self, byte: u8, reply: &[u8], now: u64) -> Say
+        ensures new { self.new ≡ table.after_frame byte reply.now now self.old }
+        ensures say { result ≡ table.frame_said byte reply.now self.old }
+    {
+        if self.heard.count == 0 && self.echoed < reply.len() && reply[self.echoed] == byte {
+            self.echoed += 1;
+            return Say::Nothing;
+        }
+        self.heard = self.heard.take(byte, now);
+        Say::Byte
+    }
+
+    /// Takes a byte that came, where this was written last, and says what of it is to be heard.
+    pub fn byte(&mut self, byte: u8, written: &[u8], now: u64) -> Say
+        ensures new { self.new ≡ table.after_byte byte written.now now self.old }
+        ensures say { result ≡ table.said byte written.now now self.old }
+    {
+        match self.role {
+            Role::Sender => self.reply_byte(byte, written, now),
+            Role::Receiver => self.frame_byte(byte, written, now),
+        }
+    }
+}

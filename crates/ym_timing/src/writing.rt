@@ -1,0 +1,223 @@
+//! What a write makes of the machine: whose answers may be under way from then on, and what was
+//! learned of the line.
+
+ghost use Rattle.std.specs.Prelude.{◌≡◌};
+ghost use Rattle.ym_timing.specs.Writing as table;
+
+use crate::clearing::{Clearing, Need, vain_after};
+use crate::heard::Heard;
+use crate::limits::{FRAGMENT, PATIENCE, SOON, UNASKED};
+use crate::out::{Out, Owed};
+use crate::pace::{Pace, Trust};
+use crate::role::Role;
+use crate::sent::{Kind, Sent};
+use crate::timing::{Front, Timing};
+
+/// Whether it was let clear because answers were awaited, and nothing came.
+fn was_vain(clearing: Clearing) -> bool
+    ensures { result ≡ table.was_vain clearing }
+{
+    match clearing.need {
+        Need::Nothing | Need::Quiet => false,
+        Need::Late | Need::Several => !clearing.has_brought,
+    }
+}
+
+/// Whether the line had to clear.
+fn has_cleared(clearing: Clearing) -> bool
+    ensures { result ≡ table.has_cleared clearing }
+{
+    match clearing.need {
+        Need::Nothing => false,
+        Need::Quiet | Need::Late | Need::Several => true,
+    }
+}
+
+impl Timing {
+    /// Whether what was heard is another frame than the one before.
+    fn is_new_frame(&self) -> bool
+        ensures { result ≡ table.is_new_frame self.now }
+    {
+        let front = self.front;
+        !(front.is_there && front.first == self.heard.first && front.second == self.heard.second)
+    }
+
+    /// Whether the answer led on, so that its time says how long answers take.
+    fn leads_on(&self, is_taken: bool) -> bool
+        ensures { result ≡ table.leads_on is_taken self.now }
+    {
+        let is_other = match self.role {
+            Role::Sender => true,
+            Role::Receiver => self.is_new_frame(),
+        };
+        let is_out = match self.out.owed {
+            Owed::Nothing => false,
+            Owed::One | Owed::Late | Owed::Several => true,
+        };
+        is_taken && is_other && is_out
+    }
+
+    /// How long the answer to what was written then took. Where a sender's clock told no more than
+    /// the first part of its wait, and the answer came behind that, it stands still: then it may
+    /// have taken the whole wait.
+    fn took(&self, written_at: u64) -> u64
+        ensures { result ≡ table.took written_at self.now }
+    {
+        let took = self.heard.since.saturating_sub(written_at);
+        let is_still = self.heard.is_late && took <= PATIENCE;
+        match self.role {
+            Role::Sender if is_still => self.pace.wait(self.role),
+            _ => took,
+        }
+    }
+
+    /// What an answer says of how long answers take. Where a sender let the line clear in vain, it
+    /// was that of the last write.
+    fn pace_after(&self, clearing: Clearing) -> Pace
+        ensures { result ≡ table.pace_after clearing self.now }
+    {
+        match (self.role, self.out.owed) {
+            (Role::Sender, _) if was_vain(clearing) => {
+                self.pace.sure(self.took(self.out.last_at))
+            }
+            (_, Owed::Several) => self.pace.doubtful(self.took(self.out.first_at)),
+            _ => self.pace.sure(self.took(self.out.first_at)),
+        }
+    }
+
+    /// How soon behind a reply a peer's ask answers the write before.
+    fn soon(&self) -> u64
+        ensures { result ≡ table.soon self.now }
+    {
+        match self.pace.trust {
+            Trust::Unknown => SOON,
+            Trust::Doubtful | Trust::Sure => UNASKED.saturating_sub(self.pace.slowest).max(SOON),
+        }
+    }
+
+    /// Whether what was heard answers the write before, which is written again: a peer's ask that
+    /// came too soon to be unasked, or to a receiver a damaged frame.
+    fn is_prompted(&self) -> bool
+        ensures { result ≡ table.is_prompted self.now }
+    {
+        match (self.role, self.out.owed) {
+            (Role::Receiver, _) => self.front.is_there && FRAGMENT <= self.heard.count,
+            (Role::Sender, Owed::One) | (Role::Sender, Owed::Late) => {
+                let took = self.heard.since.saturating_sub(self.led_at);
+                0 < self.heard.count && !self.heard.has_waited && took <= self.soon()
+            }
+            (Role::Sender, _) => false,
+        }
+    }
+
+    /// Whether the peer asked when the answer to the write before was overdue.
+    fn is_late(&self) -> bool
+        ensures { result ≡ table.is_late self.now }
+    {
+        let overdue_at = self.out.last_at.saturating_add(self.pace.bound());
+        match (self.role, self.out.owed, self.pace.trust) {
+            (Role::Sender, Owed::One, Trust::Sure) | (Role::Sender, Owed::Late, Trust::Sure) => {
+                0 < self.heard.count && overdue_at <= self.heard.since
+            }
+            _ => false,
+        }
+    }
+
+    /// Whose answers may be under way behind a write.
+    fn out_after(&self, is_taken: bool, now: u64) -> Out
+        ensures { result ≡ table.out_after is_taken now self.now }
+    {
+        match self.out.owed {
+            Owed::Nothing => Out::one(now),
+            _ if is_taken || self.is_prompted() => Out::one(now),
+            _ if self.is_late() => Out::late(now),
+            _ => self.out.again(now),
+        }
+    }
+
+    /// The frame that a receiver heard last.
+    fn front_after(&self, is_taken: bool) -> Front
+        ensures { result ≡ table.front_after is_taken self.now }
+    {
+        match self.role {
+            Role::Receiver if is_taken => Front {
+                is_there: true,
+                first: self.heard.first,
+                second: self.heard.second,
+            },
+            _ => self.front,
+        }
+    }
+
+    /// Whether the line had to clear since the last data block.
+    fn is_shaken_after(&self, is_repeat: bool, clearing: Clearing) -> bool
+        ensures { result ≡ table.is_shaken_after is_repeat clearing self.now }
+    {
+        let is_calm = match self.sent.kind {
+            Kind::Data => true,
+            _ => false,
+        };
+        if is_repeat {
+            self.is_shaken
+        } else {
+            has_cleared(clearing) || (self.is_shaken && !is_calm)
+        }
+    }
+
+    /// Takes that these bytes were written, behind this clearing.
+    pub fn wrote(&mut self, bytes: &[u8], clearing: Clearing, now: u64)
+        ensures { self.new ≡ table.wrote bytes.now clearing now self.old }
+    {
+        let next = self.sent.then(bytes);
+        let is_repeat = self.sent.is(next);
+        let is_taken = self.is_taken(next);
+        let is_shaken = self.is_shaken_after(is_repeat, clearing);
+        let is_empty = is_empty_file(self.sent, next);
+        let pace = if self.leads_on(is_taken) {
+            self.pace_after(clearing)
+        } else {
+            self.pace
+        };
+        *self = Timing {
+            role: self.role,
+            pace,
+            out: self.out_after(is_taken, now),
+            sent: next,
+            led_at: if 0 < self.heard.count {
+                self.heard.since
+            } else {
+                now
+            },
+            heard: Heard::new(),
+            ear: self.ear.wrote(),
+            hold: self
+                .hold
+                .wrote(is_opening(next), is_repeat, is_shaken && is_empty, now),
+            echoed: 0,
+            front: self.front_after(is_taken),
+            is_shaken,
+            vain: vain_after(self.vain, clearing),
+            has_cancel: self.has_cancel,
+        };
+    }
+}
+
+/// Whether it is block 0 of a file.
+fn is_opening(next: Sent) -> bool
+    ensures { result ≡ table.is_opening next }
+{
+    match next.kind {
+        Kind::Opening => true,
+        _ => false,
+    }
+}
+
+/// Whether no data block stands between them.
+fn is_empty_file(last: Sent, next: Sent) -> bool
+    ensures { result ≡ table.is_empty_file last next }
+{
+    match (last.kind, next.kind) {
+        (Kind::Opening, Kind::Eot) => true,
+        _ => false,
+    }
+}

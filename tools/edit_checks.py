@@ -1,0 +1,114 @@
+"""Checks of a crate, in copies, and what they say of each function."""
+
+import contextlib
+import fcntl
+import os
+import re
+import shutil
+import subprocess
+import tempfile
+
+STATE = re.compile(r"^fn (\S+): (.*)$", re.M)
+FAULT = re.compile(
+    r"^(?:\./)?proofs/(\S+)/(?:Answers|Proof|Invariants)\.antt:\d+:\d+: error: (.*)$", re.M
+)
+VERDICT = re.compile(r"^(logic=|rattle: no verdict)", re.M)
+# The crate does not compile, or a text of src/ or specs/ is no statement: where it is only false,
+# the error names what it stands in.
+UNREAD = re.compile(
+    r"^(?:\./)?(?:src|specs)/\S+:\d+:\d+: "
+    r"error(?:\[.*|: (?!`).*|: .*(?:is not in scope|has no field|cannot continue).*)$",
+    re.M,
+)
+
+
+class Said:
+    """What a check said of each function."""
+
+    def __init__(self, crate, text):
+        self.text, self.states = text, dict(STATE.findall(text))
+        # An error that only depends on another one is not the function's own.
+        own = [path for path, why in FAULT.findall(text) if not re.search(r"\bdepends? on\b", why)]
+        self.faulty = {"::".join([crate, *path.split("/")]) for path in own}
+        self.has_verdict = bool(self.states and VERDICT.search(text))
+
+    def refuses(self, names):
+        """Whether one of these functions is refused, and not only for a function that it calls."""
+        states = [self.states.get(it, "") for it in names]
+        refused = [it for it in states if it.startswith(("not proved", "no proof"))]
+        is_faulty = not self.faulty.isdisjoint(names)
+        return any(is_faulty or "it calls" not in it or "did not prove" in it for it in refused)
+
+    def waits(self, names):
+        """Whether one of these calls a function that is refused."""
+        return any("it calls" in self.states.get(it, "") for it in names)
+
+    def is_unread(self, status):
+        """Whether the prover did not come to judge the crate, as it could not be read."""
+        return bool(UNREAD.search(self.text)) or not self.has_verdict and status in (1, 2)
+
+    def refused(self):
+        return [it for it in self.states if self.refuses([it])]
+
+    def first_error(self):
+        unread, lines = UNREAD.search(self.text), self.text.split("\n")
+        told = [it for it in lines if re.search(r"\berror\b", it)]
+        told = told or [it for it in lines if it.startswith("rt")] or lines
+        return (unread[0] if unread else told[0]).strip()[:200]
+
+
+class Checked:
+    """A check of the crate in this folder, by one job: its status, what it said, and the processor
+    seconds that it took."""
+
+    running, is_over = set(), False
+
+    def __init__(self, folder):
+        if self.is_over:
+            raise SystemExit
+        with tempfile.TemporaryFile("w+", errors="replace") as said:
+            how = {"stdin": subprocess.DEVNULL, "stdout": said, "stderr": subprocess.STDOUT}
+            child = subprocess.Popen(["rt", "check", "--jobs", "1"], cwd=folder, **how)
+            self.running.add(child)
+            _, status, used = os.wait4(child.pid, 0)
+            self.running.discard(child)
+            child.returncode = self.status = os.waitstatus_to_exitcode(status)
+            # Most likely for memory: by a signal, or as rt or a shell tell of it.
+            self.is_killed = self.status in (-9, 137, 247)
+            self.seconds = used.ru_utime + used.ru_stime
+            said.seek(0)
+            self.text = said.read()
+
+    @classmethod
+    def stop(cls):
+        """Ends the checks that run, and begins no other."""
+        cls.is_over = True
+        for child in list(cls.running):
+            child.terminate()
+
+
+def link(one, other):
+    """Copies a file of what rt keeps: by a link where rt replaces it and never writes into it."""
+    with contextlib.suppress(OSError):
+        if one.endswith(".oantt") or "/out/rlib/" in one:
+            return os.link(one, other)
+    return shutil.copy2(one, other)
+
+
+def copy(folder, to):
+    shutil.copytree(folder, to, symlinks=True, copy_function=link)
+
+
+def take(crate, part, to):
+    """Takes what `rt check` kept in the folder of a crate, unless an rt is at work there. Gives
+    whether it could."""
+    made, held = os.path.join(to, "out", part), os.open(crate, os.O_RDONLY)
+    try:
+        fcntl.flock(held, fcntl.LOCK_EX | fcntl.LOCK_NB)
+        copy(os.path.join(crate, "out", part), made)
+        return True
+    except (OSError, shutil.Error):
+        shutil.rmtree(made, ignore_errors=True)
+        return False
+    finally:
+        os.close(held)

@@ -1,0 +1,360 @@
+#!/usr/bin/env python3
+"""Tries every edit of the crates, those of must-fail/ and those of edits/: with each the prover has
+to refuse the function that it changes.
+
+The prover tells a verdict of each function, so many edits share one check: one of each function at
+a time. An edit of anything but a function's body is tried alone. A function is refused by itself
+where the prover finds a fault in its own proof, and not only in a function that it calls. What a
+shared check leaves open is tried again, at last alone, so that what is told of an edit is about
+that edit. An edit fails that is
+
+  still proved        the crate is proved with it
+  not its own         only other functions are refused, and not the one that it changes
+  cannot be applied   an old text does not stand once in its file
+  cannot be read      the crate does not compile with it
+  no verdict, not tried
+
+What is settled is kept in out/edits, by the sums of the texts of the crate, of those below it and
+of the edit, and by the toolchain: a later run tries only what changed. The last line is 'N passed,
+M failed', and the status is 1 where one failed.
+
+It calls `rt check` and `rt version` alone, in copies of the crates among the temporary files, and
+reads what `rattle check --help` describes: the lines `fn NAME: ..`, the places of errors, and the
+last line. The calls that `rt`, a script, makes for its own edits could be taken out of it, but they
+are nobody's interface: a new toolchain may rename them, where it keeps its commands.
+
+It begins with what `rt check` kept of the crates, here or in another copy on this machine. What is
+not there is proved first.
+
+usage: edits.py [--anew] [--jobs N] [CRATE..]
+  --anew      tries also what an earlier run settled
+  --jobs N    so many checks at a time, of one job each; else as many as there are processors. They
+              are fewer where the memory holds no more
+"""
+
+import contextlib
+import fcntl
+import itertools
+import os
+import re
+import shutil
+import signal
+import subprocess
+import sys
+import tempfile
+import threading
+from concurrent.futures import FIRST_COMPLETED, ThreadPoolExecutor, wait
+
+sys.dont_write_bytecode = True
+
+from edit_checks import Checked, Said, copy, take
+from edit_crates import CRATES, KEPT, ROOT, Listed, Settled, lines_of, sum_of
+from edit_texts import Edit, Unfit
+
+# One folder for each checkout: rt notes each folder where it proves, and so it notes few.
+ROOM = os.path.join(tempfile.gettempdir(), "edits-%d-%s" % (os.getuid(), sum_of(ROOT)[:12]))
+# Counted up where an edit may be judged otherwise than before: what was kept is tried again then.
+JUDGEMENT = 1
+TRIED = ("must-fail", "edits")
+
+
+class Trial:
+    """The edits of a crate, and how they came out."""
+
+    def __init__(self, name, listed, version, anew):
+        self.name, self.seed = name, os.path.join(ROOM, name, "seed")
+        # The copy that each run begins with.
+        self.folder = os.path.join(self.seed, "crates", name)
+        self.names = [*listed.below(name), name]
+        self.lines = [listed.lines[it] for it in self.names]
+        self.settled = Settled(name, self.names, [JUDGEMENT, version, *self.lines], anew)
+        self.lock, self.rooms = threading.Lock(), set()
+        self.told, self.passed, self.failed = [], 0, 0
+        self.edits = [it for it in self.found() if self.is_open(it)]
+
+    def found(self):
+        for part in TRIED:
+            top = os.path.join(CRATES, self.name, part)
+            names = sorted(os.listdir(top)) if os.path.isdir(top) else []
+            files = [os.path.join(top, it) for it in names if not it.endswith(".md")]
+            yield from (Edit(it) for it in files if os.path.isfile(it))
+
+    def is_open(self, edit):
+        """Whether no earlier run settled it. What one settled is counted, and told again."""
+        why = self.settled.why(edit)
+        if why is not None:
+            self.count(edit, why)
+        return why is None
+
+    def memory(self):
+        """What a check over kept work takes at most, in bytes, as was measured of crates."""
+        own = 7 * 10**5 * lines_of([self.name], ".rt") + 14 * 10**4 * lines_of([self.name], ".antt")
+        return 7 * 10**8 + own + 6 * 10**4 * lines_of(self.names[:-1], ".rt")
+
+    def count(self, edit, why):
+        if why:
+            print("FAILED  %s: %s" % (os.path.relpath(edit.file, CRATES), why), flush=True)
+        self.failed, self.passed = self.failed + bool(why), self.passed + (not why)
+
+    def settle(self, edit, why="", is_sure=True):
+        """Counts an edit: refused, where there is no word why not. It is kept where the next run
+        would find the same."""
+        with self.lock:
+            self.count(edit, why)
+            if is_sure:
+                self.settled.keep(edit, why)
+
+    @contextlib.contextmanager
+    def room(self):
+        """A copy of the seed."""
+        with self.lock:
+            number = next(it for it in itertools.count(1) if it not in self.rooms)
+            self.rooms.add(number)
+        made = os.path.join(ROOM, self.name, "run-%d" % number)
+        try:
+            copy(self.seed, made)
+            yield os.path.join(made, "crates", self.name)
+        finally:
+            shutil.rmtree(made, ignore_errors=True)
+            with self.lock:
+                self.rooms.discard(number)
+
+    def make_seed(self):
+        """The crates that its checks read, with what was kept of them."""
+        left_out = shutil.ignore_patterns("out", *TRIED)
+        for name in self.names:
+            to = os.path.join(self.seed, "crates", name)
+            shutil.copytree(os.path.join(CRATES, name), to, ignore=left_out)
+        with open(os.path.join(self.seed, "crates.txt"), "w", encoding="utf-8") as it:
+            it.write("".join(line + "\n" for line in self.lines))
+        handles = os.path.join(ROOT, "HANDLES")
+        if os.path.isfile(handles):
+            shutil.copy2(handles, self.seed)
+        libraries, to = self.names[:-1], os.path.join(self.seed, "crates")
+        take(os.path.join(CRATES, self.name), "incremental", self.folder)
+        taken = [take(os.path.join(CRATES, it), "rlib", os.path.join(to, it)) for it in libraries]
+        # Libraries that were built over others cannot be used.
+        for name in libraries if not all(taken) else ():
+            shutil.rmtree(os.path.join(to, name, "out"), ignore_errors=True)
+
+    def begin(self):
+        """Proves the crate as it stands, where each run begins. Gives the runs."""
+        self.make_seed()
+        why = "its crate, or one below it, changed meanwhile"
+        if self.settled.now() == self.settled.sum:
+            ran = Checked(self.folder)
+            if Checked.is_over:
+                return []
+            self.tell("its own proof", ran.seconds)
+            said = Said(self.name, ran.text)
+            self.told = list(said.states)
+            if not ran.status:
+                return self.runs()
+            why = "its crate is not proved without it: %s" % said.first_error()
+        for edit in self.edits:
+            self.settle(edit, "not tried: %s" % why, False)
+        return []
+
+    def runs(self):
+        runs = self.together([it for it in self.edits if self.can_be_tried(it)])
+        for number, run in enumerate(runs, 1):
+            run.what = "run %d of %d" % (number, len(runs))
+        return runs
+
+    def can_be_tried(self, edit):
+        try:
+            edit.look(self.folder)
+        except Unfit as why:
+            self.settle(edit, "cannot be applied: %s" % why)
+            return False
+        edit.names = {name for it in edit.functions for name in it.names(self.name, self.told)}
+        if edit.functions and not edit.names:
+            name = edit.functions[0].path[-1]
+            self.settle(edit, "not its own: the prover tells of no function %s there" % name, False)
+            return False
+        return True
+
+    def together(self, edits):
+        """Runs with all these edits."""
+        runs = []
+        for edit in edits:
+            if not any(it.takes(edit) for it in runs):
+                runs.append(Run(self, edit))
+        return runs
+
+    def tell(self, what, seconds):
+        print("%s: %s, %.1f s" % (self.name, what, seconds), flush=True)
+
+    def end(self):
+        shutil.rmtree(os.path.dirname(self.seed), ignore_errors=True)
+
+
+class Run:
+    """A check of a crate with some of its edits."""
+
+    def __init__(self, trial, edit):
+        self.trial, self.edits, self.names = trial, [edit], set(edit.names)
+        self.texts, self.what = edit.applied({}, trial.folder), "again"
+
+    def takes(self, edit):
+        """Adds an edit, unless it and those that are there say something of one another."""
+        is_alone = edit.is_alone or self.edits[0].is_alone
+        if is_alone or not self.names.isdisjoint(edit.names):
+            return False
+        try:
+            self.texts = edit.applied(self.texts, self.trial.folder)
+        except Unfit:
+            return False
+        self.names |= edit.names
+        self.edits.append(edit)
+        return True
+
+    def check(self):
+        with self.trial.room() as folder:
+            for path, text in self.texts.items():
+                with open(os.path.join(folder, path), "w", encoding="utf-8") as it:
+                    it.write(text)
+            return Checked(folder)
+
+    def begin(self):
+        """Makes the check, and judges the edits. Gives the runs that what is open needs."""
+        ran = self.check()
+        seconds = ran.seconds
+        if ran.is_killed and not Checked.is_over:
+            ran = self.check()
+            seconds += ran.seconds
+        if Checked.is_over:
+            return []
+        number = "1 edit" if len(self.edits) == 1 else "%d edits" % len(self.edits)
+        self.trial.tell("%s, %s" % (self.what, number), seconds)
+        said = Said(self.trial.name, ran.text)
+        if len(self.edits) == 1:
+            self.trial.settle(self.edits[0], *judged(self.edits[0], ran.status, said))
+            return []
+        return self.left(said) if said.has_verdict else self.halves()
+
+    def halves(self):
+        half, together = len(self.edits) // 2, self.trial.together
+        return together(self.edits[:half]) + together(self.edits[half:])
+
+    def left(self, said):
+        """Settles the edits whose own functions are refused. Gives the runs for the others."""
+        # Where a function is refused by itself that no edit changes, an edit may reach further than
+        # its function, so that one that calls others may be refused for these.
+        reaches = not self.names.issuperset(said.refused())
+        left = []
+        for edit in self.edits:
+            if said.refuses(edit.names) and not (reaches and said.waits(edit.names)):
+                self.trial.settle(edit)
+            else:
+                left.append(edit)
+        # Those that wait for a function of another edit may be told of without that.
+        waiting = [it for it in left if said.waits(it.names)] * (len(left) < len(self.edits))
+        alone = [Run(self.trial, it) for it in left if it not in waiting]
+        return self.trial.together(waiting) + alone
+
+
+def judged(edit, status, said):
+    """Why an edit fails that was tried alone, or no word where it does not; and whether the next
+    run would find the same."""
+    is_own = said.refuses(edit.names) or not edit.functions
+    if status == 0:
+        return "still proved", True
+    if said.is_unread(status):
+        return "cannot be read: %s" % said.first_error(), status == 1
+    if status == 1 and is_own:
+        return "", True
+    if status == 1:
+        names, others = " and ".join(sorted(edit.names)), ", ".join(said.refused()[:3])
+        return "not its own: %s: not refused; refused: %s" % (names, others or "no function"), True
+    if status == 3:
+        return "no verdict: %s" % said.first_error(), True
+    return "not tried: its check ended with %d: %s" % (status, said.first_error()), False
+
+
+def free_memory():
+    """What may be taken of the memory, under the limit of the control group."""
+    found = []
+    for file, pattern, unit in (
+        ("/proc/meminfo", r"MemAvailable:\s+(\d+)", 1024),
+        ("/sys/fs/cgroup/memory.max", r"(\d+)", 1),
+    ):
+        with contextlib.suppress(OSError, TypeError):
+            with open(file, encoding="utf-8") as it:
+                found.append(unit * int(re.search(pattern, it.read())[1]))
+    return 0.85 * min(found, default=4 * 10**9)
+
+
+def in_lanes(trials, lanes):
+    """Makes the runs of these crates side by side, the dearest crates first."""
+    needs = {it: it.memory() for it in trials}
+    dearest = sorted(trials, key=lambda it: -len(it.edits) * needs[it])
+    left, running, memory = [(it, it) for it in dearest], {}, free_memory()
+    pool = ThreadPoolExecutor(lanes)
+    try:
+        while left or running:
+            for trial, work in list(left):
+                held = sum(needs[it] for it in running.values())
+                if len(running) < lanes and (not running or held + needs[trial] <= memory):
+                    left.remove((trial, work))
+                    running[pool.submit(work.begin)] = trial
+            for ended in wait(running, return_when=FIRST_COMPLETED).done:
+                trial = running.pop(ended)
+                left += [(trial, it) for it in ended.result()]
+                if trial not in [*running.values(), *(it for it, _ in left)]:
+                    trial.end()
+            left.sort(key=lambda it: dearest.index(it[0]))
+    finally:
+        Checked.stop()
+        pool.shutdown(cancel_futures=True)
+
+
+def options(words, listed):
+    """Whether all are tried, how many checks at a time, and the names of the crates."""
+    anew, lanes = "--anew" in words, len(os.sched_getaffinity(0))
+    words = [it for it in words if it != "--anew"]
+    if "--jobs" in words:
+        at = words.index("--jobs")
+        if not re.fullmatch("[1-9][0-9]?", "".join(words[at + 1 : at + 2])):
+            sys.exit(__doc__)
+        lanes, words = int(words[at + 1]), words[:at] + words[at + 2 :]
+    lacking = [it for it in words if it not in listed.lines]
+    if lacking:
+        sys.exit("%s: crates.txt lists no such crate\n\n%s" % (lacking[0], __doc__))
+    return anew, lanes, words or list(listed.lines)
+
+
+def tried(names, listed, anew, lanes):
+    """Tries the edits of these crates. Gives the trials."""
+    version = subprocess.run(["rt", "version"], capture_output=True, text=True, check=True).stdout
+    os.makedirs(KEPT, exist_ok=True)
+    with open(os.path.join(KEPT, "lock"), "w", encoding="utf-8") as lock:
+        # One at a time in a checkout.
+        fcntl.flock(lock, fcntl.LOCK_EX)
+        shutil.rmtree(ROOM, ignore_errors=True)
+        os.makedirs(ROOM, 0o700)
+        try:
+            trials = [Trial(name, listed, version, anew) for name in names]
+            in_lanes([it for it in trials if it.edits], lanes)
+            return trials
+        finally:
+            shutil.rmtree(ROOM, ignore_errors=True)
+
+
+def main(words):
+    listed = Listed()
+    anew, lanes, names = options(words, listed)
+    signal.signal(signal.SIGTERM, lambda *_: sys.exit(143))
+    try:
+        trials = tried(names, listed, anew, lanes)
+    except KeyboardInterrupt:
+        return 130
+    used = os.times()
+    print("%.1f processor minutes" % ((used.children_user + used.children_system) / 60))
+    failed = sum(it.failed for it in trials)
+    print("%d passed, %d failed" % (sum(it.passed for it in trials), failed))
+    return 1 if failed else 0
+
+
+if __name__ == "__main__":
+    sys.exit(main(sys.argv[1:]))

@@ -1,0 +1,134 @@
+"""What a sender wrote last, and what of that which comes it does not hear."""
+
+from dataclasses import dataclass
+
+from ends import ACK, CONTROLS, NAK, START
+
+WITHIN_MS = 1_000
+STALE_ASKS = 10
+OTHERS = 4
+
+
+@dataclass
+class Sent:
+    length: int = 0
+    first: int = 0
+    second: int = 0
+    kind: str = "nothing"
+
+    def then(self, data):
+        at = lambda place: data[place] if place < len(data) else 0
+        if len(data) == 1:
+            kind = "eot"
+        elif len(data) <= 3:
+            kind = "short"
+        elif at(1):
+            kind = "data"
+        elif self.kind in ("nothing", "eot", "short"):
+            kind = "opening" if at(3) else "end"
+        else:
+            kind = self.kind
+        return Sent(len(data), at(0), at(1), kind)
+
+    def is_same(self, other):
+        mine = (self.length, self.first, self.second)
+        return mine == (other.length, other.first, other.second)
+
+
+class Ear:
+    """What of that which comes to a sender is no reply: `echo` is (name, values..)."""
+
+    def __init__(self):
+        self.echo, self.others, self.at = ("open",), 0, 0
+
+    def deaf(self, *echo):
+        self.echo = echo
+        return False
+
+    def other(self, *echo):
+        self.others = min(OTHERS, self.others + 1)
+        return self.deaf(*echo)
+
+    def outside(self, byte):
+        if byte in (1, 2):
+            return self.other("head", byte)
+        if byte not in CONTROLS:
+            return self.other("open")
+        self.echo = ("open",)
+        return byte != ACK or self.others < OTHERS
+
+    def listen(self, byte, frame, now):
+        if self.at + WITHIN_MS <= now:
+            self.echo, self.others = ("open",), 0
+        self.at = now
+        name, *values = self.echo
+        if name == "open":
+            return self.outside(byte)
+        if name == "head":
+            return self.deaf("number", values[0], byte)
+        if name == "broken":
+            return self.deaf("broken")
+        if name == "goes":
+            place = values[0]
+            if len(frame) <= place or frame[place] != byte:
+                return self.deaf("broken")
+            return self.deaf("open") if place + 1 == len(frame) else self.deaf("goes", place + 1)
+        first, number = values
+        if byte == 255 - number:
+            is_ours = len(frame) > 3 and (frame[0], frame[1]) == (first, number)
+            return self.deaf("goes", 3) if is_ours else self.deaf("broken")
+        return self.deaf("number", number, byte) if number in (1, 2) else self.outside(byte)
+
+
+class Hold:
+    """What a sender hears later, or not at all."""
+
+    def __init__(self):
+        self.is_held, self.at, self.wary, self.asks_left, self.asked_at = False, 0, "calm", 0, 0
+
+    def wrote(self, is_opening, is_repeat, is_wary, now):
+        self.is_held = False
+        if not is_repeat:
+            self.wary = "wary" if is_wary else "calm"
+        self.asks_left = STALE_ASKS if is_opening and not is_repeat else 0
+        self.asked_at = now
+
+    def ack(self, now):
+        self.at = self.at if self.is_held else now
+        self.is_held = True
+        return b""
+
+    def start(self):
+        if self.wary == "dropped":
+            self.wary = "calm"
+            return b""
+        was, self.is_held = self.is_held, False
+        return bytes([ACK, START]) if was else bytes([START])
+
+    def at_eot(self, byte, now):
+        if byte == ACK and self.wary == "wary":
+            self.is_held, self.wary = False, "dropped"
+            return b""
+        if byte == ACK:
+            self.wary = "calm"
+            return self.ack(now)
+        if byte == START:
+            return self.start()
+        self.is_held = False
+        if byte == NAK:
+            self.wary = "calm"
+        return bytes([byte])
+
+    def control(self, kind, byte, is_first, now):
+        is_soon = now < self.asked_at + WITHIN_MS
+        if byte == START and is_first and self.asks_left and is_soon:
+            self.asks_left -= 1
+            self.asked_at = now
+            return b""
+        if kind == "eot":
+            return self.at_eot(byte, now)
+        if kind == "end" and byte == ACK:
+            return self.ack(now)
+        if kind == "end":
+            self.is_held = False
+        return bytes([byte])

@@ -1,0 +1,354 @@
+"""The rule for the line with time as an input, as the crate `ym_timing` has it, name by name.
+
+`Timing` is the decision core, without IO; `Timed` is a port that drives it. Times of the core are
+milliseconds.
+"""
+
+from dataclasses import dataclass
+
+from ends import ACK, CAN, CANCEL, CONTROLS, WITHIN
+from line import MS, Read, Write
+from replies import WITHIN_MS, Ear, Hold, Sent
+
+FIRST = {"sender": 10_000, "receiver": 3_000}
+LONGEST = 60_000
+MARGIN = 250
+QUIET = {"sender": 1_250, "receiver": 1_000}
+APART = 2_000
+UNASKED = 2_750
+SOON = 1_750
+HELD_UP = 2_000
+MOMENT = 100
+FRAGMENT = 64
+FULL = 2_048
+HALVINGS = 4
+PATIENCE = 2_500
+
+
+@dataclass
+class Heard:
+    count: int = 0
+    since: int = 0
+    last: int = 0
+    first: int = 0
+    second: int = 0
+    is_quiet: bool = False
+    has_waited: bool = False
+    is_late: bool = False
+
+    def take(self, byte, now):
+        if self.count == 0:
+            self.since, self.first, self.is_late = now, byte, self.has_waited
+        if self.count == 1:
+            self.second = byte
+        self.count = min(FULL, self.count + 1)
+        self.last, self.is_quiet = now, False
+
+    def is_noise(self):
+        return self.count >= FULL and not self.is_quiet
+
+
+@dataclass
+class Out:
+    owed: str = "nothing"
+    copies: int = 0
+    first_at: int = 0
+    last_at: int = 0
+    gap: int = 0
+
+    def again(self, now):
+        gap = max(self.gap, now - self.last_at)
+        return Out("several", min(255, self.copies + 1), self.first_at, now, gap)
+
+
+@dataclass
+class Clearing:
+    need: str
+    frm: int
+    owed: int
+    answered_at: int
+    end_at: int
+    has_brought: bool = False
+    heed: str = "open"
+
+
+class Timing:
+    """What an end and its line have said of late, and when."""
+
+    def __init__(self, role):
+        self.role = role
+        self.slowest, self.trust = 0, "unknown"
+        self.out, self.sent, self.led_at, self.heard = Out(), Sent(), 0, Heard()
+        self.ear, self.hold, self.echoed, self.front = Ear(), Hold(), 0, None
+        self.is_shaken, self.vain, self.has_cancel = False, 0, False
+
+    # ---- how long answers take
+
+    def bound(self):
+        return self.slowest + self.slowest // 2 + MARGIN
+
+    def doubtful(self, took):
+        if self.trust != "sure" or took > self.slowest:
+            self.slowest, self.trust = took, "doubtful"
+
+    def sure(self, took):
+        if self.trust == "sure" and took < self.slowest:
+            self.slowest -= (self.slowest - took) // 4
+        else:
+            self.slowest, self.trust = took, "sure"
+
+    def wait(self):
+        first = FIRST[self.role]
+        return first if self.trust == "unknown" else min(LONGEST, max(first, self.bound()))
+
+    # ---- waits and what comes
+
+    def is_early(self, kind):
+        return kind != WITHIN and self.role == "sender" and not self.heard.has_waited
+
+    def until(self, kind, start):
+        if kind == WITHIN:
+            end = start + WITHIN_MS
+        else:
+            end = start + (PATIENCE if self.is_early(kind) else self.wait())
+        if not self.hold.is_held:
+            return end
+        if self.sent.kind == "end":
+            return self.hold.at + MOMENT
+        return max(end, self.hold.at + WITHIN_MS)
+
+    def expired(self, kind, now):
+        """What a read that waited in vain comes to: "ack", "again" or "quiet"."""
+        if self.sent.kind == "end" and self.hold.is_held:
+            self.hold.is_held = False
+            self.heard.take(ACK, now)
+            return "ack"
+        if self.is_early(kind):
+            self.heard.is_quiet, self.heard.has_waited = False, True
+            return "again"
+        self.hold.is_held = False
+        self.heard.is_quiet = self.heard.has_waited = True
+        return "quiet"
+
+    def byte(self, byte, written, now):
+        """What of a byte that came is to be heard."""
+        if self.role == "receiver":
+            is_echo = not self.heard.count and self.echoed < len(written)
+            if is_echo and written[self.echoed] == byte:
+                self.echoed += 1
+                return b""
+            self.heard.take(byte, now)
+            return bytes([byte])
+        if not self.ear.listen(byte, written, now):
+            return b""
+        said = self.hold.control(self.sent.kind, byte, self.heard.count == 0, now)
+        if said:
+            self.heard.take(byte, now)
+        return said
+
+    # ---- clearing
+
+    def is_taken(self, following):
+        if self.role == "sender":
+            return self.heard.count > 0 and not self.sent.is_same(following)
+        return self.heard.count > 0 and not self.heard.is_noise() and not self.heard.is_quiet
+
+    def was_held_up(self, now):
+        heard = self.heard
+        return heard.count > 0 and not heard.is_quiet and heard.last + HELD_UP <= now
+
+    def need(self, following, now):
+        taken = self.is_taken(following)
+        if self.out.owed == "several" and taken:
+            return "several"
+        if self.heard.is_noise() or self.was_held_up(now):
+            return "quiet"
+        return "late" if self.out.owed == "late" and taken else "nothing"
+
+    def clearing(self, data, now):
+        need = self.need(self.sent.then(data), now)
+        frm = now if self.was_held_up(now) else self.heard.last
+        return Clearing(need, frm, max(0, self.out.copies - 1), self.heard.last, now + LONGEST)
+
+    def clear_at(self, clearing):
+        """Until when what comes is dropped; 0 where nothing is to be."""
+        quiet, frm = QUIET[self.role], clearing.frm
+        if self.has_cancel or clearing.need == "nothing":
+            return 0
+        if clearing.need == "quiet":
+            until = frm + quiet
+        elif clearing.need == "late":
+            soon = min(quiet, self.slowest + 2 * MOMENT) // (1 << self.vain)
+            until = frm + max(MOMENT, soon)
+        else:
+            counts = self.role == "sender" and self.sent.kind in ("data", "opening")
+            if counts and clearing.has_brought and clearing.owed == 0:
+                return 0
+            apart = frm + self.out.gap + APART
+            late = apart if self.trust == "unknown" else self.out.last_at + self.bound()
+            until = max(frm + quiet, min(apart, late))
+        return min(until, clearing.end_at)
+
+    def dropped(self, clearing, byte, written, now):
+        is_heard = self.role == "receiver" or self.ear.listen(byte, written, now)
+        answers = is_heard and byte == ACK
+        if answers or self.role == "receiver" or clearing.need == "quiet":
+            clearing.frm = now
+        if answers and clearing.answered_at < now:
+            clearing.owed = max(0, clearing.owed - 1)
+        if answers:
+            clearing.answered_at = now
+        clearing.has_brought = True
+        if is_heard:
+            if clearing.heed == "can" and byte == CAN:
+                self.has_cancel = True
+            may = clearing.heed == "open" or (clearing.heed == "other" and self.role == "sender")
+            clearing.heed = "can" if may and byte == CAN else "other"
+
+    # ---- a write
+
+    def took(self, written_at):
+        took = max(0, self.heard.since - written_at)
+        # no time has passed since the first part of the wait: the clock stands still
+        is_still = self.heard.is_late and took <= PATIENCE
+        return self.wait() if self.role == "sender" and is_still else took
+
+    def learn(self, clearing, taken):
+        is_other = self.role == "sender" or self.front != (self.heard.first, self.heard.second)
+        if not (taken and is_other and self.out.owed != "nothing"):
+            return
+        vain = clearing.need in ("late", "several") and not clearing.has_brought
+        if self.role == "sender" and vain:
+            self.sure(self.took(self.out.last_at))
+        elif self.out.owed == "several":
+            self.doubtful(self.took(self.out.first_at))
+        else:
+            self.sure(self.took(self.out.first_at))
+
+    def is_prompted(self):
+        if self.role == "receiver":
+            return self.front is not None and self.heard.count >= FRAGMENT
+        soon = SOON if self.trust == "unknown" else max(SOON, UNASKED - self.slowest)
+        took = max(0, self.heard.since - self.led_at)
+        is_one = self.out.owed in ("one", "late")
+        return is_one and self.heard.count > 0 and not self.heard.has_waited and took <= soon
+
+    def is_late(self):
+        is_one = self.role == "sender" and self.out.owed in ("one", "late")
+        is_overdue = self.out.last_at + self.bound() <= self.heard.since
+        return is_one and self.trust == "sure" and self.heard.count > 0 and is_overdue
+
+    def out_after(self, taken, now):
+        if self.out.owed == "nothing" or taken or self.is_prompted():
+            return Out("one", 1, now, now, 0)
+        return Out("late", 1, now, now, 0) if self.is_late() else self.out.again(now)
+
+    def wrote(self, data, clearing, now):
+        following = self.sent.then(data)
+        repeat, taken = self.sent.is_same(following), self.is_taken(following)
+        shaken = self.is_shaken
+        if not repeat:
+            calm = self.sent.kind == "data"
+            shaken = clearing.need != "nothing" or (self.is_shaken and not calm)
+        empty = self.sent.kind == "opening" and following.kind == "eot"
+        out = self.out_after(taken, now)
+        self.learn(clearing, taken)
+        if clearing.need in ("late", "several"):
+            self.vain = 0 if clearing.has_brought else min(HALVINGS, self.vain + 1)
+        self.hold.wrote(following.kind == "opening", repeat, shaken and empty, now)
+        if self.role == "receiver" and taken:
+            self.front = (self.heard.first, self.heard.second)
+        self.led_at = self.heard.since if self.heard.count else now
+        self.out, self.sent, self.is_shaken = out, following, shaken
+        self.heard, self.echoed, self.ear.others = Heard(), 0, 0
+
+
+def cancels(data):
+    """Whether CAN CAN stands among the control bytes of what came."""
+    return CANCEL in bytes(byte for byte in data if byte in CONTROLS)
+
+
+class Clock:
+    """A clock that never runs backwards, over one that may, or that stands still."""
+
+    def __init__(self):
+        self.at, self.behind = 0, 0
+
+    def read(self, now):
+        self.behind = max(self.behind, self.at - now)
+        self.at = now + self.behind
+        return self.at
+
+    def waited(self, until, now):
+        """A read waited until then, whatever the clock below says."""
+        self.read(now)
+        self.behind += max(0, until - self.at)
+        self.at = max(self.at, until)
+
+
+class Timed:
+    """A port that drives the core over a line."""
+
+    def __init__(self, role, line):
+        self.core, self.clock, self.line, self.written = Timing(role), Clock(), line, b""
+
+    def told(self):
+        return self.line.now // MS
+
+    def now(self):
+        return self.clock.read(self.told())
+
+    def heard_of(self, data):
+        now, heard = self.now(), b""
+        for byte in data:
+            heard += self.core.byte(byte, self.written, now)
+        return CANCEL if self.core.role == "sender" and cancels(heard) else heard
+
+    def read(self, kind, room):
+        core, start = self.core, self.now()
+        if core.has_cancel:
+            core.has_cancel = False
+            return CANCEL
+        while True:
+            until = core.until(kind, start)
+            got = yield Read(max(0, until - self.now()) * MS, room)
+            if got is not None:
+                heard = self.heard_of(got)
+                if heard:
+                    return heard
+                continue
+            self.clock.waited(until, self.told())
+            vain = core.expired(kind, self.now())
+            if vain != "again":
+                return bytes([ACK]) if vain == "ack" else None
+
+    def write(self, data):
+        core = self.core
+        clearing = core.clearing(data, self.now())
+        while True:
+            until = core.clear_at(clearing)
+            if until <= self.now():
+                break
+            got = yield Read((until - self.now()) * MS)
+            if got is None:
+                self.clock.waited(until, self.told())
+                break
+            for byte in got:
+                core.dropped(clearing, byte, self.written, self.now())
+        core.wrote(data, clearing, self.now())
+        self.written = data
+        yield Write(data)
+
+
+class Still(Timed):
+    """The same, with a clock that stands still."""
+
+    def told(self):
+        return 5_000
+
+
+class Back(Timed):
+    """The same, with a clock that jumps back by four seconds every seven."""
+
+    def told(self):
+        return 100_000 + self.line.now // MS - self.line.now // (7_000 * MS) * 4_000

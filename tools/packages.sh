@@ -1,0 +1,39 @@
+#!/bin/sh
+# Which of Debian's packages the tests need beside Python, and whether they are there. A check that
+# needs what is not there is skipped, and says so.
+#
+# usage: packages.sh [portable]           names those that are not installed
+#        packages.sh install [portable]   installs them, as root
+# With `portable` those of `make portable` and its checks are meant too.
+set -eu
+packages="lrzsz socat picocom strace mandoc lintian bash zsh fish binutils qemu-system-arm u-boot-qemu
+    gcc-aarch64-linux-gnu chromium g++ clang lld llvm valgrind nodejs pkgconf locales"
+portable="binaryen wabt qemu-user gcc-12-multilib gcc-arm-none-eabi libnewlib-arm-none-eabi
+    gcc-arm-linux-gnueabihf libc6-dev-armhf-cross gcc-mipsel-linux-gnu libc6-dev-mipsel-cross
+    gcc-riscv64-linux-gnu libc6-dev-riscv64-cross gcc-riscv64-unknown-elf picolibc-riscv64-unknown-elf"
+
+missing() {
+    for package in $packages; do
+        dpkg-query -W -f '${Status}' "$package" 2> /dev/null | grep -q 'ok installed' || echo "$package"
+    done
+}
+
+# Nothing is removed for another one: `gcc-multilib`, say, would take the other compilers away.
+get() {
+    DEBIAN_FRONTEND=noninteractive apt-get install -y --no-remove --no-install-recommends "$@" \
+        > /dev/null 2>&1
+}
+
+# All at once, and where one of them cannot be had each by itself.
+install() {
+    apt-get update > /dev/null 2>&1 || true
+    get $(missing) || for package in $(missing); do get "$package" || true; done
+}
+
+act=
+[ "${1-}" != install ] || { act=install; shift; }
+[ "${1-}" != portable ] || { packages="$packages $portable"; shift; }
+[ $# -eq 0 ] || { sed -n '2,7s/^# \{0,1\}//p' "$0" >&2; exit 2; }
+[ -z "$act" ] || [ -z "$(missing)" ] || install
+left=$(missing | tr '\n' ' ')
+[ -z "$left" ] || echo "not installed, so what needs them is skipped: $left"
