@@ -1,12 +1,15 @@
 # make play              plays the example session: by the program where it is built, else by a build without proofs (about a minute)
 # make build             proves and builds the program
 # make check             while you write: proves what changed, and tries the tests of the crates that changed since the last green run
-# make layout            whether each source is laid out as `rt fmt` does it, which the gate wants, and the version is spelled alike: a second
+# make layout            whether each source is laid out as `rt fmt` does it, which the gate wants, the version is spelled alike, and the crates
+#                        and the pages keep their house (tools/house.py): a second
 # make test              everything that is checked before a change lands: the gate, whose last line is 'N passed, M failed', and beside it
 #                        want of memory, the library, the page, and the program that it proved on sockets and files
 # make memory            each growth of memory refused in turn, alone
 # make edits             tries every edit of the crates, many in a check; the gate tries a few of them.
 #                        CRATES="A B" takes those of these crates, ANEW=1 also what was settled
+# make plants            plants wrong bodies that no contract refuses, and tells for each by which test it is caught (docs/plants.md).
+#                        CRATES="A B" takes those of these crates, TESTS=1 asks the tests alone
 # make interop           the program against lrzsz, which has to be installed
 # make install           puts the program, ymodem-tty, the manual pages and the completion below $(DESTDIR)$(PREFIX)
 # make portable          the library for C as two files for every processor, 32 bits too: out/portable
@@ -18,7 +21,7 @@
 PREFIX ?= /usr/local
 PROGRAM = crates/ymodem/out/ymodem
 
-.PHONY: play build check layout test replay memory edits interop install deb dist charts bench clean
+.PHONY: play build check layout test cases memory edits plants interop install deb dist charts bench clean
 
 play:
 	@tools/prove.py play
@@ -32,6 +35,7 @@ check: layout
 
 layout:
 	@tools/version.py check
+	@tools/house.py check
 	@# the toolchain's `rattle` lies beside its `rt`, which alone has to be on the path
 	@find crates \( -name out -o -name must-fail -o -name edits \) -prune -o \( -name '*.rt' -o -name '*.antt' \) -print0 \
 	    | xargs -0 "$$(dirname "$$(readlink -f "$$(command -v rt)")")/rattle" fmt --check \
@@ -40,15 +44,18 @@ layout:
 test: layout
 	@tools/gate.py
 
-# The program that plays recorded reads to the engines, for tests/transfer.py.
-replay:
-	cd crates/replay && rt run < stdin
+# The program that plays cases to both ends, and recorded reads for tests/transfer.py.
+cases:
+	cd crates/line_cases && rt run < stdin
 
 memory:
 	tests/memory.py
 
 edits:
 	@tools/edits.py $(if $(ANEW),--anew) $(if $(JOBS),--jobs $(JOBS)) $(CRATES)
+
+plants:
+	@tools/plants.py $(if $(TESTS),--tests) $(CRATES)
 
 interop: build
 	tests/transfer.py --interop

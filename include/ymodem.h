@@ -1,14 +1,20 @@
-/* YMODEM batch transfer for C: both ends as state machines that the caller drives, the frames, the check and block 0.
+/* YMODEM batch transfer for C: both ends as state machines that the caller drives, the frames, the
+   check and block 0.
 
-   Nothing here allocates, blocks, keeps anything between calls or calls back. All state stands in the structs below, in the caller's
-   memory. Every function returns, whatever stands in a struct: numbers that no receiver or sender can have count as an end that has
-   ended, and a call at the wrong time does nothing.
+   Nothing here allocates, blocks, keeps anything between calls or calls back. All state stands in
+   the structs below, in the caller's memory. Every function returns, whatever stands in a struct:
+   numbers that no receiver or sender can have count as an end that has ended, which asks for
+   nothing and sends nothing. Four calls have their time, which stands beside them:
+   ym_receiver_feed, ym_receiver_answer, ym_sender_header and ym_sender_block. At any other time
+   they do nothing, nor does ym_sender_failed to a sender that has ended.
 
-   What the caller keeps: a pointer is never NULL, not even with length 0, and points to as many bytes as its length says; no other
-   pointer of the same call points into what a call writes; a struct is used by one call at a time.
+   What the caller keeps: a pointer is never NULL, not even with length 0, and points to as many
+   bytes as its length says; no other pointer of the same call points into what a call writes; a
+   struct is used by one call at a time.
 
-   The structs have one layout in every ABI, which the end of this header asserts: each member stands at
-   a multiple of its size, and what a compiler would fill in to a multiple of 8 is a member too. */
+   The structs have one layout in every ABI, which the end of this header asserts: each member
+   stands at a multiple of its size, and what a compiler would fill in to a multiple of 8 is a
+   member too. */
 #ifndef YMODEM_H
 #define YMODEM_H
 
@@ -94,17 +100,21 @@ typedef struct ym_ask {
 /* Makes a receiver that awaits its first file, whatever stood there. confirm 0: the first EOT of a file is questioned. */
 void ym_receiver_init(ym_receiver *receiver, uint32_t confirm);
 
-/* Takes bytes as they come, and tells how many it took. Call it again with the rest; 0 where the delivery is whole. */
+/* Takes bytes as they come, and tells how many it took. Call it again with the rest; 0 where the
+   delivery is whole. Behind ym_receiver_hear it takes none, until ym_receiver_answer. */
 size_t ym_receiver_feed(ym_receiver *receiver, const uint8_t *bytes, size_t len);
 
-/* 0: hear now. Else at least so many bytes are missing, at most 1029: read on, and hear when the line has been quiet. */
+/* 0: hear now, or answer what was heard. Else at least so many bytes are missing, at most 1029:
+   read on, and hear when the line has been quiet. */
 size_t ym_receiver_wants(const ym_receiver *receiver);
 
 /* Hears what was fed, and tells what is to be done before the answer. */
 void ym_receiver_hear(ym_receiver *receiver, ym_ask *ask);
 
-/* Takes the step that was heard: done is 0 where the host failed at what was asked, and then the receiver ends. Writes the reply, for
-   which 2 bytes suffice, and tells its length. The next delivery begins. */
+/* Takes the step that was heard: done is 0 where the host failed at what was asked, and then a
+   receiver that runs ends, with CAN CAN; one that has ended stays as it is. Writes the reply, for
+   which 2 bytes suffice, and tells its length; where there is not room for all of it, nothing is
+   written. The next delivery begins. Where nothing was heard, nothing is done. */
 size_t ym_receiver_answer(ym_receiver *receiver, uint32_t done, uint8_t *reply, size_t room);
 
 /* ---- The sender ---- */
@@ -116,6 +126,9 @@ enum ym_out { YM_OUT_NOTHING, YM_OUT_FRAME, YM_OUT_CANCEL };
 
 /* What is to be filled. */
 enum ym_fill_kind { YM_FILL_NOTHING, YM_FILL_HEADER, YM_FILL_BLOCK };
+
+/* What ym_sender_header and ym_sender_block answer where no such frame is to be filled. */
+enum { YM_NOT_NOW = 7 };
 
 /* A sender, and the frame that was filled last. */
 typedef struct ym_sender {
@@ -137,7 +150,8 @@ typedef struct ym_fill {
     uint32_t file;      /* the file, counted from 0 */
 } ym_fill;
 
-/* A batch is given at each call as the number of data blocks of each file, which stays the same; at most 65,535 files. */
+/* A batch is given at each call as the number of data blocks of each file, which stays the same; at
+   most 65,535 files. A sender of more counts as one that has ended. */
 
 /* Makes a sender that waits for the first C. */
 void ym_sender_init(ym_sender *sender, const uint64_t *blocks, size_t files);
@@ -145,19 +159,23 @@ void ym_sender_init(ym_sender *sender, const uint64_t *blocks, size_t files);
 /* 1: these bytes can be heard now; 0: read on until the line is quiet, or the wait for a reply is over. */
 uint32_t ym_sender_settled(const ym_sender *sender, const uint64_t *blocks, size_t files, const uint8_t *bytes, size_t len);
 
-/* Hears a delivery, of no bytes too, and tells what is to be filled by ym_sender_header or ym_sender_block. Where nothing is, the frame stays
-   as it was. */
+/* Hears a delivery, of no bytes too, and tells what is to be filled by ym_sender_header or
+   ym_sender_block. Where nothing is, the frame stays as it was. Rubbish becomes a sender that has
+   ended. */
 void ym_sender_hear(ym_sender *sender, const uint64_t *blocks, size_t files, const uint8_t *bytes, size_t len, ym_fill *fill);
 
-/* Makes the frame of a file's block 0: stamp 0 none, 1 the time, 2 the time and the mode. Answers 0, or an enum ym_fault: the first that
-   applies. */
+/* Makes the frame of a file's block 0, once, where ym_sender_hear told YM_FILL_HEADER: stamp 0
+   none, 1 the time, 2 the time and the mode. Answers 0, or an enum ym_fault, the first that
+   applies, or YM_NOT_NOW, and then has done nothing: the frame is empty until it is filled. */
 uint32_t ym_sender_header(ym_sender *sender, const uint8_t *name, size_t name_len, uint64_t length, uint32_t stamp, uint64_t time, uint32_t mode);
 
-/* Makes the frame of the data block that the sender stands at: 128 or 1024 bytes, the file's last ones filled up with 1A. Answers 0, or
-   1 where there are more or fewer. */
+/* Makes the frame of the data block that the sender stands at, once, where ym_sender_hear told
+   YM_FILL_BLOCK: 128 or 1024 bytes, the file's last ones filled up with 1A. Answers 0, or 1 where
+   there are more or fewer, or YM_NOT_NOW, and then has done nothing. */
 uint32_t ym_sender_block(ym_sender *sender, const uint8_t *body, size_t len);
 
-/* The frame cannot be filled: the sender ends, with CAN CAN to go. */
+/* The frame cannot be filled, or the host wants to end: a sender that runs ends, with CAN CAN to
+   go. One that has ended stays as it is. */
 void ym_sender_failed(ym_sender *sender, const uint64_t *blocks, size_t files);
 
 /* What is to be sent now (enum ym_out): the frame, of len bytes, or 18 18. */
@@ -180,8 +198,9 @@ uint32_t ym_check(const uint8_t *bytes, size_t len);
 /* Tells what stands at the front of some bytes. */
 void ym_frame_read(const uint8_t *bytes, size_t len, ym_front *front);
 
-/* Makes the frame of the block of this number, modulo 256, and this body at the front of `frame`, and answers its length, 133 or 1029. 0
-   where the body has neither 128 nor 1024 bytes, or the frame has no room. */
+/* Makes the frame of the block of this number, modulo 256, and this body at the front of `frame`,
+   and answers its length, 133 or 1029. 0 where the body has neither 128 nor 1024 bytes, or the
+   frame has no room. The bytes behind stay as they were. */
 size_t ym_frame_write(uint32_t number, const uint8_t *body, size_t len, uint8_t *frame, size_t room);
 
 /* ---- Frames in pieces ---- */
@@ -201,8 +220,9 @@ typedef struct ym_reader {
 /* Makes a reader to which nothing came, whatever stood there. */
 void ym_reader_init(ym_reader *reader);
 
-/* Takes bytes, tells how many, and what they make of those before; call it again with the rest. Behind a whole frame the reader is new, and
-   the frame's bytes stand in `held` until it is fed again. At YM_FRONT_NONE it takes all, until ym_reader_init. */
+/* Takes bytes, tells how many, and what they make of those before; call it again with the rest.
+   Behind a whole frame the reader is new, and the frame's bytes stand in `held` until it is fed
+   again. At YM_FRONT_NONE it takes all, until ym_reader_init; so does rubbish. */
 size_t ym_reader_feed(ym_reader *reader, const uint8_t *bytes, size_t len, ym_front *front);
 
 /* ---- Block 0 ---- */
@@ -223,8 +243,10 @@ typedef struct ym_header {
 /* Tells what the body of a block 0 stands for. */
 void ym_header_read(const uint8_t *body, size_t len, ym_header *header);
 
-/* Writes the body of a file's block 0 to the front of `body`, which has room for 1024 bytes. Answers how many it has, 128 or 1024; or why
-   there is no such header, an enum ym_fault; or 0 where there is less room. The body that ends a batch is 128 bytes 00. */
+/* Writes the body of a file's block 0 to the front of `body`, which has room for 1024 bytes.
+   Answers how many it has, 128 or 1024; or why there is no such header, an enum ym_fault; or 0
+   where there is less room. The bytes behind stay as they were, and where it answers no size, all
+   of them. The body that ends a batch is 128 bytes 00. */
 uint32_t ym_header_write(const uint8_t *name, size_t name_len, uint64_t length, uint32_t stamp, uint64_t time, uint32_t mode, uint8_t *body, size_t room);
 
 /* ---- The layout of the structs ---- */

@@ -35,13 +35,13 @@ Architecture: amd64
 Maintainer: {maintainer}
 Installed-Size: {size}
 Depends: libc6 (>= {libc})
-Suggests: socat, picocom | minicom
+Suggests: picocom | minicom
 Section: comm
 Priority: optional
 Description: proved program that sends and receives files by YMODEM
- Sends and receives batches of files by YMODEM, over a TCP connection on the
- machine itself or, by ymodem-tty and socat, over a serial line, and plays
- sessions over a line that loses and damages bytes.
+ Sends and receives batches of files by YMODEM, over a serial line or a TCP
+ connection on the machine itself, and plays sessions over a line that loses
+ and damages bytes.
  .
  It is written in Rattle, which is Rust with contracts, and proved: whatever is
  lost or damaged on the line, where damage shows, the files that the receiver
@@ -119,7 +119,8 @@ class Build:
         os.remove(stripped)
         documents = os.path.join(prefix, "share", "doc", "ymodem")
         shutil.copytree(os.path.join(ROOT, "docs"), os.path.join(documents, "docs"), ignore=shutil.ignore_patterns("*.py", "*.script", "__pycache__"))
-        shutil.copy(os.path.join(ROOT, "README.md"), documents)
+        for page in ("README.md", "CONTRIBUTING.md"):
+            shutil.copy(os.path.join(ROOT, page), documents)
         return documents
 
     def install_library(self, prefix):

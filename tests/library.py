@@ -184,6 +184,10 @@ def calls():
     command(built("tests/library_calls.c", "calls-alone"), "100000", "3")
 
 
+def promises():
+    command(built("tests/library_promises.c", "promises"))
+
+
 # ---- The same deliveries to an end of the library and to the program's
 
 # How an end can end.
@@ -257,6 +261,7 @@ CHECKS = [
     ("receive from ymodem send, five deliveries damaged", from_program(Seeded(41, 0.2, 5))),
     ("send to ymodem receive, five deliveries damaged", to_program(Seeded(42, 0.2, 5))),
     ("calls with rubbish", calls),
+    ("calls at the wrong time, rubbish, and what stays as it was", promises),
     *(("the library's %s and the program's, %d streams" % (end, STREAMS), beside(end)) for end in ENDS),
     ("calls with rubbish under sanitizers", sanitized),
     ("calls with rubbish under valgrind", checked_by_valgrind),

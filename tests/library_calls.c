@@ -69,30 +69,29 @@ static void any_stand(ym_stand *stand) {
         stand->first_eot = (uint32_t)below(2);
         stand->retries = (uint32_t)below(12);
         stand->state = (uint32_t)(below(3) ? 0 : below(9));
-        stand->fault = (uint32_t)below(7);
+        stand->fault = (uint32_t)(stand->state == YM_BAD_HEADER || below(8) == 0 ? below(7) : 0);
     }
 }
 
 /* The frame of a block, or of a file's block 0. */
-static void any_frame(ym_receiver *receiver, ym_sender *sender) {
+static void any_frame(ym_receiver *receiver) {
     uint8_t body[1024];
+    uint32_t block = (uint32_t)(below(2) ? receiver->stand.blocks + 1 : number()), size = below(2) ? 128 : 1024;
     rubbish(body, sizeof body);
-    sender->number = below(2) ? receiver->stand.blocks + 1 : number();
     if (below(2)) {
-        wants(ym_sender_header(sender, (const uint8_t *)"a name", 6, number(), (uint32_t)below(4), number(), (uint32_t)chance()) <= YM_LENGTH_LARGE, "a header's fault");
-    } else if (below(3)) {
-        wants(ym_sender_block(sender, body, below(2) ? 128 : 1024) == 0, "a block");
-    } else {
-        sender->frame[0] = 0x04;
-        sender->len = 1;
+        block = 0;
+        size = ym_header_write((const uint8_t *)"a name", 6, number(), (uint32_t)below(4), number(), (uint32_t)chance(), body, sizeof body);
+        wants(size == 128 || size == 1024 || size == YM_LENGTH_LARGE, "a header's fault");
+    } else if (below(3) == 0) {
+        size = 0;
+        receiver->held[0] = 0x04;
     }
-    if (sender->len) memcpy(receiver->held, sender->frame, sender->len);
-    receiver->len = sender->len;
+    receiver->len = size == 0 ? 1 : (uint32_t)ym_frame_write(block, body, size, receiver->held, sizeof receiver->held);
 }
 
 static uint64_t asked[4], states[8], filled[3];
 
-static void receive(ym_receiver *receiver, ym_sender *sender, ym_ask *ask) {
+static void receive(ym_receiver *receiver, ym_ask *ask) {
     any_stand(&receiver->stand);
     any_stand(&receiver->next);
     receiver->reply = (uint32_t)(below(2) ? below(9) : number());
@@ -100,7 +99,7 @@ static void receive(ym_receiver *receiver, ym_sender *sender, ym_ask *ask) {
     rubbish(receiver->held, sizeof receiver->held);
     if (below(8) == 0) ym_receiver_init(receiver, (uint32_t)number());
     for (uint64_t calls = below(8); calls; calls--) {
-        if (below(3) == 0) any_frame(receiver, sender);
+        if (below(3) == 0) any_frame(receiver);
         size_t len = below(40), reply_room = below(4);
         uint8_t *bytes = room(BYTES, len), *reply = room(REPLY, reply_room);
         rubbish(bytes, len);
@@ -133,6 +132,8 @@ static void send(ym_sender *sender, ym_fill *fill) {
         sender->retries = (uint32_t)below(12);
         sender->state = (uint32_t)(below(3) ? 0 : below(6));
         sender->number = below(2) ? number() : 1;
+        sender->len = (uint32_t)(below(2) ? 0 : below(1030));
+        sender->cancel_pending = (uint32_t)below(3);
     }
     if (below(8) == 0) ym_sender_init(sender, blocks, files);
     for (uint64_t calls = below(8); calls; calls--) {
@@ -143,8 +144,8 @@ static void send(ym_sender *sender, ym_fill *fill) {
         case 0: wants(ym_sender_settled(sender, blocks, files, bytes, len) <= 1, "settled or not"); break;
         case 1: wants(ym_sender_out(sender, blocks, files) <= YM_OUT_CANCEL, "what is to be sent"); break;
         case 2: ym_sender_failed(sender, blocks, files); break;
-        case 3: wants(ym_sender_header(sender, bytes, len, number(), (uint32_t)below(4), number(), (uint32_t)chance()) <= YM_LENGTH_LARGE, "a header's fault"); break;
-        case 4: wants(ym_sender_block(sender, bytes, len) == 1, "a short body"); break;
+        case 3: wants(ym_sender_header(sender, bytes, len, number(), (uint32_t)below(4), number(), (uint32_t)chance()) <= YM_NOT_NOW, "a header's fault"); break;
+        case 4: wants(ym_sender_block(sender, bytes, len) % 6 == 1, "a short body"); break;
         default:
             ym_sender_hear(sender, blocks, files, bytes, len, fill);
             wants(fill->kind <= YM_FILL_BLOCK && (!fill->kind || fill->file < files), "a fill");
@@ -224,9 +225,8 @@ int main(int words, char **word) {
     ym_fill *fill = (ym_fill *)(void *)room(FILL, sizeof *fill);
     ym_reader *reader = (ym_reader *)(void *)room(READER, sizeof *reader);
     ym_header *header = (ym_header *)(void *)room(HEADER, sizeof *header);
-    memset(sender, 0, sizeof *sender);
     for (long i = 0; i < rounds; i++) {
-        receive(receiver, sender, ask);
+        receive(receiver, ask);
         send(sender, fill);
         read_frame();
         read_pieces(reader, header);

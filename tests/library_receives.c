@@ -72,18 +72,15 @@ static void a_file(struct sending *it) {
 }
 
 static size_t the_block(uint64_t number, const uint8_t *body, size_t size, uint8_t *bytes) {
-    ym_sender scratch;
-    scratch.number = number;
-    wants(ym_sender_block(&scratch, body, size) == 0, "a block");
-    memcpy(bytes, scratch.frame, scratch.len);
-    return scratch.len;
+    size_t len = ym_frame_write((uint32_t)number, body, size, bytes, DELIVERY);
+    wants(len == size + 5, "a block");
+    return len;
 }
 
 static size_t the_header(const char *name, uint64_t length, uint8_t *bytes) {
-    ym_sender scratch;
-    if (ym_sender_header(&scratch, (const uint8_t *)name, strlen(name), length, below(3), below(1u << 31), below(1u << 16)) != 0) return 0;
-    memcpy(bytes, scratch.frame, scratch.len);
-    return scratch.len;
+    uint8_t body[1024];
+    uint32_t size = ym_header_write((const uint8_t *)name, strlen(name), length, below(3), below(1u << 31), below(1u << 16), body, sizeof body);
+    return ym_frame_write(0, body, size, bytes, DELIVERY);
 }
 
 static size_t the_frame(const struct sending *it, uint8_t *bytes) {

@@ -57,7 +57,7 @@ def is_installed():
 def copied(to, umask):
     """A copy of what packages are made of, as a user with this umask has it."""
     os.mkdir(to)
-    for name in ("packaging", "tools", "share", "docs", "README.md", "ymodem-tty"):
+    for name in ("packaging", "tools", "share", "docs", "README.md", "CONTRIBUTING.md"):
         subprocess.run(["sh", "-c", 'umask "$1"; exec cp -R "$2" "$3"', "", umask, os.path.join(ROOT, name), to], check=True)
     return to
 
@@ -95,7 +95,7 @@ def deb_is_well():
     with tempfile.TemporaryDirectory(prefix="ymodem-") as top:
         file = packed("deb", copied(top + "/one", "022"), "022")
         fields = subprocess.run(["dpkg-deb", "--field", file, "Depends", "Suggests"], capture_output=True, text=True, check=True).stdout
-        if not fields.startswith("Depends: libc6 (>= 2.") or "," in fields.splitlines()[0] or "Suggests: socat" not in fields:
+        if not fields.startswith("Depends: libc6 (>= 2.") or "," in fields.splitlines()[0] or "Suggests: picocom" not in fields:
             raise AssertionError("its fields are %r" % fields)
         subprocess.run(["dpkg-deb", "--extract", file, top + "/root"], check=True)
         wanted = {it.replace("site-functions", "vendor-completions") + (".gz" if "/man/" in it else "") for it in INSTALLED}
@@ -137,7 +137,7 @@ def runs_in_a_root():
 
 def tools_exist():
     """What the Makefile calls is there and may be run."""
-    names = ("tools/prove.py", "tools/install.sh", "packaging/package.py", "docs/pictures/draw.py", "ymodem-tty")
+    names = ("tools/prove.py", "tools/install.sh", "packaging/package.py", "docs/pictures/draw.py", "share/ymodem-tty")
     missing = [it for it in names if not os.access(os.path.join(ROOT, it), os.X_OK)]
     if missing:
         raise AssertionError("missing: %s" % missing)

@@ -74,7 +74,7 @@ static void any_stand(ym_stand *stand) {
         stand->first_eot = (uint32_t)below(2);
         stand->retries = (uint32_t)below(12);
         stand->state = (uint32_t)(below(3) ? 0 : below(9));
-        stand->fault = (uint32_t)below(7);
+        stand->fault = (uint32_t)(stand->state == YM_BAD_HEADER || below(8) == 0 ? below(7) : 0);
     }
 }
 
@@ -92,6 +92,8 @@ static void anything(void) {
     all.sender.retries = (uint32_t)below(below(3) ? 3 : 12);
     all.sender.state = (uint32_t)(below(3) ? 0 : below(6));
     all.sender.number = below(3) ? 1 + below(4) : number();
+    all.sender.len = (uint32_t)(below(4) ? 0 : below(1031));
+    all.sender.cancel_pending = (uint32_t)below(below(4) ? 2 : 4);
     all.reader.why = (uint32_t)below(6);
     all.reader.len = (uint32_t)below(1040);
 }
@@ -161,11 +163,18 @@ static uint32_t fill_header(void) {
         &all.sender, all.bytes, given.name_len, given.length, given.stamp, given.time, given.mode);
 }
 
+static uint32_t write_header(size_t room) {
+    given.name_len = name();
+    return ym_header_write(all.bytes, given.name_len, given.length, given.stamp, given.time,
+        given.mode, all.out, room);
+}
+
 /* A receiver that runs, and holds what it may hear there: the frame of a header or of a block, or
  * an EOT. */
 static void meet(void) {
     any_stand(&all.receiver.stand);
     all.receiver.stand.state = YM_RUNNING;
+    all.receiver.stand.fault = 0;
     all.receiver.stand.retries = (uint32_t)below(10);
     all.receiver.stand.files = (uint32_t)below(9);
     all.receiver.stand.in_file = below(4) ? 1 : 0;
@@ -173,14 +182,20 @@ static void meet(void) {
     all.receiver.stand.taken = all.receiver.stand.blocks * 1024;
     all.receiver.stand.length = all.receiver.stand.taken + below(2) * below(3000);
     all.receiver.stand.first_eot = (uint32_t)below(2);
-    all.sender.number = all.receiver.stand.blocks + (below(4) ? 1 : below(3));
+    uint32_t number = (uint32_t)all.receiver.stand.blocks + (below(4) ? 1 : (uint32_t)below(3));
+    uint32_t size = below(2) ? 128 : 1024;
+    const uint8_t *body = all.bytes;
     switch (below(3)) {
-    case 0: fill_header(); break;
-    case 1: ym_sender_block(&all.sender, all.bytes, below(2) ? 128 : 1024); break;
-    default: all.sender.frame[0] = 0x04; all.sender.len = 1;
+    case 0:
+        number = 0;
+        body = all.out;
+        size = write_header(sizeof all.out);
+        break;
+    case 1: break;
+    default: all.receiver.held[0] = 0x04; all.receiver.len = 1; return;
     }
-    memcpy(all.receiver.held, all.sender.frame, sizeof all.receiver.held);
-    all.receiver.len = all.sender.len;
+    all.receiver.len = (uint32_t)ym_frame_write(
+        number, body, size, all.receiver.held, sizeof all.receiver.held);
 }
 
 static uint64_t call_receiver(uint64_t which, size_t len) {
@@ -228,10 +243,7 @@ static uint64_t call_frames(uint64_t which, size_t len) {
     case 17:
         ym_header_read(below(2) ? all.sender.frame + 3 : all.bytes, given.size % 1025, &all.header);
         return all.header.kind;
-    default:
-        given.name_len = name();
-        return ym_header_write(all.bytes, given.name_len, given.length, given.stamp, given.time,
-            given.mode, all.out, given.room);
+    default: return write_header(given.room);
     }
 }
 

@@ -1,5 +1,5 @@
 #!/usr/bin/env python3
-"""Tries what is shipped beside the program: what it tells, ymodem-tty under a terminal program, the manual pages, the completion, the charts, the packages and
+"""Tries what is shipped beside the program: what it tells, serial lines, ymodem-tty under a terminal program, the manual pages, the completion, the charts, the packages and
 the Makefile; and what the crates keep to among themselves.
 
 Prints a line for each check, and ends with the line 'N passed, M failed, K skipped'; the status is 1 where a check failed. A check that needs a
@@ -23,6 +23,8 @@ import house_checks
 import make_checks
 import package_checks
 import readme_checks
+import screen_checks
+import serial_checks
 import showing_checks
 import starting_checks
 import telling_checks
@@ -35,7 +37,9 @@ from reporting import report
 BOOKS = (
     telling_checks,
     showing_checks,
+    screen_checks,
     starting_checks,
+    serial_checks,
     tty_checks,
     readme_checks,
     words_checks,

@@ -1,8 +1,10 @@
 """What real ends of a line read, played again to the proved engines over ports that tell their events.
 
-Each end runs under strace, which records what every read of the line brought, every wait that ended in quiet, and every write. The program
-`replay` plays the reads to the same engine over a scripted port, for which the engines' promises are exact: what it writes, how it ends, how
-many files are done, and which are committed, is what the definitions say of that tape. The process has to have written, reported and stored the same.
+Each end runs under strace, which records what every read of the line brought, every wait that
+ended in quiet, and every write. The program `line_cases` plays the reads to the same engine over a
+scripted port, for which the engines' promises are exact: what it writes, how it ends, how many
+files are done, and which are committed, is what the definitions say of that tape. The process has
+to have written, reported and stored the same.
 """
 
 import ast
@@ -19,7 +21,7 @@ from tracing import calls_of, strace
 from transfer_checks import few_files
 from transfers import carried
 
-REPLAY = os.path.abspath(os.environ.get("REPLAY", os.path.join(ROOT, "crates", "replay", "out", "replay")))
+CASES = os.path.abspath(os.environ.get("CASES", os.path.join(ROOT, "crates", "line_cases", "out", "line_cases")))
 CALLS = "connect,accept,accept4,recvfrom,sendto,read,write,dup,fcntl"
 DATA = re.compile(r'(\d+), ("(?:\\x[0-9a-f]{2})*")')
 
@@ -48,7 +50,7 @@ def bytes_in(call, count):
 
 
 def tape(log):
-    """What each read brought, a line each as `replay` takes it, and all the bytes written."""
+    """What each read brought, a word each as `line_cases` takes it, and all the bytes written."""
     calls = calls_of(log)
     line = line_of(calls)
     reads, written = [], b""
@@ -59,7 +61,7 @@ def tape(log):
             if call.answer == "0":
                 reads.append("closed")
             elif call.answer.isdigit():
-                reads.append("bytes " + bytes_in(call, int(call.answer)).hex())
+                reads.append(bytes_in(call, int(call.answer)).hex())
             elif "EAGAIN" in call.rest:
                 reads.append("quiet")
             elif "EINTR" not in call.rest:
@@ -72,14 +74,18 @@ def tape(log):
 def played(role, files, reads):
     """How the engine ends that reads this: how it returned, its state in the words of a report, its count, the files that it committed, and what it
     wrote."""
-    given = [role, *("file %s %s" % (name, data.hex() or "-") for name, data in files), *reads]
-    told = subprocess.run([REPLAY], input="".join(line + "\n" for line in given), capture_output=True, text=True, timeout=LIMIT)
+    head = " ".join([role, *("%s=%s" % (name, data.hex() or "-") for name, data in files)])
+    given = "%s | %s\n" % (head, " ".join(reads))
+    told = subprocess.run([CASES], input=given, capture_output=True, text=True, timeout=LIMIT)
     if told.returncode:
-        raise AssertionError("replay: " + told.stderr)
-    first, *committed, wrote = told.stdout.splitlines()
-    _, state, count = first.split(" ")
-    kept = [(name, bytes.fromhex(data)) for _, name, data in (line.split(" ") for line in committed)]
-    return WORDS.get(state, state.lower()), int(count), kept, bytes.fromhex(wrote.partition(" ")[2])
+        raise AssertionError("line_cases: " + told.stderr)
+    said, *committed = told.stdout.removeprefix(given).splitlines()
+    found = re.fullmatch(r"  \S+ (\S+), (\d+) (?:done|kept), 0 faults, wrote ([0-9a-f]*)", said)
+    if not found:
+        raise AssertionError("line_cases: %r" % said[:200])
+    state, count, wrote = found.groups()
+    kept = [(name, bytes.fromhex(data)) for _, name, data in (line[2:].split(" ") for line in committed)]
+    return WORDS.get(state, state.lower()), int(count), kept, bytes.fromhex(wrote)
 
 
 def wants_replayed(log, role, ended, files=(), kept=None):
@@ -89,7 +95,7 @@ def wants_replayed(log, role, ended, files=(), kept=None):
     if wrote != written:
         at = next((at for at, both in enumerate(zip(wrote, written)) if both[0] != both[1]), min(len(wrote), len(written)))
         raise AssertionError("%s wrote %d bytes, its engine %d; they part at byte %d" % (role, len(written), len(wrote), at))
-    line = ("sender done %d %s" if role.startswith("sender") else "receiver files %d %s") % (count, state)
+    line = ("sender done %d %s" if role.startswith("send ") else "receiver files %d %s") % (count, state)
     if ended.out.splitlines()[-1:] != [line]:
         raise AssertionError("the end told %r, its engine %r" % (ended.out[-80:], line))
     if kept is not None:
@@ -97,7 +103,7 @@ def wants_replayed(log, role, ended, files=(), kept=None):
 
 
 def roles(flags):
-    return "sender short" if "--short" in flags else "sender mixed", "receiver once" if "--single" in flags else "receiver twice"
+    return "send clear" + " short" * ("--short" in flags), "receive clear" + " once" * ("--single" in flags)
 
 
 def between_both(files, relay_to, flags):
@@ -116,8 +122,8 @@ def between_both(files, relay_to, flags):
 
 
 def wants_program():
-    if not os.access(REPLAY, os.X_OK):
-        raise Skipped("crates/replay is not built (make replay)")
+    if not os.access(CASES, os.X_OK):
+        raise Skipped("crates/line_cases is not built (make cases)")
 
 
 def from_sb(files, flags):

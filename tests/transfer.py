@@ -23,6 +23,7 @@ sys.dont_write_bytecode = True
 sys.path.insert(0, os.path.dirname(os.path.abspath(__file__)))
 
 import kill_checks
+import large_checks
 import late_checks
 import line_checks
 import lrzsz_checks
@@ -43,7 +44,7 @@ from storing import steadily
 # What depends on how soon this process answers comes first, and by itself: most of these checks wait most of the time. The others have work to do.
 TIMED = (transfer_checks, peer_checks, late_checks, stall_checks, line_checks)
 TIMED_AT_ONCE = 500
-OTHERS = (kill_checks, refused_call_checks, power_cut_checks, storage_checks, small_disk_checks, socket_checks, tape_checks)
+OTHERS = (large_checks, kill_checks, refused_call_checks, power_cut_checks, storage_checks, small_disk_checks, socket_checks, tape_checks)
 OTHERS_AT_ONCE = 60
 
 # How often a check is made on a machine that does not keep time.
@@ -87,7 +88,7 @@ def wanted(words):
     if "--interop" in words:
         return lrzsz_checks.CHECKS, [], []
     if "--long" in words:
-        return [], small_disk_checks.LONG, []
+        return [], small_disk_checks.LONG + large_checks.LONG, []
     notes = [] if lrzsz_checks.is_installed() else ["left out: lrzsz is not installed"]
     # The slowest start first.
     timed = peer_checks.SLOW + socket_checks.SLOW + checks_of(TIMED) + ([] if notes else lrzsz_checks.CHECKS)

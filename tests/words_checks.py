@@ -11,8 +11,9 @@ MAN = os.path.join(ROOT, "share", "man")
 COMPLETION = os.path.join(ROOT, "share", "completion")
 HELP = {"-h", "--help"}
 
-# What `ymodem-tty` does not take.
-NOT_OF_A_LINE = ("--port", "-p", "--keep")
+# What `ymodem-tty` runs, and what it gives that by itself.
+BY_SCRIPT = {"sb": "send", "rb": "receive"}
+OF_SCRIPT = ("--line",)
 
 
 class Help:
@@ -97,10 +98,10 @@ def synopsis():
 
 def page_of_script():
     """What the script says of itself stands in its page."""
-    said = subprocess.run([os.path.join(ROOT, "ymodem-tty"), "--help"], capture_output=True, text=True, check=False).stderr
+    said = subprocess.run([os.path.join(ROOT, "share", "ymodem-tty"), "--help"], capture_output=True, text=True, check=False).stderr
     whole = text_of(page("ymodem-tty.1"))
-    paragraph = next(it for it in said.split("\n\n") if it.startswith("OPTIONS"))
-    wanted = [said.partition("\n")[0], *pieces(paragraph.partition(" It runs ")[0]), said.rstrip().splitlines()[-1].strip()]
+    paragraph = next(it for it in said.split("\n\n") if it.startswith("LINE"))
+    wanted = [said.partition("\n")[0], *pieces(paragraph)[1:-1]]
     lacking = [it for it in wanted if it not in whole]
     if lacking:
         raise AssertionError("ymodem-tty.1 lacks what the script says: %r" % lacking)
@@ -157,9 +158,10 @@ def completion(shell, complete):
             told = Help(command)
             lines = {option: told.lines.get(option) for option in told.options}
             wants_offered("the options of %s" % command, "ymodem", ["ymodem", command, "-"], lines)
-            if command in ("send", "receive"):
-                rest = {option: line for option, line in lines.items() if option not in NOT_OF_A_LINE}
-                wants_offered("the options of ymodem-tty %s" % command, "ymodem-tty", ["ymodem-tty", command, "-"], rest)
+            if command in BY_SCRIPT:
+                rest = {option: line for option, line in lines.items() if option not in OF_SCRIPT}
+                words = ["ymodem-tty", BY_SCRIPT[command], "-"]
+                wants_offered("the options of %s" % " ".join(words[:2]), "ymodem-tty", words, rest)
 
     return check
 

@@ -61,6 +61,9 @@ TRIED = ("must-fail", "edits")
 class Trial:
     """The edits of a crate, and how they came out."""
 
+    # The folders that they stand in.
+    parts = TRIED
+
     def __init__(self, name, listed, version, anew):
         self.name, self.seed = name, os.path.join(ROOM, name, "seed")
         # The copy that each run begins with.
@@ -73,7 +76,7 @@ class Trial:
         self.edits = [it for it in self.found() if self.is_open(it)]
 
     def found(self):
-        for part in TRIED:
+        for part in self.parts:
             top = os.path.join(CRATES, self.name, part)
             names = sorted(os.listdir(top)) if os.path.isdir(top) else []
             files = [os.path.join(top, it) for it in names if not it.endswith(".md")]
@@ -121,7 +124,7 @@ class Trial:
 
     def make_seed(self):
         """The crates that its checks read, with what was kept of them."""
-        left_out = shutil.ignore_patterns("out", *TRIED)
+        left_out = shutil.ignore_patterns("out", "plants", *TRIED)
         for name in self.names:
             to = os.path.join(self.seed, "crates", name)
             shutil.copytree(os.path.join(CRATES, name), to, ignore=left_out)
@@ -324,8 +327,8 @@ def options(words, listed):
     return anew, lanes, words or list(listed.lines)
 
 
-def tried(names, listed, anew, lanes):
-    """Tries the edits of these crates. Gives the trials."""
+def tried(names, listed, anew, lanes, kind=Trial):
+    """Tries the edits of these crates. Gives the trials, which are of this kind."""
     version = subprocess.run(["rt", "version"], capture_output=True, text=True, check=True).stdout
     os.makedirs(KEPT, exist_ok=True)
     with open(os.path.join(KEPT, "lock"), "w", encoding="utf-8") as lock:
@@ -334,7 +337,7 @@ def tried(names, listed, anew, lanes):
         shutil.rmtree(ROOM, ignore_errors=True)
         os.makedirs(ROOM, 0o700)
         try:
-            trials = [Trial(name, listed, version, anew) for name in names]
+            trials = [kind(name, listed, version, anew) for name in names]
             in_lanes([it for it in trials if it.edits], lanes)
             return trials
         finally:

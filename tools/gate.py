@@ -32,7 +32,7 @@ ROOT = proved.ROOT
 OUT = os.path.join(ROOT, "out")
 LOG = os.path.join(OUT, "gate.log")
 # Copies, since the gate is at work in the crates' own folders, by the variables that name them to the tests.
-TRIED = {"YMODEM": "ymodem", "REPLAY": "replay"}
+TRIED = {"YMODEM": "ymodem", "CASES": "line_cases"}
 # The tests that need the library or the page come last: these are made meanwhile.
 TESTS = ("transfer", "shipped")
 # The last one tells what was skipped in the others.
@@ -91,9 +91,8 @@ class Gate:
         with self.changed:
             self.changed.wait_for(lambda: self.is_over)
         if self.child.returncode is None:
-            _, status, used = os.wait4(self.child.pid, 0)
-            self.child.returncode = os.waitstatus_to_exitcode(status)
-            took = (time.monotonic() - self.began) / 60, (used.ru_utime + used.ru_stime) / 60
+            used = reaped(self.child)
+            took = (time.monotonic() - self.began) / 60, used
             tell("the gate took %.1f minutes, and %.1f processor minutes" % took)
         sys.stdout.write("".join(self.lines))
         sys.stdout.flush()
@@ -132,14 +131,26 @@ def tell(text):
         print(text, flush=True)
 
 
+def reaped(child):
+    """Waits for the end of a child that this program alone waits for. Gives the processor minutes that it and its children used."""
+    _, status, used = os.wait4(child.pid, 0)
+    child.returncode = os.waitstatus_to_exitcode(status)
+    return (used.ru_utime + used.ru_stime) / 60
+
+
 def shown(title, words, folder=ROOT, env=None):
-    """Runs a command, and tells what it said when it has ended. Gives its status."""
+    """Runs a command, and tells what it said, and what it took, when it has ended. Gives its status."""
+    began = time.monotonic()
     how = {"stdin": subprocess.DEVNULL, "stdout": subprocess.PIPE, "stderr": subprocess.STDOUT, "text": True, "errors": "replace"}
     child = subprocess.Popen(words, cwd=folder, env=env, start_new_session=True, **how)
     RUNNING.add(child)
-    said = child.communicate()[0]
+    with child.stdout as out:
+        said = out.read()
+    used = reaped(child)
     RUNNING.discard(child)
-    tell(title + "\n" + said.rstrip("\n"))
+    minutes = (time.monotonic() - began) / 60
+    tell("%s\n%s" % (title, said.rstrip("\n")))
+    tell("%s took %.1f minutes, and %.1f processor minutes" % (title, minutes, used))
     return child.returncode
 
 

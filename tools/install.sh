@@ -11,7 +11,7 @@ share=$2/share
 umask 022
 
 install -D -m 755 "$1" "$2/bin/ymodem"
-install -D -m 755 "$here/ymodem-tty" "$2/bin/ymodem-tty"
+install -D -m 755 "$here/share/ymodem-tty" "$2/bin/ymodem-tty"
 for page in ymodem.1 ymodem-tty.1; do
     install -D -m 644 "$here/share/man/$page" "$share/man/man1/$page"
 done

@@ -155,13 +155,14 @@ class Function:
     """A function of the module, which is rewritten line by line."""
 
     def __init__(self, result, name, params, body):
-        self.result, self.name, self.short = result, name, "core_" + name.rpartition("__")[2]
+        self.result, self.name = result, name
+        self.short = "core_" + "_".join(name.split("__")[-2:])
         self.params = re.sub(r"w2c_", "", params)
         declared = DECLARED.findall(body)
         self.types = {it: kind for kind, some in declared for it in re.findall(r"w2c_(\w+)", some)}
         lines = DECLARED.sub("", body).splitlines()
         self.lines = [it for it in lines if not re.fullmatch(r" *FUNC_(PRO|EPI)LOGUE;", it)]
-        self.frame, self.needs_stack = 0, False
+        self.frame, self.own, self.needs_stack = 0, 0, False
         self.calls = set(re.findall(r"\bw2c_(\w+)\(instance", body)) - {"__rattle_enter"}
 
     def put(self, i, pattern, text):
@@ -229,7 +230,11 @@ class Function:
             asked = self.number(end, "j" + found[2]) + (found[1] == "<=")
             wants(asked == BELOW, "%s: room for %d more" % (self.name, asked))
             self.lines[end] = ROOM.sub("1u" if found[1] == ">=" else "0u", self.lines[end])
-            self.frame += self.framed(i, end)
+            size = self.framed(i, end)
+            self.frame += size
+            # What was inlined has a frame below, and does not move the stack.
+            if any(it.strip().startswith(STACK + " =") for it in self.lines[i:end]):
+                self.own += size
         moves = [i for i, it in enumerate(self.lines) if it.strip().startswith(STACK + " =")]
         wants(all(map(self.is_put_back, moves)), "%s: how it moves the stack" % self.name)
 
@@ -246,11 +251,11 @@ class Function:
     def is_put_back(self, i):
         """Whether this line moves the stack by the frame, down or up again, or to where it was."""
         before = "\n".join(it.strip() for it in self.lines[max(0, i - 6) : i])
-        down = r"= %s;\nw2c_j\d+ = \d+ull;\nw2c_j\d+ [-+]= w2c_j\d+;\nw2c_l\d+ = w2c_j\d+;$" % STACK
-        size = r"(= %dull;\nw2c_j\d+ \+|= %dull;\nw2c_j\d+ -)" % (self.frame, 2**64 - self.frame)
-        up = r"w2c_j\d+ = w2c_l\d+;\nw2c_j\d+ %s= w2c_j\d+;$" % size
-        again = r"w2c_j\d+ = w2c_l\d+;$"
-        ways = (down, up) if self.frame else (again,)
+        down = r"= %s;\nw2c_j\d+ = \d+ull;\nw2c_j\d+ [-+]= w2c_j\d+;\nw2c_[lp]\d+ = w2c_j\d+;$" % STACK
+        size = r"(= %dull;\nw2c_j\d+ \+|= %dull;\nw2c_j\d+ -)" % (self.own, 2**64 - self.own)
+        up = r"w2c_j\d+ = w2c_[lp]\d+;\nw2c_j\d+ %s= w2c_j\d+;$" % size
+        again = r"w2c_j\d+ = w2c_[lp]\d+;$"
+        ways = (down, up) if self.own else (again,)
         return any(re.search(it, before) for it in ways)
 
     def prune(self):

@@ -2,11 +2,19 @@
 
 _ymodem_tty() {
     local cur=${COMP_WORDS[COMP_CWORD]} command= words
-    [ "$COMP_CWORD" -gt 1 ] && command=${COMP_WORDS[1]}
+    local at=1
+    # what the words say of the line stands before the command
+    while [ "$at" -lt "$COMP_CWORD" ]; do
+        case ${COMP_WORDS[at]} in
+        --device=* | --speed=* | --flow=*) at=$((at + 1)) ;;
+        --device | --speed | --flow) at=$((at + 2)) ;;
+        *) command=${COMP_WORDS[at]}; break ;;
+        esac
+    done
     case $command in
-    '') words='send receive --help -h' ;;
+    '') words='send receive --device --speed --flow --help -h' ;;
     send) words='--short --verbose --quiet --help -h' ;;
-    receive) words='--single --eager --no-sync --discard-parts --verbose --quiet --help -h' ;;
+    receive) words='--single --no-sync --discard-parts --verbose --quiet --help -h' ;;
     *) words= ;;
     esac
     local IFS=$'\n'

@@ -1,7 +1,7 @@
-"""Runs of the machine, as rows of a test of `ym_timing`: `python3 compare.py COUNT SEED`.
+"""Runs of the machine, as cases of `line_cases`: `python3 compare.py COUNT SEED`.
 
-It prints the two tables of `crates/ym_timing/src/tests.rt`. For a longer comparison put more rows
-into a copy of the crate, and `rt try --test` there.
+It prints two lines of `crates/line_cases/stdin`. For a longer comparison give the lines to the
+program, which tells how many of its answers are these.
 """
 
 import random
@@ -40,7 +40,7 @@ class Run:
         self.written, self.index, self.rows = b"", None, []
 
     def row(self, act, value, answer):
-        self.rows.append("    (Act::%s, %d, %d, %d)," % (act, value, self.now, answer))
+        self.rows.append("%s:%d:%d:%d" % (act, value, self.now, answer))
 
     def some_bytes(self):
         if self.chance.random() < 0.6:
@@ -50,36 +50,36 @@ class Run:
     def hears(self):
         for byte in self.some_bytes():
             said = self.timing.byte(byte, self.written, self.now)
-            self.row("Byte", byte, len(said))
+            self.row("byte", byte, len(said))
 
     def waits(self):
         kind = self.chance.randrange(2)
-        self.row("Until", kind, self.timing.until((REPLY, WITHIN)[kind], self.now))
+        self.row("until", kind, self.timing.until((REPLY, WITHIN)[kind], self.now))
 
     def expires(self):
         kind = self.chance.randrange(2)
         vain = self.timing.expired((REPLY, WITHIN)[kind], self.now)
-        self.row("Expired", kind, VAIN.index(vain))
+        self.row("expired", kind, VAIN.index(vain))
 
     def cancels(self):
         was, self.timing.has_cancel = self.timing.has_cancel, False
-        self.row("Cancel", 0, was)
+        self.row("cancel", 0, was)
 
     def writes(self):
         timing, index = self.timing, self.chance.choice(WRITES[self.role])
         if self.index is not None and self.chance.random() < 0.4:
             index = self.index
         clearing = timing.clearing(FRAMES[index], self.now)
-        self.row("Clearing", index, timing.clear_at(clearing))
+        self.row("clearing", index, timing.clear_at(clearing))
         for _ in range(self.chance.choice((0, 0, 1, 3))):
             byte = self.chance.choice((6, 6, 21, 67, 24, 24, 1))
             self.now += self.chance.choice((0, 3, 200))
             timing.dropped(clearing, byte, self.written, self.now)
-            self.row("Dropped", byte, timing.clear_at(clearing))
+            self.row("dropped", byte, timing.clear_at(clearing))
         timing.wrote(FRAMES[index], clearing, self.now)
         self.written, self.index = FRAMES[index], index
         owed = OWED.index(timing.out.owed)
-        self.row("Wrote", index, timing.slowest * 8 + owed * 2 + timing.is_shaken)
+        self.row("wrote", index, timing.slowest * 8 + owed * 2 + timing.is_shaken)
 
     def steps(self, count):
         acts = (self.hears, self.hears, self.hears, self.waits, self.expires, self.writes)
@@ -92,6 +92,4 @@ class Run:
 if __name__ == "__main__":
     count, seed = int(sys.argv[1]), int(sys.argv[2])
     for role in ("sender", "receiver"):
-        print("const %s: [(Act, u8, u64, u64); %d] = [" % (role.upper(), count))
-        print("\n".join(Run(role, seed).steps(count)))
-        print("];\n")
+        print("timing %s | %s" % (role, " ".join(Run(role, seed).steps(count))))

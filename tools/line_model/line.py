@@ -121,8 +121,8 @@ class End:
 class Line:
     """Two ends, the ways between them, and the events to come."""
 
-    def __init__(self, seed, there=None, back=None, echoes=(None, None), log=None):
-        self.now = 0
+    def __init__(self, seed, there=None, back=None, echoes=(None, None), log=None, flips=()):
+        self.now, self.flips = 0, flips
         self.chance = random.Random(seed)
         self.events, self.number = [], 0
         self.ways = [there or Way(), back or Way()]
@@ -138,9 +138,18 @@ class Line:
         self.number += 1
         heapq.heappush(self.events, Event(self.now + wait, self.number, lambda: run(*values)))
 
+    def flip(self, data):
+        """Strikes a frame behind its first bytes, so that it stays one, and a reply anywhere."""
+        head = 3 if len(data) > 3 else 0
+        place = head + self.chance.randrange(len(data) - head)
+        struck = bytes([data[place] ^ 1 << self.chance.randrange(8)])
+        return data[:place] + struck + data[place + 1 :]
+
     def damage(self, side, data):
         way = self.ways[side]
         number = self.writes[side]
+        if sum(self.writes) + 1 in self.flips:
+            data = self.flip(data)
         self.writes[side] += 1
         if number in way.damaged and len(data) > 5:
             place = 3 + self.chance.randrange(len(data) - 3)

@@ -53,7 +53,9 @@ class Ear:
         if byte in (1, 2):
             return self.other("head", byte)
         if byte not in CONTROLS:
-            return self.other("open")
+            is_lone = self.others == 0 and byte != 4
+            self.other("open")
+            return is_lone
         self.echo = ("open",)
         return byte != ACK or self.others < OTHERS
 
@@ -120,6 +122,8 @@ class Hold:
         return bytes([byte])
 
     def control(self, kind, byte, is_first, now):
+        if self.is_held and byte not in CONTROLS:
+            return b""
         is_soon = now < self.asked_at + WITHIN_MS
         if byte == START and is_first and self.asks_left and is_soon:
             self.asks_left -= 1

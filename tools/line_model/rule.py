@@ -30,6 +30,7 @@ class Heard:
     count: int = 0
     since: int = 0
     last: int = 0
+    acked: int = 0
     first: int = 0
     second: int = 0
     is_quiet: bool = False
@@ -42,6 +43,8 @@ class Heard:
         if self.count == 1:
             self.second = byte
         self.count = min(FULL, self.count + 1)
+        if byte == ACK or self.count == 1:
+            self.acked = now
         self.last, self.is_quiet = now, False
 
     def is_noise(self):
@@ -167,7 +170,9 @@ class Timing:
 
     def clearing(self, data, now):
         need = self.need(self.sent.then(data), now)
-        frm = now if self.was_held_up(now) else self.heard.last
+        is_counted = self.role == "sender" and need in ("late", "several")
+        by = self.heard.acked if is_counted else self.heard.last
+        frm = now if self.was_held_up(now) else by
         return Clearing(need, frm, max(0, self.out.copies - 1), self.heard.last, now + LONGEST)
 
     def clear_at(self, clearing):

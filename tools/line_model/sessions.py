@@ -81,10 +81,11 @@ def session(
     stalls=({}, {}),
     twice=True,
     log=None,
+    flips=(),
 ):
     """Runs one session; an end is the name of a rule for our own engine, or of a peer."""
     files = files_of(seed) if files is None else files
-    line = Line(seed, there or Way(), back or Way(), echoes, log)
+    line = Line(seed, there or Way(), back or Way(), echoes, log, flips)
     if sender == "sb":
         near = peers.sb(files)
     else:

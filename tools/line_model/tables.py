@@ -165,6 +165,11 @@ def uboot(wanted):
                 files = files_of(seed, (20000,))
                 told.append(session(seed, sender, "uboot", files, there=there, back=back))
             row("%s to uboot, five damaged, delay %.2f" % (sender, delay / SECOND), told)
+        told = []
+        for seed in range(100):
+            flips = random.Random(seed).sample(range(2, 14), 5)
+            told.append(session(seed, sender, "uboot", files_of(seed, (20000,)), flips=flips))
+        row("%s to uboot, five of the first deliveries with a bit flipped" % sender, told)
         for name, settings in NOISE:
             told = []
             for seed in range(20):

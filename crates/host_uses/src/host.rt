@@ -6,3 +6,4 @@ mod sinks;
 mod sockets;
 mod sources;
 mod steps;
+mod ttys;

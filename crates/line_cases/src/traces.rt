@@ -1,27 +1,29 @@
 //! The texts of traces: each form of a round, and each end of either end.
 
-use anyhow::Result;
+use super::words::Unread;
+use std::alloc::Global;
 use ym_frame::Reply;
 use ym_header::HeaderFault;
 use ym_line::{How, Seen, Trace, What, trace_text};
 use ym_link::{RecvState, SendState};
 
-/// Prints a trace.
-fn tell_trace(rt: &HostRuntime, trace: &Trace) -> Result<()> {
-    let text = trace_text(rt.alloc(), trace)?;
-    print!(rt; "{text}")?;
+/// Puts a trace behind the text.
+fn push_trace(text: &mut String, alloc: Global, trace: &Trace) -> Result<(), Unread> {
+    text.push_str(trace_text(alloc, trace)?.as_str())?;
     Ok(())
 }
 
-/// Prints a trace without rounds, of a sender that reports so many files and a receiver that has so many.
-fn tell_ends(
-    rt: &HostRuntime,
+/// Puts a trace without rounds behind the text, of a sender that reports so many files and a
+/// receiver that has so many.
+fn push_ends(
+    text: &mut String,
+    alloc: Global,
     sender: (usize, SendState),
     receiver: (usize, RecvState),
-) -> Result<()> {
+) -> Result<(), Unread> {
     let (done, send) = sender;
     let (files, recv) = receiver;
-    let rounds = Vec::new(rt.alloc());
+    let rounds = Vec::new(alloc);
     let trace = Trace {
         rounds,
         done,
@@ -29,10 +31,10 @@ fn tell_ends(
         files,
         recv,
     };
-    tell_trace(rt, &trace)
+    push_trace(text, alloc, &trace)
 }
 
-fn tell_forms(rt: &HostRuntime) -> Result<()> {
+fn push_forms(text: &mut String, alloc: Global) -> Result<(), Unread> {
     let seen = |what: What, there: How, reply: Reply, back: How| Seen {
         what,
         there,
@@ -47,7 +49,7 @@ fn tell_forms(rt: &HostRuntime) -> Result<()> {
         number: 0,
         length: 128,
     };
-    let rounds = vec![in rt.alloc();
+    let rounds = vec![in alloc;
         seen(What::Nothing, How::Whole, Reply::Start, How::Whole),
         seen(short, How::Whole, Reply::AckStart, How::Damaged),
         seen(long, How::Lost, Reply::Ack, How::Lost),
@@ -62,7 +64,7 @@ fn tell_forms(rt: &HostRuntime) -> Result<()> {
         files: 13,
         recv: RecvState::Running,
     };
-    tell_trace(rt, &trace)
+    push_trace(text, alloc, &trace)
 }
 
 const SENDERS: [SendState; 5] = [
@@ -89,16 +91,15 @@ const RECEIVERS: [RecvState; 13] = [
     RecvState::SinkFailed,
 ];
 
-pub fn tell(rt: &HostRuntime) -> Result<()> {
-    println!(rt; "each form of a round")?;
-    tell_forms(rt)?;
-    println!(rt; "each end of a sender")?;
+/// The text of each form of a round, and of each end of either end.
+pub fn told(alloc: Global) -> Result<String, Unread> {
+    let mut text = String::new(alloc);
+    push_forms(&mut text, alloc)?;
     for state in SENDERS {
-        tell_ends(rt, (1, state), (0, RecvState::Running))?;
+        push_ends(&mut text, alloc, (1, state), (0, RecvState::Running))?;
     }
-    println!(rt; "each end of a receiver")?;
     for state in RECEIVERS {
-        tell_ends(rt, (0, SendState::Running), (7, state))?;
+        push_ends(&mut text, alloc, (0, SendState::Running), (7, state))?;
     }
-    Ok(())
+    Ok(text)
 }

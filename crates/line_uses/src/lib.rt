@@ -1,5 +1,5 @@
-//! Tests of files on their way, and of the ends over a port: files cut into blocks and collected again, the engines, and what they keep to against any peer.
-//! They stand in a crate of their own, since a crate that has tests is proved once more with them.
+//! Tests of files on their way: sources and sinks of any kind, and growths of memory that are
+//! refused to an engine and to a run. What is a table of cases stands in `line_cases`.
 #![tactic(auto)]
 
 #[cfg(test)]

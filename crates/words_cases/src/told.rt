@@ -1,7 +1,7 @@
 //! Jobs in words.
 
 use std::alloc::{AllocError, Global};
-use ym_words::{Job, JobFault, ReceiveFlags, TellFlags, job_of};
+use ym_words::{Job, JobFault, ReceiveFlags, StoreFlags, TellFlags, job_of};
 
 /// Puts a word behind a text where the flag is set.
 fn push_flag(text: &mut String, flag: bool, word: &str) -> Result<(), AllocError> {
@@ -17,10 +17,14 @@ fn push_tell(text: &mut String, tell: TellFlags) -> Result<(), AllocError> {
     push_flag(text, tell.quiet, "quiet")
 }
 
-fn push_receive(text: &mut String, flags: ReceiveFlags) -> Result<(), AllocError> {
+fn push_store(text: &mut String, flags: StoreFlags) -> Result<(), AllocError> {
     push_flag(text, flags.single, "single")?;
     push_flag(text, flags.no_sync, "no-sync")?;
-    push_flag(text, flags.discard_parts, "discard-parts")?;
+    push_flag(text, flags.discard_parts, "discard-parts")
+}
+
+fn push_receive(text: &mut String, flags: ReceiveFlags) -> Result<(), AllocError> {
+    push_store(text, flags.store)?;
     push_flag(text, flags.eager, "eager")?;
     push_flag(text, flags.keep, "keep")
 }
@@ -56,6 +60,34 @@ fn job_text(alloc: Global, job: &Job<'_>) -> Result<String, AllocError> {
         } => {
             let mut text = format!(in alloc; "receive {port}")?;
             push_receive(&mut text, *flags)?;
+            push_tell(&mut text, *tell)?;
+            push_flag(&mut text, true, dir)?;
+            Ok(text)
+        }
+        Job::SendLine {
+            line,
+            short,
+            files,
+            tell,
+        } => {
+            let line = line.unwrap_or("-");
+            let mut text = format!(in alloc; "send on {line}")?;
+            push_flag(&mut text, *short, "short")?;
+            push_tell(&mut text, *tell)?;
+            for file in files.as_slice() {
+                push_flag(&mut text, true, file)?;
+            }
+            Ok(text)
+        }
+        Job::ReceiveLine {
+            line,
+            flags,
+            dir,
+            tell,
+        } => {
+            let line = line.unwrap_or("-");
+            let mut text = format!(in alloc; "receive on {line}")?;
+            push_store(&mut text, *flags)?;
             push_tell(&mut text, *tell)?;
             push_flag(&mut text, true, dir)?;
             Ok(text)

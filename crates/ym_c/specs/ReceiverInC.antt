@@ -1,16 +1,17 @@
 -- A receiver as C keeps it, and what its calls do.
-use Rattle.std.specs.Prelude.{ℕ, ◌≡◌, ◌≤◌, List, length, take, drop, ◌==◌, if◌then◌else◌}
+use Rattle.std.specs.Prelude.{ℕ, ◌≡◌, ◌≤◌, ◌<◌, ◌⊎◌, ◌++◌, List, [], length, take, drop, ◌==◌, if◌then◌else◌, refl}
 use Rattle.ym_header.specs.declared.stamp.Stamp.{Stamp}
 use Rattle.ym_header.specs.declared.stamp.Stamp.TheVariants.{Nothing, Time, TimeMode}
 use Rattle.ym_core.specs.Receiver.{Receiver, Call, No_call, Begins, Adds, Commits, Step, ends}
 use Rattle.ym_core.specs.declared.delivery.Heard.{Heard}
 use Rattle.ym_core.specs.declared.delivery.Heard.TheVariants as heard
-use Rattle.ym_core.specs.declared.state.RecvState.TheVariants.{SinkFailed}
-use Rattle.ym_frame.specs.declared.control.Reply.TheVariants.{Cancel}
+use Rattle.ym_core.specs.declared.state.RecvState.{RecvState}
+use Rattle.ym_core.specs.declared.state.RecvState.TheVariants.{Running, Finished, SinkFailed}
+use Rattle.ym_frame.specs.declared.control.Reply.TheVariants.{Ack, Silence, Cancel}
 use Rattle.ym_c.specs.declared.receiver.YmReceiver.{YmReceiver}
 use Rattle.ym_c.specs.declared.receiver.YmAsk.{YmAsk}
 use Rattle.ym_c.specs.Codes.{reply_code}
-use Rattle.ym_c.specs.Stands.{Keeps}
+use Rattle.ym_c.specs.Stands.{Keeps, IsRubbish, ended_receiver}
 
 -- a receiver, and what came of the delivery that is coming
 pub record Holds (r : YmReceiver) (core : Receiver) (held : List ℕ) : Type 0 where
@@ -47,6 +48,29 @@ abbrev pub bad_code : Heard → ℕ
 bad_code (heard.Item item) = 0
 bad_code heard.Bad = 1
 
--- what is taken of a step: where the host could not do what is asked, the end
+-- what is taken of a step where the host fails: a receiver that runs ends, and one that has ended is not failed
+abbrev pub failing : RecvState → Receiver → Step → Step
+failing Running core step = ends core SinkFailed Cancel
+failing ended core step = step
+
 abbrev pub outcome : ℕ → Receiver → Step → Step
-outcome done core step = if done == 0 then ends core SinkFailed Cancel else step
+outcome done core step = if done == 0 then failing core.state core step else step
+
+-- at the end block that comes again, nothing fails: it gets its ACK
+again : Receiver → Step
+again core = record { receiver = core; reply = Ack; call = No_call }
+
+not_failed : (core : Receiver) → core.state ≡ Finished → outcome 0 core (again core) ≡ again core
+not_failed core e = rw e refl
+
+-- ---- Rubbish
+
+-- a struct that is no receiver: by where it stands, or by more bytes held than there is room
+abbrev pub IsNoReceiver : YmReceiver → Type 0
+IsNoReceiver r = IsRubbish r.stand ⊎ (1029 < r.len)
+
+-- nothing is asked, and nothing will be said: it has ended
+pub record Ignores (r : YmReceiver) (ask : YmAsk) : Type 0 where
+  pub asks : ask.kind ≡ 0
+  pub says : r.reply ≡ reply_code Silence
+  pub next : Keeps r.next ended_receiver

@@ -1,8 +1,10 @@
 -- A sender as C keeps it.
-use Rattle.std.specs.Prelude.{ℕ, Bool, ◌*◌, ◌≡◌, ◌<◌, ◌≤◌, ◌^◌, List, [], ◌∷◌, length, take, Option, Some, None}
+use Rattle.std.specs.Prelude.{ℕ, Bool, false, ◌*◌, ◌≡◌, ◌<◌, ◌≤◌, ◌^◌, List, [], ◌∷◌, length, take, Option, Some, None, refl}
+use Rattle.ym_frame.specs.declared.control.Control.{Control}
 use Rattle.ym_frame.specs.Seal.{IsBlockFrame}
 use Rattle.ym_header.specs.Text.{end_text}
 use Rattle.ym_core.specs.Place.{IsPlace}
+use Rattle.ym_core.specs.Standing.{hears, step}
 use Rattle.ym_core.specs.declared.place.Place.{Place}
 use Rattle.ym_core.specs.declared.place.Place.TheVariants.{Header, Block, Eot, End}
 use Rattle.ym_core.specs.declared.place.Mode.{Mode}
@@ -46,6 +48,7 @@ pub record KeepsStanding (s : YmSender) (standing : Standing) : Type 0 where
   pub retries : s.retries ≡ standing.retries
   pub state : s.state ≡ send_code standing.state
   pub cancel_pending : s.cancel_pending ≡ bool_code standing.cancel_pending
+  pub room : s.len ≤ 1029
 
 -- where a sender of a batch of so many blocks a file can come to stand; a batch has at most 65,535 files
 pub record Stands (blocks : List ℕ) (standing : Standing) : Type 0 where
@@ -53,6 +56,26 @@ pub record Stands (blocks : List ℕ) (standing : Standing) : Type 0 where
   pub retries : standing.retries ≤ GIVE_UP
   pub runs : standing.state ≡ Running → standing.retries < GIVE_UP
   pub few : length blocks ≤ MOST_FILES
+
+-- numbers that no sender of this batch has
+abbrev pub IsNoSender : List ℕ → YmSender → Type 0
+IsNoSender blocks kept = (s : Standing) → KeepsStanding kept s → ¬ Stands blocks s
+
+-- what they count as: a sender that has ended, with nothing to send
+abbrev pub ended_standing : Standing
+ended_standing = record { place = End; mode = Waiting; retries = 0; state = NoReply; cancel_pending = false }
+
+-- whatever such a one hears, it stays, and fills nothing
+stays_ended : (blocks : List ℕ) (controls : List Control) → hears blocks ended_standing controls ≡ step ended_standing
+stays_ended blocks controls = refl
+
+-- A sender that runs has a frame of this kind out that its host has still to fill: of the block 0 of a file, or of a data block.
+pub record IsUnfilled (s : YmSender) (place : ℕ) : Type 0 where
+  pub at : s.place ≡ place
+  pub out : s.mode ≡ mode_code Sent
+  pub runs : s.state ≡ send_code Running
+  pub tries : s.retries < GIVE_UP
+  pub empty : s.len ≡ 0
 
 -- what is to be filled
 abbrev pub IsFill : Option Place → YmFill → Type 0

@@ -1,8 +1,14 @@
 -- Where a receiver stands, as C keeps it.
-use Rattle.std.specs.Prelude.{◌≡◌}
+use Rattle.std.specs.Prelude.{◌≡◌, refl, Result}
 use Rattle.ym_core.specs.declared.stage.Stage.{Stage}
 use Rattle.ym_core.specs.declared.stage.Stage.TheVariants.{AwaitHeader, InFile}
-use Rattle.ym_core.specs.Receiver.{Receiver}
+use Rattle.ym_core.specs.Receiver.{Receiver, No_call, hears, new_receiver}
+use Rattle.ym_core.specs.declared.delivery.Heard.{Heard}
+use Rattle.ym_core.specs.declared.state.RecvState.TheVariants.{SinkFailed}
+use Rattle.ym_frame.specs.declared.control.Reply.TheVariants.{Silence}
+use Rattle.ym_header.specs.declared.fault.HeaderFault.{HeaderFault}
+use Rattle.ym_header.specs.declared.reading.Zero.{Zero}
+use Rattle.ym_machine.specs.declared.confirm.Confirm.TheVariants.{Twice}
 use Rattle.ym_core.specs.Core.{IsCore}
 use Rattle.ym_c.specs.declared.stand.YmStand.{YmStand}
 use Rattle.ym_c.specs.Codes.{state_code, fault_code, confirm_code, bool_code}
@@ -21,3 +27,15 @@ pub record Keeps (kept : YmStand) (core : Receiver) : Type 0 where
   pub state : kept.state ≡ state_code core.state
   pub fault : kept.fault ≡ fault_code core.state
   pub stands : IsCore core
+
+-- numbers that no receiver has
+abbrev pub IsRubbish : YmStand → Type 0
+IsRubbish kept = (core : Receiver) → ¬ Keeps kept core
+
+-- what they count as: a receiver that has ended
+abbrev pub ended_receiver : Receiver
+ended_receiver = record (new_receiver Twice) { state = SinkFailed }
+
+-- whatever such a one hears, it asks nothing, says nothing, and stands where it stood
+stays_ended : (zero : Result Zero HeaderFault) (h : Heard) → hears ended_receiver zero h ≡ record { receiver = ended_receiver; reply = Silence; call = No_call }
+stays_ended zero h = refl

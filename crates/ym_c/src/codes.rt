@@ -1,6 +1,6 @@
 //! The numbers that stand for states, faults and replies.
 
-ghost use Rattle.std.specs.Prelude.{◌≡◌, Some, None};
+ghost use Rattle.std.specs.Prelude.{◌≡◌, Some, None, IfSome, Bool};
 ghost use Rattle.ym_core.specs.declared.state.RecvState.{RecvState};
 ghost use Rattle.ym_frame.specs.declared.control.Reply.{Reply as Replied};
 ghost use Rattle.ym_c.specs.Codes as codes;
@@ -8,6 +8,7 @@ ghost use Rattle.ym_c.specs.Codes as codes;
 use ym_core::RecvState;
 use ym_frame::Reply;
 use ym_header::HeaderFault;
+use ym_machine::Confirm;
 
 /// The number of the fault of a header.
 pub fn code_of_fault(fault: HeaderFault) -> u32
@@ -25,7 +26,9 @@ pub fn code_of_fault(fault: HeaderFault) -> u32
 
 /// The fault that has this number.
 pub fn fault_of(code: u32) -> Option<HeaderFault>
-    ensures { (known : HeaderFault) → code ≡ codes.header_fault_code known → result ≡ Some known }
+    ensures known { (known : HeaderFault) → code ≡ codes.header_fault_code known →
+        result ≡ Some known }
+    ensures sound { IfSome result (λ fault. code ≡ codes.header_fault_code fault) }
 {
     match code {
         1 => Some(HeaderFault::NameEmpty),
@@ -57,8 +60,20 @@ pub fn codes_of_state(state: RecvState) -> (u32, u32)
 
 /// The state that these numbers stand for.
 pub fn state_of(state: u32, fault: u32) -> Option<RecvState>
-    ensures { (known : RecvState) → state ≡ codes.state_code known → fault ≡ codes.fault_code known → result ≡ Some known }
+    ensures known { (known : RecvState) → state ≡ codes.state_code known →
+        fault ≡ codes.fault_code known → result ≡ Some known }
+    ensures sound { IfSome result (λ known. (state ≡ codes.state_code known)
+        × (fault ≡ codes.fault_code known)) }
 {
+    if state == 7 {
+        return match fault_of(fault) {
+            Some(fault) => Some(RecvState::BadHeader(fault)),
+            None => None,
+        };
+    }
+    if fault != 0 {
+        return None;
+    }
     match state {
         0 => Some(RecvState::Running),
         1 => Some(RecvState::Finished),
@@ -67,10 +82,30 @@ pub fn state_of(state: u32, fault: u32) -> Option<RecvState>
         4 => Some(RecvState::OutOfStep),
         5 => Some(RecvState::TooManyFiles),
         6 => Some(RecvState::SinkFailed),
-        7 => match fault_of(fault) {
-            Some(fault) => return Some(RecvState::BadHeader(fault)),
-            None => return None,
-        },
+        _ => None,
+    }
+}
+
+/// What this number says of a yes or a no.
+pub fn flag_of(code: u32) -> Option<bool>
+    ensures known { (known : Bool) → code ≡ codes.bool_code known → result ≡ Some known }
+    ensures sound { IfSome result (λ flag. code ≡ codes.bool_code flag) }
+{
+    match code {
+        0 => Some(false),
+        1 => Some(true),
+        _ => None,
+    }
+}
+
+/// How often an EOT has to come by this number.
+pub fn confirm_of(code: u32) -> Option<Confirm>
+    ensures known { (known : Confirm) → code ≡ codes.confirm_code known → result ≡ Some known }
+    ensures sound { IfSome result (λ confirm. code ≡ codes.confirm_code confirm) }
+{
+    match code {
+        0 => Some(Confirm::Twice),
+        1 => Some(Confirm::Once),
         _ => None,
     }
 }
@@ -92,7 +127,7 @@ pub fn code_of_reply(reply: Reply) -> u32
 /// The reply that has this number.
 pub fn reply_of(code: u32) -> Option<Reply>
     ensures known { (known : Replied) → code ≡ codes.reply_code known → result ≡ Some known }
-    ensures unheard { code ≡ 0 → result ≡ None }
+    ensures sound { IfSome result (λ reply. code ≡ codes.reply_code reply) }
 {
     match code {
         1 => Some(Reply::Silence),

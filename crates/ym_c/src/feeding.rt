@@ -17,7 +17,8 @@ const CAN: u8 = 0x18;
 fn wanted_of_block(bytes: &[u8], size: usize) -> usize
     requires some { 0 < length bytes.now }
     requires size { (size ≡ 128) ⊎ (size ≡ 1024) }
-    ensures wanted { (more : List ℕ) → length more < result → IsOpen (block_verdict size (bytes.now ++ more)) }
+    ensures wanted { (more : List ℕ) → length more < result →
+        IsOpen (block_verdict size (bytes.now ++ more)) }
     ensures some { IsOpen (block_verdict size bytes.now) → 0 < result }
     ensures room { 0 < result → length bytes.now + result ≤ size + 5 }
 {
@@ -34,7 +35,8 @@ fn wanted_of_block(bytes: &[u8], size: usize) -> usize
 /// How many bytes have to come at least before these are decided: 0 where they are a frame or can go
 /// on to none.
 pub fn wanted(bytes: &[u8]) -> usize
-    ensures wanted { (more : List ℕ) → length more < result → IsOpen (verdict_of (bytes.now ++ more)) }
+    ensures wanted { (more : List ℕ) → length more < result →
+        IsOpen (verdict_of (bytes.now ++ more)) }
     ensures some { IsOpen (verdict_of bytes.now) → 0 < result }
     ensures room { 0 < result → length bytes.now + result ≤ 1029 }
 {

@@ -1,6 +1,6 @@
 //! The check, and what stands at the front of some bytes.
 
-ghost use Rattle.std.specs.Prelude.{◌≡◌, ◌⊎◌, ◌↔◌, ◌<◌, ◌≤◌, ◌+◌, ◌%◌, take, length as list_length};
+ghost use Rattle.std.specs.Prelude.{◌≡◌, ◌⊎◌, ◌↔◌, ◌<◌, ◌≤◌, ◌+◌, ◌%◌, take, drop, length as list_length};
 ghost use Rattle.ym_frame.specs.Check.{check_of};
 ghost use Rattle.ym_frame.specs.Frame.{verdict_of};
 ghost use Rattle.ym_frame.specs.Seal.{IsBlockFrame};
@@ -63,8 +63,11 @@ pub extern "C" fn ym_frame_read(bytes: &[u8], front: &mut YmFront)
 #[unsafe(no_mangle)]
 pub extern "C" fn ym_frame_write(number: u32, body: &[u8], frame: &mut [u8]) -> usize
     ensures made { 0 < result → IsBlockFrame (number % 256) body.now (take result frame.new) }
+    ensures behind { drop result frame.new ≡ drop result frame.old }
     ensures room { result ≤ list_length frame.old }
-    ensures whether { 0 < result ↔ (((list_length body.now ≡ 128) ⊎ (list_length body.now ≡ 1024)) × list_length body.now + 5 ≤ list_length frame.old) }
+    ensures whether { 0 < result ↔
+        (((list_length body.now ≡ 128) ⊎ (list_length body.now ≡ 1024))
+        × list_length body.now + 5 ≤ list_length frame.old) }
 {
     let size = body.len();
     if (size != 128 && size != 1024) || frame.len() < size + 5 {

@@ -1,6 +1,6 @@
 //! Block 0: its body, read and written.
 
-ghost use Rattle.std.specs.Prelude.{◌≡◌, ◌≢◌, ◌<◌, ◌≤◌, ◌⊎◌, ◌↔◌, length as list_length, take, IfOk, IfErr, Result, Ok, Err};
+ghost use Rattle.std.specs.Prelude.{◌≡◌, ◌≢◌, ◌<◌, ◌≤◌, ◌⊎◌, ◌↔◌, length as list_length, take, drop, IfOk, IfErr, Result, Ok, Err};
 ghost use Rattle.ym_header.specs.Header.{IsUnfit, length_limit};
 ghost use Rattle.ym_header.specs.HeaderReading.{IsBorrowedAnswer};
 ghost use Rattle.ym_header.specs.Text.{text};
@@ -59,8 +59,10 @@ fn tell_file(file: &HeaderRef<'_>, header: &mut YmHeader)
 #[unsafe(no_mangle)]
 pub extern "C" fn ym_header_read(body: &[u8], header: &mut YmHeader)
     ensures told { (list_length body.now ≡ 128) ⊎ (list_length body.now ≡ 1024) →
-        (read : Result Zero Fault) × IsBorrowedAnswer length_limit body.now read × IsTold read header.new }
-    ensures other { list_length body.now ≢ 128 → list_length body.now ≢ 1024 → (header.new.kind ≡ 0) × (header.new.fault ≡ 0) }
+        (read : Result Zero Fault) × IsBorrowedAnswer length_limit body.now read
+        × IsTold read header.new }
+    ensures other { list_length body.now ≢ 128 → list_length body.now ≢ 1024 →
+        (header.new.kind ≡ 0) × (header.new.fault ≡ 0) }
 {
     header.length = 0;
     header.time = 0;
@@ -119,8 +121,11 @@ pub extern "C" fn ym_header_write(
     mode: u32,
     body: &mut [u8],
 ) -> u32
-    ensures written { 5 < result → take result body.new ≡ text (record { name = name.now; length = length; stamp = stamp_of stamp time mode }) }
+    ensures written { 5 < result →
+        take result body.new ≡ text (record { name = name.now; length = length; stamp = stamp_of stamp time mode }) }
     ensures refused { 0 < result → result ≤ 5 → IsRefusal name.now length result }
+    ensures behind { 5 < result → drop result body.new ≡ drop result body.old }
+    ensures same { result ≤ 5 → body.new ≡ body.old }
     ensures room { result ≡ 0 ↔ list_length body.old < 1024 }
     ensures within { result ≤ 1024 }
 {

@@ -11,6 +11,7 @@ mod reader;
 mod receiver;
 mod sender;
 mod stand;
+mod standing;
 
 pub use frames::YmFront;
 pub use headers::YmHeader;

@@ -1,6 +1,6 @@
 //! Frames in pieces: a reader whose bytes stand in C's memory.
 
-ghost use Rattle.std.specs.Prelude.{◌≡◌, ◌≤◌, [], take};
+ghost use Rattle.std.specs.Prelude.{◌≡◌, ◌≢◌, ◌≤◌, ◌<◌, ◌⊎◌, [], take, length};
 ghost use Rattle.ym_frame.specs.Frame.{verdict_of};
 ghost use Rattle.ym_frame.specs.Pieces.{Reading, partial, reading_left, item_found, reading_after, item_of};
 ghost use Rattle.ym_c.specs.Fronts.{KeepsReading, Takes, IsFound, IsRead, why_code};
@@ -94,7 +94,10 @@ fn tell(reader: &mut YmReader, front: &mut YmFront)
 /// Where none can come any more it takes all, until it is made new.
 #[unsafe(no_mangle)]
 pub extern "C" fn ym_reader_feed(reader: &mut YmReader, bytes: &[u8], front: &mut YmFront) -> usize
-    ensures { (reading : Reading) → KeepsReading reader.old reading →
+    ensures none { (reader.old.why ≢ 0) ⊎ (1029 < reader.old.len) →
+        (result ≡ length bytes.now) × (front.new.kind ≡ 4)
+        × (front.new.length ≡ reader.old.place) × (reader.new ≡ reader.old) }
+    ensures reads { (reading : Reading) → KeepsReading reader.old reading →
         Takes reading bytes.now result
         × KeepsReading reader.new (reading_after reading (take result bytes.now))
         × IsRead reading (take result bytes.now) front.new reader.new.held }

@@ -1,7 +1,8 @@
 //! The receiver.
 
-ghost use Rattle.std.specs.Prelude.{◌≡◌, ◌≤◌, ◌<◌, ◌↔◌, ◌++◌, ℕ, List, [], take, length, Result};
+ghost use Rattle.std.specs.Prelude.{◌≡◌, ◌≢◌, ◌≤◌, ◌<◌, ◌↔◌, ◌⊎◌, ◌++◌, ℕ, List, [], take, length, Result, IsTrue};
 ghost use Rattle.ym_frame.specs.Control.{reply_bytes};
+ghost use Rattle.ym_frame.specs.declared.control.Reply.{Reply as Replied};
 ghost use Rattle.ym_frame.specs.Frame.{verdict_of, IsOpen};
 ghost use Rattle.ym_header.specs.declared.fault.HeaderFault.{HeaderFault};
 ghost use Rattle.ym_header.specs.declared.reading.Zero.{Zero};
@@ -10,14 +11,15 @@ ghost use Rattle.ym_core.specs.Hearing.{heard_of};
 ghost use Rattle.ym_core.specs.Step.{Means, call_of};
 ghost use Rattle.ym_core.specs.HeardRef.{owned_heard};
 ghost use Rattle.ym_c.specs.Codes.{confirm_of, reply_code};
-ghost use Rattle.ym_c.specs.Stands.{Keeps};
+ghost use Rattle.ym_c.specs.Stands.{Keeps, IsRubbish, ended_receiver};
 ghost use Rattle.ym_c.specs.Feeding.{Feeds};
-ghost use Rattle.ym_c.specs.ReceiverInC.{Holds, Awaits, IsAsk, IsPlaced, IsStamped, bad_code, outcome};
+ghost use Rattle.ym_c.specs.Buffers.{IsWritten};
+ghost use Rattle.ym_c.specs.ReceiverInC.{Holds, Awaits, IsAsk, IsPlaced, IsStamped, IsNoReceiver, Ignores, bad_code, outcome};
 
 use crate::codes::{code_of_reply, reply_of};
 use crate::feeding::{take_bytes, wanted};
-use crate::stand::{YmStand, load, store};
-use ym_core::{Ask, Confirm, HeardRef, ReceiverCore, heard_in};
+use crate::stand::{YmStand, ended, load, store};
+use ym_core::{Ask, Confirm, HeardRef, ReceiverCore, RecvState, heard_in};
 use ym_frame::Reply;
 use ym_frame::laws::a_body_stands_behind_three_bytes;
 use ym_header::Stamp;
@@ -87,13 +89,25 @@ pub extern "C" fn ym_receiver_init(receiver: &mut YmReceiver, confirm: u32)
     receiver.len = 0;
 }
 
-/// Takes bytes of a delivery, and tells how many: 0 where the delivery can go on no more.
+/// Whether the delivery is still coming.
+fn comes(receiver: &YmReceiver) -> bool
+    ensures { IsTrue result ↔ ((receiver.now.reply ≡ 0) × receiver.now.len ≤ 1029) }
+{
+    receiver.reply == 0 && receiver.len <= 1029
+}
+
+/// Takes bytes of a delivery, and tells how many: 0 where the delivery can go on no more, or was
+/// heard and is not answered.
 #[unsafe(no_mangle)]
 pub extern "C" fn ym_receiver_feed(receiver: &mut YmReceiver, bytes: &[u8]) -> usize
-    ensures { (core : Receiver) (held : List ℕ) → Holds receiver.old core held →
+    ensures feeds { (core : Receiver) (held : List ℕ) → Holds receiver.old core held →
+        receiver.old.reply ≡ 0 →
         Feeds held bytes.now result × Holds receiver.new core (held ++ take result bytes.now) }
+    ensures reply { receiver.new.reply ≡ receiver.old.reply }
+    ensures heard { receiver.old.reply ≢ 0 → (result ≡ 0) × (receiver.new ≡ receiver.old) }
+    ensures rubbish { 1029 < receiver.old.len → (result ≡ 0) × (receiver.new ≡ receiver.old) }
 {
-    if receiver.len > 1029 {
+    if !comes(receiver) {
         return 0;
     }
     let used = take_bytes(&mut receiver.held, receiver.len as usize, bytes);
@@ -102,14 +116,20 @@ pub extern "C" fn ym_receiver_feed(receiver: &mut YmReceiver, bytes: &[u8]) -> u
 }
 
 /// How many bytes have to come at least before the delivery can be heard without a wait: 0 where it is
-/// to be heard now.
+/// to be heard now, or was heard.
 #[unsafe(no_mangle)]
 pub extern "C" fn ym_receiver_wants(receiver: &YmReceiver) -> usize
-    ensures whether { (core : Receiver) (held : List ℕ) → Holds receiver.now core held → (0 < result ↔ IsOpen (verdict_of held)) }
+    ensures whether { (core : Receiver) (held : List ℕ) → Holds receiver.now core held →
+        receiver.now.reply ≡ 0 → (0 < result ↔ IsOpen (verdict_of held)) }
     ensures missing { (core : Receiver) (held : List ℕ) → Holds receiver.now core held →
         (more : List ℕ) → length more < result → IsOpen (verdict_of (held ++ more)) }
     ensures room { result ≤ 1029 }
+    ensures heard { receiver.now.reply ≢ 0 → result ≡ 0 }
+    ensures rubbish { 1029 < receiver.now.len → result ≡ 0 }
 {
+    if !comes(receiver) {
+        return 0;
+    }
     wanted(delivery(&receiver.held, receiver.len))
 }
 
@@ -181,11 +201,27 @@ fn hear_into(core: ReceiverCore, bytes: &[u8], next: &mut YmStand, ask: &mut YmA
     code_of_reply(step.reply)
 }
 
+/// The receiver that hears: rubbish counts as one that has ended.
+fn hearer(receiver: &YmReceiver) -> ReceiverCore
+    ensures kept { (core : Receiver) (held : List ℕ) → Holds receiver.now core held →
+        result ≡ core }
+    ensures rubbish { IsNoReceiver receiver.now → result ≡ ended_receiver }
+{
+    if receiver.len > 1029 {
+        return ended();
+    }
+    match load(&receiver.stand) {
+        Some(core) => core,
+        None => ended(),
+    }
+}
+
 /// Hears the delivery, and tells what the host has to do before `ym_receiver_answer`. It may be called
 /// again, and tells the same.
 #[unsafe(no_mangle)]
 pub extern "C" fn ym_receiver_hear(receiver: &mut YmReceiver, ask: &mut YmAsk)
-    ensures { (core : Receiver) (held : List ℕ) → Holds receiver.old core held →
+    ensures rubbish { IsNoReceiver receiver.old → Ignores receiver.new ask.new }
+    ensures hears { (core : Receiver) (held : List ℕ) → Holds receiver.old core held →
         (zero : Result Zero HeaderFault) × Means core (heard_of held) zero
         × Awaits receiver.new core (hears core zero (heard_of held))
         × Holds receiver.new core held
@@ -194,15 +230,14 @@ pub extern "C" fn ym_receiver_hear(receiver: &mut YmReceiver, ask: &mut YmAsk)
         × (ask.new.bad ≡ bad_code (heard_of held)) }
 {
     a_body_stands_behind_three_bytes();
-    let core = load(&receiver.stand);
+    let core = hearer(receiver);
     let bytes = delivery(&receiver.held, receiver.len);
     receiver.reply = hear_into(core, bytes, &mut receiver.next, ask);
 }
 
 /// Writes a reply where there is room, and tells how many bytes it has.
 fn write_reply(answer: Reply, reply: &mut [u8]) -> usize
-    ensures written { 2 ≤ length reply.old → take result reply.new ≡ reply_bytes answer }
-    ensures room { result ≤ length reply.old }
+    ensures { IsWritten (reply_bytes answer) reply.old reply.new result }
 {
     let bytes = answer.as_bytes();
     if bytes.len() > reply.len() {
@@ -212,9 +247,30 @@ fn write_reply(answer: Reply, reply: &mut [u8]) -> usize
     bytes.len()
 }
 
+/// The receiver behind the answer to a delivery that was heard, and the reply.
+fn step_of(receiver: &YmReceiver, done: u32, heard: Reply) -> (ReceiverCore, Reply)
+    ensures step { (core : Receiver) (step : TableStep) → Awaits receiver.now core step →
+        heard ≡ step.reply →
+        (result.0 ≡ (outcome done core step).receiver)
+        × (result.1 ≡ (outcome done core step).reply) }
+    ensures rubbish { IsRubbish receiver.now.stand ⊎ IsRubbish receiver.now.next →
+        (result.0 ≡ ended_receiver) × (result.1 ≡ Reply.Silence) }
+{
+    let Some(core) = load(&receiver.stand) else {
+        return (ended(), Reply::Silence);
+    };
+    let Some(next) = load(&receiver.next) else {
+        return (ended(), Reply::Silence);
+    };
+    if done == 0 && core.state() == RecvState::Running {
+        return (core.failed(), Reply::Cancel);
+    }
+    (next, heard)
+}
+
 /// Takes the step that was heard, after the host did what was asked (`done` is not 0) or failed at it,
 /// writes the reply, and tells how many bytes that has, 0 to 2. The next delivery begins. Where nothing
-/// was heard, nothing is done.
+/// was heard, nothing is done; and a receiver that has ended does not fail.
 #[unsafe(no_mangle)]
 pub extern "C" fn ym_receiver_answer(
     receiver: &mut YmReceiver,
@@ -223,22 +279,22 @@ pub extern "C" fn ym_receiver_answer(
 ) -> usize
     ensures step { (core : Receiver) (step : TableStep) → Awaits receiver.old core step →
         Holds receiver.new (outcome done core step).receiver []
-        × (2 ≤ length reply.old → take result reply.new ≡ reply_bytes (outcome done core step).reply)
+        × IsWritten (reply_bytes (outcome done core step).reply) reply.old reply.new result
         × (receiver.new.reply ≡ 0) }
     ensures room { result ≤ length reply.old }
-    ensures unheard { receiver.old.reply ≡ 0 → (result ≡ 0) × (receiver.new ≡ receiver.old) }
+    ensures unheard { ((known : Replied) → receiver.old.reply ≢ reply_code known) →
+        (result ≡ 0) × (receiver.new ≡ receiver.old) × (reply.new ≡ reply.old) }
+    ensures rubbish { IsRubbish receiver.old.stand ⊎ IsRubbish receiver.old.next →
+        (known : Replied) → receiver.old.reply ≡ reply_code known →
+        (result ≡ 0) × Holds receiver.new ended_receiver [] × (receiver.new.reply ≡ 0)
+        × (reply.new ≡ reply.old) }
 {
-    let Some(answer) = reply_of(receiver.reply) else {
+    let Some(heard) = reply_of(receiver.reply) else {
         return 0;
     };
+    let (core, answer) = step_of(receiver, done, heard);
+    store(&mut receiver.stand, core);
     receiver.reply = 0;
     receiver.len = 0;
-    if done == 0 {
-        let core = load(&receiver.stand).failed();
-        store(&mut receiver.stand, core);
-        return write_reply(Reply::Cancel, reply);
-    }
-    let core = load(&receiver.next);
-    store(&mut receiver.stand, core);
     write_reply(answer, reply)
 }

@@ -1,10 +1,8 @@
 //! The sender.
 
-ghost use Rattle.std.specs.Prelude.{◌≡◌, ◌<◌, ◌≤◌, ◌↔◌, ◌⊎◌, ◌%◌, ◌+◌, ◌∷◌, [], ℕ, List, Some, IfSome, length, take, true};
+ghost use Rattle.std.specs.Prelude.{◌≡◌, ◌≢◌, ◌<◌, ◌≤◌, ◌↔◌, ◌⊎◌, ◌%◌, ◌+◌, ◌∷◌, [], ℕ, List, IsTrue, length, take, true};
 ghost use Rattle.ym_core.specs.declared.standing.Standing.{Standing as Stood};
 ghost use Rattle.ym_core.specs.declared.state.SendState.TheVariants.{Running};
-ghost use Rattle.ym_core.specs.declared.place.Place.{Place as Placed};
-ghost use Rattle.ym_core.specs.declared.state.SendState.{SendState as Ended};
 ghost use Rattle.ym_core.specs.Place.{IsPlace};
 ghost use Rattle.ym_core.specs.Reading.{controls_in};
 ghost use Rattle.ym_core.specs.Standing as table;
@@ -13,11 +11,11 @@ ghost use Rattle.ym_header.specs.Text.{text, end_text};
 ghost use Rattle.ym_c.specs.Codes.{bool_code};
 ghost use Rattle.ym_c.specs.Fronts.{stamp_of};
 ghost use Rattle.ym_c.specs.Headers.{IsRefusal};
-ghost use Rattle.ym_c.specs.SenderInC.{FitsC, KeepsPlace, send_code, KeepsStanding, Stands, IsFill, IsFilled, out_code};
-ghost use Rattle.ym_machine.specs.declared.limits.TheConstants.{GIVE_UP};
+ghost use Rattle.ym_c.specs.SenderInC.{KeepsStanding, Stands, IsNoSender, ended_standing, IsUnfilled, IsFill, IsFilled, out_code};
 
 use crate::codes::code_of_fault;
 use crate::headers::{header_of, stamp_from};
+use crate::standing::{ended, load, store};
 use ym_core::{Batch, Mode, Place, SendState, Standing, first_place};
 use ym_frame::seal_block;
 use ym_header::{HeaderRef, write_body};
@@ -75,121 +73,14 @@ impl Batch for Counts<'_> {
     }
 }
 
-/// A sender that has ended, with nothing to send, in place of numbers that no sender has.
-fn ended() -> Standing
-    ensures place { result.place ≡ Place.End }
-    ensures state { result.state ≡ SendState.NoReply }
-{
-    Standing {
-        place: Place::End,
-        mode: Mode::Waiting,
-        retries: 0,
-        state: SendState::NoReply,
-        cancel_pending: false,
-    }
-}
-
-/// The place that is kept, if it is one of the batch.
-fn place_of(kept: &YmSender, blocks: &[u64]) -> Option<Place>
-    ensures kept { (place : Placed) → KeepsPlace kept.now place → IsPlace blocks.now place → result ≡ Some place }
-    ensures within { IfSome result (IsPlace blocks.now) }
-{
-    let file = kept.file as usize;
-    match kept.place {
-        0 if file < blocks.len() => Some(Place::Header { file }),
-        1 if file < blocks.len() && 1 <= kept.number && kept.number <= blocks[file] => {
-            Some(Place::Block {
-                file,
-                number: kept.number,
-            })
-        }
-        2 if file < blocks.len() => Some(Place::Eot { file }),
-        3 => Some(Place::End),
-        _ => None,
-    }
-}
-
-/// The state that is kept.
-fn state_of(state: u32) -> Option<SendState>
-    ensures { (known : Ended) → state ≡ send_code known → result ≡ Some known }
-{
-    match state {
-        0 => Some(SendState::Running),
-        1 => Some(SendState::Finished),
-        2 => Some(SendState::NoReply),
-        3 => Some(SendState::Cancelled),
-        4 => Some(SendState::SourceFailed),
-        _ => None,
-    }
-}
-
-/// Where the sender stands.
-fn load(kept: &YmSender, blocks: &[u64]) -> Standing
-    ensures kept { (s : Stood) → KeepsStanding kept.now s → Stands blocks.now s → result ≡ s }
-    ensures place { IsPlace blocks.now result.place }
-    ensures retries { result.state ≡ Running → result.retries < GIVE_UP }
-{
-    let Some(place) = place_of(kept, blocks) else {
-        return ended();
-    };
-    let Some(state) = state_of(kept.state) else {
-        return ended();
-    };
-    let retries = u8::try_from(kept.retries).unwrap_or(u8::MAX);
-    if state == SendState::Running && retries >= GIVE_UP {
-        return ended();
-    }
-    Standing {
-        place,
-        mode: if kept.mode == 0 {
-            Mode::Waiting
-        } else {
-            Mode::Sent
-        },
-        retries,
-        state,
-        cancel_pending: kept.cancel_pending != 0,
-    }
-}
-
-/// Keeps where a sender stands.
-fn store(kept: &mut YmSender, standing: Standing)
-    ensures stands { FitsC standing.place → KeepsStanding kept.new standing }
-    ensures len { kept.new.len ≡ kept.old.len }
-    ensures frame { kept.new.frame ≡ kept.old.frame }
-{
-    let (place, file, number) = match standing.place {
-        Place::Header { file } => (0, file, 0),
-        Place::Block { file, number } => (1, file, number),
-        Place::Eot { file } => (2, file, 0),
-        Place::End => (3, 0, 0),
-    };
-    kept.place = place;
-    kept.file = u32::try_from(file).unwrap_or(u32::MAX);
-    kept.number = number;
-    kept.mode = match standing.mode {
-        Mode::Waiting => 0,
-        Mode::Sent => 1,
-    };
-    kept.retries = u32::from(standing.retries);
-    kept.state = match standing.state {
-        SendState::Running => 0,
-        SendState::Finished => 1,
-        SendState::NoReply => 2,
-        SendState::Cancelled => 3,
-        SendState::SourceFailed => 4,
-    };
-    kept.cancel_pending = if standing.cancel_pending { 1 } else { 0 };
-}
-
 /// Makes a sender that waits at the first frame of a batch, of which each file has so many data blocks.
 #[unsafe(no_mangle)]
 pub extern "C" fn ym_sender_init(sender: &mut YmSender, blocks: &[u64])
     ensures stands { KeepsStanding sender.new (table.new_standing blocks.now) }
     ensures empty { sender.new.len ≡ 0 }
 {
-    store(sender, Standing::new(first_place(&Counts { blocks })));
     sender.len = 0;
+    store(sender, Standing::new(first_place(&Counts { blocks })));
 }
 
 /// Makes the frame of the block of this number and this body.
@@ -243,7 +134,8 @@ fn seal_end(frame: &mut [u8; 1029]) -> u32
     seal_body(frame, 0, &[0; 128])
 }
 
-/// Hears a delivery, and tells what the host is to fill into the frame before it is sent.
+/// Hears a delivery, and tells what the host is to fill into the frame before it is sent. Rubbish
+/// counts as a sender that has ended, and becomes one.
 #[unsafe(no_mangle)]
 pub extern "C" fn ym_sender_hear(
     sender: &mut YmSender,
@@ -256,11 +148,21 @@ pub extern "C" fn ym_sender_hear(
         KeepsStanding sender.new (table.hears blocks.now s (controls_in bytes.now)).standing
         × IsFill (table.hears blocks.now s (controls_in bytes.now)).fills fill.new
         × IsFilled (table.hears blocks.now s (controls_in bytes.now)).fills sender.old sender.new }
+    ensures asks { (s : Stood) → KeepsStanding sender.old s → Stands blocks.now s →
+        (fill.new.kind ≡ 1 → IsUnfilled sender.new 0) × (fill.new.kind ≡ 2 →
+        IsUnfilled sender.new 1) }
+    ensures rubbish { IsNoSender blocks.now sender.old →
+        (fill.new.kind ≡ 0) × KeepsStanding sender.new ended_standing × (sender.new.len ≡ 0) }
 {
     fill.kind = 0;
     fill.file = 0;
     fill.number = 0;
-    let step = load(sender, blocks).after(&Counts { blocks }, bytes);
+    let Some(standing) = load(sender, blocks) else {
+        sender.len = 0;
+        store(sender, ended());
+        return;
+    };
+    let step = standing.after(&Counts { blocks }, bytes);
     store(sender, step.standing);
     match step.fills {
         Some(Place::Header { .. }) => {
@@ -287,18 +189,33 @@ pub extern "C" fn ym_sender_hear(
 /// 1 where more bytes cannot change what `ym_sender_hear` does with these.
 #[unsafe(no_mangle)]
 pub extern "C" fn ym_sender_settled(sender: &YmSender, blocks: &[u64], bytes: &[u8]) -> u32
-    ensures { (s : Stood) → KeepsStanding sender.now s → Stands blocks.now s →
+    ensures settled { (s : Stood) → KeepsStanding sender.now s → Stands blocks.now s →
         result ≡ bool_code (table.is_settled blocks.now s (controls_in bytes.now)) }
+    ensures rubbish { IsNoSender blocks.now sender.now → result ≡ 1 }
 {
-    if load(sender, blocks).settled(&Counts { blocks }, bytes) {
-        1
-    } else {
-        0
+    match load(sender, blocks) {
+        Some(standing) if !standing.settled(&Counts { blocks }, bytes) => 0,
+        _ => 1,
     }
 }
 
+/// What a call to fill a frame answers where no such frame is to be filled.
+const NOT_NOW: u32 = 7;
+
+/// Whether a frame at this kind of place is out that the host has still to fill.
+fn is_unfilled(kept: &YmSender, place: u32) -> bool
+    ensures { IsTrue result ↔ IsUnfilled kept.now place }
+{
+    kept.place == place
+        && kept.mode == 1
+        && kept.state == 0
+        && kept.retries < u32::from(GIVE_UP)
+        && kept.len == 0
+}
+
 /// Fills the header of a file: stamp 0 none, 1 the time, 2 the time and the mode. Answers 0, or the
-/// number of the header's first fault, 1 to 5, and then the frame is not to be sent.
+/// number of the header's first fault, 1 to 5, or 7 where no header is to be filled, and then does
+/// nothing.
 #[unsafe(no_mangle)]
 pub extern "C" fn ym_sender_header(
     sender: &mut YmSender,
@@ -308,12 +225,17 @@ pub extern "C" fn ym_sender_header(
     time: u64,
     mode: u32,
 ) -> u32
-    ensures frame { result ≡ 0 → IsBlockFrame 0 (text (record { name = name.now; length = length; stamp = stamp_of stamp time mode })) (take sender.new.len sender.new.frame) }
+    ensures frame { result ≡ 0 →
+        IsBlockFrame 0 (text (record { name = name.now; length = length; stamp = stamp_of stamp time mode })) (take sender.new.len sender.new.frame) }
     ensures stands { (s : Stood) → KeepsStanding sender.old s → KeepsStanding sender.new s }
-    ensures refused { 0 < result → IsRefusal name.now length result }
-    ensures room { sender.new.len ≤ 1029 }
+    ensures refused { 0 < result → result ≢ NOT_NOW → IsRefusal name.now length result }
+    ensures not_now { result ≡ NOT_NOW ↔ ¬ IsUnfilled sender.old 0 }
+    ensures same { 0 < result → sender.new ≡ sender.old }
+    ensures room { sender.old.len ≤ 1029 → sender.new.len ≤ 1029 }
 {
-    sender.len = 0;
+    if !is_unfilled(sender, 0) {
+        return NOT_NOW;
+    }
     match header_of(name, length, stamp_from(stamp, time, mode)) {
         Ok(header) => {
             sender.len = seal_header(&mut sender.frame, &header);
@@ -323,15 +245,23 @@ pub extern "C" fn ym_sender_header(
     }
 }
 
-/// Fills the data block that the sender stands at with this body, of 128 or 1024 bytes. Answers 0, or 1
-/// where the body has another length.
+/// Fills the data block that the sender stands at with this body, of 128 or 1024 bytes. Answers 0,
+/// or 1 where the body has another length, or 7 where no data block is to be filled, and then does
+/// nothing.
 #[unsafe(no_mangle)]
 pub extern "C" fn ym_sender_block(sender: &mut YmSender, body: &[u8]) -> u32
-    ensures valid { result ≡ 0 ↔ ((length body.now ≡ 128) ⊎ (length body.now ≡ 1024)) }
-    ensures frame { result ≡ 0 → IsBlockFrame (sender.old.number % 256) body.now (take sender.new.len sender.new.frame) }
+    ensures valid { result ≡ 0 ↔ (IsUnfilled sender.old 1
+        × ((length body.now ≡ 128) ⊎ (length body.now ≡ 1024))) }
+    ensures not_now { result ≡ NOT_NOW ↔ ¬ IsUnfilled sender.old 1 }
+    ensures same { 0 < result → sender.new ≡ sender.old }
+    ensures frame { result ≡ 0 →
+        IsBlockFrame (sender.old.number % 256) body.now (take sender.new.len sender.new.frame) }
     ensures room { sender.old.len ≤ 1029 → sender.new.len ≤ 1029 }
     ensures stands { (s : Stood) → KeepsStanding sender.old s → KeepsStanding sender.new s }
 {
+    if !is_unfilled(sender, 1) {
+        return NOT_NOW;
+    }
     let size = body.len();
     if size != 128 && size != 1024 {
         return 1;
@@ -341,23 +271,36 @@ pub extern "C" fn ym_sender_block(sender: &mut YmSender, body: &[u8]) -> u32
     0
 }
 
-/// The host cannot fill the frame: the sender ends, with CAN CAN to go.
+/// The host cannot go on: a sender that runs ends, with CAN CAN to go. One that has ended stays as
+/// it is.
 #[unsafe(no_mangle)]
 pub extern "C" fn ym_sender_failed(sender: &mut YmSender, blocks: &[u64])
     ensures ends { (s : Stood) → KeepsStanding sender.old s → Stands blocks.now s →
+        s.state ≡ Running →
         KeepsStanding sender.new (record s { state = SendState.SourceFailed; cancel_pending = true }) }
+    ensures ended { (s : Stood) → KeepsStanding sender.old s → s.state ≢ Running →
+        sender.new ≡ sender.old }
+    ensures rubbish { IsNoSender blocks.now sender.old → sender.new ≡ sender.old }
     ensures frame { (sender.new.len ≡ sender.old.len) × (sender.new.frame ≡ sender.old.frame) }
 {
-    let standing = load(sender, blocks).source_failed();
-    store(sender, standing);
+    let Some(standing) = load(sender, blocks) else {
+        return;
+    };
+    if standing.state == SendState::Running {
+        store(sender, standing.source_failed());
+    }
 }
 
 /// What is to be sent now: 0 nothing; 1 the frame, of `len` bytes; 2 CAN CAN.
 #[unsafe(no_mangle)]
 pub extern "C" fn ym_sender_out(sender: &YmSender, blocks: &[u64]) -> u32
-    ensures { (s : Stood) → KeepsStanding sender.now s → Stands blocks.now s → result ≡ out_code s }
+    ensures out { (s : Stood) → KeepsStanding sender.now s → Stands blocks.now s →
+        result ≡ out_code s }
+    ensures rubbish { IsNoSender blocks.now sender.now → result ≡ 0 }
 {
-    let standing = load(sender, blocks);
+    let Some(standing) = load(sender, blocks) else {
+        return 0;
+    };
     match standing.state {
         SendState::Running => match standing.mode {
             Mode::Sent => 1,

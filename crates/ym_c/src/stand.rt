@@ -1,10 +1,10 @@
 //! Where a receiver stands, as C keeps it.
 
-ghost use Rattle.std.specs.Prelude.{◌≡◌};
+ghost use Rattle.std.specs.Prelude.{◌≡◌, Some, IfSome};
 ghost use Rattle.ym_core.specs.Receiver.{Receiver};
-ghost use Rattle.ym_c.specs.Stands.{Keeps};
+ghost use Rattle.ym_c.specs.Stands.{Keeps, KeepsStage, ended_receiver};
 
-use crate::codes::{codes_of_state, state_of};
+use crate::codes::{codes_of_state, confirm_of, flag_of, state_of};
 use ym_core::{Confirm, OpenFile, ReceiverCore, Stage, Stand};
 
 /// Where a receiver stands: plain numbers, of which any may stand in any field.
@@ -33,48 +33,50 @@ pub struct YmStand {
 }
 
 /// A receiver that has ended, in place of numbers that no receiver has.
-fn ended() -> ReceiverCore {
+pub fn ended() -> ReceiverCore
+    ensures { result ≡ ended_receiver }
+{
     ReceiverCore::new(Confirm::Twice).failed()
 }
 
-/// What the numbers say that is waited for.
-fn stage_of(kept: &YmStand) -> Stage
-    ensures { (core : Receiver) → Keeps kept.now core → result ≡ core.stage }
+/// What the numbers say that is waited for, where a receiver has such.
+fn stage_of(kept: &YmStand) -> Option<Stage>
+    ensures kept { (core : Receiver) → Keeps kept.now core → result ≡ Some core.stage }
+    ensures sound { IfSome result (KeepsStage kept.now) }
 {
-    if kept.in_file == 0 {
-        return Stage::AwaitHeader;
+    match kept.in_file {
+        0 => Some(Stage::AwaitHeader),
+        1 => {
+            let first_eot = flag_of(kept.first_eot)?;
+            Some(Stage::InFile(OpenFile {
+                length: kept.length,
+                taken: kept.taken,
+                blocks: kept.blocks,
+                first_eot,
+            }))
+        }
+        _ => None,
     }
-    Stage::InFile(OpenFile {
-        length: kept.length,
-        taken: kept.taken,
-        blocks: kept.blocks,
-        first_eot: kept.first_eot != 0,
-    })
 }
 
-/// The receiver that is kept.
-pub fn load(kept: &YmStand) -> ReceiverCore
-    ensures { (core : Receiver) → Keeps kept.now core → result ≡ core }
+/// The receiver that is kept, where any receiver has these numbers.
+pub fn load(kept: &YmStand) -> Option<ReceiverCore>
+    ensures kept { (core : Receiver) → Keeps kept.now core → result ≡ Some core }
+    ensures sound { IfSome result (Keeps kept.now) }
 {
-    let Some(state) = state_of(kept.state, kept.fault) else {
-        return ended();
+    let state = state_of(kept.state, kept.fault)?;
+    let confirm = confirm_of(kept.confirm)?;
+    let stage = stage_of(kept)?;
+    let Ok(retries) = u8::try_from(kept.retries) else {
+        return None;
     };
-    let confirm = if kept.confirm == 0 {
-        Confirm::Twice
-    } else {
-        Confirm::Once
-    };
-    let stand = Stand {
+    ReceiverCore::at(Stand {
         confirm,
-        stage: stage_of(kept),
+        stage,
         files: kept.files as usize,
-        retries: u8::try_from(kept.retries).unwrap_or(u8::MAX),
+        retries,
         state,
-    };
-    match ReceiverCore::at(stand) {
-        Some(core) => core,
-        None => ended(),
-    }
+    })
 }
 
 /// Keeps a receiver.

@@ -1,5 +1,5 @@
 -- What the program does for its words.
-use Rattle.std.specs.Prelude.{◌≡◌, ◌⊎◌, ℕ, Bool, true, false, List, [], Option, Some, Result, Ok, Err}
+use Rattle.std.specs.Prelude.{◌≡◌, ◌⊎◌, ℕ, Bool, true, false, List, [], Option, Some, None, Result, Ok, Err}
 use Rattle.clap.specs.Words.{Text, Kinds, IsAmong, takes, subcommand_of}
 use Rattle.clap.specs.declared.error.kind.ErrorKind.TheVariants.{DisplayVersion}
 use Rattle.ym_file.specs.declared.plan.Shape.{Shape}
@@ -18,7 +18,8 @@ use Rattle.ym_words.specs.Job as job
 use Rattle.ym_jobs.specs.Desk.{Desk, IsSession}
 use Rattle.ym_jobs.specs.Keeping.{ReceivesSo}
 use Rattle.ym_jobs.specs.Looped.{LoopGives}
-use Rattle.ym_jobs.specs.Page.{TellsFault}
+use Rattle.ym_jobs.specs.Page.{Page, TellsFault}
+use Rattle.ym_jobs.specs.Receiving.{ReceiveGives}
 use Rattle.ym_jobs.specs.Sending.{SendGives}
 use Rattle.ym_jobs.specs.declared.command_fault.CommandFault.{CommandFault}
 
@@ -58,12 +59,33 @@ pub record ReadsNothing (old new : Desk) : Type 0 where
   pub text : new.text ≡ old.text
   pub reads : new.reads_failed ≡ old.reads_failed
 
+-- no byte of the script was read, and nothing was written to out
+pub record OnlyReports (old new : Desk) : Type 0 where
+  pub text : new.text ≡ old.text
+  pub reads : new.reads_failed ≡ old.reads_failed
+  pub out : new.out ≡ old.out
+
+abbrev pub Gives : Type 1
+Gives = Page → Result ℕ CommandFault → Page → Type 0
+
+-- A job over a serial line prints to out where the line has a path, and else, where standard output
+-- is the line, to err.
+abbrev pub PrintsBeside : Option Text → Gives → Desk → Result ℕ CommandFault → Desk → Type 0
+PrintsBeside (Some path) gives old answer new = gives old.out answer new.out × OnlyPrints old new
+PrintsBeside None gives old answer new = gives old.err answer new.err × OnlyReports old new
+
 -- What a job answers, and what it leaves: a status, or a fault that is still to be told. A session tells its own.
 abbrev pub JobGives : Asked → Desk → Result ℕ CommandFault → Desk → Type 0
 JobGives job.Play old answer new = (status : ℕ) × (answer ≡ Ok status) × IsSession (Some []) old status new
 JobGives (job.Loop port tell) old answer new = LoopGives old answer new
 JobGives (job.Send port short files tell) old answer new = SendGives (shape_of short) files old.out answer new.out × OnlyPrints old new
-JobGives (job.Receive port flags dir tell) old answer new = ReceivesSo flags.keep (confirm_of flags.single) old.out old.err answer new.out new.err × ReadsNothing old new
+JobGives (job.Receive port flags dir tell) old answer new =
+    ReceivesSo flags.keep (confirm_of flags.store.single) old.out old.err answer new.out new.err
+    × ReadsNothing old new
+JobGives (job.SendLine line short files tell) old answer new =
+    PrintsBeside line (SendGives (shape_of short) files) old answer new
+JobGives (job.ReceiveLine line flags dir tell) old answer new =
+    PrintsBeside line (ReceiveGives (confirm_of flags.single)) old answer new
 
 -- the line of a fault was written to err, and nothing else was done
 pub record OnlyTells (why : CommandFault) (old : Desk) (status : ℕ) (new : Desk) : Type 0 where

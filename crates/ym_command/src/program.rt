@@ -1,6 +1,6 @@
 //! What the program's words ask for, done.
 
-ghost use Rattle.std.specs.Prelude.{◌≡◌, ◌≢◌, ◌≤◌, ◌⊎◌, ℕ, List, [], Some, None, map, string_bytes};
+ghost use Rattle.std.specs.Prelude.{◌≡◌, ◌≢◌, ◌≤◌, ◌⊎◌, ℕ, List, [], Some, None, true, false, map, string_bytes};
 ghost use Rattle.clap.specs.Words.{fault_of};
 ghost use Rattle.ym_words.specs.CommandLine.{the_app};
 ghost use Rattle.ym_words.specs.Job.{Asked, Play, asked_of};
@@ -11,18 +11,21 @@ use clap::error::ErrorKind;
 use std::alloc::Global;
 use std::fmt::Display;
 use std::fs::{File, Files};
-use std::io::Write;
+use std::io;
+use std::io::{IsTerminal, Print, Write};
 use std::net::{Net, TcpListener, TcpStream};
 use std::time::Clock;
 use ym_file::Shape;
 use ym_host::{Durability, Leftover};
-use ym_jobs::{CommandFault, Order, looped_session, receive_as_asked, send};
+use ym_jobs::{
+    CommandFault, Order, looped_session, receive_as_asked, receive_line, send, send_line,
+};
 use ym_line::Direct;
 use ym_machine::Confirm;
 use ym_play::laws::a_known_script_is_played;
 use ym_play::{Input, Output, StreamFault, session_over};
 use ym_show::Teller;
-use ym_words::{Job, JobFault, ReceiveFlags, TellFlags, job_of};
+use ym_words::{Job, JobFault, ReceiveFlags, StoreFlags, TellFlags, job_of};
 
 /// The status after refused words.
 const REFUSED: u8 = 2;
@@ -115,21 +118,39 @@ fn leftover_of(discards: bool) -> Leftover
 
 /// What a receiver is asked for, by the flags of `receive`, and where.
 fn order_of(flags: ReceiveFlags, dir: &str) -> Order<'_>
-    ensures confirm { result.confirm ≡ confirm_of flags.single }
-    ensures durability { result.durability ≡ durability_of flags.no_sync }
-    ensures leftover { result.leftover ≡ leftover_of flags.discard_parts }
+    ensures confirm { result.confirm ≡ confirm_of flags.store.single }
+    ensures durability { result.durability ≡ durability_of flags.store.no_sync }
+    ensures leftover { result.leftover ≡ leftover_of flags.store.discard_parts }
     ensures eager { result.eager ≡ flags.eager }
     ensures keep { result.keep ≡ flags.keep }
     ensures dir { result.dir.now ≡ dir.now }
 {
     Order {
-        confirm: confirm_of(flags.single),
-        durability: durability_of(flags.no_sync),
-        leftover: leftover_of(flags.discard_parts),
+        confirm: confirm_of(flags.store.single),
+        durability: durability_of(flags.store.no_sync),
+        leftover: leftover_of(flags.store.discard_parts),
         eager: flags.eager,
         keep: flags.keep,
         dir,
     }
+}
+
+/// What a receiver is asked for by the flags of `rb`, and where: it asks for the first file at
+/// once, and there is one line.
+fn line_order_of(store: StoreFlags, dir: &str) -> Order<'_>
+    ensures confirm { result.confirm ≡ confirm_of store.single }
+    ensures durability { result.durability ≡ durability_of store.no_sync }
+    ensures leftover { result.leftover ≡ leftover_of store.discard_parts }
+    ensures eager { result.eager ≡ true }
+    ensures keep { result.keep ≡ false }
+    ensures dir { result.dir.now ≡ dir.now }
+{
+    let flags = ReceiveFlags {
+        store,
+        eager: true,
+        keep: false,
+    };
+    order_of(flags, dir)
 }
 
 /// How much is told, by the flags of a job.
@@ -139,7 +160,11 @@ fn tell_flags(job: &Job<'_>) -> TellFlags {
             verbose: false,
             quiet: false,
         },
-        Job::Loop { tell, .. } | Job::Send { tell, .. } | Job::Receive { tell, .. } => *tell,
+        Job::Loop { tell, .. }
+        | Job::Send { tell, .. }
+        | Job::Receive { tell, .. }
+        | Job::SendLine { tell, .. }
+        | Job::ReceiveLine { tell, .. } => *tell,
     }
 }
 
@@ -154,7 +179,12 @@ fn do_job<R, I, O, E, T>(
     teller: &mut Teller<T>,
 ) -> Result<u8, CommandFault>
 where
-    R: Files<File = File> + Net<Listener = TcpListener, Stream = TcpStream> + Clock,
+    R: Files<File = File>
+        + Net<Listener = TcpListener, Stream = TcpStream>
+        + Clock
+        + io::Input
+        + Print,
+    R::Reader: IsTerminal,
     I: Input,
     O: Output,
     E: Output,
@@ -184,6 +214,27 @@ where
             dir,
             ..
         } => receive_as_asked(rt, alloc, port, order_of(flags, dir), out, err, teller),
+        Job::SendLine {
+            line,
+            short,
+            files,
+            ..
+        } => {
+            let paths = files.as_slice();
+            match line {
+                Some(_) => send_line(rt, alloc, line, shape_of(short), paths, out, teller),
+                None => send_line(rt, alloc, line, shape_of(short), paths, err, teller),
+            }
+        }
+        Job::ReceiveLine {
+            line,
+            flags,
+            dir,
+            ..
+        } => match line {
+            Some(_) => receive_line(rt, alloc, line, line_order_of(flags, dir), out, teller),
+            None => receive_line(rt, alloc, line, line_order_of(flags, dir), err, teller),
+        },
     }
 }
 
@@ -202,7 +253,12 @@ pub fn command<R, I, O, E, T>(
     teller: &mut Teller<T>,
 ) -> u8
 where
-    R: Files<File = File> + Net<Listener = TcpListener, Stream = TcpStream> + Clock,
+    R: Files<File = File>
+        + Net<Listener = TcpListener, Stream = TcpStream>
+        + Clock
+        + io::Input
+        + Print,
+    R::Reader: IsTerminal,
     I: Input,
     O: Output,
     E: Output,

@@ -1,0 +1,2 @@
+mod PutSoFarLemmas
+mod StandsInLemmas

@@ -1,6 +1,8 @@
 pub mod DirSink
-pub mod FileSource
 pub mod OpenPart
 pub mod Part
 pub mod ReadAhead
+pub mod ReadSource
+pub mod Ticks
+pub mod Tty
 pub mod WriteBehind

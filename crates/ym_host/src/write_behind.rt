@@ -1,12 +1,12 @@
 //! Bytes that wait to be written, many at a time.
 
-ghost use Rattle.std.specs.Prelude.{◌≡◌, [], OnOk, IfOk};
-ghost use Rattle.std.specs.Io.KnownBytes.{Appends};
-ghost use Rattle.ym_host.specs.WriteBehind.{put_so_far};
+ghost use Rattle.std.specs.Prelude.{◌≡◌, ◌++◌, [], OnOk, OnErr, IfOk};
+ghost use Rattle.std.specs.Io.KnownBytes.{append_known};
+ghost use Rattle.ym_host.specs.WriteBehind.{put_so_far, GrowsByFront};
 
+use crate::append::Append;
 use std::alloc::{AllocError, Global};
 use std::io;
-use std::io::Write;
 use std::marker::Model;
 
 /// How many bytes are written at a time.
@@ -43,25 +43,32 @@ impl WriteBehind {
         self.waiting.clear();
     }
 
-    /// Writes the bytes that wait. Where that fails it is not known how many of them were written.
-    pub(crate) fn flush<W: Write>(&mut self, to: &mut W) -> io::Result<()>
-        ensures written { OnOk result (Appends (W.contents to.old) (W.contents to.new) self.old) }
+    /// Writes the bytes that wait. Where that fails a front of them may have been written.
+    pub(crate) fn flush<W: Append>(&mut self, to: &mut W) -> io::Result<()>
+        ensures written { OnOk result (W.taken to.new ≡ put_so_far (W.taken to.old) self.old) }
         ensures none_wait { OnOk result (self.new ≡ []) }
+        ensures front { OnErr result (GrowsByFront (W.taken to.old) (W.taken to.new) self.old) }
     {
-        to.write_all(self.waiting.as_slice())?;
+        to.append(self.waiting.as_slice())?;
         self.waiting.clear();
         Ok(())
     }
 
-    /// Puts bytes behind those that wait. Where there is no room for them, those that wait are written first.
-    pub(crate) fn put<W: Write>(&mut self, to: &mut W, bytes: &[u8]) -> io::Result<()>
-        ensures { OnOk result (Appends (put_so_far (W.contents to.old) self.old) (put_so_far (W.contents to.new) self.new) bytes.now) }
+    /// Puts bytes behind those that wait. Where there is no room for them, those that wait are
+    /// written first. Where that fails a front of all of them may have been written.
+    pub(crate) fn put<W: Append>(&mut self, to: &mut W, bytes: &[u8]) -> io::Result<()>
+        ensures all { OnOk result (put_so_far (W.taken to.new) self.new
+            ≡ append_known (put_so_far (W.taken to.old) self.old) bytes.now) }
+        ensures front { OnErr result
+            (GrowsByFront (W.taken to.old) (W.taken to.new) (self.old ++ bytes.now)) }
     {
-        if bytes.len() > BEHIND.saturating_sub(self.waiting.len()) {
-            self.flush(to)?;
+        if bytes.len() <= BEHIND.saturating_sub(self.waiting.len()) {
+            self.waiting.extend_from_slice(bytes)?;
+            return Ok(());
         }
+        self.flush(to)?;
         if bytes.len() > BEHIND {
-            return to.write_all(bytes);
+            return to.append(bytes);
         }
         self.waiting.extend_from_slice(bytes)?;
         Ok(())

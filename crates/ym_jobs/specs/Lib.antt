@@ -6,5 +6,6 @@ pub mod Page
 pub mod Receiving
 pub mod Sending
 pub mod Status
+pub mod ToldLine
 pub use Rattle.ym_file.specs.Counts
 pub use Rattle.ym_link.specs.ReceiverInto

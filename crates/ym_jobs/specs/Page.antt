@@ -12,6 +12,9 @@ pub record Page : Type 0 where
   pub holds : Option (List ℕ)
   pub failed : ℕ
 
+abbrev pub page : Option (List ℕ) → ℕ → Page
+page holds failed = record { holds = holds; failed = failed }
+
 -- this text went to an output and nothing else; or it failed, and some of the text may have gone there
 abbrev pub Prints : Page → List ℕ → Result Unit StreamFault → Page → Type 0
 Prints old text (Ok done) new = Appends old.holds new.holds text × (new.failed ≡ old.failed)

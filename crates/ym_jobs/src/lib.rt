@@ -1,4 +1,5 @@
-//! What the program does for its words: files sent and received over a connection, and a session over a connection to itself.
+//! What the program does for its words: files sent and received over a connection or a serial line,
+//! and a session over a connection to itself.
 #![tactic(auto)]
 
 mod command_fault;
@@ -8,8 +9,10 @@ mod lines;
 mod looped;
 mod receiving;
 mod sending;
+mod serial;
 mod store;
 mod telling;
+mod told_line;
 
 pub use command_fault::CommandFault;
 pub use connections::Connections;
@@ -17,4 +20,5 @@ pub use keeping::{receive_as_asked, receive_each};
 pub use looped::looped_session;
 pub use receiving::{Order, receive_batch};
 pub use sending::{send, send_batch};
+pub use serial::{receive_line, send_line};
 pub use store::Store;

@@ -9,7 +9,7 @@ ghost use Rattle.ym_host.specs.DirSink.{kept_of};
 ghost use Rattle.ym_link.specs.ReceiverInto.{ReceiverParts};
 ghost use Rattle.ym_link.specs.declared.end_fault.EndFault.{EndFault as Why};
 ghost use Rattle.ym_jobs.specs.Lines.{file_lines, receiver_lines};
-ghost use Rattle.ym_jobs.specs.Page.{Prints};
+ghost use Rattle.ym_jobs.specs.Page.{Prints, page};
 ghost use Rattle.ym_jobs.specs.Receiving.{ReceiverRuns, Closes, TellsReceiver, SessionGives, receive_gives};
 ghost use Rattle.ym_jobs.specs.Status.{receive_answer};
 
@@ -17,6 +17,7 @@ use crate::command_fault::CommandFault;
 use crate::lines::FileLine;
 use crate::store::Store;
 use crate::telling::{tell_end, tell_not_stored};
+use crate::told_line::{LineWords, ToldLine};
 use std::alloc::{AllocError, Global};
 use std::cell::Cell;
 use std::fs::{File, Files};
@@ -37,10 +38,10 @@ use ym_show::{
 };
 
 /// How many milliseconds a receiver waits for a frame.
-const REPLY_MS: u32 = 3000;
+pub(crate) const REPLY_MS: u32 = 3000;
 
 /// How many milliseconds it waits for more of a frame that has begun.
-const WITHIN_MS: u32 = 1000;
+pub(crate) const WITHIN_MS: u32 = 1000;
 
 /// Prints a line for each file.
 fn print_files<O: Output>(out: &mut O, headers: &[Header]) -> Result<(), StreamFault>
@@ -151,18 +152,27 @@ pub(crate) fn look_at<R: Files<File = File>, E: Write + Drop>(
     looked
 }
 
-/// Tells why a receiver has ended, and, where its sink failed, why the last file was not stored.
-fn tell_outcome<E: Write + Drop>(
+/// Tells why a receiver has ended.
+fn tell_receiver<E: Write + Drop>(
+    teller: &mut Teller<E>,
+    state: RecvState,
+    answer: &Result<u8, CommandFault>,
+    words: LineWords,
+) {
+    let is_running = state == RecvState::Running;
+    let why = EndMessage::of_receiver(state);
+    tell_end(teller, answer, is_running, words, why);
+}
+
+/// Tells why the last file was not stored, where the sink of a receiver failed.
+fn tell_last<E: Write + Drop>(
     teller: &mut Teller<E>,
     alloc: Global,
     state: RecvState,
-    answer: &Result<u8, CommandFault>,
     last: Option<String>,
     why: Option<StoreFault>,
     leftover: Leftover,
 ) {
-    let is_running = state == RecvState::Running;
-    tell_end(teller, answer, is_running, EndMessage::of_receiver(state));
     match last {
         Some(name) if state == RecvState::SinkFailed => {
             tell_not_stored(teller, alloc, name.as_str(), why, leftover);
@@ -171,8 +181,7 @@ fn tell_outcome<E: Write + Drop>(
     }
 }
 
-/// Receives the files of one connection, and prints them and how the receiver has ended. Where somebody looks, how far each file is is shown, and why
-/// one was not stored and why the receiver has ended told.
+/// Receives the files of one connection, as [`receive_on`] does.
 pub(crate) fn receive_from<R, O, E>(
     rt: &R,
     alloc: Global,
@@ -185,7 +194,34 @@ where
     R: Files<File = File> + Clock,
     O: Output,
     E: Write + Drop,
-    ensures { SessionGives order.entry.confirm (record { holds = O.contents out.old; failed = O.failures out.old }) result (record { holds = O.contents out.new; failed = O.failures out.new }) }
+    ensures { SessionGives order.entry.confirm
+        (page (O.contents out.old) (O.failures out.old)) result
+        (page (O.contents out.new) (O.failures out.new)) }
+{
+    let port = SocketPort::new(rt, stream, REPLY_MS - WITHIN_MS, WITHIN_MS);
+    let port = Eager::new(Clearing::new(port, Role::Receiver), order.eager);
+    receive_on(rt, alloc, port, order, out, teller)
+}
+
+/// Receives the files that come over a port of the program's own, and prints them and how the
+/// receiver has ended. Where somebody looks, how far each file is is shown, and why one was not
+/// stored and why the receiver has ended told.
+pub(crate) fn receive_on<R, P, O, E>(
+    rt: &R,
+    alloc: Global,
+    port: P,
+    order: Order<'_>,
+    out: &mut O,
+    teller: &mut Teller<E>,
+) -> Result<u8, CommandFault>
+where
+    R: Files<File = File> + Clock,
+    P: ToldLine + Drop,
+    O: Output,
+    E: Write + Drop,
+    ensures { SessionGives order.entry.confirm
+        (page (O.contents out.old) (O.failures out.old)) result
+        (page (O.contents out.new) (O.failures out.new)) }
 {
     let sink = open_sink(rt, alloc, order)?;
     let is_counted = teller.is_loud;
@@ -198,8 +234,6 @@ where
     let watch = StoreWatch::new(alloc, meter, &replies, besides);
     let watched = Watched { sink, watch };
     let receiver = ReceiverInto::with_sink(alloc, watched, order.confirm);
-    let port = SocketPort::new(rt, stream, REPLY_MS - WITHIN_MS, WITHIN_MS);
-    let port = Eager::new(Clearing::new(port, Role::Receiver), order.eager);
     let watch = Replies {
         count: &replies,
         is_counted,
@@ -208,14 +242,8 @@ where
     let (watched, state, answer) = receive_batch(&mut port, receiver, out);
     let Watched { sink, watch } = watched;
     let last = watch.into_last();
-    tell_outcome(
-        teller,
-        alloc,
-        state,
-        &answer,
-        last,
-        sink.first_fault(),
-        order.leftover,
-    );
+    tell_receiver(teller, state, &answer, port.port.words());
+    let why = sink.first_fault();
+    tell_last(teller, alloc, state, last, why, order.leftover);
     answer
 }

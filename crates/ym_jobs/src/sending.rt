@@ -11,6 +11,7 @@ ghost use Rattle.ym_jobs.specs.Status.{send_answer};
 
 use crate::command_fault::CommandFault;
 use crate::telling::tell_end;
+use crate::told_line::ToldLine;
 use std::alloc::Global;
 use std::fs::{File, Files};
 use std::io::Write;
@@ -33,10 +34,10 @@ use ym_show::{
 };
 
 /// How many milliseconds a sender waits for a reply, and for somebody to answer its call.
-const REPLY_MS: u32 = 10_000;
+pub(crate) const REPLY_MS: u32 = 10_000;
 
 /// How many milliseconds it waits for more of a reply that has begun.
-const WITHIN_MS: u32 = 1000;
+pub(crate) const WITHIN_MS: u32 = 1000;
 
 /// How often a sender calls again where nobody listens yet, and how many milliseconds it waits before: two seconds in all.
 const CALLS: u32 = 40;
@@ -100,7 +101,7 @@ fn open_file<'a, R: Files<File = File>, E: Write + Drop>(
 }
 
 /// The files at these paths, looked at in order, or the first fault.
-fn open_batch<'a, R: Files<File = File>, E: Write + Drop>(
+pub(crate) fn open_batch<'a, R: Files<File = File>, E: Write + Drop>(
     rt: &'a R,
     alloc: Global,
     paths: &[&'a str],
@@ -120,7 +121,7 @@ fn open_batch<'a, R: Files<File = File>, E: Write + Drop>(
 }
 
 /// A sender of these files, of which there may be too many.
-fn sender_of<S: Source + Drop>(
+pub(crate) fn sender_of<S: Source + Drop>(
     batch: Vec<SourceFile<S>>,
     shape: Shape,
 ) -> Result<SenderFrom<S>, CommandFault>
@@ -226,7 +227,7 @@ pub fn send_batch<P: Port, S: Source, O: Output>(
 }
 
 /// The same over a port of the program's own. Where somebody looks, how far each file is is shown, and why the sender has ended told.
-fn send_on<P: Port + Drop, S: Source, O: Output, C: Clock, E: Write + Drop>(
+pub(crate) fn send_on<P: ToldLine + Drop, S: Source, O: Output, C: Clock, E: Write + Drop>(
     rt: &C,
     alloc: Global,
     port: P,
@@ -242,10 +243,12 @@ fn send_on<P: Port + Drop, S: Source, O: Output, C: Clock, E: Write + Drop>(
     };
     let answer = send_batch(&mut port, sender, out);
     port.watch.end();
+    let words = port.port.words();
     drop(port);
     let state = sender.state();
     let is_running = state == SendState::Running;
-    tell_end(teller, &answer, is_running, EndMessage::of_sender(state));
+    let why = EndMessage::of_sender(state);
+    tell_end(teller, &answer, is_running, words, why);
     answer
 }
 

@@ -1,6 +1,7 @@
 //! What `send` and `receive` tell of how they have ended.
 
 use crate::command_fault::CommandFault;
+use crate::told_line::LineWords;
 use std::alloc::Global;
 use std::io::Write;
 use ym_host::{Leftover, StoreFault, part_name};
@@ -11,11 +12,12 @@ pub(crate) fn tell_end<E: Write + Drop>(
     teller: &mut Teller<E>,
     answer: &Result<u8, CommandFault>,
     is_running: bool,
+    words: LineWords,
     state: Option<EndMessage>,
 ) {
     let message = match answer {
-        Err(CommandFault::Closed) => Some(EndMessage::PeerClosed),
-        Err(CommandFault::Device) if is_running => Some(EndMessage::LineFailed),
+        Err(CommandFault::Closed) => Some(words.closed),
+        Err(CommandFault::Device) if is_running => Some(words.failed),
         _ => state,
     };
     if let Some(message) = message {

@@ -3,7 +3,7 @@ use Rattle.std.proofs.Common.{◌≡◌, ◌∙◌, ◌⊎◌, ℕ, min, List, [
 use Rattle.std.proofs.lemmas.List.{length-map, length-take}
 use Rattle.ym_line.proofs.Names.{Shape, Confirm, frames_of, State, Turn, after_turns, done_at, Batch, AllTold, batch_of, FileParts, IsFile, Round, LineFault, Seen, Trace, AreNew, ReportsCommitted, Pair, GoOn, StopsIn, IsTrace, RunGives, AreTurns, CommitsFirst, FollowsMachine, PairRefines, RunsAsMachine, StopsWithMachine}
 use Rattle.ym_file.specs.Kept.{Told, TellsNone}
-use Rattle.ym_machine.specs.Machine.{start, committed}
+use Rattle.ym_machine.specs.Machine.{start}
 use Rattle.ym_line.specs.Promise.{CommitsAPrefix, first_place}
 use Rattle.ym_line.proofs.Stops.{Same, half-same, stopped-refines, unchanged}
 

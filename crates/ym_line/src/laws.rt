@@ -7,8 +7,9 @@ ghost use Rattle.ym_frame.specs.declared.control.Reply.TheVariants.{Silence};
 ghost use Rattle.ym_machine.specs.declared.confirm.Confirm.{Confirm};
 ghost use Rattle.ym_machine.specs.declared.limits.TheConstants.{MOST_FILES};
 ghost use Rattle.ym_machine.specs.Frames.{frames_of};
-ghost use Rattle.ym_machine.specs.Machine.{State, Invariant, start};
-ghost use Rattle.ym_machine.specs.Run.{Turn, IsDamage, after_turns, is_whole};
+ghost use Rattle.ym_machine.specs.Machine.{State, Invariant, KeepsReceiver, sender_step, start};
+ghost use Rattle.ym_machine.specs.ShortBursts.{IsFine};
+ghost use Rattle.ym_machine.specs.Run.{Turn, IsDamage, after_turn, after_turns, is_whole, lost};
 ghost use Rattle.ym_file.specs.Counts.{Rose};
 ghost use Rattle.ym_file.specs.declared.plan.Shape.{Shape};
 ghost use Rattle.ym_core.specs.Reading.{controls_in};
@@ -129,13 +130,24 @@ pub fn short_bad_runs_complete()
     not_sooner::<Headers>();
 }
 
-/// A sender that hears nothing goes where the machine goes in a turn in which nothing arrives, whatever became of the receiver: no frame is taken.
+/// A sender that hears nothing, while the receiver takes no step, goes where the machine's sender
+/// goes, and what the machine knows of the receiver stays. That is no worse than a turn in which
+/// both deliveries are lost: where such a turn leads to a state from which short bursts are
+/// survived, so does this.
 pub fn a_sender_alone_goes_on()
-    ensures { (confirm : Confirm) (files : Batch) (st : State) (old new : SenderParts) (failed : Bool) → Invariant confirm (frames_of files) st → AllTold old.files →
+    ensures stands { (confirm : Confirm) (files : Batch) (st : State) (old new : SenderParts)
+        (failed : Bool) → Invariant confirm (frames_of files) st → AllTold old.files →
         SenderRefines files st old → IsStep old (hears (counts old) old.standing []) failed new →
-        (next : State) × Invariant confirm (frames_of files) next × AllTold new.files × SenderRefines files next new × (next.taken ≡ st.taken) }
+        Invariant confirm (frames_of files) (sender_step (frames_of files) failed [] st)
+        × AllTold new.files
+        × SenderRefines files (sender_step (frames_of files) failed [] st) new
+        × KeepsReceiver st (sender_step (frames_of files) failed [] st) }
+    ensures fine { (confirm : Confirm) (files : Batch) (before next : ℕ) (st : State)
+        (failed : Bool) → IsFine confirm (frames_of files) before st →
+        IsFine confirm (frames_of files) next
+        (after_turn (frames_of files) confirm (record lost { source_failed = failed }) st) →
+        IsFine confirm (frames_of files) next (sender_step (frames_of files) failed [] st) }
 {
-    halves_keep_machine_states::<Headers>();
     halves_keep_the_other_end::<Headers>();
     a_sender_follows_the_machine();
 }

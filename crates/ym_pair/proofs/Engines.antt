@@ -2,7 +2,7 @@
 use Rattle.std.proofs.Common.{◌≡◌, ◌∙◌, ◌⊎◌, inl, inr, ℕ, Bool, false, List, [], ◌∷◌, All, length, refl, sym, ap, subst, Ok}
 use Rattle.ym_pair.proofs.Names.{Reply, Shape, Confirm, frames_of, State, start, committed, reported, after_turn, Heard, controls_in, hears, ReceiverParts, HearsGives, SenderParts, IsSender, IsStep, counts, Batch, FileParts, IsFile, AreNew, Pair, Goes, sent_by, seen_of, PairRefines, CommitsFirst, Delivery, Lost, Round, Spoke, Answered, ArrivesThere, ArrivesBack, SenderAlone, PairUp, ends, up_to_start}
 use Rattle.ym_machine.specs.Frames.{count_within, files_within, IsPrefix}
-use Rattle.ym_machine.specs.Machine.{Invariant}
+use Rattle.ym_machine.specs.Machine.{Invariant, KeepsReceiver, sender_step}
 use Rattle.ym_core.specs.Place.{done_at}
 use Rattle.ym_link.specs.ReceiverRefines.{KeepsFirst}
 use Rattle.ym_link.specs.ReceiverRefines as receiver
@@ -12,7 +12,7 @@ use Rattle.ym_line.specs.Rounds.{GoesThere}
 use Rattle.ym_line.specs.Turns.{IsReceiverStep, TakesATurn}
 use Rattle.ym_line.specs.declared.trace.Seen.{Seen}
 use Rattle.ym_pair.specs.Pairing.{ReceiverAlone}
-use Rattle.ym_pair.proofs.Paired.{Computed, SilenceBack, HearsControls, SpeaksTo, IsWritten, AnswersTo, Leaves, there-of, nothing-back, paired-half, paired-round}
+use Rattle.ym_pair.proofs.Paired.{Computed, SilenceBack, HearsControls, SpeaksTo, IsWritten, AnswersTo, Leaves, there-of, nothing-back, paired-half, paired-round, receiver-stays}
 
 -- ---- What the laws say
 
@@ -24,7 +24,8 @@ pub record Laws : Type 0 where
       (confirm : Confirm) (files : Batch) (st : State) → PairRefines confirm files st old → IsReceiverStep confirm files st delivery old reply new
   pub alone : (confirm : Confirm) (files : Batch) (st : State) (old new : SenderParts) (failed : Bool) → Invariant confirm (frames_of files) st → AllTold old.files →
       SenderRefines files st old → IsStep old (hears (counts old) old.standing []) failed new →
-      (next : State) × Invariant confirm (frames_of files) next × AllTold new.files × SenderRefines files next new × (next.taken ≡ st.taken)
+      Invariant confirm (frames_of files) (sender_step (frames_of files) failed [] st) × AllTold new.files
+      × SenderRefines files (sender_step (frames_of files) failed [] st) new × KeepsReceiver st (sender_step (frames_of files) failed [] st)
   pub new_stand : (pair : Pair) → AreNew pair → All IsFile pair.sender.files → PairRefines pair.receiver.receiver.confirm (batch_of pair.sender.shape pair.sender.files) start pair
   pub done : (files : Batch) (st : State) (sender : SenderParts) → SenderRefines files st sender → done_at (length sender.files) sender.standing.place ≡ count_within files st.acknowledged
   pub counted : (files : Batch) (n : ℕ) → length (files_within files n) ≡ count_within files n
@@ -55,13 +56,13 @@ alone-hears : Laws → (confirm : Confirm) (files : Batch) (st : State) (s next 
     RefinesAlone confirm files st s r → HearsControls s [] next → (st_new : State) × RefinesAlone confirm files st_new next r
 alone-hears laws confirm files st s next r refines heard =
     let goes = laws.alone confirm files st s next heard.0 refines.machine refines.told refines.sender heard.1 in (
-      goes.0,
+      sender_step (frames_of files) heard.0 [] st,
       record {
-        machine = goes.1;
-        told = goes.2;
-        sender = goes.3;
-        keeps = subst (λ n. KeepsFirst files n r.kept) (sym goes.4) refines.keeps;
-        files_is = refines.files_is ∙ ap (count_within files) (sym goes.4);
+        machine = goes.0;
+        told = goes.1;
+        sender = goes.2;
+        keeps = subst (λ n. KeepsFirst files n r.kept) (sym goes.3.taken) refines.keeps;
+        files_is = refines.files_is ∙ ap (count_within files) (sym goes.3.taken);
       },
     )
 
@@ -93,6 +94,22 @@ receiver-alone laws confirm files st s r end last (one ∷ answered) (round ∷ 
     let first = half-paired laws confirm files st s r answers.0 last one.heard round.there answers.1 refines leaves.is leaves.words pairs.0 answers.3 in
     receiver-alone laws confirm files first.0 s answers.0 end last answered rounds first.1 leaves answers.5 pairs.2
 
+-- ---- A sender that waits in vain
+
+pub vain-refines : Laws → (confirm : Confirm) (files : Batch) (st : State) (s next : SenderParts) (r : ReceiverParts) → PairRefines confirm files st (ends s r) → HearsControls s [] next →
+    (st_new : State) × PairRefines confirm files st_new (ends next r)
+vain-refines laws confirm files st s next r refines heard =
+    let goes = laws.alone confirm files st s next heard.0 refines.machine refines.told refines.sender heard.1 in (
+      sender_step (frames_of files) heard.0 [] st,
+      record {
+        machine = goes.0;
+        batch = refines.batch;
+        told = goes.1;
+        sender = goes.2;
+        receiver = receiver-stays confirm files st (sender_step (frames_of files) heard.0 [] st) r.receiver r.kept goes.3 refines.receiver;
+      },
+    )
+
 -- ---- Both
 
 -- the delivery back, of the reply that was given: where it was not written, it is lost
@@ -116,7 +133,7 @@ engines-stand laws confirm files st s new r end [] last answered rounds refines 
 engines-stand laws confirm files st s new r end (one ∷ spoke) last [] rounds refines speaks leaves answers pairs =
     sender-alone laws confirm files st s new end (one ∷ spoke) rounds (alone-at confirm files st s end (subst (λ x. PairRefines confirm files st (ends s x)) (sym answers) refines)) speaks pairs
 engines-stand laws confirm files st s new r end (one ∷ spoke) last (answer ∷ answered) [] refines speaks leaves answers pairs = absurd pairs
-engines-stand laws confirm files st s new r end (one ∷ spoke) last (answer ∷ answered) (round ∷ rounds) refines speaks leaves answers (there_pairs, inl (back_pairs, later)) =
+engines-stand laws confirm files st s new r end (one ∷ spoke) last (answer ∷ answered) (round ∷ rounds) refines speaks leaves answers (inl (there_pairs, inl (back_pairs, later))) =
     let next : SenderParts = speaks.0 in
     let after : ReceiverParts = answers.0 in
     let there = there-of laws.computed s one.wrote round.there answer.heard (inl speaks.3) there_pairs in
@@ -125,9 +142,12 @@ engines-stand laws confirm files st s new r end (one ∷ spoke) last (answer ∷
     let goes = paired-round laws.computed s next r after one.came answer.heard answers.1 there.0 came.0 speaks.1 speaks.4 answers.3 there.1 came.1 in
     let first = laws.go made (ends s r) (ends next after) (seen_of made s answers.1) goes confirm files st refines in
     engines-stand laws confirm files (after_turn (frames_of files) confirm first.0 st) next new after end spoke last answered rounds first.1.refines speaks.5 leaves answers.5 later
-engines-stand laws confirm files st s new r end (one ∷ spoke) last (answer ∷ answered) (round ∷ rounds) refines speaks leaves answers (there_pairs, inr (lost, later)) =
+engines-stand laws confirm files st s new r end (one ∷ spoke) last (answer ∷ answered) (round ∷ rounds) refines speaks leaves answers (inl (there_pairs, inr (lost, later))) =
     let first = half-paired laws confirm files st s r answers.0 one.wrote answer.heard round.there answers.1 refines speaks.1 (inl speaks.3) there_pairs answers.3 in
     engines-stand laws confirm files first.0 s new answers.0 end (one ∷ spoke) last answered rounds first.1 speaks leaves answers.5 later
+engines-stand laws confirm files st s new r end (one ∷ spoke) last (answer ∷ answered) (round ∷ rounds) refines speaks leaves answers (inr (vain, later)) =
+    let first = vain-refines laws confirm files st s speaks.0 r refines (subst (λ controls. HearsControls s (up_to_start controls) speaks.0) vain.nothing speaks.4) in
+    engines-stand laws confirm files first.0 speaks.0 new r end spoke last (answer ∷ answered) rounds first.1 speaks.5 leaves answers later
 
 -- ---- What is committed
 

@@ -1,7 +1,7 @@
 -- Two engines whose deliveries pair up, and that both end, finish where damage comes in short bursts.
 use Rattle.std.proofs.Common.{◌≡◌, ◌≢◌, ◌∙◌, ◌≤◌, inl, inr, ℕ, true, false, List, [], ◌∷◌, length, map, take, Ok, Result, All, refl, sym, ap, subst, arith}
 use Rattle.std.proofs.lemmas.List.{length-map, take_all}
-use Rattle.ym_pair.proofs.Names.{Silence, HeaderFault, Zero, Confirm, BURST, frames_of, State, start, committed, reported, Receiver, Step, No_call, hears_at, Bad, RecvState, ReceiverParts, HearsGives, called, SenderParts, Batch, FileParts, IsFile, longest_bad_run, AreNew, Pair, sent_by, seen_of, CommitsFirst, Lost, Round, Spoke, Answered, SenderAlone, PairUp, ends}
+use Rattle.ym_pair.proofs.Names.{Silence, HeaderFault, Zero, Confirm, BURST, frames_of, State, start, committed, reported, Receiver, Step, No_call, hears_at, Bad, RecvState, ReceiverParts, HearsGives, called, SenderParts, Batch, FileParts, IsFile, longest_bad_run, AreNew, Pair, sent_by, seen_of, CommitsFirst, Lost, Round, Spoke, Answered, SenderAlone, PairUp, ends, up_to_start}
 use Rattle.ym_header.specs.declared.reading.Zero.TheVariants.{End}
 use Rattle.ym_machine.specs.Frames.{files_within}
 use Rattle.ym_machine.specs.Machine.{Invariant}
@@ -14,9 +14,9 @@ use Rattle.ym_link.specs.SenderRefines.{batch_of, file_of}
 use Rattle.ym_line.specs.Completion.{NoneRose}
 use Rattle.ym_line.specs.Promise.{CommitsAPrefix}
 use Rattle.ym_pair.specs.Pairing.{HaveBothFinished}
-use Rattle.ym_pair.proofs.Fronts.{TurnLaws, Front, Onward, IsShort, IsCalm, sender-going, sender-finished, front-goes, front-is, answers-grew, speaks-grew, calm-there, calm-back, turns-longest}
+use Rattle.ym_pair.proofs.Fronts.{TurnLaws, Front, Onward, IsShort, IsCalm, sender-going, sender-finished, front-goes, front-is, front-vain, answers-grew, speaks-grew, calm-there, calm-back, turns-longest}
 use Rattle.ym_pair.proofs.Ghosts.{Comes, ghost, comes-along, comes-waiting}
-use Rattle.ym_pair.proofs.Paired.{SpeaksTo, AnswersTo, bad-lost, paired-round}
+use Rattle.ym_pair.proofs.Paired.{HearsControls, SpeaksTo, AnswersTo, bad-lost, paired-round}
 
 -- ---- A receiver that has ended, and hears nothing
 
@@ -98,7 +98,7 @@ module _ (all_laws : FinishLaws) (confirm : Confirm) (files : Batch) where
   reaches-end s new r end (one ∷ spoke) last [] rounds on speaks answers over ended pairs calm =
       sender-reaches s new end (one ∷ spoke) rounds (subst (λ x. Onward confirm files rounds s x) (sym answers) on) speaks ended pairs (subst (λ x. IsCalm s new x end) (sym answers) calm)
   reaches-end s new r end (one ∷ spoke) last (answer ∷ answered) [] on speaks answers over ended pairs calm = absurd pairs
-  reaches-end s new r end (one ∷ spoke) last (answer ∷ answered) (round ∷ rounds) on speaks answers over ended (there_pairs, inl (back_pairs, later)) calm =
+  reaches-end s new r end (one ∷ spoke) last (answer ∷ answered) (round ∷ rounds) on speaks answers over ended (inl (there_pairs, inl (back_pairs, later))) calm =
       let front : Front confirm files on.before s r = on.front in
       let next : SenderParts = speaks.0 in
       let after : ReceiverParts = answers.0 in
@@ -111,7 +111,7 @@ module _ (all_laws : FinishLaws) (confirm : Confirm) (files : Batch) where
       on.short in
       reaches-end next new after end spoke last answered rounds onward speaks.5 answers.5 over ended later
       (calm-there next new r after end answers.3.2.0 (calm-back laws s next new r end speaks.4.0 calm (laws.filled speaks.4.0 _ s.files next.files speaks.4.1.files)) answers.3.2.1.truth)
-  reaches-end s new r end (one ∷ spoke) last (answer ∷ answered) (round ∷ rounds) on speaks answers over ended (there_pairs, inr (lost, later)) calm =
+  reaches-end s new r end (one ∷ spoke) last (answer ∷ answered) (round ∷ rounds) on speaks answers over ended (inl (there_pairs, inr (lost, later))) calm =
       let front : Front confirm files on.before s r = on.front in
       let after : ReceiverParts = answers.0 in
       let made : Round = record { there = round.there; back = Lost } in
@@ -123,6 +123,16 @@ module _ (all_laws : FinishLaws) (confirm : Confirm) (files : Batch) where
       (λ failed found. laws.source failed s.files s.files new.files found (speaks-grew laws s new (one ∷ spoke) speaks) calm.sources)
       (subst (λ back. IsShort on.before (record { there = round.there; back = back } ∷ rounds)) lost on.short) in
       reaches-end s new after end (one ∷ spoke) last answered rounds onward speaks answers.5 over ended later (calm-there s new r after end answers.3.2.0 calm answers.3.2.1.truth)
+  reaches-end s new r end (one ∷ spoke) last (answer ∷ answered) (round ∷ rounds) on speaks answers over ended (inr (vain, later)) calm =
+      let front : Front confirm files on.before s r = on.front in
+      let next : SenderParts = speaks.0 in
+      let heard : HearsControls s [] next = subst (λ controls. HearsControls s (up_to_start controls) next) vain.nothing speaks.4 in
+      let comes : Comes front.retries s [] next = comes-along front.retries s [] next front.few speaks.2 heard in
+      let onward : Onward confirm files rounds next r = front-vain laws confirm files on.before round rounds s next r front comes vain.there vain.back
+      (λ failed found. laws.source failed s.files next.files new.files found (speaks-grew laws next new spoke speaks.5) calm.sources)
+      on.short in
+      reaches-end next new r end spoke last (answer ∷ answered) rounds onward speaks.5 answers over ended later
+      (calm-back laws s next new r end speaks.4.0 calm (laws.filled speaks.4.0 _ s.files next.files speaks.4.1.files))
 
 -- ---- Both finish
 

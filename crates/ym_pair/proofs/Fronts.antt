@@ -1,7 +1,8 @@
 -- Where no bad run is longer than a burst, and no failure count rises, each round of a pair that has not given up leads to one that has not.
 use Rattle.std.proofs.Common.{◌≡◌, ◌≢◌, ◌∙◌, ◌≤◌, ◌<◌, ◌+◌, ◌⊎◌, inl, inr, ℕ, Bool, true, false, List, [], ◌∷◌, length, Option, refl, sym, ap, subst, arith, All}
-use Rattle.ym_pair.proofs.Names.{Control, Shape, Confirm, BURST, frames_of, State, start, after_turn, SendState, ReceiverParts, SenderParts, IsSender, IsFilled, Batch, FileParts, IsFile, file_at, Place, longest_bad_run, AreNew, Pair, Goes, CommitsFirst, PairRefines, Round, Spoke, Answered, ends}
+use Rattle.ym_pair.proofs.Names.{Control, Shape, Confirm, BURST, frames_of, State, start, after_turn, SendState, ReceiverParts, SenderParts, IsSender, IsFilled, Batch, FileParts, IsFile, file_at, Place, longest_bad_run, AreNew, Pair, Goes, CommitsFirst, PairRefines, Lost, Round, Spoke, Answered, ends, IsStep, counts, hears}
 use Rattle.ym_file.specs.Counts.{Rose}
+use Rattle.ym_machine.specs.Machine.{Invariant, KeepsReceiver, sender_step}
 use Rattle.ym_machine.specs.RoundsRemaining.{SenderGoes}
 use Rattle.ym_machine.specs.Run.{Turn, IsDamage}
 use Rattle.ym_machine.specs.Run as machine
@@ -9,14 +10,14 @@ use Rattle.ym_machine.specs.State.{SenderEnd}
 use Rattle.ym_machine.specs.ShortBursts.{IsFine}
 use Rattle.ym_core.specs.declared.state.SendState.TheVariants as send_state
 use Rattle.ym_link.specs.ReceiverInto.{Tells}
-use Rattle.ym_link.specs.SenderRefines.{AllTold, batch_of}
+use Rattle.ym_link.specs.SenderRefines.{AllTold, SenderRefines, batch_of}
 use Rattle.ym_link.specs.SenderRefines as sender
 use Rattle.ym_line.specs.Completion.{both_whole}
 use Rattle.ym_line.specs.Promise.{CommitsAPrefix}
 use Rattle.ym_line.specs.Turns.{AreTurns, IsTurn, IsSourceTruth, TakesATurn, turn_of}
 use Rattle.ym_line.specs.declared.trace.Seen.{Seen}
 use Rattle.ym_pair.proofs.Ghosts.{Comes, ghost}
-use Rattle.ym_pair.proofs.Paired.{Computed, SpeaksTo, AnswersTo}
+use Rattle.ym_pair.proofs.Paired.{Computed, SpeaksTo, AnswersTo, receiver-stays}
 
 -- ---- What the laws say
 
@@ -33,6 +34,13 @@ pub record TurnLaws : Type 0 where
   pub first : (confirm : Confirm) (files : Batch) (st : State) (pair : Pair) → PairRefines confirm files st pair → CommitsFirst files st pair
   pub prefix : (shape : Shape) (sources : List FileParts) (st : State) (pair : Pair) → All IsFile sources → AllTold sources → CommitsFirst (batch_of shape sources) st pair → CommitsAPrefix sources pair
   pub new_stand : (pair : Pair) → AreNew pair → All IsFile pair.sender.files → PairRefines pair.receiver.receiver.confirm (batch_of pair.sender.shape pair.sender.files) start pair
+  pub alone : (confirm : Confirm) (files : Batch) (st : State) (old new : SenderParts) (failed : Bool) → Invariant confirm (frames_of files) st → AllTold old.files →
+      SenderRefines files st old → IsStep old (hears (counts old) old.standing []) failed new →
+      Invariant confirm (frames_of files) (sender_step (frames_of files) failed [] st) × AllTold new.files
+      × SenderRefines files (sender_step (frames_of files) failed [] st) new × KeepsReceiver st (sender_step (frames_of files) failed [] st)
+  pub alone_fine : (confirm : Confirm) (files : Batch) (before next : ℕ) (st : State) (failed : Bool) → IsFine confirm (frames_of files) before st →
+      IsFine confirm (frames_of files) next (after_turn (frames_of files) confirm (record machine.lost { source_failed = failed }) st) →
+      IsFine confirm (frames_of files) next (sender_step (frames_of files) failed [] st)
   -- of failure counts
   pub filled : (failed : Bool) (fills : Option Place) (old new : List FileParts) → IsFilled failed fills old new → IsSourceTruth failed old new
   pub long : (failed : Bool) (old new : List FileParts) → IsSourceTruth failed old new → length new ≡ length old
@@ -115,6 +123,40 @@ front-goes laws confirm files before round rounds s next r after cs seen front c
         few = like.1;
         refines = subst (λ x. PairRefines confirm files st (ends x after)) like.2 refines;
         fine = one.1;
+      };
+      short = one.2;
+    }
+
+-- a wait in vain leads to such a pair too, as a round does in which both deliveries are lost
+pub front-vain : TurnLaws → (confirm : Confirm) (files : Batch) (before : ℕ) (round : Round) (rounds : List Round) (s next : SenderParts) (r : ReceiverParts) →
+    (front : Front confirm files before s r) → (comes : Comes front.retries s [] next) → round.there ≡ Lost → round.back ≡ Lost →
+    CalmSources s.files next.files → IsShort before (round ∷ rounds) → Onward confirm files rounds next r
+front-vain laws confirm files before round rounds s next r front comes there back sources short =
+    let failed : Bool = comes.heard.0 in
+    let goes = laws.alone confirm files front.st (ghost front.retries s) comes.new failed front.refines.machine front.refines.told front.refines.sender comes.heard.1 in
+    let no_source : failed ≡ false = sources failed (subst (λ all. IsSourceTruth failed s.files all) comes.files (laws.filled failed _ s.files comes.new.files comes.heard.1.files)) in
+    let turn : Turn = record machine.lost { source_failed = failed } in
+    let turn_is : turn ≡ turn_of round false false = ap (λ f. record machine.lost { source_failed = f }) no_source ∙ rw (there, back) refl in
+    let brief : machine.longest_bad_run before (turn ∷ turns_of rounds) ≤ BURST = subst (λ t. machine.longest_bad_run before (t ∷ turns_of rounds) ≤ BURST) (sym turn_is) short in
+    let one = laws.goes_on files confirm turn (turns_of rounds) before front.st front.fine brief refl no_source refl in
+    let st : State = sender_step (frames_of files) failed [] front.st in
+    let fine : IsFine confirm (frames_of files) one.0 st = laws.alone_fine confirm files before one.0 front.st failed front.fine one.1 in
+    let refines : PairRefines confirm files st (ends comes.new r) = record {
+      machine = goes.0;
+      batch = front.refines.batch;
+      told = goes.1;
+      sender = goes.2;
+      receiver = receiver-stays confirm files front.st st r.receiver r.kept goes.3 front.refines.receiver;
+    } in
+    let like = comes.goes_on (still-replies comes.new.standing.state (sender-going st.sender comes.new.standing.state refines.sender.standing.state fine.going.0)) in
+    record {
+      before = one.0;
+      front = record {
+        st = st;
+        retries = like.0;
+        few = like.1;
+        refines = subst (λ x. PairRefines confirm files st (ends x r)) like.2 refines;
+        fine = fine;
       };
       short = one.2;
     }

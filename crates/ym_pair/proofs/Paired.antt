@@ -1,7 +1,7 @@
 -- The runs of two engines, step by step: a round in which their deliveries pair up is a round of the pair.
 use Rattle.std.proofs.Common.{◌≡◌, ◌≢◌, ◌∙◌, ◌⊎◌, ◌+◌, inl, inr, nat_lt, ℕ, Bool, true, false, List, [], ◌∷◌, ◌++◌, length, Option, None, Some, Result, Ok, Err, unwrap_or, refl, sym, ap, subst, arith}
 use Rattle.std.proofs.lemmas.Bool.{cond_both, ltb-true}
-use Rattle.ym_pair.proofs.Names.{verdict_of, Control, Ack, Can, Reply, Silence, Item, IsPlace, count_at, next_of, controls_in, reads, after_reading, hears, hears_in, Heard, Bad, Mode, Waiting, Sent, Place, Header, Block, Eot, End, Reading, Standing, SendState, SenderHears, sender_none, sender_more, ReceiverHears, receiver_none, receiver_more, Tape, ReceiverParts, HearsGives, SenderParts, IsSender, IsStep, counts, spoken, written_for, Goes, sent_by, seen_of, Delivery, Lost, Spoke, Answered, spoke_in, spoke_along, last_words, answered_in, ArrivesThere, ArrivesBack, ends, up_to_start}
+use Rattle.ym_pair.proofs.Names.{Confirm, Batch, State, Receiver, verdict_of, Control, Ack, Can, Reply, Silence, Item, IsPlace, count_at, next_of, controls_in, reads, after_reading, hears, hears_in, Heard, Bad, Mode, Waiting, Sent, Place, Header, Block, Eot, End, Reading, Standing, SendState, SenderHears, sender_none, sender_more, ReceiverHears, receiver_none, receiver_more, Tape, ReceiverParts, HearsGives, SenderParts, IsSender, IsStep, counts, spoken, written_for, Goes, sent_by, seen_of, Delivery, Lost, Spoke, Answered, spoke_in, spoke_along, last_words, answered_in, ArrivesThere, ArrivesBack, ends, up_to_start}
 use Rattle.ym_frame.specs.Control.{reply_bytes}
 use Rattle.ym_frame.specs.Frame.{IsBytes, IsVerdict, HasFrame}
 use Rattle.ym_frame.specs.declared.control.Control.TheVariants.{Nak}
@@ -11,7 +11,10 @@ use Rattle.ym_core.specs.declared.state.SendState.TheVariants as send_state
 use Rattle.ym_core.specs.declared.state.RecvState.TheVariants as recv_state
 use Rattle.ym_link.specs.ReceiveOver as receiving
 use Rattle.ym_link.specs.SendOver as sending
+use Rattle.ym_file.specs.Kept.{Kept}
+use Rattle.ym_machine.specs.Machine.{KeepsReceiver}
 use Rattle.ym_link.specs.Moves.{Moves}
+use Rattle.ym_link.specs.ReceiverRefines.{ReceiverRefines}
 use Rattle.ym_line.specs.Damage.{arrives, IsHeardBad, ShowsBack, ShowsThere}
 use Rattle.ym_line.specs.Rounds.{GoesThere}
 use Rattle.ym_line.specs.declared.delivery.Delivery.TheVariants.{Damaged}
@@ -223,3 +226,9 @@ paired-round computed s next r after came h reply there back is heard gives arri
   };
   seen_is = refl;
 }
+
+-- ---- A wait in vain
+
+-- a receiver refines each state in which what is the receiver's stays
+pub receiver-stays : (confirm : Confirm) (files : Batch) (old new : State) (r : Receiver) (kept : Kept) → KeepsReceiver old new → ReceiverRefines confirm files old r kept → ReceiverRefines confirm files new r kept
+receiver-stays confirm files old new r kept same refines = grind (arith, same, refines)

@@ -72,15 +72,26 @@ SenderAlone [] [] = Unit {0}
 SenderAlone (s ∷ spoke) (round ∷ rounds) = (round.there ≡ Lost) × ArrivesBack round.back Silence s.came × SenderAlone spoke rounds
 SenderAlone _ _ = ⊥
 
--- The deliveries of two engines pair up as these rounds. Of each round there comes to the receiver what arrives of what the sender wrote last; and then to the
--- sender what arrives of the receiver's reply, or, where that reply is lost, the sender still waits. Where one engine has returned, the other is alone.
+-- The sender waited in vain, and the receiver heard nothing meanwhile: a round whose deliveries are
+-- both lost, in which the receiver takes no step. No control comes to the sender in it.
+pub record WaitsInVain (round : Round) (came : List ℕ) : Type 0 where
+  pub there : round.there ≡ Lost
+  pub back : round.back ≡ Lost
+  pub nothing : controls_in came ≡ []
+
+-- The deliveries of two engines pair up as these rounds. In a round there comes to the receiver
+-- what arrives of what the sender wrote last; and then to the sender what arrives of the receiver's
+-- reply, or, where that reply is lost, the sender still waits. Or the sender waits in vain. Where
+-- one engine has returned, the other is alone.
 abbrev pub PairUp : List Spoke → List ℕ → List Answered → List Round → Type 0
 PairUp [] last answered rounds = ReceiverAlone last answered rounds
 PairUp (s ∷ spoke) last [] rounds = SenderAlone (s ∷ spoke) rounds
 PairUp (s ∷ spoke) last (a ∷ answered) [] = ⊥
 PairUp (s ∷ spoke) last (a ∷ answered) (round ∷ rounds) =
-    ArrivesThere round.there s.wrote a.heard
-    × ((ArrivesBack round.back a.wrote s.came × PairUp spoke last answered rounds) ⊎ ((round.back ≡ Lost) × PairUp (s ∷ spoke) last answered rounds))
+    (ArrivesThere round.there s.wrote a.heard
+    × ((ArrivesBack round.back a.wrote s.came × PairUp spoke last answered rounds)
+    ⊎ ((round.back ≡ Lost) × PairUp (s ∷ spoke) last answered rounds)))
+    ⊎ (WaitsInVain round s.came × PairUp spoke last (a ∷ answered) rounds)
 
 -- so do those of two calls
 abbrev pub RunsPairUp : (s : SenderParts) (t : Tape) (out : sending.Outcome) → sending.Sends s t out →

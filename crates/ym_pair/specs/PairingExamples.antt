@@ -1,7 +1,10 @@
--- Calls written out: a lost reply, a receiver that asks before its peer is there, and a peer that skips a block.
-use Rattle.std.specs.Prelude.{ℕ, List, [], ◌∷◌, codes}
+-- Calls written out: a lost reply, a receiver that asks before its peer is there, a peer that skips
+-- a block, and senders that wait in vain.
+use Rattle.std.specs.Prelude.{ℕ, List, [], ◌∷◌, ◌++◌, codes, replicate}
+use Rattle.ym_frame.specs.Frame.{IsFrame}
 use Rattle.ym_frame.specs.declared.control.Reply.{Reply}
-use Rattle.ym_frame.specs.declared.control.Reply.TheVariants.{Silence, Start, AckStart}
+use Rattle.ym_frame.specs.declared.control.Reply.TheVariants.{Silence, Start, Ack, AckStart, Nak}
+use Rattle.ym_frame.specs.declared.frame.Item.{Item}
 use Rattle.ym_frame.specs.declared.frame.Item.TheVariants as item
 use Rattle.ym_header.specs.declared.stamp.Stamp.TheVariants as stamp
 use Rattle.ym_core.specs.declared.delivery.Heard.{Heard}
@@ -84,3 +87,65 @@ asked_early_rounds = round Whole Lost ∷ round Whole Lost ∷ round Whole Whole
 -- a sender that gave up has left CAN CAN
 abbrev pub called_off : List Answered
 called_off = answered (heard.Item item.Cancel) Silence ∷ []
+
+-- an ACK comes to the sender, and the receiver could write nothing
+abbrev pub unwritten : List Answered
+unwritten = answered heard.Bad Silence ∷ []
+
+-- ---- Whole sessions
+
+-- an item, and the bytes of its frame
+pub record Framed : Type 0 where
+  pub item : Item
+  pub bytes : List ℕ
+  pub is : IsFrame item bytes
+
+-- the blocks of a batch of one file: its block 0, three data blocks, and the end block
+pub record Blocks : Type 0 where
+  pub zero : Framed
+  pub one : Framed
+  pub two : Framed
+  pub three : Framed
+  pub end : Framed
+
+-- up to block 1, where nothing goes wrong
+abbrev pub spoke_first : Blocks → List Spoke
+spoke_first blocks =
+    spoke [] (0x43 ∷ []) ∷ spoke blocks.zero.bytes (0x06 ∷ 0x43 ∷ [])
+    ∷ spoke blocks.one.bytes (0x06 ∷ []) ∷ []
+
+-- and from block 2 on
+abbrev pub spoke_then : Blocks → List Spoke
+spoke_then blocks =
+    spoke blocks.two.bytes (0x06 ∷ []) ∷ spoke blocks.three.bytes (0x06 ∷ [])
+    ∷ spoke eot (0x15 ∷ []) ∷ spoke eot (0x06 ∷ 0x43 ∷ [])
+    ∷ spoke blocks.end.bytes (0x06 ∷ []) ∷ []
+
+-- the receiver hears each of these once
+abbrev pub answered_all : Blocks → List Answered
+answered_all blocks =
+    answered heard.Bad Start ∷ answered (heard.Item blocks.zero.item) AckStart
+    ∷ answered (heard.Item blocks.one.item) Ack ∷ answered (heard.Item blocks.two.item) Ack
+    ∷ answered (heard.Item blocks.three.item) Ack ∷ answered ending Nak
+    ∷ answered ending AckStart ∷ answered (heard.Item blocks.end.item) Ack ∷ []
+
+abbrev pub whole_round : Round
+whole_round = round Whole Whole
+
+abbrev pub vain_round : Round
+vain_round = round Lost Lost
+
+-- The receiver is started when the sender has waited once in vain.
+abbrev pub started_late : Blocks → List Spoke
+started_late blocks = spoke [] [] ∷ (spoke_first blocks ++ spoke_then blocks)
+
+abbrev pub started_late_rounds : List Round
+started_late_rounds = vain_round ∷ replicate 8 whole_round
+
+-- The receiver stalls, and the sender writes block 2 once more. Both copies come in one read, of
+-- which the receiver hears the first; the rest is dropped.
+abbrev pub stalled : Blocks → List Spoke
+stalled blocks = spoke_first blocks ++ spoke blocks.two.bytes [] ∷ spoke_then blocks
+
+abbrev pub stalled_rounds : List Round
+stalled_rounds = replicate 3 whole_round ++ vain_round ∷ replicate 5 whole_round

@@ -11,5 +11,6 @@ pub use any_peer::{
 };
 pub use examples::{
     a_file_is_spelled_once, an_ack_is_of_the_frame_before_it, lost_and_early_replies_pair_up,
+    waits_in_vain_pair_up,
 };
 pub use pairs::{two_engines_commit_a_prefix, two_engines_complete};

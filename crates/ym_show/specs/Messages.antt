@@ -46,6 +46,9 @@ abbrev pub end_text : EndMessage → List ℕ
 end_text end.PeerCancelled = codes "the peer sent CAN CAN"
 end_text end.PeerClosed = codes "the peer closed the connection"
 end_text end.LineFailed = codes "the connection failed"
+end_text end.LineHungUp = codes "the line hung up"
+end_text end.LineEndless = codes "reads of the line do not end by themselves: set it by `stty raw -echo min 0 time 1`"
+end_text (end.LineRefused why) = codes "the line failed: " ++ reason_text why
 end_text end.NoReply = codes "no reply, ten times in a row"
 end_text end.NoBlock = codes "no whole block, ten times in a row"
 end_text end.SourceFailed = codes "a file could not be read, or has changed"

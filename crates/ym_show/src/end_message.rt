@@ -3,6 +3,7 @@
 ghost use Rattle.std.specs.Prelude.{◌≡◌, Some};
 ghost use Rattle.ym_show.specs.Messages.{end_text, sender_end, receiver_end};
 
+use crate::reason::Reason;
 use std::fmt;
 use ym_header::HeaderFault;
 use ym_link::{RecvState, SendState};
@@ -16,6 +17,12 @@ pub enum EndMessage {
     PeerClosed,
     /// The connection failed.
     LineFailed,
+    /// The terminal that is the line has hung up.
+    LineHungUp,
+    /// Its reads do not end by themselves.
+    LineEndless,
+    /// The system refused a call of it.
+    LineRefused(Reason),
     /// A sender heard nothing of use, as often as it may.
     NoReply,
     /// A receiver heard nothing of use, as often as it may.
@@ -87,6 +94,12 @@ impl fmt::Display for EndMessage {
             EndMessage::PeerCancelled => write!(f, "the peer sent CAN CAN"),
             EndMessage::PeerClosed => write!(f, "the peer closed the connection"),
             EndMessage::LineFailed => write!(f, "the connection failed"),
+            EndMessage::LineHungUp => write!(f, "the line hung up"),
+            EndMessage::LineEndless => write!(
+                f,
+                "reads of the line do not end by themselves: set it by `stty raw -echo min 0 time 1`"
+            ),
+            EndMessage::LineRefused(why) => write!(f, "the line failed: {why}"),
             EndMessage::NoReply => write!(f, "no reply, ten times in a row"),
             EndMessage::NoBlock => write!(f, "no whole block, ten times in a row"),
             EndMessage::SourceFailed => write!(f, "a file could not be read, or has changed"),

@@ -14,6 +14,7 @@ mod shown;
 mod shown_out;
 mod store_watch;
 mod teller;
+mod tty_message;
 mod watched;
 mod watched_port;
 
@@ -30,5 +31,6 @@ pub use shown::Shown;
 pub use shown_out::ShownOut;
 pub use store_watch::{Replies, StoreWatch};
 pub use teller::{Look, Teller};
+pub use tty_message::TtyMessage;
 pub use watched::{SinkWatch, Watched};
 pub use watched_port::{PortWatch, WatchedPort};

@@ -17,6 +17,11 @@ fn is_hidden(c: char) -> bool {
         )
 }
 
+/// Whether lines of text are shown as they are.
+pub(crate) fn is_plain(text: &str) -> bool {
+    !text.chars().any(|c| c != '\n' && is_hidden(c))
+}
+
 /// The same of a text of several lines: their ends stay.
 #[derive(Clone, Copy, Debug)]
 pub(crate) struct ShownLines<'a>(pub(crate) &'a str);

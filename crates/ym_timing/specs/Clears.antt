@@ -57,10 +57,21 @@ need_by owed.Nothing taken unsure = if unsure then need.Quiet else need.Nothing
 abbrev pub need_of : Sent → ℕ → Timing → Need
 need_of n now t = need_by t.out.owed (is_taken n t) (is_unsure now t)
 
+-- where answers may come yet to a sender it counts since the last of them
+abbrev pub counted_by : Role → Need → Timing → ℕ
+counted_by Sender need.Late t = t.heard.answered_at
+counted_by Sender need.Several t = t.heard.answered_at
+counted_by Sender need.Quiet t = t.heard.last
+counted_by Sender need.Nothing t = t.heard.last
+counted_by Receiver n t = t.heard.last
+
+abbrev pub counted_from : Need → Timing → ℕ
+counted_from n t = counted_by t.role n t
+
 abbrev pub clearing : List ℕ → ℕ → Timing → Clearing
 clearing bytes now t = record {
   need = need_of (next t.sent bytes) now t;
-  from = if was_held_up now t then now else t.heard.last;
+  from = if was_held_up now t then now else counted_from (need_of (next t.sent bytes) now t) t;
   owed = t.out.copies - 1;
   answered_at = t.heard.last;
   end_at = later now LONGEST;

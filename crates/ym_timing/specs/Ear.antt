@@ -43,12 +43,19 @@ other echo e = record {
 abbrev pub hears : Bool → Ear → Listened
 hears is_heard e = record { ear = record e { echo = Open }; is_heard = is_heard }
 
+-- alone it may be what the line left of a reply; the byte EOT is the echo of one that was written
+abbrev pub stray : ℕ → Ear → Listened
+stray byte e = record {
+  ear = (other Open e).ear;
+  is_heard = nat_eq e.others 0 && not (nat_eq byte 4);
+}
+
 -- outside of an echo an ACK is heard, but for one behind noise; NAK, C and CAN are
 abbrev pub outside : ℕ → Ear → Listened
 outside byte e =
     if is_first byte then other (Head byte) e
     else (if nat_eq byte 0x06 then hears (nat_lt e.others OTHERS) e
-    else (if is_other_control byte then hears true e else other Open e))
+    else (if is_other_control byte then hears true e else stray byte e))
 
 abbrev pub is_ours : ℕ → ℕ → List ℕ → Bool
 is_ours first number frame =

@@ -1,6 +1,6 @@
 -- What an end heard since it wrote (this profile).
-use Rattle.std.specs.Prelude.{ℕ, ◌+◌, nat_eq, nat_lt, nat_le, ◌&&◌, not, Bool, true, false}
-use Rattle.std.specs.Prelude.{if◌then◌else◌}
+use Rattle.std.specs.Prelude.{ℕ, ◌+◌, nat_eq, nat_lt, nat_le, ◌&&◌, ◌||◌, not, Bool, true}
+use Rattle.std.specs.Prelude.{false, List, [], ◌∷◌, if◌then◌else◌}
 use Rattle.ym_timing.specs.declared.heard.Heard.{Heard}
 use Rattle.ym_timing.specs.declared.limits.TheConstants.{FULL}
 
@@ -9,6 +9,7 @@ new_heard = record {
   count = 0;
   since = 0;
   last = 0;
+  answered_at = 0;
   first = 0;
   second = 0;
   is_quiet = false;
@@ -26,6 +27,17 @@ take_byte byte now h = record h {
   is_quiet = false;
   is_late = if nat_eq h.count 0 then h.has_waited else h.is_late;
 }
+
+-- of a reply, whose ACK has its moment
+abbrev pub take_reply : ℕ → ℕ → Heard → Heard
+take_reply byte now h = record (take_byte byte now h) {
+  answered_at = if nat_eq h.count 0 || nat_eq byte 0x06 then now else h.answered_at;
+}
+
+-- bytes that came at one moment
+abbrev pub take_bytes : List ℕ → ℕ → Heard → Heard
+take_bytes [] now h = h
+take_bytes (byte ∷ bytes) now h = take_bytes bytes now (take_byte byte now h)
 
 abbrev pub waited : Bool → Heard → Heard
 waited is_quiet h = record h { is_quiet = is_quiet; has_waited = true }

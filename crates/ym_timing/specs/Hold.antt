@@ -87,10 +87,17 @@ abbrev pub passed_over : ℕ → Hold → Said
 passed_over now h =
     record { hold = record h { asks_left = h.asks_left - 1; asked_at = now }; say = say.Nothing }
 
--- a control byte behind a write of this kind
+-- no control byte
+abbrev pub is_noise : ℕ → Bool
+is_noise byte =
+    not (nat_eq byte 0x06) && (not (nat_eq byte 0x15) && (not (nat_eq byte 0x43)
+    && not (nat_eq byte 0x18)))
+
+-- a byte behind a write of this kind; noise takes no ACK back
 abbrev pub control : Kind → ℕ → Bool → ℕ → Hold → Said
 control kind byte is_first now h =
-    if is_stale byte is_first now h then passed_over now h else by_kind kind byte now h
+    if h.is_held && is_noise byte then record { hold = h; say = say.Nothing }
+    else (if is_stale byte is_first now h then passed_over now h else by_kind kind byte now h)
 
 abbrev pub released : Hold → Hold
 released h = record h { is_held = false }

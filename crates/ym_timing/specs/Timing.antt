@@ -2,7 +2,7 @@
 use Rattle.std.specs.Prelude.{ℕ, ◌+◌, nat_eq, nat_lt, ◌&&◌, not, Bool, true, false, List, length}
 use Rattle.std.specs.Prelude.{slice_index, max, if◌then◌else◌}
 use Rattle.ym_timing.specs.Ear.{new_ear, listen}
-use Rattle.ym_timing.specs.Heard.{new_heard, take_byte, waited}
+use Rattle.ym_timing.specs.Heard.{new_heard, take_byte, take_reply, waited}
 use Rattle.ym_timing.specs.Hold.{new_hold, control, released}
 use Rattle.ym_timing.specs.Out.{new_out}
 use Rattle.ym_timing.specs.Pace as pace
@@ -79,7 +79,7 @@ vain_of wait t = if is_last t then vain.Ack else (if is_early wait t then vain.A
 
 abbrev pub after_vain : Wait → ℕ → Timing → Timing
 after_vain wait now t =
-    if is_last t then record t { hold = released t.hold; heard = take_byte 0x06 now t.heard }
+    if is_last t then record t { hold = released t.hold; heard = take_reply 0x06 now t.heard }
     else (if is_early wait t then record t { heard = waited false t.heard }
     else record t { hold = released t.hold; heard = waited true t.heard })
 
@@ -87,8 +87,8 @@ after_vain wait now t =
 
 abbrev pub takes : Say → ℕ → ℕ → Timing → Timing
 takes say.Nothing byte now t = t
-takes say.Byte byte now t = record t { heard = take_byte byte now t.heard }
-takes say.AckAndByte byte now t = record t { heard = take_byte byte now t.heard }
+takes say.Byte byte now t = record t { heard = take_reply byte now t.heard }
+takes say.AckAndByte byte now t = record t { heard = take_reply byte now t.heard }
 
 abbrev pub listened_to : ℕ → List ℕ → ℕ → Timing → Listened
 listened_to byte frame now t = listen byte frame now t.ear
@@ -118,6 +118,9 @@ abbrev pub is_echo : ℕ → List ℕ → Timing → Bool
 is_echo byte reply t =
     nat_eq t.heard.count 0 && (nat_lt t.echoed (length reply)
     && nat_eq (slice_index reply t.echoed) byte)
+
+abbrev pub after_echo : ℕ → List ℕ → Timing → Timing
+after_echo byte reply t = if is_echo byte reply t then record t { echoed = t.echoed + 1 } else t
 
 abbrev pub frame_said : ℕ → List ℕ → Timing → Say
 frame_said byte reply t = if is_echo byte reply t then say.Nothing else say.Byte

@@ -89,6 +89,23 @@ asked_late-clear = refl
 asked_late-vain : (writes block_3 5498 answered_late).vain ≡ 1
 asked_late-vain = refl
 
+-- A bit of an ACK was struck: what is left of it is heard, and block 2 is written again. Behind an
+-- EOT the byte EOT is its echo.
+struck : heard_of (0x07 ∷ []) block_2 1036 quick ≡ 0x07 ∷ []
+struck = refl
+
+struck_eot : heard_of eot eot 1036 (writes eot 1030 quick) ≡ []
+struck_eot = refl
+
+-- Block 0 was written twice, and acknowledged at 5774. The C behind it comes 4250 later; a second
+-- ACK would have come as soon as the writes are apart, and a jitter.
+abbrev opened : Timing
+opened = after_bytes start opening 10024 (after_bytes ack opening 5774 (writes opening 5762
+    (after_bytes start opening 5762 (writes opening 1000 (new_timing Sender)))))
+
+opened-clear : clear_at (clearing block_1 10024 opened) opened ≡ 12536
+opened-clear = refl
+
 -- it cancels behind the ACK of the end block: that ACK is not heard
 abbrev ended : Timing
 ended = writes end_block 9000 (after_bytes ack_start eot 9000 (writes eot 8988 quick))

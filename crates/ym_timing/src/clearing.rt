@@ -135,6 +135,17 @@ impl Timing {
         }
     }
 
+    /// Since when it counts: where answers may come yet, since the last one; the asks of a sender's
+    /// peer behind it lengthen nothing.
+    fn counted_from(&self, need: Need) -> u64
+        ensures { result ≡ table.counted_from need self.now }
+    {
+        match (self.role, need) {
+            (Role::Sender, Need::Late | Need::Several) => self.heard.answered_at,
+            _ => self.heard.last,
+        }
+    }
+
     /// The start: why the line has to clear before these bytes are written, if it has to.
     pub fn clearing(&self, bytes: &[u8], now: u64) -> Clearing
         ensures { result ≡ table.clearing bytes.now now self.now }
@@ -145,7 +156,7 @@ impl Timing {
             from: if self.was_held_up(now) {
                 now
             } else {
-                self.heard.last
+                self.counted_from(need)
             },
             owed: self.out.copies.saturating_sub(1),
             answered_at: self.heard.last,

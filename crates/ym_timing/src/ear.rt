@@ -14,6 +14,9 @@ pub(crate) const NAK: u8 = 0x15;
 /// The byte C.
 pub(crate) const START: u8 = 0x43;
 
+/// The byte EOT.
+const EOT: u8 = 0x04;
+
 /// The byte CAN.
 pub(crate) const CAN: u8 = 0x18;
 
@@ -135,6 +138,17 @@ impl Ear {
         }
     }
 
+    /// A byte that is no control byte, outside of an echo: alone it may be what the line left of a
+    /// reply, and is heard as a broken one. The byte EOT is the echo of one that was written.
+    fn stray(self, byte: u8) -> Listened
+        ensures { result ≡ table.stray byte self }
+    {
+        Listened {
+            ear: self.other(Echo::Open).ear,
+            is_heard: self.others == 0 && byte != EOT,
+        }
+    }
+
     /// A byte outside of an echo: an ACK is heard, but for one behind noise; NAK, C and CAN are.
     fn open(self, byte: u8) -> Listened
         ensures { result ≡ table.outside byte self }
@@ -145,7 +159,7 @@ impl Ear {
         let is_heard = match byte {
             ACK => self.others < OTHERS,
             NAK | START | CAN => true,
-            _ => return self.other(Echo::Open),
+            _ => return self.stray(byte),
         };
         Listened {
             ear: Ear {

@@ -1,8 +1,9 @@
 //! What an end heard since it wrote.
 
-ghost use Rattle.std.specs.Prelude.{◌≡◌};
+ghost use Rattle.std.specs.Prelude.{◌≡◌, ◌≤◌};
 ghost use Rattle.ym_timing.specs.Heard as table;
 
+use crate::ear::ACK;
 use crate::limits::FULL;
 
 /// What was heard since the last write.
@@ -16,6 +17,8 @@ pub struct Heard {
     pub since: u64,
     /// When the last came.
     pub last: u64,
+    /// When the last ACK came to a sender; before there is one, when the first byte did.
+    pub answered_at: u64,
     /// The first byte.
     pub first: u8,
     /// The second byte.
@@ -37,6 +40,7 @@ impl Heard {
             count: 0,
             since: 0,
             last: 0,
+            answered_at: 0,
             first: 0,
             second: 0,
             is_quiet: false,
@@ -57,6 +61,7 @@ impl Heard {
             },
             since: if self.count == 0 { now } else { self.since },
             last: now,
+            answered_at: self.answered_at,
             first: if self.count == 0 { byte } else { self.first },
             second: if self.count == 1 { byte } else { self.second },
             is_quiet: false,
@@ -69,6 +74,65 @@ impl Heard {
         }
     }
 
+    /// One more byte of a reply.
+    pub fn take_reply(self, byte: u8, now: u64) -> Heard
+        ensures { result ≡ table.take_reply byte now self }
+    {
+        let heard = self.take(byte, now);
+        Heard {
+            count: heard.count,
+            since: heard.since,
+            last: heard.last,
+            answered_at: if self.count == 0 || byte == ACK {
+                now
+            } else {
+                self.answered_at
+            },
+            first: heard.first,
+            second: heard.second,
+            is_quiet: heard.is_quiet,
+            has_waited: heard.has_waited,
+            is_late: heard.is_late,
+        }
+    }
+
+    /// More bytes behind the first two, which tell nothing but that they came.
+    #[inline]
+    fn take_more(self, bytes: &[u8], now: u64) -> Heard
+        requires { 2 ≤ self.count }
+        ensures { result ≡ table.take_bytes bytes.now now self }
+    {
+        if bytes.is_empty() {
+            return self;
+        }
+        Heard {
+            count: self.count.saturating_add(bytes.len() as u64).min(FULL),
+            since: self.since,
+            last: now,
+            answered_at: self.answered_at,
+            first: self.first,
+            second: self.second,
+            is_quiet: false,
+            has_waited: self.has_waited,
+            is_late: self.is_late,
+        }
+    }
+
+    /// Bytes that came at one moment, as one after another.
+    #[inline]
+    pub fn take_all(self, bytes: &[u8], now: u64) -> Heard
+        ensures { result ≡ table.take_bytes bytes.now now self }
+    {
+        if bytes.is_empty() {
+            return self;
+        }
+        let one = self.take(bytes[0], now);
+        if bytes.len() == 1 {
+            return one;
+        }
+        one.take(bytes[1], now).take_more(&bytes[2..], now)
+    }
+
     /// A read, or the first part of one, waited in vain.
     pub fn wait(self, is_quiet: bool) -> Heard
         ensures { result ≡ table.waited is_quiet self }
@@ -77,6 +141,7 @@ impl Heard {
             count: self.count,
             since: self.since,
             last: self.last,
+            answered_at: self.answered_at,
             first: self.first,
             second: self.second,
             is_quiet,

@@ -4,7 +4,7 @@
 ghost use Rattle.std.specs.Prelude.{◌≡◌};
 ghost use Rattle.ym_timing.specs.Hold as table;
 
-use crate::ear::{ACK, NAK, START};
+use crate::ear::{ACK, CAN, NAK, START};
 use crate::limits::{STALE_ASKS, WITHIN};
 use crate::sent::Kind;
 
@@ -17,6 +17,13 @@ pub enum Wary {
     Wary,
     /// Its ACK was dropped, and its C is.
     Dropped,
+}
+
+/// Whether this byte is no control byte.
+fn is_noise(byte: u8) -> bool
+    ensures { result ≡ table.is_noise byte }
+{
+    byte != ACK && byte != NAK && byte != START && byte != CAN
 }
 
 /// What a sender holds back.
@@ -161,10 +168,17 @@ impl Hold {
         byte == START && is_first && 0 < self.asks_left && is_soon
     }
 
-    /// A control byte that came behind a write of this kind; `is_first` where none was heard since.
+    /// A byte that came behind a write of this kind; `is_first` where none was heard since.
     pub fn control(self, kind: Kind, byte: u8, is_first: bool, now: u64) -> Said
         ensures { result ≡ table.control kind byte is_first now self }
     {
+        // noise takes no ACK back
+        if self.is_held && is_noise(byte) {
+            return Said {
+                hold: self,
+                say: Say::Nothing,
+            };
+        }
         if self.is_stale(byte, is_first, now) {
             return Said {
                 hold: Hold {

@@ -32,6 +32,3 @@ pub use pace::{Pace, Trust};
 pub use role::Role;
 pub use sent::{Kind, Sent};
 pub use timing::{Front, Timing, Vain, Wait};
-
-#[cfg(test)]
-mod tests;

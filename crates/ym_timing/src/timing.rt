@@ -1,7 +1,10 @@
 //! The machine: what an end and its line have said of late, and when.
 
-ghost use Rattle.std.specs.Prelude.{◌≡◌};
+ghost use Rattle.std.specs.Prelude.{◌≡◌, ◌≤◌, drop, length};
+ghost use Rattle.ym_timing.specs.ByteRows.{heard_of, after_bytes};
+ghost use Rattle.ym_timing.specs.Heard.{take_bytes};
 ghost use Rattle.ym_timing.specs.Timing as table;
+ghost use Rattle.ym_timing.specs.declared.role.Role.{Role};
 
 use crate::ear::{ACK, Ear};
 use crate::heard::Heard;
@@ -130,12 +133,13 @@ impl Timing {
     /// Takes that a read waited until then, and nothing came.
     pub fn expired(&mut self, wait: Wait, now: u64) -> Vain
         ensures new { self.new ≡ table.after_vain wait now self.old }
+        ensures role { self.new.role ≡ self.old.role }
         ensures vain { result ≡ table.vain_of wait self.old }
     {
         match self.sent.kind {
             Kind::End if self.hold.is_held => {
                 self.hold = self.hold.released();
-                self.heard = self.heard.take(ACK, now);
+                self.heard = self.heard.take_reply(ACK, now);
                 Vain::Ack
             }
             _ if self.is_early(wait) => {
@@ -153,6 +157,7 @@ impl Timing {
     /// Takes a byte that came to a sender behind this frame.
     fn reply_byte(&mut self, byte: u8, frame: &[u8], now: u64) -> Say
         ensures new { self.new ≡ table.after_reply byte frame.now now self.old }
+        ensures role { self.new.role ≡ self.old.role }
         ensures say { result ≡ table.reply_said byte frame.now now self.old }
     {
         let listened = self.ear.listen(byte, frame, now);
@@ -165,28 +170,72 @@ impl Timing {
         self.hold = said.hold;
         match said.say {
             Say::Nothing => {}
-            Say::Byte | Say::AckAndByte => self.heard = self.heard.take(byte, now),
+            Say::Byte | Say::AckAndByte => {
+                self.heard = self.heard.take_reply(byte, now);
+            }
         }
         said.say
+    }
+
+    /// Whether this byte, which came to a receiver, is one of its reply that comes back; it is
+    /// counted then.
+    #[inline]
+    fn echo(&mut self, byte: u8, reply: &[u8]) -> bool
+        ensures new { self.new ≡ table.after_echo byte reply.now self.old }
+        ensures result { result ≡ table.is_echo byte reply.now self.old }
+    {
+        if self.heard.count == 0 && self.echoed < reply.len() && reply[self.echoed] == byte {
+            self.echoed += 1;
+            return true;
+        }
+        false
+    }
+
+    /// Takes bytes that are no reply that comes back.
+    #[inline]
+    fn take_all(&mut self, bytes: &[u8], now: u64)
+        ensures { self.new ≡ record self.old { heard = take_bytes bytes.now now self.old.heard } }
+    {
+        self.heard = self.heard.take_all(bytes, now);
     }
 
     /// Takes a byte that came to a receiver behind this reply: what comes back of the reply
     /// itself, at the front, is no frame.
     fn frame_byte(&mut self, byte: u8, reply: &[u8], now: u64) -> Say
         ensures new { self.new ≡ table.after_frame byte reply.now now self.old }
+        ensures role { self.new.role ≡ self.old.role }
         ensures say { result ≡ table.frame_said byte reply.now self.old }
     {
-        if self.heard.count == 0 && self.echoed < reply.len() && reply[self.echoed] == byte {
-            self.echoed += 1;
+        if self.echo(byte, reply) {
             return Say::Nothing;
         }
         self.heard = self.heard.take(byte, now);
         Say::Byte
     }
 
+    /// Takes all the bytes that came to a receiver at one moment, as one after another, and says
+    /// how many at their front are no frame: the others are heard.
+    #[inline]
+    pub fn frame_bytes(&mut self, bytes: &[u8], reply: &[u8], now: u64) -> usize
+        requires { self.old.role ≡ Role.Receiver }
+        ensures new { self.new ≡ after_bytes bytes.now reply.now now self.old }
+        ensures role { self.new.role ≡ self.old.role }
+        ensures within { result ≤ length bytes.now }
+        ensures heard { heard_of bytes.now reply.now now self.old ≡ drop result bytes.now }
+    {
+        for (place, byte) in bytes.iter().enumerate() {
+            if !self.echo(*byte, reply) {
+                self.take_all(&bytes[place..], now);
+                return place;
+            }
+        }
+        bytes.len()
+    }
+
     /// Takes a byte that came, where this was written last, and says what of it is to be heard.
     pub fn byte(&mut self, byte: u8, written: &[u8], now: u64) -> Say
         ensures new { self.new ≡ table.after_byte byte written.now now self.old }
+        ensures role { self.new.role ≡ self.old.role }
         ensures say { result ≡ table.said byte written.now now self.old }
     {
         match self.role {

@@ -1,5 +1,6 @@
--- The command line: `--version`, and four optional subcommands, with `--port` (or `-p`) a required text, DIR one required positional, FILE the last
--- positional with one or more values, and all else flags.
+-- The command line: `--version`, and six optional subcommands, with `--port` (or `-p`) a required
+-- text, `--line` one that may be left out, DIR one positional, FILE the last positional with one or
+-- more values, and all else flags.
 use Rattle.std.specs.Prelude.{true, Some, codes}
 use Rattle.clap.specs.Words.{App, Rule, new_app, new_rule, with_rule, with_subcommand}
 use Rattle.clap.specs.Lexer.{usize_max}
@@ -43,6 +44,17 @@ files_rule = record (new_rule (codes "files")) {
 abbrev pub dir_rule : Rule
 dir_rule = record (new_rule (codes "dir")) { value_names = 1; required = true; action = Some Set }
 
+-- those of `sb` and `rb` that may be left out: the line, and the folder
+abbrev pub line_rule : Rule
+line_rule = record (new_rule (codes "line")) {
+  long = Some (codes "line");
+  value_names = 1;
+  action = Some Set;
+}
+
+abbrev pub folder_rule : Rule
+folder_rule = record (new_rule (codes "dir")) { value_names = 1; action = Some Set }
+
 -- and how much is told
 abbrev pub with_telling : App → App
 with_telling app = with_rule (with_rule app verbose_rule) quiet_rule
@@ -71,7 +83,23 @@ asking_app = with_rule (with_rule line_app eager_rule) keep_rule
 abbrev pub receive_app : App
 receive_app = with_telling (with_rule (with_rule (with_rule asking_app no_sync_rule) discard_parts_rule) dir_rule)
 
+-- the same over a serial line
+abbrev pub sb_app : App
+sb_app =
+    with_telling (with_rule (with_rule (with_rule (new_app (codes "sb")) line_rule) short_rule)
+    files_rule)
+
+abbrev pub rb_line_app : App
+rb_line_app = with_rule (with_rule (new_app (codes "rb")) line_rule) single_rule
+
+abbrev pub rb_app : App
+rb_app =
+    with_telling (with_rule (with_rule (with_rule rb_line_app no_sync_rule) discard_parts_rule)
+    folder_rule)
+
 -- the whole command
 unfoldable pub the_app : App
-the_app = with_subcommand (with_subcommand (with_subcommand (with_subcommand bare_app
-    play_app.top) loop_app.top) send_app.top) receive_app.top
+the_app =
+    with_subcommand (with_subcommand (with_subcommand (with_subcommand (with_subcommand
+    (with_subcommand bare_app play_app.top) loop_app.top) send_app.top) receive_app.top)
+    sb_app.top) rb_app.top

@@ -1,9 +1,11 @@
 -- The job that the matches of the command line stand for.
-use Rattle.std.specs.Prelude.{◌≡◌, ℕ, Bool, false, List, [], map, Option, Some, None, codes, if◌then◌else◌}
+use Rattle.std.specs.Prelude.{◌≡◌, ℕ, Bool, false, List, [], map, codes, if◌then◌else◌}
+use Rattle.std.specs.Prelude.{Option, Some, None, option_map, unwrap_or}
 use Rattle.clap.specs.Words.{Row, Text, Kinds, IsAmong, kind_of, all_of, first_of}
 use Rattle.std.specs.Str.{bytes_eq}
 use Rattle.ym_words.specs.PortNumber.{port_value}
 use Rattle.ym_words.specs.declared.job.ReceiveFlags.{ReceiveFlags}
+use Rattle.ym_words.specs.declared.job.StoreFlags.{StoreFlags}
 use Rattle.ym_words.specs.declared.job.TellFlags.{TellFlags}
 use Rattle.ym_words.specs.declared.job.Job.{Job}
 use Rattle.ym_words.specs.declared.job.Job.TheVariants as job
@@ -16,6 +18,8 @@ pub data Asked : Type 0 where
   Loop : ℕ → TellFlags → Asked
   Send : ℕ → Bool → List Text → TellFlags → Asked
   Receive : ℕ → ReceiveFlags → Text → TellFlags → Asked
+  SendLine : Option Text → Bool → List Text → TellFlags → Asked
+  ReceiveLine : Option Text → StoreFlags → Text → TellFlags → Asked
 
 abbrev pub is_true_text : Option Text → Bool
 is_true_text None = false
@@ -25,11 +29,16 @@ is_true_text (Some text) = bytes_eq text (codes "true")
 abbrev pub flag_of : Text → List Row → Bool
 flag_of name rows = is_true_text (first_of name rows)
 
-abbrev pub receive_flags_of : List Row → ReceiveFlags
-receive_flags_of rows = record {
+abbrev pub store_flags_of : List Row → StoreFlags
+store_flags_of rows = record {
   single = flag_of (codes "single") rows;
   no_sync = flag_of (codes "no_sync") rows;
   discard_parts = flag_of (codes "discard_parts") rows;
+}
+
+abbrev pub receive_flags_of : List Row → ReceiveFlags
+receive_flags_of rows = record {
+  store = store_flags_of rows;
   eager = flag_of (codes "eager") rows;
   keep = flag_of (codes "keep") rows;
 }
@@ -51,16 +60,37 @@ receive_of None flags dir tell = None
 receive_of (Some port) flags None tell = None
 receive_of (Some port) flags (Some dir) tell = Some (Receive port flags dir tell)
 
+-- without a line it is standard input and output
+abbrev pub send_line_for : Option Text → Bool → Option (List Text) → TellFlags → Option Asked
+send_line_for line short None tell = None
+send_line_for line short (Some files) tell = Some (SendLine line short files tell)
+
+abbrev pub send_line_of : List Row → Option Asked
+send_line_of rows =
+    send_line_for (first_of (codes "line") rows) (flag_of (codes "short") rows)
+    (all_of (codes "files") rows) (tell_flags_of rows)
+
+-- and without a folder it is the working one
+abbrev pub folder_of : List Row → Text
+folder_of rows = unwrap_or (first_of (codes "dir") rows) (codes ".")
+
+abbrev pub receive_line_of : List Row → Asked
+receive_line_of rows =
+    ReceiveLine (first_of (codes "line") rows) (store_flags_of rows) (folder_of rows)
+    (tell_flags_of rows)
+
 -- the job that a subcommand and its matches ask for, unless a value is lacking
 abbrev pub asked_for : Text → List Row → Option Asked
 asked_for name rows =
     let port = port_value (first_of (codes "port") rows) in
     let tell = tell_flags_of rows in
     if bytes_eq name (codes "play") then Some Play
+    else (if bytes_eq name (codes "sb") then send_line_of rows
+    else (if bytes_eq name (codes "rb") then Some (receive_line_of rows)
     else (if bytes_eq name (codes "loop") then loop_of port tell
     else (if bytes_eq name (codes "send") then send_of port (flag_of (codes "short") rows) (all_of (codes "files") rows) tell
     else (if bytes_eq name (codes "receive") then receive_of port (receive_flags_of rows) (first_of (codes "dir") rows) tell
-    else None)))
+    else None)))))
 
 abbrev pub asked : Option (Text × List Row) → Option Asked
 asked None = Some Play
@@ -71,6 +101,10 @@ asked_of job.Play = Play
 asked_of (job.Loop port tell) = Loop port tell
 asked_of (job.Send port short files tell) = Send port short (map (λ f. f.now) files.items) tell
 asked_of (job.Receive port flags dir tell) = Receive port flags dir.now tell
+asked_of (job.SendLine line short files tell) =
+    SendLine (option_map (λ l. l.now) line) short (map (λ f. f.now) files.items) tell
+asked_of (job.ReceiveLine line flags dir tell) =
+    ReceiveLine (option_map (λ l. l.now) line) flags dir.now tell
 
 -- what each fault says of the words
 abbrev pub FaultSays : JobFault → Option Asked → Bool → Type 0

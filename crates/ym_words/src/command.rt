@@ -1,11 +1,16 @@
 //! The command line, as clap reads it: what stands in it, and what its help says.
 
 ghost use Rattle.std.specs.Prelude.{◌≡◌, IfOk, false};
-ghost use Rattle.clap.specs.Words.{app_of, rule_of};
-ghost use Rattle.ym_words.specs.CommandLine.{the_app, port_rule, short_rule, single_rule, eager_rule, keep_rule, no_sync_rule, discard_parts_rule, verbose_rule, quiet_rule, files_rule, dir_rule, with_telling, bare_app, play_app, loop_app, send_app, line_app, asking_app, receive_app};
+ghost use Rattle.clap.specs.Words.{app_of};
+ghost use Rattle.ym_words.specs.CommandLine.{the_app, with_telling, bare_app, play_app, loop_app, send_app, line_app, asking_app, receive_app};
 ghost use Rattle.clap.specs.declared.builder.command.Command.TheViews.{out-Command};
 
-use clap::{Arg, ArgAction, Command};
+use crate::args::{
+    dir_arg, discard_parts_arg, eager_arg, files_arg, keep_arg, no_sync_arg, port_arg, short_arg,
+    single_arg, with_telling_args,
+};
+use crate::line_commands::{rb_command, sb_command};
+use clap::Command;
 use std::alloc::{AllocError, Global};
 
 const ABOUT: &str =
@@ -17,7 +22,7 @@ const VERSION: &str = "0.2.0";
 const STATUSES: &str = "Without a command, `play` is meant.
 
 Exit status:
-  0  both ends finished (send, receive: its own end)
+  0  both ends finished (send, receive, sb, rb: its own end)
   1  ended or left otherwise
   2  words, script, name, length or number of files refused; or help was asked for
   3  device, closed connection, or want of memory
@@ -80,134 +85,6 @@ memory.
 
 Example:
   ymodem receive --port 4000 downloads";
-
-fn port_arg<'a>(alloc: Global) -> Arg<'a>
-    ensures rule { rule_of result ≡ port_rule }
-    ensures local { result.global ≡ false }
-{
-    Arg::new(alloc, "port")
-        .short('p')
-        .long("port")
-        .value_name("P")
-        .help("The port on 127.0.0.1, from 1 to 65535")
-        .required(true)
-        .action(ArgAction::Set)
-}
-
-fn short_arg<'a>(alloc: Global) -> Arg<'a>
-    ensures rule { rule_of result ≡ short_rule }
-    ensures local { result.global ≡ false }
-{
-    Arg::new(alloc, "short")
-        .long("short")
-        .help("Sends blocks of 128 bytes alone")
-        .action(ArgAction::SetTrue)
-}
-
-fn single_arg<'a>(alloc: Global) -> Arg<'a>
-    ensures rule { rule_of result ≡ single_rule }
-    ensures local { result.global ≡ false }
-{
-    Arg::new(alloc, "single")
-        .long("single")
-        .help("Acknowledges the first EOT of a file (else the second)")
-        .action(ArgAction::SetTrue)
-}
-
-fn no_sync_arg<'a>(alloc: Global) -> Arg<'a>
-    ensures rule { rule_of result ≡ no_sync_rule }
-    ensures local { result.global ≡ false }
-{
-    Arg::new(alloc, "no_sync")
-        .long("no-sync")
-        .help("Acknowledges a file before it has reached the disk")
-        .action(ArgAction::SetTrue)
-}
-
-fn discard_parts_arg<'a>(alloc: Global) -> Arg<'a>
-    ensures rule { rule_of result ≡ discard_parts_rule }
-    ensures local { result.global ≡ false }
-{
-    Arg::new(alloc, "discard_parts")
-        .long("discard-parts")
-        .help("Removes a NAME.part that an earlier run left, when NAME comes")
-        .action(ArgAction::SetTrue)
-}
-
-fn eager_arg<'a>(alloc: Global) -> Arg<'a>
-    ensures rule { rule_of result ≡ eager_rule }
-    ensures local { result.global ≡ false }
-{
-    Arg::new(alloc, "eager")
-        .long("eager")
-        .help("Asks for the first file at once, and not after 3 seconds")
-        .action(ArgAction::SetTrue)
-}
-
-fn keep_arg<'a>(alloc: Global) -> Arg<'a>
-    ensures rule { rule_of result ≡ keep_rule }
-    ensures local { result.global ≡ false }
-{
-    Arg::new(alloc, "keep")
-        .long("keep")
-        .help("Takes one connection after another, each a session of its own, until it is ended")
-        .action(ArgAction::SetTrue)
-}
-
-fn verbose_arg<'a>(alloc: Global) -> Arg<'a>
-    ensures rule { rule_of result ≡ verbose_rule }
-    ensures local { result.global ≡ false }
-{
-    Arg::new(alloc, "verbose")
-        .long("verbose")
-        .help("Tells on standard error what it does, also where that is no terminal")
-        .action(ArgAction::SetTrue)
-}
-
-fn quiet_arg<'a>(alloc: Global) -> Arg<'a>
-    ensures rule { rule_of result ≡ quiet_rule }
-    ensures local { result.global ≡ false }
-{
-    Arg::new(alloc, "quiet")
-        .long("quiet")
-        .help("Tells nothing on standard error but why it failed")
-        .action(ArgAction::SetTrue)
-}
-
-fn files_arg<'a>(alloc: Global) -> Arg<'a>
-    ensures rule { rule_of result ≡ files_rule }
-    ensures local { result.global ≡ false }
-{
-    Arg::new(alloc, "files")
-        .value_name("FILE")
-        .help("The files to send")
-        .required(true)
-        .action(ArgAction::Append)
-        .num_args(1..)
-}
-
-fn dir_arg<'a>(alloc: Global) -> Arg<'a>
-    ensures rule { rule_of result ≡ dir_rule }
-    ensures local { result.global ≡ false }
-{
-    Arg::new(alloc, "dir")
-        .value_name("DIR")
-        .help("The folder to receive into")
-        .required(true)
-        .action(ArgAction::Set)
-}
-
-/// The command, with what its words say of what is told.
-fn with_telling_args<'a>(alloc: Global, command: Command<'a>) -> Result<Command<'a>, AllocError>
-    requires { (out-Command command).has_globals ≡ false }
-    ensures shape { IfOk result (λ c. app_of c ≡ with_telling (app_of command.entry)) }
-    ensures local { IfOk result (λ c. (out-Command c).has_globals ≡ false) }
-{
-    let verbose = verbose_arg(alloc);
-    let quiet = quiet_arg(alloc);
-    let with_verbose = command.arg(verbose)?;
-    with_verbose.arg(quiet)
-}
 
 fn play_command<'a>(alloc: Global) -> Command<'a>
     ensures shape { app_of result ≡ play_app }
@@ -304,9 +181,13 @@ pub(crate) fn the_command<'a>(alloc: Global) -> Result<Command<'a>, AllocError>
     let looped = loop_command(alloc)?;
     let send = send_command(alloc)?;
     let receive = receive_command(alloc)?;
+    let sb = sb_command(alloc)?;
+    let rb = rb_command(alloc)?;
     let bare = bare_command(alloc);
     let with_play = bare.subcommand(play)?;
     let with_loop = with_play.subcommand(looped)?;
     let with_send = with_loop.subcommand(send)?;
-    with_send.subcommand(receive)
+    let with_receive = with_send.subcommand(receive)?;
+    let with_sb = with_receive.subcommand(sb)?;
+    with_sb.subcommand(rb)
 }

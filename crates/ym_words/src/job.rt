@@ -4,7 +4,9 @@ ghost use Rattle.std.specs.Prelude.{◌≡◌, [], IfOk, IfErr, Some, None, true
 ghost use Rattle.clap.specs.Words.{takes, fault_of, subcommand_of, rows_of, found_of, first_of};
 ghost use Rattle.ym_words.specs.CommandLine.{the_app};
 ghost use Rattle.ym_words.specs.PortNumber.{port_value};
-ghost use Rattle.ym_words.specs.Job.{asked, asked_for, asked_of, FaultSays, IsKind, flag_of, receive_flags_of, tell_flags_of};
+ghost use Rattle.ym_words.specs.Job.{asked, asked_for, asked_of, FaultSays, IsKind};
+ghost use Rattle.ym_words.specs.Job.{flag_of, store_flags_of, receive_flags_of, tell_flags_of};
+ghost use Rattle.ym_words.specs.Job.{folder_of, send_line_of, receive_line_of};
 
 use crate::command::the_command;
 use crate::port::port_number;
@@ -14,13 +16,20 @@ use std::alloc::Global;
 
 /// How a receiver answers and stores.
 #[derive(Clone, Copy, Debug, PartialEq, Eq)]
-pub struct ReceiveFlags {
+pub struct StoreFlags {
     /// It acknowledges the first EOT of a file.
     pub single: bool,
     /// It does not wait until a file has reached the disk.
     pub no_sync: bool,
     /// It removes parts that an earlier run left.
     pub discard_parts: bool,
+}
+
+/// The same of a receiver that takes connections, and when and how often it asks.
+#[derive(Clone, Copy, Debug, PartialEq, Eq)]
+pub struct ReceiveFlags {
+    /// How it answers and stores.
+    pub store: StoreFlags,
     /// It asks for the first file at once.
     pub eager: bool,
     /// It takes one connection after another.
@@ -60,6 +69,21 @@ pub enum Job<'a> {
         dir: &'a str,
         tell: TellFlags,
     },
+    /// Send files as `Send` does, over the terminal at this path, or over standard input and
+    /// output.
+    SendLine {
+        line: Option<&'a str>,
+        short: bool,
+        files: Vec<&'a str>,
+        tell: TellFlags,
+    },
+    /// Receive files over such a line.
+    ReceiveLine {
+        line: Option<&'a str>,
+        flags: StoreFlags,
+        dir: &'a str,
+        tell: TellFlags,
+    },
 }
 
 /// Why the words ask for nothing.
@@ -93,14 +117,23 @@ fn flag_in(matches: &ArgMatches<'_>, name: &str) -> bool
     }
 }
 
+/// What the flags say of how a receiver answers and stores.
+fn store_flags_in(matches: &ArgMatches<'_>) -> StoreFlags
+    ensures { result ≡ store_flags_of (rows_of (found_of matches.now)) }
+{
+    StoreFlags {
+        single: flag_in(matches, "single"),
+        no_sync: flag_in(matches, "no_sync"),
+        discard_parts: flag_in(matches, "discard_parts"),
+    }
+}
+
 /// What the flags of `receive` say.
 fn receive_flags_in(matches: &ArgMatches<'_>) -> ReceiveFlags
     ensures { result ≡ receive_flags_of (rows_of (found_of matches.now)) }
 {
     ReceiveFlags {
-        single: flag_in(matches, "single"),
-        no_sync: flag_in(matches, "no_sync"),
-        discard_parts: flag_in(matches, "discard_parts"),
+        store: store_flags_in(matches),
         eager: flag_in(matches, "eager"),
         keep: flag_in(matches, "keep"),
     }
@@ -116,6 +149,49 @@ fn tell_flags_in(matches: &ArgMatches<'_>) -> TellFlags
     }
 }
 
+/// The job of the matches of `sb`.
+fn send_line_in<'a>(alloc: Global, matches: &ArgMatches<'a>) -> Result<Job<'a>, JobFault>
+    ensures ok { let rows = rows_of (found_of matches.now) in
+        IfOk result (λ job. send_line_of rows ≡ Some (asked_of job)) }
+    ensures err { let rows = rows_of (found_of matches.now) in
+        IfErr result (λ e. FaultSays e (send_line_of rows) true) }
+{
+    let Some(found) = matches.get_strs("files") else {
+        return Err(JobFault::Value);
+    };
+    match Vec::from_slice(alloc, found) {
+        Ok(files) => Ok(Job::SendLine {
+            line: matches.get_str("line"),
+            short: flag_in(matches, "short"),
+            files,
+            tell: tell_flags_in(matches),
+        }),
+        Err(_) => Err(JobFault::Memory),
+    }
+}
+
+/// The folder of `rb`: the working one, where none is named.
+fn folder_in<'a>(matches: &ArgMatches<'a>) -> &'a str
+    ensures { result.now ≡ folder_of (rows_of (found_of matches.now)) }
+{
+    match matches.get_str("dir") {
+        Some(dir) => dir,
+        None => ".",
+    }
+}
+
+/// The job of the matches of `rb`.
+fn receive_line_in<'a>(matches: &ArgMatches<'a>) -> Job<'a>
+    ensures { receive_line_of (rows_of (found_of matches.now)) ≡ asked_of result }
+{
+    Job::ReceiveLine {
+        line: matches.get_str("line"),
+        flags: store_flags_in(matches),
+        dir: folder_in(matches),
+        tell: tell_flags_in(matches),
+    }
+}
+
 /// The job of a subcommand's matches.
 fn job_for<'a>(alloc: Global, name: &str, matches: &ArgMatches<'a>) -> Result<Job<'a>, JobFault>
     ensures ok { IfOk result (λ job. asked_for name.now (rows_of (found_of matches.now)) ≡ Some (asked_of job)) }
@@ -124,6 +200,12 @@ fn job_for<'a>(alloc: Global, name: &str, matches: &ArgMatches<'a>) -> Result<Jo
     let port = port_in(matches);
     if name == "play" {
         return Ok(Job::Play);
+    }
+    if name == "sb" {
+        return send_line_in(alloc, matches);
+    }
+    if name == "rb" {
+        return Ok(receive_line_in(matches));
     }
     let Some(port) = port else {
         return Err(JobFault::Value);

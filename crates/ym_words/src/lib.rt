@@ -1,8 +1,10 @@
 //! The words of the command line, and the job that they ask for.
 #![tactic(auto)]
 
+mod args;
 mod command;
 mod job;
+mod line_commands;
 mod port;
 
-pub use job::{Job, JobFault, ReceiveFlags, TellFlags, job_of};
+pub use job::{Job, JobFault, ReceiveFlags, StoreFlags, TellFlags, job_of};

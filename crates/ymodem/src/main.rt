@@ -1,5 +1,5 @@
 //! `ymodem`: YMODEM batch file transfer. It plays scripts of sessions, in memory or over a connection to itself, and sends and receives files
-//! over a connection.
+//! over a connection or a serial line.
 #![tactic(auto)]
 
 use std::io::{ErrorKind, IsTerminal};
@@ -37,26 +37,16 @@ fn run(rt: &HostRuntime) -> u8 {
         columns: columns(rt),
     };
     let mut teller = Teller::new(rt.stderr(), look);
+    let mut out = ShownOut::new(rt.alloc(), rt.stdout(), rt.stdout().is_terminal());
+    let mut err = ShownOut::new(rt.alloc(), rt.stderr(), look.at_err);
     match words(rt) {
-        Ok(words) if rt.stdout().is_terminal() => {
-            let mut out = ShownOut::new(rt.alloc(), rt.stdout());
-            command(
-                rt,
-                rt.alloc(),
-                words,
-                &mut rt.stdin(),
-                &mut out,
-                &mut rt.stderr(),
-                &mut teller,
-            )
-        }
         Ok(words) => command(
             rt,
             rt.alloc(),
             words,
             &mut rt.stdin(),
-            &mut rt.stdout(),
-            &mut rt.stderr(),
+            &mut out,
+            &mut err,
             &mut teller,
         ),
         Err(error) if error.kind() == ErrorKind::InvalidData => {

@@ -164,3 +164,24 @@ fn nobody_listens(rt: HostRuntime) -> Result<(), Fail> {
     fs::remove_file(&rt, &path)?;
     Ok(())
 }
+
+/// Terminals that cannot be the line, and what is told of each.
+#[test]
+fn lines_that_cannot_be_opened(rt: HostRuntime) -> Result<(), Fail> {
+    let path = env::temp_dir(&rt)?.join(rt.alloc(), "ymodem-no-line.txt")?;
+    fs::write(&rt, &path, "abc")?;
+    let name = path.as_str();
+    let folder = env::temp_dir(&rt)?;
+    let folder = folder.as_str();
+    let no_terminal = format!(in rt.alloc(); "cannot open '{name}': it is no terminal\n")?;
+    let absent = "cannot open '/nowhere/tty': no such device\n";
+    let mut all = true;
+    for (device, want) in [("/nowhere/tty", absent), (name, no_terminal.as_str())] {
+        let send = format!(in rt.alloc(); "ymodem sb --verbose --line {device} {name}")?;
+        let receive = format!(in rt.alloc(); "ymodem rb --verbose --line {device} {folder}")?;
+        all = all && tells(&rt, send.as_str(), want)? && tells(&rt, receive.as_str(), want)?;
+    }
+    fs::remove_file(&rt, &path)?;
+    assert!(rt; all);
+    Ok(())
+}

@@ -7,9 +7,15 @@ ghost use Rattle.ym_core.specs.declared.place.Place.TheVariants.{Eot};
 ghost use Rattle.ym_file.specs.SourceFile.{FileParts};
 ghost use Rattle.ym_line.specs.Completion.{longest_bad_run};
 ghost use Rattle.ym_line.specs.declared.delivery.Delivery.TheVariants.{Whole, Lost};
+ghost use Rattle.ym_line.specs.declared.delivery.Round.{Round};
 ghost use Rattle.ym_pair.specs.AnyPeer.{AreAmong, AreAcknowledged, bytes_heard, spelling};
 ghost use Rattle.ym_pair.specs.PairingExamples.{hello, hello_twice, block_again, block_skipped, data_block, eot, spoke, eot_again, eot_and_start, another_frame, round, asked_again, asked_again_rounds, asked_early, asked_early_rounds, called_off};
+ghost use Rattle.ym_pair.specs.PairingExamples.{Blocks, answered_all, started_late, stalled};
+ghost use Rattle.ym_pair.specs.PairingExamples.{started_late_rounds, stalled_rounds, unwritten};
 ghost use Rattle.ym_pair.specs.Pairing.{ArrivesThere, PairUp};
+
+use super::any_peer::a_delivery_brings_its_frame;
+use ym_line::laws::nothing_comes_back_of_silence;
 
 /// A file is spelled where a block came again, and then once; and not where one was skipped.
 pub fn a_file_is_spelled_once()
@@ -35,3 +41,21 @@ pub fn lost_and_early_replies_pair_up()
     ensures called_off { PairUp [] (24 ∷ 24 ∷ []) called_off (round Whole Lost ∷ []) }
     ensures skipped { ArrivesThere Whole eot (data_block 2) → ⊥ }
 {}
+
+/// Deliveries of two ordinary sessions pair up in which the sender waited once in vain. In the one
+/// the receiver was started late; in the other it stalled, and both copies of a block came to it in
+/// one read. Each has one bad round. Deliveries do not pair up where an ACK came that was not
+/// written.
+pub fn waits_in_vain_pair_up()
+    ensures late { (blocks : Blocks) →
+        PairUp (started_late blocks) [] (answered_all blocks) started_late_rounds }
+    ensures late_bad_run { longest_bad_run 0 started_late_rounds ≡ 1 }
+    ensures stalled { (blocks : Blocks) →
+        PairUp (stalled blocks) [] (answered_all blocks) stalled_rounds }
+    ensures stalled_bad_run { longest_bad_run 0 stalled_rounds ≡ 1 }
+    ensures refused { (rounds : List Round) →
+        PairUp (spoke eot (6 ∷ []) ∷ []) [] unwritten rounds → ⊥ }
+{
+    a_delivery_brings_its_frame();
+    nothing_comes_back_of_silence();
+}

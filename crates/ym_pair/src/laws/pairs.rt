@@ -63,6 +63,7 @@ pub fn two_engines_complete()
     turns_of_a_standing_pair();
     a_standing_pair_commits_the_first_files();
     new_ends_stand();
+    a_sender_alone_goes_on();
     failure_counts_tell();
     files_within_a_batch::<Headers>();
     short_bursts_are_survived::<Headers>();

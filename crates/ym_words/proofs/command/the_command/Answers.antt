@@ -8,8 +8,12 @@ use Rattle.ym_words.proofs.command.the_command.Goals as goal
 pub returns : goal.returns
 unfolding the_app
 returns c = record {
-  shape = IfOk-weaker c.subcommand-4.result _ _
-      (λ m h. h.shape c.in_ok-receive.ensures.local
+  shape = IfOk-weaker c.subcommand-6.result _ _
+      (λ m h. h.shape c.in_ok-rb.ensures.local
+      ∙ ap₂ with_subcommand
+      (c.in_ok-with_sb.ensures.shape c.in_ok-sb.ensures.local
+      ∙ ap₂ with_subcommand
+      (c.in_ok-with_receive.ensures.shape c.in_ok-receive.ensures.local
       ∙ ap₂ with_subcommand
       (c.in_ok-with_send.ensures.shape c.in_ok-send.ensures.local
       ∙ ap₂ with_subcommand
@@ -20,5 +24,7 @@ returns c = record {
       (ap (λ (a : App). a.top) c.in_ok-looped.ensures.shape))
       (ap (λ (a : App). a.top) c.in_ok-send.ensures.shape))
       (ap (λ (a : App). a.top) c.in_ok-receive.ensures.shape))
-      c.subcommand-4.ensures;
+      (ap (λ (a : App). a.top) c.in_ok-sb.ensures.shape))
+      (ap (λ (a : App). a.top) c.in_ok-rb.ensures.shape))
+      c.subcommand-6.ensures;
 }

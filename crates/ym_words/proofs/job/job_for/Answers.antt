@@ -12,7 +12,9 @@ returns-in-Some-get_str-clause-ok c =
       sym c.eq.ensures ∙ c.if-eq.false,
       sym c.eq-2.ensures ∙ c.if-eq-2.false,
       sym c.eq-3.ensures ∙ c.if-eq-3.false,
-      sym c.eq-4.ensures ∙ c.if-eq-4.true,
+      sym c.eq-4.ensures ∙ c.if-eq-4.false,
+      sym c.eq-5.ensures ∙ c.if-eq-5.false,
+      sym c.eq-6.ensures ∙ c.if-eq-6.true,
       sym c.port_in-port.ensures ∙ c.in-Some.is,
       sym c.receive_flags_in.ensures,
       dir,
@@ -26,7 +28,9 @@ returns-in-None-get_str-clause-err c =
       sym c.eq.ensures ∙ c.if-eq.false,
       sym c.eq-2.ensures ∙ c.if-eq-2.false,
       sym c.eq-3.ensures ∙ c.if-eq-3.false,
-      sym c.eq-4.ensures ∙ c.if-eq-4.true,
+      sym c.eq-4.ensures ∙ c.if-eq-4.false,
+      sym c.eq-5.ensures ∙ c.if-eq-5.false,
+      sym c.eq-6.ensures ∙ c.if-eq-6.true,
       sym c.port_in-port.ensures ∙ c.in-Some.is,
       dir,
     ) refl
@@ -34,7 +38,7 @@ returns-in-None-get_str-clause-err c =
 pub returns-in-None-clause-err : goal.returns-in-None-clause-err
 returns-in-None-clause-err c =
     let files = sym (raw_values-rows (found_of c.args.matches.now) (codes "files")) ∙ sym (rw c.in-None.is at c.get_strs.ensures) in
-    rw (sym c.eq.ensures ∙ c.if-eq.false, sym c.eq-2.ensures ∙ c.if-eq-2.false, sym c.eq-3.ensures ∙ c.if-eq-3.true, sym c.port_in-port.ensures ∙ c.in-Some.is, files) refl
+    rw (sym c.eq.ensures ∙ c.if-eq.false, sym c.eq-2.ensures ∙ c.if-eq-2.false, sym c.eq-3.ensures ∙ c.if-eq-3.false, sym c.eq-4.ensures ∙ c.if-eq-4.false, sym c.eq-5.ensures ∙ c.if-eq-5.true, sym c.port_in-port.ensures ∙ c.in-Some.is, files) refl
 
 pub returns-in-Ok-clause-ok : goal.returns-in-Ok-clause-ok
 returns-in-Ok-clause-ok c =
@@ -43,7 +47,9 @@ returns-in-Ok-clause-ok c =
     rw (
       sym c.eq.ensures ∙ c.if-eq.false,
       sym c.eq-2.ensures ∙ c.if-eq-2.false,
-      sym c.eq-3.ensures ∙ c.if-eq-3.true,
+      sym c.eq-3.ensures ∙ c.if-eq-3.false,
+      sym c.eq-4.ensures ∙ c.if-eq-4.false,
+      sym c.eq-5.ensures ∙ c.if-eq-5.true,
       sym c.port_in-port.ensures ∙ c.in-Some.is,
       sym c.flag_in.ensures,
       files,

@@ -1,0 +1,2 @@
+pub mod TimedExamples
+pub mod TimedLine

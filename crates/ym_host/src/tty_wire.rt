@@ -1,0 +1,205 @@
+//! A terminal whose reads end by themselves, as a line with a clock.
+
+ghost use Rattle.std.specs.Prelude.{◌≡◌, ◌<◌, ◌≤◌, ◌+◌, ◌/◌, ℕ, Ok, OnOk, OnErr, length};
+ghost use Rattle.ym_file.specs.Counts.{Rose};
+
+use crate::ticks::{TICK_MS, Tick, Ticks};
+use std::io::{ErrorKind, Read, Write};
+use std::marker::Model;
+use std::time::{Clock, Duration};
+use std::{io, thread};
+use ym_link::{Got, PortFault};
+
+/// How many reads a wait makes beside those that its ticks take.
+const SPARE_READS: u64 = 10;
+
+/// How many milliseconds pass before a read that did not wait, since the line is set so, is made
+/// again.
+const PAUSE_MS: u64 = 10;
+
+/// The system's error of a terminal that has hung up.
+const HANGUP_ERROR: i32 = 5;
+
+/// Why a terminal failed, or why nothing will come from it any more.
+#[derive(Clone, Copy, Debug)]
+pub enum TtyFault {
+    /// It hung up.
+    HungUp,
+    /// Its reads do not end by themselves.
+    Endless,
+    /// The system refused a call.
+    System(io::Error),
+}
+
+/// A terminal that was set so that its reads end after a tick where nothing comes
+/// (`stty raw -echo min 0 time 1`): what reads it, what writes to it, and a clock. Nobody knows
+/// what it tells. Other readers and writers will do as well, such as pipes; a read of theirs that
+/// waits on waits as long as nothing comes.
+#[derive(Drop)]
+pub struct TtyWire<R: Clock + Drop, I: Read + Drop, O: Write + Drop> {
+    clock: R,
+    reader: I,
+    writer: O,
+    ticks: Ticks,
+    /// The last moment that the clock told.
+    last: u64,
+    failed: u64,
+    /// Why it failed for the first time, or hung up.
+    fault: Option<TtyFault>,
+}
+
+impl<R: Clock + Drop, I: Read + Drop, O: Write + Drop> Model for TtyWire<R, I, O> {
+    ghost use Rattle.std.specs.Prelude.{ℕ};
+
+    ghost Value = { ℕ };
+
+    ghost view = { λ w. w.failed };
+}
+
+/// A time in milliseconds.
+fn millis_of(time: Duration) -> u64 {
+    time.as_secs()
+        .saturating_mul(1000)
+        .saturating_add(u64::from(time.subsec_millis()))
+}
+
+/// How many reads a wait of so many milliseconds makes at most.
+fn most_reads(millis: u64) -> u64 {
+    millis / TICK_MS + SPARE_READS
+}
+
+/// What an error of the system means.
+fn fault_of(error: io::Error) -> TtyFault {
+    match error.raw_os_error() {
+        Some(HANGUP_ERROR) => TtyFault::HungUp,
+        _ => TtyFault::System(error),
+    }
+}
+
+impl<R: Clock + Drop, I: Read + Drop, O: Write + Drop> TtyWire<R, I, O> {
+    /// A line that this reads and that writes. Whether its reads end by themselves is found out
+    /// where it is a terminal.
+    pub fn new(clock: R, reader: I, writer: O, is_terminal: bool) -> TtyWire<R, I, O>
+        ensures { result ≡ 0 }
+    {
+        TtyWire {
+            clock,
+            reader,
+            writer,
+            ticks: Ticks::new(is_terminal),
+            last: 0,
+            failed: 0,
+            fault: None,
+        }
+    }
+
+    /// Why it failed for the first time, or hung up.
+    pub fn fault(&self) -> Option<TtyFault> {
+        self.fault
+    }
+
+    /// The moment, in milliseconds: the last one again, where the clock fails.
+    pub fn moment(&mut self) -> u64
+        ensures { self.new ≡ self.old }
+    {
+        if let Ok(time) = self.clock.monotonic() {
+            self.last = millis_of(time);
+        }
+        self.last
+    }
+
+    /// Keeps why it failed, or hung up, the first time.
+    fn keep(&mut self, fault: TtyFault)
+        ensures { self.new ≡ self.old }
+    {
+        if self.fault.is_none() {
+            self.fault = Some(fault);
+        }
+    }
+
+    /// Counts a failure, and keeps why.
+    fn fail(&mut self, fault: TtyFault) -> PortFault
+        ensures { Rose self.old self.new }
+    {
+        self.keep(fault);
+        self.failed = self.failed.saturating_add(1);
+        PortFault
+    }
+
+    /// What a read says that the system refused.
+    fn refused(&mut self, error: io::Error) -> Result<Got, TtyFault>
+        ensures same { self.new ≡ self.old }
+        ensures none { (n : ℕ) → result ≡ Ok (Got.Bytes n) → ⊥ }
+    {
+        match error.kind() {
+            ErrorKind::Interrupted => Ok(Got::Quiet),
+            // Somebody else who has the line open has set it so.
+            ErrorKind::WouldBlock => {
+                thread::sleep(&self.clock, Duration::from_millis(PAUSE_MS));
+                Ok(Got::Quiet)
+            }
+            _ => match fault_of(error) {
+                TtyFault::HungUp => Ok(Got::Closed),
+                fault => Err(fault),
+            },
+        }
+    }
+
+    /// One read, of a tick at most.
+    fn read_tick(&mut self, buf: &mut [u8]) -> Result<Got, TtyFault>
+        requires { 0 < length buf.old }
+        ensures same { self.new ≡ self.old }
+        ensures count { (n : ℕ) → result ≡ Ok (Got.Bytes n) → (0 < n) × (n ≤ length buf.old) }
+    {
+        let start = self.moment();
+        let count = match self.reader.read(buf) {
+            Ok(count) => count,
+            Err(error) => return self.refused(error),
+        };
+        let millis = self.moment().saturating_sub(start);
+        match self.ticks.take(count, millis) {
+            Tick::Bytes => Ok(Got::Bytes(count)),
+            Tick::Quiet => Ok(Got::Quiet),
+            Tick::HungUp => Ok(Got::Closed),
+            Tick::Endless => Err(TtyFault::Endless),
+        }
+    }
+
+    /// Reads what is there into the front of `buf`, or waits for it: so many milliseconds at most,
+    /// and then to the end of a tick.
+    pub fn read(&mut self, millis: u64, buf: &mut [u8]) -> Result<Got, PortFault>
+        requires { 0 < length buf.old }
+        ensures count { (n : ℕ) → result ≡ Ok (Got.Bytes n) → (0 < n) × (n ≤ length buf.old) }
+        ensures ok { OnOk result (self.new ≡ self.old) }
+        ensures failed { OnErr result (Rose self.old self.new) }
+    {
+        let end = self.moment().saturating_add(millis);
+        for _ in 0..most_reads(millis) {
+            match self.read_tick(buf) {
+                Ok(Got::Quiet) => {
+                    if self.moment() >= end {
+                        return Ok(Got::Quiet);
+                    }
+                }
+                Ok(Got::Closed) => {
+                    self.keep(TtyFault::HungUp);
+                    return Ok(Got::Closed);
+                }
+                Ok(got) => return Ok(got),
+                Err(fault) => return Err(self.fail(fault)),
+            }
+        }
+        Ok(Got::Quiet)
+    }
+
+    /// Writes all the bytes, or fails.
+    pub fn write(&mut self, bytes: &[u8]) -> Result<(), PortFault>
+        ensures ok { OnOk result (self.new ≡ self.old) }
+        ensures failed { OnErr result (Rose self.old self.new) }
+    {
+        match self.writer.write_all(bytes) {
+            Ok(()) => Ok(()),
+            Err(error) => Err(self.fail(fault_of(error))),
+        }
+    }
+}

@@ -1,0 +1,7 @@
+-- Nothing was sent.
+use Rattle.std.proofs.Common.{rules}
+use Rattle.ym_jobs.proofs.BatchLemmas.{too_many, unconnected}
+use Rattle.ym_jobs.proofs.serial.send_line.Goals as goal
+
+pub returns-in_err-sender : goal.returns-in_err-sender
+returns-in_err-sender g c = let many = c.in_err-sender.ensures.refused in too_many _ _ _ _ _ c.in_ok-batch.ensures.batch (search rules)

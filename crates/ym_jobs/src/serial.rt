@@ -1,0 +1,177 @@
+//! `sb` and `rb`: files over a terminal, or over standard input and output.
+
+ghost use Rattle.std.specs.Prelude.{IfErr, map};
+ghost use Rattle.ym_jobs.specs.Page.{page};
+ghost use Rattle.ym_jobs.specs.Receiving.{SessionGives, ReceiveGives};
+ghost use Rattle.ym_jobs.specs.Sending.{SendsOn, SendGives};
+ghost use Rattle.ym_jobs.specs.Status.{IsHostFault};
+
+use crate::command_fault::CommandFault;
+use crate::receiving::{Order, look_at, receive_on};
+use crate::sending::{open_batch, send_on, sender_of};
+use crate::{receiving, sending};
+use std::alloc::Global;
+use std::fs::{File, Files};
+use std::io;
+use std::io::{IsTerminal, Print, Read, Write};
+use std::time::Clock;
+use ym_file::{Shape, Source};
+use ym_host::{OpenFault, TtyPort, TtyWire, open_tty};
+use ym_link::{Clearing, Role, SenderFrom};
+use ym_play::Output;
+use ym_show::{Eager, Reason, Teller, TtyMessage};
+
+/// Why the terminal at this path is not opened, as it is told.
+fn refused<'a>(path: &'a str, fault: &OpenFault) -> TtyMessage<'a> {
+    match fault {
+        OpenFault::Absent => TtyMessage::Absent(path),
+        OpenFault::Denied => TtyMessage::Denied(path),
+        OpenFault::Busy => TtyMessage::Busy(path),
+        OpenFault::NoTerminal => TtyMessage::NoTerminal(path),
+        OpenFault::System(error) => TtyMessage::Failed(path, Reason::of(error)),
+    }
+}
+
+/// Opens the terminal at this path, and tells that it is the line, or why it is not.
+fn open_line<R: Files<File = File>, E: Write + Drop>(
+    rt: &R,
+    path: &str,
+    teller: &mut Teller<E>,
+) -> Result<File, CommandFault>
+    ensures { IfErr result (λ why. IsHostFault why) }
+{
+    match open_tty(rt, path) {
+        Ok(file) => {
+            teller.tell(TtyMessage::Opened(path));
+            Ok(file)
+        }
+        Err(fault) => {
+            teller.tell(refused(path, &fault));
+            Err(CommandFault::Device)
+        }
+    }
+}
+
+/// Runs a sender over this line, prints how it has ended, and tells why.
+fn send_through<R, I, W, S, O, E>(
+    rt: &R,
+    alloc: Global,
+    wire: TtyWire<&R, I, W>,
+    sender: &mut SenderFrom<S>,
+    out: &mut O,
+    teller: &mut Teller<E>,
+) -> Result<u8, CommandFault>
+where
+    R: Clock,
+    I: Read + Drop,
+    W: Write + Drop,
+    S: Source,
+    O: Output,
+    E: Write + Drop,
+    ensures { SendsOn sender.old sender.new
+        (page (O.contents out.old) (O.failures out.old)) result
+        (page (O.contents out.new) (O.failures out.new)) }
+{
+    let reply_ms = sending::REPLY_MS - sending::WITHIN_MS;
+    let port = TtyPort::new(wire, reply_ms, sending::WITHIN_MS);
+    let port = Clearing::new(port, Role::Sender);
+    send_on(rt, alloc, port, sender, out, teller)
+}
+
+/// Sends the files at these paths, in order, over the terminal at the path `line`, or over
+/// standard input and output, and prints how the sender has ended.
+pub fn send_line<R, O, E>(
+    rt: &R,
+    alloc: Global,
+    line: Option<&str>,
+    shape: Shape,
+    paths: &[&str],
+    out: &mut O,
+    teller: &mut Teller<E>,
+) -> Result<u8, CommandFault>
+where
+    R: Files<File = File> + Clock + io::Input + Print,
+    R::Reader: IsTerminal,
+    O: Output,
+    E: Write + Drop,
+    ensures { SendGives shape (map (λ path. path.now) paths.now)
+        (page (O.contents out.old) (O.failures out.old)) result
+        (page (O.contents out.new) (O.failures out.new)) }
+{
+    let batch = open_batch(rt, alloc, paths, teller)?;
+    let mut sender = sender_of(batch, shape)?;
+    match line {
+        Some(path) => {
+            let file = open_line(rt, path, teller)?;
+            let wire = TtyWire::new(rt, &file, &file, true);
+            send_through(rt, alloc, wire, &mut sender, out, teller)
+        }
+        None => {
+            let reader = rt.reader();
+            let is_terminal = reader.is_terminal();
+            let wire = TtyWire::new(rt, reader, io::writer(rt), is_terminal);
+            send_through(rt, alloc, wire, &mut sender, out, teller)
+        }
+    }
+}
+
+/// Receives the files that come over this line, prints them and how the receiver has ended, and
+/// tells why.
+fn receive_through<R, I, W, O, E>(
+    rt: &R,
+    alloc: Global,
+    wire: TtyWire<&R, I, W>,
+    order: Order<'_>,
+    out: &mut O,
+    teller: &mut Teller<E>,
+) -> Result<u8, CommandFault>
+where
+    R: Files<File = File> + Clock,
+    I: Read + Drop,
+    W: Write + Drop,
+    O: Output,
+    E: Write + Drop,
+    ensures { SessionGives order.entry.confirm
+        (page (O.contents out.old) (O.failures out.old)) result
+        (page (O.contents out.new) (O.failures out.new)) }
+{
+    let reply_ms = receiving::REPLY_MS - receiving::WITHIN_MS;
+    let port = TtyPort::new(wire, reply_ms, receiving::WITHIN_MS);
+    let port = Eager::new(Clearing::new(port, Role::Receiver), order.eager);
+    receive_on(rt, alloc, port, order, out, teller)
+}
+
+/// Receives files into a folder over the terminal at the path `line`, or over standard input and
+/// output, and prints them and how the receiver has ended.
+pub fn receive_line<R, O, E>(
+    rt: &R,
+    alloc: Global,
+    line: Option<&str>,
+    order: Order<'_>,
+    out: &mut O,
+    teller: &mut Teller<E>,
+) -> Result<u8, CommandFault>
+where
+    R: Files<File = File> + Clock + io::Input + Print,
+    R::Reader: IsTerminal,
+    O: Output,
+    E: Write + Drop,
+    ensures { ReceiveGives order.entry.confirm
+        (page (O.contents out.old) (O.failures out.old)) result
+        (page (O.contents out.new) (O.failures out.new)) }
+{
+    look_at(rt, alloc, order.dir, teller)?;
+    match line {
+        Some(path) => {
+            let file = open_line(rt, path, teller)?;
+            let wire = TtyWire::new(rt, &file, &file, true);
+            receive_through(rt, alloc, wire, order, out, teller)
+        }
+        None => {
+            let reader = rt.reader();
+            let is_terminal = reader.is_terminal();
+            let wire = TtyWire::new(rt, reader, io::writer(rt), is_terminal);
+            receive_through(rt, alloc, wire, order, out, teller)
+        }
+    }
+}

@@ -1,0 +1,76 @@
+//! Ports that say why they failed.
+
+ghost use Rattle.std.specs.Prelude.{◌≡◌};
+ghost use Rattle.ym_jobs.specs.ToldLine.{connection_words, terminal_words};
+
+use std::io::{Read, Write};
+use std::time::Clock;
+use ym_host::{SocketPort, TtyFault, TtyPort};
+use ym_link::{Clearing, Port};
+use ym_show::{Eager, EndMessage, Reason};
+
+/// What the faults of a line are told as.
+#[derive(Clone, Copy, Debug, PartialEq, Eq)]
+pub struct LineWords {
+    /// That nothing will come any more.
+    pub closed: EndMessage,
+    /// That a call failed.
+    pub failed: EndMessage,
+}
+
+impl LineWords {
+    /// Those of a connection.
+    pub(crate) fn of_connection() -> LineWords
+        ensures { result ≡ connection_words }
+    {
+        LineWords {
+            closed: EndMessage::PeerClosed,
+            failed: EndMessage::LineFailed,
+        }
+    }
+
+    /// Those of a terminal, by why it failed.
+    pub(crate) fn of_terminal(fault: Option<TtyFault>) -> LineWords
+        ensures { result ≡ terminal_words fault }
+    {
+        let failed = match fault {
+            None => EndMessage::LineFailed,
+            Some(TtyFault::HungUp) => EndMessage::LineHungUp,
+            Some(TtyFault::Endless) => EndMessage::LineEndless,
+            Some(TtyFault::System(error)) => EndMessage::LineRefused(Reason::of(&error)),
+        };
+        LineWords {
+            closed: EndMessage::LineHungUp,
+            failed,
+        }
+    }
+}
+
+/// A port that says what its faults are told as.
+pub(crate) trait ToldLine: Port {
+    fn words(&self) -> LineWords;
+}
+
+impl<R: Clock + Drop> ToldLine for SocketPort<R> {
+    fn words(&self) -> LineWords {
+        LineWords::of_connection()
+    }
+}
+
+impl<R: Clock + Drop, I: Read + Drop, O: Write + Drop> ToldLine for TtyPort<R, I, O> {
+    fn words(&self) -> LineWords {
+        LineWords::of_terminal(self.wire().fault())
+    }
+}
+
+impl<P: ToldLine + Drop> ToldLine for Clearing<P> {
+    fn words(&self) -> LineWords {
+        self.port().words()
+    }
+}
+
+impl<P: ToldLine + Drop> ToldLine for Eager<P> {
+    fn words(&self) -> LineWords {
+        self.port.words()
+    }
+}

@@ -1,0 +1,269 @@
+-- A port by the rule of a line: what its calls come to, by the moments and events of the line below
+-- (this profile).
+use Rattle.std.specs.Prelude.{◌≡◌, ℕ, zero, suc, ◌-◌, ◌/◌, nat_lt, nat_le, min, ◌&&◌, ◌||◌, Bool}
+use Rattle.std.specs.Prelude.{true, false, List, [], ◌∷◌, take, Option, Some, None, Result}
+use Rattle.std.specs.Prelude.{Ok, Err, is_ok, if◌then◌else◌}
+use Rattle.ym_link.specs.Port.{Seen, Data, Silence, End, Failed, seen_of, read_gives}
+use Rattle.ym_link.specs.declared.port.Got.{Got}
+use Rattle.ym_link.specs.declared.port.PortFault.{PortFault}
+use Rattle.ym_link.specs.declared.port.Wait.{Wait as Asked}
+use Rattle.ym_link.specs.declared.port.Wait.TheVariants as asked
+use Rattle.ym_link.specs.declared.sweep.TheConstants.{MOST_READS}
+use Rattle.ym_port.specs.Wire.{Tape, moment_of, after_moment, after_read, after_write}
+use Rattle.ym_port.specs.declared.line.Line.{Line}
+use Rattle.ym_port.specs.declared.line.TheConstants.{CLEAR_PIECE, PIECE}
+use Rattle.ym_port.specs.declared.written.TheConstants.{LONGEST_FRAME}
+use Rattle.ym_timing.specs.ByteRows.{heard_of, after_bytes}
+use Rattle.ym_timing.specs.Cancel.{cancels}
+use Rattle.ym_timing.specs.Clears as clears
+use Rattle.ym_timing.specs.Times.{new_clock, told, waited}
+use Rattle.ym_timing.specs.Timing.{new_timing, until, vain_of, after_byte, after_vain}
+use Rattle.ym_timing.specs.Writing.{wrote}
+use Rattle.ym_timing.specs.declared.clearing.Clearing.{Clearing}
+use Rattle.ym_timing.specs.declared.role.Role.{Role}
+use Rattle.ym_timing.specs.declared.role.Role.TheVariants.{Sender, Receiver}
+use Rattle.ym_timing.specs.declared.timing.Timing.{Timing}
+use Rattle.ym_timing.specs.declared.timing.Vain.{Vain}
+use Rattle.ym_timing.specs.declared.timing.Vain.TheVariants as vain
+use Rattle.ym_timing.specs.declared.timing.Wait.{Wait}
+use Rattle.ym_timing.specs.declared.timing.Wait.TheVariants as wait
+
+-- nothing was said or heard
+abbrev pub new_line : Role → Line
+new_line role = record {
+  timing = new_timing role;
+  clock = new_clock;
+  written = [];
+  is_closed = false;
+}
+
+abbrev pub cancel : List ℕ
+cancel = 0x18 ∷ 0x18 ∷ []
+
+-- ---- What the line says
+
+-- the clock tells this
+abbrev pub looked : ℕ → Line → Line
+looked now l = record l { clock = told now l.clock }
+
+-- These bytes came. A reply behind which the peer cancels is none.
+abbrev pub withdrawn : Role → List ℕ → List ℕ
+withdrawn Sender heard = if cancels heard then cancel else heard
+withdrawn Receiver heard = heard
+
+abbrev pub heard_in : List ℕ → Line → List ℕ
+heard_in bytes l =
+    withdrawn l.timing.role (heard_of bytes l.written l.clock.at l.timing)
+
+abbrev pub hears_byte : ℕ → Line → Line
+hears_byte byte l = record l { timing = after_byte byte l.written l.clock.at l.timing }
+
+abbrev pub hears : List ℕ → Line → Line
+hears bytes l = record l { timing = after_bytes bytes l.written l.clock.at l.timing }
+
+-- nothing came until then, where the clock tells this
+abbrev pub vain_at : Wait → Line → Vain
+vain_at w l = vain_of w l.timing
+
+abbrev pub expires : Wait → ℕ → ℕ → Line → Line
+expires w end now l = record l {
+  clock = waited end now l.clock;
+  timing = after_vain w (waited end now l.clock).at l.timing;
+}
+
+-- ---- A read
+
+-- what a call of the port below answers, if it ends the read
+abbrev pub answer_of : Result (Option Got) PortFault → List ℕ → Option Seen
+answer_of (Ok None) buf = None
+answer_of (Ok (Some got)) buf = Some (seen_of (Ok got) buf)
+answer_of (Err e) buf = Some Failed
+
+-- one read of the line below: what is answered, if anything, and the line behind it
+pub record Step : Type 0 where
+  pub answer : Option Seen
+  pub line : Line
+  pub tape : Tape
+
+abbrev pub answers : List ℕ → Option Seen
+answers [] = None
+answers (b ∷ bytes) = Some (Data (b ∷ bytes))
+
+abbrev pub vain_answers : Vain → Option Seen
+vain_answers vain.Again = None
+vain_answers vain.Ack = Some (Data (0x06 ∷ []))
+vain_answers vain.Quiet = Some Silence
+
+abbrev pub brings : List ℕ → Line → Tape → Step
+brings bytes l t = record {
+  answer = answers (heard_in bytes (looked (moment_of t) l));
+  line = hears bytes (looked (moment_of t) l);
+  tape = after_moment t;
+}
+
+abbrev pub ends : Wait → ℕ → Line → Tape → Step
+ends w end l t = record {
+  answer = vain_answers (vain_at w l);
+  line = expires w end (moment_of t) l;
+  tape = after_moment t;
+}
+
+abbrev pub step_by : Seen → Wait → ℕ → Line → Tape → Step
+step_by (Data bytes) w end l t = brings bytes l t
+step_by Silence w end l t = ends w end l t
+step_by End w end l t = record { answer = Some End; line = l; tape = t }
+step_by Failed w end l t = record { answer = Some Failed; line = l; tape = t }
+
+-- it waits as long as the rule says, of a wait that began then
+abbrev pub step : Wait → ℕ → ℕ → Line → Tape → Step
+step w start room l t =
+    step_by (read_gives room t.coming) w (until w start l.timing) l
+    (after_read (until w start l.timing - l.clock.at) room t)
+
+-- what the whole answers, and how it leaves the line
+pub record Read : Type 0 where
+  pub seen : Seen
+  pub line : Line
+  pub tape : Tape
+
+abbrev pub gives : Seen → Line → Tape → Read
+gives seen l t = record { seen = seen; line = l; tape = t }
+
+abbrev pub behind : (Line → Tape → Read) → Option Seen → Line → Tape → Read
+behind on (Some seen) l t = gives seen l t
+behind on None l t = on l t
+
+-- it goes on while nothing is to be heard, for so many reads at most
+unfoldable pub reads : ℕ → Wait → ℕ → ℕ → Line → Tape → Read
+reads zero w start room l t = gives Silence l t
+reads (suc more) w start room l t =
+    behind (reads more w start room) (step w start room l t).answer (step w start room l t).line
+    (step w start room l t).tape
+
+-- a reply is waited for from now on, and more of a delivery since the last of it came
+abbrev pub waits : Asked → ℕ → Line → Tape → Read
+waits asked.Within room l t = reads MOST_READS wait.Within l.clock.at room l t
+waits asked.Reply room l t =
+    reads MOST_READS wait.Reply (looked (moment_of t) l).clock.at room (looked (moment_of t) l)
+    (after_moment t)
+
+-- of a reply one byte may make two
+abbrev pub room_for : Role → ℕ → ℕ
+room_for Sender room = min (room / 2) PIECE
+room_for Receiver room = room
+
+abbrev pub wants_two : Role → Bool → Bool
+wants_two Sender has_cancel = true
+wants_two Receiver has_cancel = has_cancel
+
+abbrev pub cancelled : Line → Line
+cancelled l = record l { timing = record l.timing { has_cancel = false } }
+
+abbrev pub has_no_room : ℕ → Line → Bool
+has_no_room room l = nat_lt room 2 && wants_two l.timing.role l.timing.has_cancel
+
+-- CAN CAN that was dropped is heard first, and then that the line was closed
+abbrev pub read_of : Asked → ℕ → Line → Tape → Read
+read_of w room l t =
+    if has_no_room room l then gives Silence l t
+    else (if l.timing.has_cancel
+    then gives (Data cancel) (cancelled l) t
+    else (if l.is_closed then gives End l t
+    else waits w (room_for l.timing.role room) l t))
+
+-- ---- A write
+
+-- bytes are dropped while the line clears
+pub record Dropped : Type 0 where
+  pub clearing : Clearing
+  pub timing : Timing
+
+abbrev pub dropped : List ℕ → List ℕ → ℕ → Dropped → Dropped
+dropped [] written now d = d
+dropped (b ∷ bytes) written now d = dropped bytes written now (record {
+  clearing = clears.dropped d.clearing b written now d.timing;
+  timing = clears.after_dropped d.clearing b written now d.timing;
+})
+
+abbrev pub dropped_of : Clearing → List ℕ → Line → Dropped
+dropped_of c bytes l =
+    dropped bytes l.written l.clock.at (record { clearing = c; timing = l.timing })
+
+abbrev pub drops_byte : Clearing → ℕ → Line → Line
+drops_byte c byte l =
+    record l { timing = clears.after_dropped c byte l.written l.clock.at l.timing }
+
+abbrev pub dropping : Clearing → List ℕ → Line → Clearing
+dropping c bytes l = (dropped_of c bytes l).clearing
+
+abbrev pub after_dropping : Clearing → List ℕ → Line → Line
+after_dropping c bytes l = record l { timing = (dropped_of c bytes l).timing }
+
+-- how far the line is clear, or that it failed
+pub record Cleared : Type 0 where
+  pub answer : Result Clearing PortFault
+  pub line : Line
+  pub tape : Tape
+
+abbrev pub clear_step : Seen → Clearing → ℕ → Line → Tape → Cleared
+clear_step (Data bytes) c end l t = record {
+  answer = Ok (dropping c bytes (looked (moment_of t) l));
+  line = after_dropping c bytes (looked (moment_of t) l);
+  tape = after_moment t;
+}
+clear_step Silence c end l t = record {
+  answer = Ok c;
+  line = record l { clock = waited end (moment_of t) l.clock };
+  tape = after_moment t;
+}
+clear_step End c end l t =
+    record { answer = Ok c; line = record l { is_closed = true }; tape = t }
+clear_step Failed c end l t = record { answer = Err record {}; line = l; tape = t }
+
+-- one read of it, which waits until it is clear
+abbrev pub clear_once : Clearing → Line → Tape → Cleared
+clear_once c l t =
+    clear_step (read_gives CLEAR_PIECE t.coming) c (clears.clear_at c l.timing) l
+    (after_read (clears.clear_at c l.timing - l.clock.at) CLEAR_PIECE t)
+
+abbrev pub is_clear : Clearing → Line → Bool
+is_clear c l = l.is_closed || nat_le (clears.clear_at c l.timing) l.clock.at
+
+abbrev pub clear_on : (Clearing → Line → Tape → Cleared) → Result Clearing PortFault → Line → Tape
+    → Cleared
+clear_on on (Ok c) l t = on c l t
+clear_on on (Err e) l t = record { answer = Err e; line = l; tape = t }
+
+abbrev pub over : Clearing → Line → Tape → Cleared
+over c l t = record { answer = Ok c; line = l; tape = t }
+
+-- the line is let clear, by so many reads at most
+unfoldable pub cleared : ℕ → Clearing → Line → Tape → Cleared
+cleared zero c l t = over c l t
+cleared (suc more) c l t =
+    if is_clear c l then over c l t
+    else clear_on (cleared more) (clear_once c l t).answer (clear_once c l t).line
+    (clear_once c l t).tape
+
+-- these bytes are written, behind this clearing
+abbrev pub writes : List ℕ → Clearing → Line → Line
+writes bytes c l = record l {
+  timing = wrote bytes c l.clock.at l.timing;
+  written = take LONGEST_FRAME bytes;
+}
+
+-- What a write comes to: where the line fails while it clears, nothing is written.
+abbrev pub WritesAs : Result Clearing PortFault → List ℕ → Line → Tape → Result Unit PortFault → Line
+    → Tape → Type 0
+WritesAs (Ok c) bytes l t result new u =
+    (new ≡ writes bytes c l) × (u ≡ after_write (is_ok result) t bytes)
+WritesAs (Err e) bytes l t result new u = (new ≡ l) × (result ≡ Err e) × (u ≡ t)
+
+abbrev pub Writes : List ℕ → Cleared → Result Unit PortFault → Line → Tape → Type 0
+Writes bytes s result new u = WritesAs s.answer bytes s.line s.tape result new u
+
+-- the clock is asked once, and then the line clears, where it has to
+abbrev pub clears_for : List ℕ → Line → Tape → Cleared
+clears_for bytes l t =
+    cleared MOST_READS (clears.clearing bytes (looked (moment_of t) l).clock.at l.timing)
+    (looked (moment_of t) l) (after_moment t)

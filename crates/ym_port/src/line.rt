@@ -1,0 +1,246 @@
+//! What an end knows of its line.
+
+ghost use Rattle.std.specs.Prelude.{◌≡◌, ◌<◌, ◌≤◌, ◌*◌, ◌+◌, ◌-◌, ◌++◌, length, take, drop};
+ghost use Rattle.ym_timing.specs.ByteRows.{bytes_of, heard_of};
+ghost use Rattle.ym_timing.specs.Clears.{dropped};
+ghost use Rattle.ym_timing.specs.Timing.{said};
+ghost use Rattle.ym_timing.specs.declared.role.Role.{Role};
+ghost use Rattle.ym_port.specs.declared.line.TheConstants.{PIECE};
+
+use crate::written::Written;
+use ym_timing::{Clearing, Clock, Role, Say, Timing, Vain, Wait, cancels};
+
+/// The byte ACK.
+pub const ACK: u8 = 0x06;
+
+/// The byte CAN.
+pub const CAN: u8 = 0x18;
+
+/// How many bytes a sender reads at once: replies are short.
+pub const PIECE: usize = 64;
+
+/// How many bytes are dropped at once.
+pub const CLEAR_PIECE: usize = 256;
+
+/// What an end knows of its line.
+#[derive(Drop)]
+pub struct Line {
+    /// What was said and heard, and when.
+    pub timing: Timing,
+    /// The clock, which never runs backwards.
+    pub clock: Clock,
+    /// The frame that was written last.
+    pub written: Written,
+    /// Whether the line was closed while it was let clear.
+    pub is_closed: bool,
+}
+
+impl Line {
+    ghost use Rattle.ym_port.specs.TimedPort as table;
+
+    /// Nothing was said or heard.
+    pub fn new(role: Role) -> Line
+        ensures { result ≡ table.new_line role }
+    {
+        Line {
+            timing: Timing::new(role),
+            clock: Clock::new(),
+            written: Written::new(),
+            is_closed: false,
+        }
+    }
+
+    /// The clock tells this.
+    #[inline]
+    pub fn look(&mut self, now: u64)
+        ensures { self.new ≡ table.looked now self.old }
+    {
+        let _ = self.clock.read(now);
+    }
+
+    /// How many bytes are read at once into so much room: of a reply one byte may make two.
+    #[inline]
+    pub fn room(&self, length: usize) -> usize
+        ensures { result ≡ table.room_for self.now.timing.role length }
+    {
+        match self.timing.role {
+            Role::Sender => (length / 2).min(PIECE),
+            Role::Receiver => length,
+        }
+    }
+
+    /// Takes a byte that came, and says what of it is to be heard.
+    #[inline]
+    fn byte(&mut self, byte: u8) -> Say
+        ensures line { self.new ≡ table.hears_byte byte self.old }
+        ensures role { self.new.timing.role ≡ self.old.timing.role }
+        ensures say { result ≡ said byte self.old.written self.old.clock.at self.old.timing }
+    {
+        self.timing
+            .byte(byte, self.written.as_slice(), self.clock.at)
+    }
+
+    /// Takes what came to a sender, and puts what of it is to be heard at the front of `buf`.
+    #[inline]
+    fn reply(&mut self, came: &[u8], buf: &mut [u8]) -> usize
+        requires room { 2 * length came.now ≤ length buf.old }
+        ensures line { self.new ≡ table.hears came.now self.old }
+        ensures role { self.new.timing.role ≡ self.old.timing.role }
+        ensures within { result ≤ 2 * length came.now }
+        ensures sized { length buf.new ≡ length buf.old }
+        ensures heard { take result buf.new
+            ≡ heard_of came.now self.old.written self.old.clock.at self.old.timing }
+    {
+        let mut count = 0;
+        for byte in came {
+            let said = self.byte(*byte);
+            count = put(said, *byte, buf, count);
+        }
+        count
+    }
+
+    /// The same of what came to a sender and stands in `buf`: a reply behind which the peer cancels
+    /// is none.
+    #[inline]
+    fn reply_in(&mut self, buf: &mut [u8], count: usize) -> usize
+        requires some { 0 < count }
+        requires piece { count ≤ PIECE }
+        requires room { 2 * count ≤ length buf.old }
+        requires sender { self.old.timing.role ≡ Role.Sender }
+        ensures line { self.new ≡ table.hears (take count buf.old) self.old }
+        ensures role { self.new.timing.role ≡ self.old.timing.role }
+        ensures within { result ≤ length buf.old }
+        ensures sized { length buf.new ≡ length buf.old }
+        ensures heard { take result buf.new ≡ table.heard_in (take count buf.old) self.old }
+    {
+        let mut came = [0; PIECE];
+        came[..count].copy_from_slice(&buf[..count]);
+        let heard = self.reply(&came[..count], buf);
+        if cancels(&buf[..heard]) {
+            buf[..2].copy_from_slice(&[CAN, CAN]);
+            return 2;
+        }
+        heard
+    }
+
+    /// Takes what came to a receiver and stands in `buf`, and leaves what of it is to be heard.
+    #[inline]
+    fn frame_in(&mut self, buf: &mut [u8], count: usize) -> usize
+        requires room { count ≤ length buf.old }
+        requires receiver { self.old.timing.role ≡ Role.Receiver }
+        ensures line { self.new ≡ table.hears (take count buf.old) self.old }
+        ensures role { self.new.timing.role ≡ self.old.timing.role }
+        ensures within { result ≤ length buf.old }
+        ensures sized { length buf.new ≡ length buf.old }
+        ensures heard { take result buf.new ≡ table.heard_in (take count buf.old) self.old }
+    {
+        let echoed = self
+            .timing
+            .frame_bytes(&buf[..count], self.written.as_slice(), self.clock.at);
+        if 0 < echoed {
+            shift(buf, echoed, count);
+        }
+        count - echoed
+    }
+
+    /// Takes what came and stands in `buf`, and leaves there what of it is to be heard.
+    #[inline]
+    pub fn hear(&mut self, buf: &mut [u8], count: usize) -> usize
+        requires some { 0 < count }
+        requires room { count ≤ table.room_for self.old.timing.role (length buf.old) }
+        ensures line { self.new ≡ table.hears (take count buf.old) self.old }
+        ensures role { self.new.timing.role ≡ self.old.timing.role }
+        ensures within { result ≤ length buf.old }
+        ensures sized { length buf.new ≡ length buf.old }
+        ensures heard { take result buf.new ≡ table.heard_in (take count buf.old) self.old }
+    {
+        match self.timing.role {
+            Role::Sender => self.reply_in(buf, count),
+            Role::Receiver => self.frame_in(buf, count),
+        }
+    }
+
+    /// Takes that a read waited until then, where the clock tells this, and nothing came.
+    pub fn expire(&mut self, wait: Wait, until: u64, now: u64) -> Vain
+        ensures line { self.new ≡ table.expires wait until now self.old }
+        ensures role { self.new.timing.role ≡ self.old.timing.role }
+        ensures vain { result ≡ table.vain_at wait self.old }
+    {
+        let at = self.clock.waited(until, now);
+        self.timing.expired(wait, at)
+    }
+
+    /// Whether the line is clear, or will not get clearer.
+    #[inline]
+    pub fn is_clear(&self, clearing: Clearing) -> bool
+        ensures { result ≡ table.is_clear clearing self.now }
+    {
+        self.is_closed || self.timing.clear_at(clearing) <= self.clock.at
+    }
+
+    /// Drops a byte that came while the line cleared.
+    fn drop_byte(&mut self, clearing: Clearing, byte: u8) -> Clearing
+        ensures line { self.new ≡ table.drops_byte clearing byte self.old }
+        ensures clearing { result
+            ≡ dropped clearing byte self.old.written self.old.clock.at self.old.timing }
+    {
+        self.timing
+            .dropped(clearing, byte, self.written.as_slice(), self.clock.at)
+    }
+
+    /// Drops bytes that came while the line cleared.
+    pub fn drop_all(&mut self, clearing: Clearing, bytes: &[u8]) -> Clearing
+        ensures line { self.new ≡ table.after_dropping clearing bytes.now self.old }
+        ensures clearing { result ≡ table.dropping clearing bytes.now self.old }
+    {
+        let mut left = clearing;
+        for byte in bytes {
+            left = self.drop_byte(left, *byte);
+        }
+        left
+    }
+
+    /// Takes that these bytes are written, behind this clearing.
+    #[inline]
+    pub fn write(&mut self, bytes: &[u8], clearing: Clearing)
+        ensures { self.new ≡ table.writes bytes.now clearing self.old }
+    {
+        self.timing.wrote(bytes, clearing, self.clock.at);
+        self.written.keep(bytes);
+    }
+}
+
+/// Puts what is to be heard of a byte behind so many others.
+#[inline]
+fn put(said: Say, byte: u8, buf: &mut [u8], count: usize) -> usize
+    requires { count + 2 ≤ length buf.old }
+    ensures same { length buf.new ≡ length buf.old }
+    ensures within { result ≤ count + 2 }
+    ensures heard { take result buf.new ≡ take count buf.old ++ bytes_of said byte }
+{
+    match said {
+        Say::Nothing => count,
+        Say::Byte => {
+            buf[count] = byte;
+            count + 1
+        }
+        Say::AckAndByte => {
+            buf[count] = ACK;
+            buf[count + 1] = byte;
+            count + 2
+        }
+    }
+}
+
+/// Moves what stands behind so many bytes to the front.
+#[cold]
+fn shift(buf: &mut [u8], by: usize, count: usize)
+    requires by { by ≤ count }
+    requires count { count ≤ length buf.old }
+    ensures same { length buf.new ≡ length buf.old }
+    ensures front { take (count - by) buf.new ≡ drop by (take count buf.old) }
+{
+    for place in 0..count - by {
+        buf[place] = buf[place + by];
+    }
+}

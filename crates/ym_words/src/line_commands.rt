@@ -1,0 +1,86 @@
+//! `sb` and `rb`, whose line is a terminal, or else standard input and output.
+
+ghost use Rattle.std.specs.Prelude.{◌≡◌, IfOk, false};
+ghost use Rattle.clap.specs.Words.{app_of};
+ghost use Rattle.ym_words.specs.CommandLine.{sb_app, rb_line_app, rb_app};
+ghost use Rattle.clap.specs.declared.builder.command.Command.TheViews.{out-Command};
+
+use crate::args::{
+    discard_parts_arg, files_arg, folder_arg, line_arg, no_sync_arg, short_arg, single_arg,
+    with_telling_args,
+};
+use clap::Command;
+use std::alloc::{AllocError, Global};
+
+const SB_ABOUT: &str = "Sends files over a serial line, in order";
+
+const SB_HELP: &str =
+    "The line is DEVICE, or else standard input and output. `ymodem-tty` sets the line and runs
+this; by hand, set it so before:
+
+  stty -F /dev/ttyUSB0 115200 raw -echo clocal min 0 time 1
+
+Files, waits, what is printed and the exit status are as those of `send`. It prints to standard
+output where DEVICE is given, and to standard error where standard output is the line.
+
+Example:
+  ymodem sb --line /dev/ttyUSB0 firmware.bin";
+
+const RB_ABOUT: &str = "Receives files over a serial line into a folder";
+
+const RB_HELP: &str =
+    "The line is DEVICE, or else standard input and output. `ymodem-tty` sets the line and runs
+this; by hand, set it so before:
+
+  stty -F /dev/ttyUSB0 115200 raw -echo clocal min 0 time 1
+
+It asks for the first file at once. Files, waits, what is printed and the exit status are as those
+of `receive`. It prints to standard output where DEVICE is given, and to standard error where
+standard output is the line.
+
+Example:
+  ymodem rb --line /dev/ttyUSB0 downloads";
+
+pub(crate) fn sb_command<'a>(alloc: Global) -> Result<Command<'a>, AllocError>
+    ensures shape { IfOk result (λ c. app_of c ≡ sb_app) }
+    ensures local { IfOk result (λ c. (out-Command c).has_globals ≡ false) }
+{
+    let line = line_arg(alloc);
+    let short = short_arg(alloc);
+    let files = files_arg(alloc);
+    let bare = Command::new(alloc, "sb")
+        .about(SB_ABOUT)
+        .after_help(SB_HELP);
+    let with_line = bare.arg(line)?;
+    let with_short = with_line.arg(short)?;
+    let with_files = with_short.arg(files)?;
+    with_telling_args(alloc, with_files)
+}
+
+/// `rb`, with what its words say of the line.
+fn rb_line_command<'a>(alloc: Global) -> Result<Command<'a>, AllocError>
+    ensures shape { IfOk result (λ c. app_of c ≡ rb_line_app) }
+    ensures local { IfOk result (λ c. (out-Command c).has_globals ≡ false) }
+{
+    let line = line_arg(alloc);
+    let single = single_arg(alloc);
+    let bare = Command::new(alloc, "rb")
+        .about(RB_ABOUT)
+        .after_help(RB_HELP);
+    let with_line = bare.arg(line)?;
+    with_line.arg(single)
+}
+
+pub(crate) fn rb_command<'a>(alloc: Global) -> Result<Command<'a>, AllocError>
+    ensures shape { IfOk result (λ c. app_of c ≡ rb_app) }
+    ensures local { IfOk result (λ c. (out-Command c).has_globals ≡ false) }
+{
+    let no_sync = no_sync_arg(alloc);
+    let discard_parts = discard_parts_arg(alloc);
+    let folder = folder_arg(alloc);
+    let bare = rb_line_command(alloc)?;
+    let with_no_sync = bare.arg(no_sync)?;
+    let with_discard_parts = with_no_sync.arg(discard_parts)?;
+    let with_folder = with_discard_parts.arg(folder)?;
+    with_telling_args(alloc, with_folder)
+}

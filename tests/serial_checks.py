@@ -1,0 +1,279 @@
+"""Files over a serial line: `ymodem sb` and `ymodem rb` on pseudo terminals, by path and as standard input and output, beside lrzsz's and beside each other."""
+
+import contextlib
+import fcntl
+import os
+import random
+import subprocess
+import threading
+import time
+import tty
+
+from cable import cable, plug, set_for_ticks
+from frames import END
+from program import LIMIT, PROGRAM, file_lines, folders, wants_same, wants_stored, write_files
+from skipping import Skipped, needs
+from terminal import joined
+from waits import wait_for
+
+CHANCE = random.Random(33)
+FILES = [("one.bin", CHANCE.randbytes(5000)), ("none", b""), ("control bytes", bytes(range(256)) * 5)]
+NAMES = [name for name, _ in FILES]
+CAN_CAN = b"\x18\x18"
+NOBODY = 65534
+
+
+@contextlib.contextmanager
+def started(words, folder, **how):
+    """A program in a folder, with what it writes kept, unless that goes elsewhere."""
+    how = {"stdin": subprocess.DEVNULL, "stdout": subprocess.PIPE, "stderr": subprocess.PIPE} | how
+    child = subprocess.Popen(words, cwd=folder, **how)
+    try:
+        yield child
+    finally:
+        if child.poll() is None:
+            child.kill()
+        for stream in (child.stdin, child.stdout, child.stderr):
+            if stream:
+                stream.close()
+        child.wait()
+
+
+@contextlib.contextmanager
+def peer(words, folder, end):
+    """A program of lrzsz on two pipes, joined to this end of a plug."""
+    with started(words, folder, stdin=subprocess.PIPE) as child:
+        joined(end, child.stdin.fileno())
+        joined(child.stdout.fileno(), end)
+        yield child
+
+
+def ends_with(child, status):
+    """What it wrote, where it ends with this status."""
+    out, err = [], []
+    readers = [threading.Thread(target=lambda at=at, into=into: into.append(at.read())) for at, into in ((child.stdout, out), (child.stderr, err)) if at]
+    for reader in readers:
+        reader.start()
+    got = child.wait(LIMIT)
+    for reader in readers:
+        reader.join(LIMIT)
+    out, err = (b"".join(it).decode() for it in (out, err))
+    if got != status:
+        raise AssertionError("status %d, wanted %d: %r %r" % (got, status, out, err))
+    return out, err
+
+
+def says(child, status, out, err=""):
+    wants_same({"said": ends_with(child, status)}, {"said": (out, err)})
+
+
+def on(path):
+    """This terminal as standard input and output."""
+    end = os.open(path, os.O_RDWR | os.O_NOCTTY)
+    return {"stdin": end, "stdout": end}
+
+
+def sends(words=(), by_path=True):
+    """`ymodem sb` to lrzsz's rb."""
+
+    def check():
+        needs("rb")
+        with folders() as (here, there), plug() as it:
+            write_files(here, FILES)
+            set_for_ticks(it.path)
+            line = ["--line", it.path] if by_path else []
+            streams = {} if by_path else on(it.path)
+            with peer(["rb"], there, it.inner) as other, started([PROGRAM, "sb", *line, *words, *NAMES], here, **streams) as child:
+                done = "sender done %d finished\n" % len(FILES)
+                says(child, 0, *((done, "") if by_path else ("", done)))
+                other.wait(LIMIT)
+            wants_stored(there, FILES)
+            for end in set(streams.values()):
+                os.close(end)
+
+    return check
+
+
+def receives(words=(), by_path=True):
+    """`ymodem rb` from lrzsz's sb."""
+
+    def check():
+        needs("sb")
+        with folders() as (here, there), plug() as it:
+            for path in write_files(here, FILES):
+                os.utime(path, (0o15300550564, 0o15300550564))
+                os.chmod(path, 0o644)
+            set_for_ticks(it.path)
+            line = ["--line", it.path] if by_path else []
+            streams = {} if by_path else on(it.path)
+            with started([PROGRAM, "rb", *line, *words], there, **streams) as child, peer(["sb", *NAMES], here, it.inner):
+                told = file_lines(FILES, "15300550564 100644") + "receiver files %d finished\n" % len(FILES)
+                says(child, 0, *((told, "") if by_path else ("", told)))
+            wants_stored(there, FILES)
+            for end in set(streams.values()):
+                os.close(end)
+
+    return check
+
+
+def between(files, send=(), receive=(), **how):
+    """From `ymodem sb` to `ymodem rb`, over a cable."""
+
+    def check():
+        with folders() as (here, there), cable(**how) as it:
+            paths = write_files(here, files)
+            for end in (it.near, it.far):
+                set_for_ticks(end.path)
+            with (
+                started([PROGRAM, "rb", "--line", it.far.path, *receive, there], there) as receiver,
+                started([PROGRAM, "sb", "--line", it.near.path, *send, *paths], here) as sender,
+            ):
+                says(sender, 0, "sender done %d finished\n" % len(files))
+                says(receiver, 0, file_lines(files) + "receiver files %d finished\n" % len(files))
+            wants_stored(there, files)
+
+    return check
+
+
+def hangs_up(cut_at):
+    """The cable is pulled in the middle: both know what they know, and the receiver has nothing that is not whole."""
+
+    def check():
+        files = [("first", CHANCE.randbytes(3000)), ("second", CHANCE.randbytes(60_000))]
+        with folders() as (here, there), cable(cut_at=cut_at) as it:
+            paths = write_files(here, files)
+            for end in (it.near, it.far):
+                set_for_ticks(end.path)
+            with started([PROGRAM, "sb", "--verbose", "--line", it.near.path, *paths], here) as sender, started([PROGRAM, "rb", "--line", it.far.path], there):
+                out, err = ends_with(sender, 3)
+            if "the line hung up\n" not in err or not err.endswith(("fault: closed\n", "fault: device\n")):
+                raise AssertionError("it said %r" % err)
+            done = int(out.split()[2])
+            for name, data in files[:done]:
+                with open(os.path.join(there, name), "rb") as kept:
+                    wants_same({name: kept.read()}, {name: data})
+
+    return check
+
+
+def receiver_hangs_up(given):
+    """The receiver's line hangs up before anything, and within a delivery."""
+
+    def check():
+        with folders() as (_, there), plug() as it:
+            set_for_ticks(it.path)
+            with started([PROGRAM, "rb", "--verbose", "--line", it.path], there) as child:
+                wait_for(it.inner, 1)
+                os.write(it.inner, given)
+                time.sleep(0.3)
+                it.pull()
+                out, err = ends_with(child, 3)
+            if not err.endswith("the line hung up\nfault: closed\n") or out != "receiver files 0 running\n":
+                raise AssertionError("it said %r %r" % (out, err))
+
+    return check
+
+
+def refuses(path_in, why, before=None, **how):
+    """A line that is refused, and what is told of it, to somebody who looks."""
+
+    def check():
+        with folders() as (here, _), plug() as it:
+            for folder in (os.path.dirname(here), here):
+                os.chmod(folder, 0o755)
+            path = path_in(here, it)
+            held = before(path) if before else None
+            for words in (["sb", "--line", path, *write_files(here, [("a", b"a")])], ["rb", "--line", path, "/tmp"]):
+                with started([PROGRAM, *words, "--verbose"], here, **how) as child:
+                    said = "cannot open '%s': %s\nfault: device\n" % (path, why)
+                    says(child, 3, "", said)
+            if held is not None:
+                os.close(held)
+
+    return check
+
+
+def lock(path):
+    end = os.open(path, os.O_RDWR | os.O_NOCTTY)
+    fcntl.flock(end, fcntl.LOCK_EX)
+    return end
+
+
+def denied():
+    if os.geteuid() != 0:
+        raise Skipped("only root may become somebody else")
+    why = "permission denied; members of the group dialout may open it"
+    refuses(lambda _, it: os.chmod(it.path, 0o600) or it.path, why, user=NOBODY, group=NOBODY, extra_groups=[])()
+
+
+def endless():
+    """A terminal that was not set: a read waits until a byte comes, and then it is told what to do."""
+    with folders() as (here, _), plug() as it:
+        tty.setraw(it.outer)
+        path = write_files(here, [("a", b"a")])[0]
+        with started([PROGRAM, "sb", "--verbose", "--line", it.path, path], here) as child:
+            time.sleep(1.5)
+            os.write(it.inner, b"C")
+            out, err = ends_with(child, 3)
+        why = "reads of the line do not end by themselves: set it by `stty raw -echo min 0 time 1`\nfault: device\n"
+        if not err.endswith(why) or out != "sender done 0 running\n":
+            raise AssertionError("it said %r %r" % (out, err))
+
+
+def asks_at_once():
+    """`rb` asks for the first file with no wait, and again after three seconds."""
+    with folders() as (_, there), plug() as it:
+        set_for_ticks(it.path)
+        began = time.monotonic()
+        with started([PROGRAM, "rb", "--line", it.path], there) as child:
+            wait_for(it.inner, 1)
+            first = time.monotonic() - began
+            wait_for(it.inner, 2)
+            second = time.monotonic() - began - first
+            os.write(it.inner, END)
+            says(child, 0, "receiver files 0 finished\n")
+        if first > 2.5 or not 2.5 < second < 20:
+            raise AssertionError("it asked after %.1f s, and again after %.1f s" % (first, second))
+
+
+def cancelled(words):
+    def check():
+        with folders() as (here, there), plug() as it:
+            set_for_ticks(it.path)
+            paths = write_files(here, [("a", b"a")]) if words[0] == "sb" else [there]
+            with started([PROGRAM, *words, "--line", it.path, *paths], here) as child:
+                os.write(it.inner, CAN_CAN)
+                ends_with(child, 1)
+
+    return check
+
+
+LONG = [("long", random.Random(34).randbytes(2_000_000))]
+
+CHECKS = [
+    ("ymodem sb --line to rb", sends()),
+    ("ymodem sb --short --line to rb", sends(["--short"])),
+    ("ymodem sb on standard streams to rb", sends(by_path=False)),
+    ("sb to ymodem rb --line", receives()),
+    ("sb to ymodem rb --single --line", receives(["--single"])),
+    ("sb to ymodem rb on standard streams", receives(by_path=False)),
+    ("ymodem sb to ymodem rb over a cable", between(FILES)),
+    ("ymodem sb to ymodem rb over a cable, 2 MB", between(LONG)),
+    ("ymodem sb --short to ymodem rb over a cable at 9600 baud", between(FILES, send=["--short"], baud=9600)),
+    ("ymodem sb to ymodem rb over a cable at 115200 baud", between(FILES, baud=115_200)),
+    ("ymodem sb to ymodem rb over a cable at 921600 baud", between(FILES, baud=921_600)),
+    ("a cable that is pulled in block 0", hangs_up(10)),
+    ("a cable that is pulled in a data block", hangs_up(1500)),
+    ("a cable that is pulled in the second file", hangs_up(20_000)),
+    ("a line that hangs up before anything has come", receiver_hangs_up(b"")),
+    ("a line that hangs up within a block", receiver_hangs_up(END[:50])),
+    ("a line that is not there", refuses(lambda here, _: here + "/nothing", "no such device")),
+    ("a line that is a file", refuses(lambda here, _: write_files(here, [("file", b"")])[0], "it is no terminal")),
+    ("a line that is a folder", refuses(lambda here, _: here, "it is no terminal")),
+    ("a line that another program has locked", refuses(lambda _, it: it.path, "another program has it open", lock)),
+    ("a line that one may not open", denied),
+    ("a line that was not set", endless),
+    ("ymodem rb asks at once", asks_at_once),
+    ("ymodem sb, cancelled by its peer", cancelled(["sb"])),
+    ("ymodem rb, cancelled by its peer", cancelled(["rb"])),
+]
