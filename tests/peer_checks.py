@@ -3,6 +3,7 @@
 import contextlib
 import socket
 import struct
+import time
 
 from frames import ACK, CAN, CANCEL, DELIVERY, END, EOT, NAK, START, block, header, mixed, short
 from peers import receive_from, send_to
@@ -108,6 +109,14 @@ def floods(end):
     with contextlib.suppress(OSError):
         for _ in range(4096):
             end.sendall(JUNK)
+
+
+def never_stops(end):
+    """Sends junk until the other end has gone, with no pause in which a wait could end by itself."""
+    with contextlib.suppress(OSError):
+        while True:
+            end.sendall(JUNK)
+            time.sleep(0.02)
 
 
 def quiet_sender(end):
@@ -232,7 +241,8 @@ OF_SEND = [
     ("closes behind block 0", to_receiver(closes_in_block_0, 3, "sender done 0 running\n", "fault: closed\n")),
     ("refuses block 0 for ever", to_receiver(always_naks, 1, "sender done 0 no-reply\n")),
     ("sends junk ten times", to_receiver(junk_for_replies, 1, "sender done 0 no-reply\n")),
-    ("sends junk without end", to_receiver(floods, (1, 3), "sender done 0 no-reply\n", ("", "fault: device\n"))),
+    ("sends junk without end", to_receiver(never_stops, 1, "sender done 0 no-reply\n")),
+    ("sends much junk and closes", to_receiver(floods, 3, "sender done 0 running\n", ("fault: closed\n", "fault: device\n"))),
     ("cancels at once", to_receiver(talks((CANCEL, b"")), 1, "sender done 0 cancelled\n")),
     ("cancels behind block 0", to_receiver(cancels_behind_block_0, 1, "sender done 0 cancelled\n")),
     ("takes both files, each byte as it has to be", to_receiver(takes_all(mixed), 0, "sender done 2 finished\n")),

@@ -53,7 +53,7 @@ impl<R: Clock + Drop> Model for SocketPort<R> {
 }
 
 /// Reads what is there into the front of `buf`, or waits as long as the stream is set to.
-fn read_once(stream: &mut TcpStream, buf: &mut [u8]) -> io::Result<Got>
+pub(crate) fn read_once(stream: &mut TcpStream, buf: &mut [u8]) -> io::Result<Got>
     requires { 0 < length buf.old }
     ensures { (n : ℕ) → result ≡ Ok (Got.Bytes n) → (0 < n) × (n ≤ length buf.old) }
 {

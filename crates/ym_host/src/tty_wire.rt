@@ -3,12 +3,14 @@
 ghost use Rattle.std.specs.Prelude.{◌≡◌, ◌<◌, ◌≤◌, ◌+◌, ◌/◌, ℕ, Ok, OnOk, OnErr, length};
 ghost use Rattle.ym_file.specs.Counts.{Rose};
 
+use crate::moments::{Drip, millis_of};
 use crate::ticks::{TICK_MS, Tick, Ticks};
 use std::io::{ErrorKind, Read, Write};
 use std::marker::Model;
 use std::time::{Clock, Duration};
 use std::{io, thread};
 use ym_link::{Got, PortFault};
+use ym_port::Wire;
 
 /// How many reads a wait makes beside those that its ticks take.
 const SPARE_READS: u64 = 10;
@@ -43,6 +45,7 @@ pub struct TtyWire<R: Clock + Drop, I: Read + Drop, O: Write + Drop> {
     ticks: Ticks,
     /// The last moment that the clock told.
     last: u64,
+    drip: Drip,
     failed: u64,
     /// Why it failed for the first time, or hung up.
     fault: Option<TtyFault>,
@@ -54,13 +57,6 @@ impl<R: Clock + Drop, I: Read + Drop, O: Write + Drop> Model for TtyWire<R, I, O
     ghost Value = { ℕ };
 
     ghost view = { λ w. w.failed };
-}
-
-/// A time in milliseconds.
-fn millis_of(time: Duration) -> u64 {
-    time.as_secs()
-        .saturating_mul(1000)
-        .saturating_add(u64::from(time.subsec_millis()))
 }
 
 /// How many reads a wait of so many milliseconds makes at most.
@@ -88,6 +84,7 @@ impl<R: Clock + Drop, I: Read + Drop, O: Write + Drop> TtyWire<R, I, O> {
             writer,
             ticks: Ticks::new(is_terminal),
             last: 0,
+            drip: Drip::Nothing,
             failed: 0,
             fault: None,
         }
@@ -201,5 +198,30 @@ impl<R: Clock + Drop, I: Read + Drop, O: Write + Drop> TtyWire<R, I, O> {
             Ok(()) => Ok(()),
             Err(error) => Err(self.fail(fault_of(error))),
         }
+    }
+}
+
+impl<R: Clock + Drop, I: Read + Drop, O: Write + Drop> Wire for TtyWire<R, I, O> {
+    ghost tells = { λ _ _. ⊥ };
+
+    ghost failures = { λ w. w };
+
+    fn moment(&mut self) -> u64 {
+        TtyWire::moment(self)
+    }
+
+    fn read(&mut self, millis: u64, buf: &mut [u8]) -> Result<Got, PortFault> {
+        if self.drip.is_overdue(self.last) {
+            self.drip = Drip::Nothing;
+            return Ok(Got::Quiet);
+        }
+        let got = TtyWire::read(self, millis, buf)?;
+        self.drip = self.drip.after(self.last, got);
+        Ok(got)
+    }
+
+    fn write(&mut self, bytes: &[u8]) -> Result<(), PortFault> {
+        self.drip = Drip::Nothing;
+        TtyWire::write(self, bytes)
     }
 }

@@ -27,21 +27,16 @@ use std::net::TcpStream;
 use std::time::Clock;
 use ym_file::SinkFault;
 use ym_header::Header;
-use ym_host::{DirSink, Durability, Leftover, SocketPort, StoreFault};
+use ym_host::{DirSink, Durability, Leftover, SocketWire, StoreFault};
 use ym_line::ReceiverLine;
-use ym_link::{Clearing, Confirm, EndFault, Port, ReceiverInto, RecvState, Role, receive_over};
+use ym_link::{Confirm, EndFault, Port, ReceiverInto, RecvState, receive_over};
 use ym_pair::laws::a_receiver_commits_what_it_heard;
 use ym_play::{Output, StreamFault};
+use ym_port::{Role, TimedPort};
 use ym_show::{
     Eager, EndMessage, FileMessage, Meter, Reason, Replies, StoreWatch, Teller, Watched,
     WatchedPort, check_folder,
 };
-
-/// How many milliseconds a receiver waits for a frame.
-pub(crate) const REPLY_MS: u32 = 3000;
-
-/// How many milliseconds it waits for more of a frame that has begun.
-pub(crate) const WITHIN_MS: u32 = 1000;
 
 /// Prints a line for each file.
 fn print_files<O: Output>(out: &mut O, headers: &[Header]) -> Result<(), StreamFault>
@@ -198,8 +193,8 @@ where
         (page (O.contents out.old) (O.failures out.old)) result
         (page (O.contents out.new) (O.failures out.new)) }
 {
-    let port = SocketPort::new(rt, stream, REPLY_MS - WITHIN_MS, WITHIN_MS);
-    let port = Eager::new(Clearing::new(port, Role::Receiver), order.eager);
+    let port = TimedPort::new(SocketWire::new(rt, stream), Role::Receiver);
+    let port = Eager::new(port, order.eager);
     receive_on(rt, alloc, port, order, out, teller)
 }
 

@@ -21,23 +21,19 @@ use std::time::{Clock, Duration};
 use std::{io, thread};
 use ym_file::{Shape, Source};
 use ym_header::{HeaderFault, Stamp};
-use ym_host::{FileSource, SocketPort};
+use ym_host::{FileSource, SocketWire};
 use ym_line::SenderLine;
 use ym_link::laws::a_step_keeps_the_batch;
-use ym_link::{
-    BatchFault, Clearing, EndFault, Port, Role, SendState, SenderFrom, SourceFile, send_over,
-};
+use ym_link::{BatchFault, EndFault, Port, SendState, SenderFrom, SourceFile, send_over};
 use ym_pair::laws::a_sender_was_acknowledged;
 use ym_play::{Output, StreamFault};
+use ym_port::{Role, TimedPort};
 use ym_show::{
     EndMessage, FileMessage, LineMessage, Meter, Reason, SendWatch, Teller, WatchedPort,
 };
 
-/// How many milliseconds a sender waits for a reply, and for somebody to answer its call.
-pub(crate) const REPLY_MS: u32 = 10_000;
-
-/// How many milliseconds it waits for more of a reply that has begun.
-pub(crate) const WITHIN_MS: u32 = 1000;
+/// How many milliseconds a sender waits for somebody to answer its call.
+const CALL_WAIT_MS: u64 = 10_000;
 
 /// How often a sender calls again where nobody listens yet, and how many milliseconds it waits before: two seconds in all.
 const CALLS: u32 = 40;
@@ -136,7 +132,7 @@ pub(crate) fn sender_of<S: Source + Drop>(
 
 /// A connection to whoever listens at this address now.
 fn connect_once<R: Net<Stream = TcpStream>>(rt: &R, address: SocketAddr) -> io::Result<TcpStream> {
-    let wait = Duration::from_millis(u64::from(REPLY_MS));
+    let wait = Duration::from_millis(CALL_WAIT_MS);
     let stream = TcpStream::connect_timeout(rt, &address, wait)?;
     // Where nobody listens, the system may by chance connect a socket to itself.
     if stream.local_addr()? == address {
@@ -271,7 +267,6 @@ where
     let batch = open_batch(rt, alloc, paths, teller)?;
     let mut sender = sender_of(batch, shape)?;
     let stream = connect_telling(rt, port, teller)?;
-    let port = SocketPort::new(rt, stream, REPLY_MS - WITHIN_MS, WITHIN_MS);
-    let port = Clearing::new(port, Role::Sender);
+    let port = TimedPort::new(SocketWire::new(rt, stream), Role::Sender);
     send_on(rt, alloc, port, &mut sender, out, teller)
 }

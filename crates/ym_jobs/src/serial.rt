@@ -9,16 +9,16 @@ ghost use Rattle.ym_jobs.specs.Status.{IsHostFault};
 use crate::command_fault::CommandFault;
 use crate::receiving::{Order, look_at, receive_on};
 use crate::sending::{open_batch, send_on, sender_of};
-use crate::{receiving, sending};
 use std::alloc::Global;
 use std::fs::{File, Files};
 use std::io;
 use std::io::{IsTerminal, Print, Read, Write};
 use std::time::Clock;
 use ym_file::{Shape, Source};
-use ym_host::{OpenFault, TtyPort, TtyWire, open_tty};
-use ym_link::{Clearing, Role, SenderFrom};
+use ym_host::{OpenFault, TtyWire, open_tty};
+use ym_link::SenderFrom;
 use ym_play::Output;
+use ym_port::{Role, TimedPort};
 use ym_show::{Eager, Reason, Teller, TtyMessage};
 
 /// Why the terminal at this path is not opened, as it is told.
@@ -72,9 +72,7 @@ where
         (page (O.contents out.old) (O.failures out.old)) result
         (page (O.contents out.new) (O.failures out.new)) }
 {
-    let reply_ms = sending::REPLY_MS - sending::WITHIN_MS;
-    let port = TtyPort::new(wire, reply_ms, sending::WITHIN_MS);
-    let port = Clearing::new(port, Role::Sender);
+    let port = TimedPort::new(wire, Role::Sender);
     send_on(rt, alloc, port, sender, out, teller)
 }
 
@@ -135,9 +133,7 @@ where
         (page (O.contents out.old) (O.failures out.old)) result
         (page (O.contents out.new) (O.failures out.new)) }
 {
-    let reply_ms = receiving::REPLY_MS - receiving::WITHIN_MS;
-    let port = TtyPort::new(wire, reply_ms, receiving::WITHIN_MS);
-    let port = Eager::new(Clearing::new(port, Role::Receiver), order.eager);
+    let port = Eager::new(TimedPort::new(wire, Role::Receiver), order.eager);
     receive_on(rt, alloc, port, order, out, teller)
 }
 

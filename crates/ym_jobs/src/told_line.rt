@@ -5,8 +5,9 @@ ghost use Rattle.ym_jobs.specs.ToldLine.{connection_words, terminal_words};
 
 use std::io::{Read, Write};
 use std::time::Clock;
-use ym_host::{SocketPort, TtyFault, TtyPort};
-use ym_link::{Clearing, Port};
+use ym_host::{SocketWire, TtyFault, TtyWire};
+use ym_link::Port;
+use ym_port::TimedPort;
 use ym_show::{Eager, EndMessage, Reason};
 
 /// What the faults of a line are told as.
@@ -51,21 +52,15 @@ pub(crate) trait ToldLine: Port {
     fn words(&self) -> LineWords;
 }
 
-impl<R: Clock + Drop> ToldLine for SocketPort<R> {
+impl<R: Clock + Drop> ToldLine for TimedPort<SocketWire<R>> {
     fn words(&self) -> LineWords {
         LineWords::of_connection()
     }
 }
 
-impl<R: Clock + Drop, I: Read + Drop, O: Write + Drop> ToldLine for TtyPort<R, I, O> {
+impl<R: Clock + Drop, I: Read + Drop, O: Write + Drop> ToldLine for TimedPort<TtyWire<R, I, O>> {
     fn words(&self) -> LineWords {
         LineWords::of_terminal(self.wire().fault())
-    }
-}
-
-impl<P: ToldLine + Drop> ToldLine for Clearing<P> {
-    fn words(&self) -> LineWords {
-        self.port().words()
     }
 }
 

@@ -1,11 +1,10 @@
 -- What is heard of a row of bytes, byte by byte.
-use Rattle.std.proofs.Common.{◌≡◌, ℕ, ◌+◌, ◌-◌, ◌<◌, ◌≤◌, suc, List, [], ◌∷◌, ◌++◌, length, get_or, take, drop}
-use Rattle.std.proofs.Common.{Some, min, ◌∙◌, sym, ap, refl, arith, append_assoc, add-one}
+use Rattle.std.proofs.Common.{◌≡◌, ℕ, ◌+◌, ◌<◌, ◌≤◌, List, [], ◌∷◌, ◌++◌, length, get_or, take, drop}
+use Rattle.std.proofs.Common.{min, ◌∙◌, sym, ap, refl, arith, append_assoc, add-one}
 use Rattle.std.proofs.Math.ListN.{set}
 use Rattle.std.proofs.Math.Seq.{drop-cons, take-suc}
 use Rattle.std.proofs.lemmas.List.{get_or-drop, length-drop, length-take-le, take-append-le, take-take, take_min, take_more_set}
-use Rattle.ym_link.specs.Port.{Seen, Data}
-use Rattle.ym_port.specs.TimedPort.{answers, hears_byte}
+use Rattle.ym_port.specs.TimedPort.{hears_byte}
 use Rattle.ym_port.specs.declared.line.Line.{Line}
 use Rattle.ym_timing.specs.ByteRows.{bytes_of, heard_of, after_bytes}
 use Rattle.ym_timing.specs.Timing.{said, after_byte}
@@ -97,8 +96,3 @@ kept m limit bytes new rest size copied =
     front ∙ (ap (λ (x : List ℕ). take m x) copied
     ∙ (take-take m m bytes (omega arith)
     ∙ (ap (λ (k : ℕ). take k bytes) size_back ∙ take_min limit bytes)))
-
--- bytes are answered where there are any
-pub answers-some : (bytes : List ℕ) → 0 < length bytes → answers bytes ≡ Some (Data bytes)
-answers-some [] some = absurd (omega (arith, some))
-answers-some (b ∷ bytes) some = refl

@@ -18,7 +18,7 @@ use Rattle.ym_port.specs.Passing.{reads as passes-read, writes as passes-write, 
 use Rattle.ym_port.specs.TimedPort as table
 use Rattle.ym_port.specs.TimedPort.{Step, Read, Cleared, step_by, clear_step, behind, clear_on, WritesAs}
 unfoldable use Rattle.ym_port.specs.TimedPort.{reads, cleared}
-use Rattle.ym_port.specs.Wire.{Tape, after_moment, after_read, after_write}
+use Rattle.ym_port.specs.Wire.{Tape, moment_of, after_moment, after_read, after_write}
 use Rattle.ym_port.specs.declared.deed.Deed.{Deed}
 use Rattle.ym_port.specs.declared.deed.Deed.TheVariants.{Looked, Waited, Wrote}
 use Rattle.ym_port.specs.declared.line.Line.{Line}
@@ -44,12 +44,26 @@ pub waited-quiet : (millis room : ℕ) (t : Tape)
 waited-quiet millis room t =
     written-more t.done (Waited millis ∷ []) ∙ append-nil (written_of t.done)
 
-pub step-quiet : (seen : Seen) (w : Wait) (end : ℕ) (l : Line) (t : Tape)
-    → written_of (step_by seen w end l t).tape.done ≡ written_of t.done
-step-quiet (Data bytes) w end l t = looked-quiet t
-step-quiet Silence w end l t = looked-quiet t
-step-quiet End w end l t = refl
-step-quiet Failed w end l t = refl
+pub over-quiet : (over : Bool) (w : Wait) (l : Line) (t : Tape)
+    → written_of (if over then table.ends w l t else (record { answer = None; line = l; tape = t })).tape.done
+    ≡ written_of t.done
+over-quiet true w l t = refl
+over-quiet false w l t = refl
+
+pub brings-quiet : (heard : List ℕ) (w : Wait) (start : ℕ) (l : Line) (t : Tape)
+    → written_of (table.brings_of heard w start l t).tape.done ≡ written_of t.done
+brings-quiet [] w start l t = over-quiet (table.is_over w start l) w l t
+brings-quiet (b ∷ heard) w start l t = refl
+
+pub step-quiet : (seen : Seen) (w : Wait) (start : ℕ) (l : Line) (t : Tape)
+    → written_of (step_by seen w start l t).tape.done ≡ written_of t.done
+step-quiet (Data bytes) w start l t =
+    let k : Line = table.looked (moment_of t) l in
+    brings-quiet (table.heard_in bytes k) w start (table.hears bytes k) (after_moment t)
+    ∙ looked-quiet t
+step-quiet Silence w start l t = looked-quiet t
+step-quiet End w start l t = refl
+step-quiet Failed w start l t = refl
 
 pub behind-quiet : (on : Line → Tape → Read) → ((l : Line) (t : Tape) → written_of (on l t).tape.done ≡ written_of t.done)
     → (a : Option Seen) (l : Line) (t : Tape)
@@ -64,7 +78,7 @@ reads-quiet zero w start room l t = refl
 reads-quiet (suc n) w start room l t =
     let s = table.step w start room l t in
     behind-quiet (reads n w start room) (reads-quiet n w start room) s.answer s.line s.tape
-    ∙ (step-quiet (read_gives room t.coming) w (until w start l.timing) l
+    ∙ (step-quiet (read_gives room t.coming) w start l
     (after_read (until w start l.timing - l.clock.at) room t)
     ∙ waited-quiet (until w start l.timing - l.clock.at) room t)
 

@@ -1,11 +1,12 @@
 -- A read of a port that takes several reads of its line.
-use Rattle.std.proofs.Common.{◌≡◌, ◌<◌, ◌≤◌, ◌-◌, ◌+◌, ℕ, zero, suc, Option, Some, None, refl, sym, ◌∙◌, ap, arith}
-use Rattle.ym_link.specs.Port.{Seen, Silence}
-use Rattle.ym_port.specs.TimedPort.{Step, Read, step, gives, behind, ends, expires, vain_at, vain_answers}
+use Rattle.std.proofs.Common.{◌≡◌, ◌<◌, ◌≤◌, ◌-◌, ◌+◌, ℕ, zero, suc, List, [], ◌∷◌, length, take}
+use Rattle.std.proofs.Common.{Option, Some, None, refl, ◌∙◌, ap, arith}
+use Rattle.ym_link.specs.Port.{Seen, Data, Silence}
+use Rattle.ym_port.specs.TimedPort.{Step, Read, step, gives, behind, looked, hears, heard_in}
+use Rattle.ym_port.specs.TimedPort.{brings, brings_of, unheard}
 unfoldable use Rattle.ym_port.specs.TimedPort.{reads}
 use Rattle.ym_port.specs.Wire.{Tape, moment_of, after_moment}
 use Rattle.ym_port.specs.declared.line.Line.{Line}
-use Rattle.ym_timing.specs.declared.timing.Vain.{Vain}
 use Rattle.ym_timing.specs.declared.timing.Wait.{Wait}
 
 pub reads-step : (n less : ℕ) (w : Wait) (start room : ℕ) (l : Line) (t : Tape) → n ≡ suc less
@@ -50,13 +51,19 @@ read-goes-on most i w start r room l m t u answer whole more same is on before =
     let once = reads-once most i w start room l m t u answer whole more (rw same at is) before in
     once ∙ ap (λ (a : Option Seen). behind (reads (most - (i + 1)) w start room) a m u) on
 
--- a read that waited in vain
-pub ends-with : (w : Wait) (end now : ℕ) (l m : Line) (t u : Tape) (v : Vain) (answer : Option Seen)
-    → now ≡ moment_of t → u ≡ after_moment t → m ≡ expires w end now l → v ≡ vain_at w l
-    → vain_answers v ≡ answer → ends w end l t ≡ record { answer = answer; line = m; tape = u }
-ends-with w end now l m t u v answer at left is vain answers =
-    ap (λ (x : Option Seen). let s : Step = record { answer = x; line = expires w end (moment_of t) l; tape = after_moment t } in s)
-    (ap (λ (x : Vain). vain_answers x) (sym vain) ∙ answers)
-    ∙ (ap (λ (n : ℕ). let s : Step = record { answer = answer; line = expires w end n l; tape = after_moment t } in s) (sym at)
-    ∙ (ap (λ (x : Line). let s : Step = record { answer = answer; line = x; tape = after_moment t } in s) (sym is)
-    ∙ ap (λ (x : Tape). let s : Step = record { answer = answer; line = m; tape = x } in s) (sym left)))
+-- what came, as it was heard
+pub brings-by : (bytes heard : List ℕ) (now : ℕ) (w : Wait) (start : ℕ) (l k m : Line) (t u : Tape) (s : Step)
+    → now ≡ moment_of t → u ≡ after_moment t → k ≡ looked now l → m ≡ hears bytes k
+    → heard ≡ heard_in bytes k → brings_of heard w start m u ≡ s → brings bytes w start l t ≡ s
+brings-by bytes heard now w start l k m t u s at left looks hears heard-is is =
+    rw (heard-is, hears, looks, at, left) at is
+
+pub brings-some : (heard : List ℕ) (w : Wait) (start : ℕ) (m : Line) (u : Tape) → 0 < length heard
+    → brings_of heard w start m u ≡ record { answer = Some (Data heard); line = m; tape = u }
+brings-some [] w start m u some = absurd (omega (arith, some))
+brings-some (b ∷ heard) w start m u some = refl
+
+pub brings-none : (n : ℕ) (buf : List ℕ) (w : Wait) (start : ℕ) (m : Line) (u : Tape) (s : Step) → n ≤ 0
+    → unheard w start m u ≡ s → brings_of (take n buf) w start m u ≡ s
+brings-none zero buf w start m u s none is = is
+brings-none (suc n) buf w start m u s none is = absurd (omega (arith, none))

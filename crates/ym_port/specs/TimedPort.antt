@@ -17,7 +17,7 @@ use Rattle.ym_timing.specs.ByteRows.{heard_of, after_bytes}
 use Rattle.ym_timing.specs.Cancel.{cancels}
 use Rattle.ym_timing.specs.Clears as clears
 use Rattle.ym_timing.specs.Times.{new_clock, told, waited}
-use Rattle.ym_timing.specs.Timing.{new_timing, until, vain_of, after_byte, after_vain}
+use Rattle.ym_timing.specs.Timing.{new_timing, is_last, until, vain_of, after_byte, after_vain}
 use Rattle.ym_timing.specs.Writing.{wrote}
 use Rattle.ym_timing.specs.declared.clearing.Clearing.{Clearing}
 use Rattle.ym_timing.specs.declared.role.Role.{Role}
@@ -61,15 +61,16 @@ hears_byte byte l = record l { timing = after_byte byte l.written l.clock.at l.t
 abbrev pub hears : List ℕ → Line → Line
 hears bytes l = record l { timing = after_bytes bytes l.written l.clock.at l.timing }
 
--- nothing came until then, where the clock tells this
+-- a wait is over
 abbrev pub vain_at : Wait → Line → Vain
 vain_at w l = vain_of w l.timing
 
-abbrev pub expires : Wait → ℕ → ℕ → Line → Line
-expires w end now l = record l {
-  clock = waited end now l.clock;
-  timing = after_vain w (waited end now l.clock).at l.timing;
-}
+abbrev pub gives_up : Wait → Line → Line
+gives_up w l = record l { timing = after_vain w l.clock.at l.timing }
+
+-- nothing came until then, where the clock tells this
+abbrev pub passed : ℕ → ℕ → Line → Line
+passed end now l = record l { clock = waited end now l.clock }
 
 -- ---- A read
 
@@ -85,39 +86,52 @@ pub record Step : Type 0 where
   pub line : Line
   pub tape : Tape
 
-abbrev pub answers : List ℕ → Option Seen
-answers [] = None
-answers (b ∷ bytes) = Some (Data (b ∷ bytes))
-
 abbrev pub vain_answers : Vain → Option Seen
 vain_answers vain.Again = None
 vain_answers vain.Ack = Some (Data (0x06 ∷ []))
 vain_answers vain.Quiet = Some Silence
 
-abbrev pub brings : List ℕ → Line → Tape → Step
-brings bytes l t = record {
-  answer = answers (heard_in bytes (looked (moment_of t) l));
-  line = hears bytes (looked (moment_of t) l);
-  tape = after_moment t;
-}
+-- the wait is over
+abbrev pub ends : Wait → Line → Tape → Step
+ends w l t = record { answer = vain_answers (vain_at w l); line = gives_up w l; tape = t }
 
-abbrev pub ends : Wait → ℕ → Line → Tape → Step
-ends w end l t = record {
-  answer = vain_answers (vain_at w l);
-  line = expires w end (moment_of t) l;
-  tape = after_moment t;
-}
+-- nothing of what came is to be heard: it waits on, unless the wait that began then is over
+abbrev pub is_over : Wait → ℕ → Line → Bool
+is_over w start l = nat_le (until w start l.timing) l.clock.at
+
+abbrev pub unheard : Wait → ℕ → Line → Tape → Step
+unheard w start l t =
+    if is_over w start l then ends w l t else record { answer = None; line = l; tape = t }
+
+abbrev pub brings_of : List ℕ → Wait → ℕ → Line → Tape → Step
+brings_of [] w start l t = unheard w start l t
+brings_of (b ∷ heard) w start l t =
+    record { answer = Some (Data (b ∷ heard)); line = l; tape = t }
+
+abbrev pub brings : List ℕ → Wait → ℕ → Line → Tape → Step
+brings bytes w start l t =
+    brings_of (heard_in bytes (looked (moment_of t) l)) w start
+    (hears bytes (looked (moment_of t) l)) (after_moment t)
+
+-- it closed: an ACK that was held, with nothing behind it, is heard before that
+abbrev pub closed : Wait → Line → Line
+closed w l = if is_last l.timing then record (gives_up w l) { is_closed = true } else l
+
+abbrev pub closed_answers : Line → Seen
+closed_answers l = if is_last l.timing then Data (0x06 ∷ []) else End
 
 abbrev pub step_by : Seen → Wait → ℕ → Line → Tape → Step
-step_by (Data bytes) w end l t = brings bytes l t
-step_by Silence w end l t = ends w end l t
-step_by End w end l t = record { answer = Some End; line = l; tape = t }
-step_by Failed w end l t = record { answer = Some Failed; line = l; tape = t }
+step_by (Data bytes) w start l t = brings bytes w start l t
+step_by Silence w start l t =
+    ends w (passed (until w start l.timing) (moment_of t) l) (after_moment t)
+step_by End w start l t =
+    record { answer = Some (closed_answers l); line = closed w l; tape = t }
+step_by Failed w start l t = record { answer = Some Failed; line = l; tape = t }
 
 -- it waits as long as the rule says, of a wait that began then
 abbrev pub step : Wait → ℕ → ℕ → Line → Tape → Step
 step w start room l t =
-    step_by (read_gives room t.coming) w (until w start l.timing) l
+    step_by (read_gives room t.coming) w start l
     (after_read (until w start l.timing - l.clock.at) room t)
 
 -- what the whole answers, and how it leaves the line

@@ -3,12 +3,12 @@
 ghost use Rattle.std.specs.Prelude.{◌≡◌, ◌<◌, ◌≤◌, ◌*◌, ◌+◌, ◌-◌, ◌++◌, length, take, drop};
 ghost use Rattle.ym_timing.specs.ByteRows.{bytes_of, heard_of};
 ghost use Rattle.ym_timing.specs.Clears.{dropped};
-ghost use Rattle.ym_timing.specs.Timing.{said};
+ghost use Rattle.ym_timing.specs.Timing.{is_last, said};
 ghost use Rattle.ym_timing.specs.declared.role.Role.{Role};
 ghost use Rattle.ym_port.specs.declared.line.TheConstants.{PIECE};
 
 use crate::written::Written;
-use ym_timing::{Clearing, Clock, Role, Say, Timing, Vain, Wait, cancels};
+use ym_timing::{Clearing, Clock, Kind, Role, Say, Timing, Vain, Wait, cancels};
 
 /// The byte ACK.
 pub const ACK: u8 = 0x06;
@@ -160,14 +160,56 @@ impl Line {
         }
     }
 
-    /// Takes that a read waited until then, where the clock tells this, and nothing came.
-    pub fn expire(&mut self, wait: Wait, until: u64, now: u64) -> Vain
-        ensures line { self.new ≡ table.expires wait until now self.old }
+    /// Takes that a read waited until then, where the clock tells this.
+    #[inline]
+    pub fn pass(&mut self, until: u64, now: u64)
+        ensures { self.new ≡ table.passed until now self.old }
+    {
+        let _ = self.clock.waited(until, now);
+    }
+
+    /// Whether a wait that began then is over.
+    #[inline]
+    pub fn is_over(&self, wait: Wait, start: u64) -> bool
+        ensures { result ≡ table.is_over wait start self.now }
+    {
+        self.timing.until(wait, start) <= self.clock.at
+    }
+
+    /// Takes that a wait is over, in which nothing came that is to be heard.
+    #[inline]
+    pub fn give_up(&mut self, wait: Wait) -> Vain
+        ensures line { self.new ≡ table.gives_up wait self.old }
         ensures role { self.new.timing.role ≡ self.old.timing.role }
         ensures vain { result ≡ table.vain_at wait self.old }
     {
-        let at = self.clock.waited(until, now);
-        self.timing.expired(wait, at)
+        self.timing.expired(wait, self.clock.at)
+    }
+
+    /// Whether an ACK of the end block is held.
+    fn has_last(&self) -> bool
+        ensures { result ≡ is_last self.now.timing }
+    {
+        match self.timing.sent.kind {
+            Kind::End => self.timing.hold.is_held,
+            _ => false,
+        }
+    }
+
+    /// Takes that the line closed, and says whether an ACK that was held is heard before that: who
+    /// acknowledges the end block may leave at once.
+    #[cold]
+    pub fn close(&mut self, wait: Wait) -> bool
+        ensures line { self.new ≡ table.closed wait self.old }
+        ensures role { self.new.timing.role ≡ self.old.timing.role }
+        ensures last { result ≡ is_last self.old.timing }
+    {
+        if !self.has_last() {
+            return false;
+        }
+        let _ = self.give_up(wait);
+        self.is_closed = true;
+        true
     }
 
     /// Whether the line is clear, or will not get clearer.

@@ -6,7 +6,7 @@ ghost use Rattle.ym_link.specs.Port.{Tape as PortTape, Data, after_write};
 ghost use Rattle.ym_link.specs.Port.{seen_of, read_gives, read_leaves};
 ghost use Rattle.ym_link.specs.declared.sweep.TheConstants.{MOST_READS};
 ghost use Rattle.ym_port.specs.TimedPort as table;
-ghost use Rattle.ym_port.specs.Wire.{Tape};
+ghost use Rattle.ym_port.specs.Wire.{Tape, moment_of, after_moment};
 
 use crate::line::{ACK, CAN, CLEAR_PIECE, Line};
 use crate::wire::Wire;
@@ -70,14 +70,63 @@ fn let_clear<W: Wire>(wire: &mut W, line: &mut Line, start: Clearing) -> Result<
     Ok(clearing)
 }
 
-/// Takes what a read brought, and answers how much of it is to be heard.
+/// A wait, and when it began.
+#[derive(Clone, Copy)]
+struct Began {
+    wait: timing::Wait,
+    start: u64,
+}
+
+/// Takes that a wait is over.
+fn give_up(line: &mut Line, wait: timing::Wait, buf: &mut [u8]) -> Option<Got>
+    requires { 0 < length buf.old }
+    ensures count { (n : ℕ) → result ≡ Some (Got.Bytes n) → (0 < n) × (n ≤ length buf.old) }
+    ensures answer { table.answer_of (Ok result) buf.new
+        ≡ table.vain_answers (table.vain_at wait line.old) }
+    ensures line { line.new ≡ table.gives_up wait line.old }
+    ensures role { line.new.timing.role ≡ line.old.timing.role }
+{
+    match line.give_up(wait) {
+        Vain::Again => None,
+        Vain::Ack => {
+            buf[0] = ACK;
+            Some(Got::Bytes(1))
+        }
+        Vain::Quiet => Some(Got::Quiet),
+    }
+}
+
+/// Takes that nothing of what came is to be heard, in a wait that began then.
+#[cold]
+fn take_unheard(line: &mut Line, began: Began, buf: &mut [u8]) -> Option<Got>
+    requires { 0 < length buf.old }
+    ensures count { (n : ℕ) → result ≡ Some (Got.Bytes n) → (0 < n) × (n ≤ length buf.old) }
+    ensures exact { (t : Tape) → table.unheard began.wait began.start line.old t
+        ≡ record { answer = table.answer_of (Ok result) buf.new; line = line.new; tape = t } }
+    ensures role { line.new.timing.role ≡ line.old.timing.role }
+{
+    if line.is_over(began.wait, began.start) {
+        give_up(line, began.wait, buf)
+    } else {
+        None
+    }
+}
+
+/// Takes what a read brought, in a wait that began then, and answers how much of it is to be
+/// heard.
 #[inline(always)]
-fn take_bytes<W: Wire>(wire: &mut W, line: &mut Line, buf: &mut [u8], count: usize) -> Option<Got>
+fn take_bytes<W: Wire>(
+    wire: &mut W,
+    line: &mut Line,
+    began: Began,
+    buf: &mut [u8],
+    count: usize,
+) -> Option<Got>
     requires some { 0 < count }
     requires room { count ≤ table.room_for line.old.timing.role (length buf.old) }
     ensures count { (n : ℕ) → result ≡ Some (Got.Bytes n) → (0 < n) × (n ≤ length buf.old) }
     ensures exact { (u : Tape) → W.tells wire.new u → (t : Tape) × W.tells wire.old t
-        × (table.brings (take count buf.old) line.old t
+        × (table.brings (take count buf.old) began.wait began.start line.old t
         ≡ record { answer = table.answer_of (Ok result) buf.new; line = line.new; tape = u }) }
     ensures role { line.new.timing.role ≡ line.old.timing.role }
     ensures calm { W.failures wire.new ≡ W.failures wire.old }
@@ -85,11 +134,10 @@ fn take_bytes<W: Wire>(wire: &mut W, line: &mut Line, buf: &mut [u8], count: usi
     let now = wire.moment();
     line.look(now);
     let heard = line.hear(buf, count);
-    if heard == 0 {
-        None
-    } else {
-        Some(Got::Bytes(heard))
+    if 0 < heard {
+        return Some(Got::Bytes(heard));
     }
+    take_unheard(line, began, buf)
 }
 
 /// Takes that a read waited in vain until then.
@@ -104,19 +152,29 @@ fn take_quiet<W: Wire>(
     requires { 0 < length buf.old }
     ensures count { (n : ℕ) → result ≡ Some (Got.Bytes n) → (0 < n) × (n ≤ length buf.old) }
     ensures exact { (u : Tape) → W.tells wire.new u → (t : Tape) × W.tells wire.old t
-        × (table.ends wait until line.old t
+        × (table.ends wait (table.passed until (moment_of t) line.old) (after_moment t)
         ≡ record { answer = table.answer_of (Ok result) buf.new; line = line.new; tape = u }) }
     ensures role { line.new.timing.role ≡ line.old.timing.role }
     ensures calm { W.failures wire.new ≡ W.failures wire.old }
 {
-    let now = wire.moment();
-    match line.expire(wait, until, now) {
-        Vain::Again => None,
-        Vain::Ack => {
-            buf[0] = ACK;
-            Some(Got::Bytes(1))
-        }
-        Vain::Quiet => Some(Got::Quiet),
+    line.pass(until, wire.moment());
+    give_up(line, wait, buf)
+}
+
+/// Takes that the line closed.
+#[cold]
+fn take_closed(line: &mut Line, wait: timing::Wait, buf: &mut [u8]) -> Got
+    requires { 0 < length buf.old }
+    ensures count { (n : ℕ) → result ≡ Got.Bytes n → (0 < n) × (n ≤ length buf.old) }
+    ensures answer { seen_of (Ok result) buf.new ≡ table.closed_answers line.old }
+    ensures line { line.new ≡ table.closed wait line.old }
+    ensures role { line.new.timing.role ≡ line.old.timing.role }
+{
+    if line.close(wait) {
+        buf[0] = ACK;
+        Got::Bytes(1)
+    } else {
+        Got::Closed
     }
 }
 
@@ -143,9 +201,9 @@ fn read_once<W: Wire>(
     let millis = until.saturating_sub(line.clock.at);
     let room = line.room(buf.len());
     match wire.read(millis, &mut buf[..room]) {
-        Ok(Got::Bytes(n)) => Ok(take_bytes(wire, line, buf, n)),
+        Ok(Got::Bytes(n)) => Ok(take_bytes(wire, line, Began { wait, start }, buf, n)),
         Ok(Got::Quiet) => Ok(take_quiet(wire, line, wait, until, buf)),
-        Ok(Got::Closed) => Ok(Some(Got::Closed)),
+        Ok(Got::Closed) => Ok(Some(take_closed(line, wait, buf))),
         Err(fault) => Err(fault),
     }
 }

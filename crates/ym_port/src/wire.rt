@@ -22,8 +22,8 @@ pub trait Wire {
             × (result ≡ moment_of t) × (u ≡ after_moment t) }
         ensures calm { failures self.new ≡ failures self.old };
 
-    /// Reads what is there into the front of `buf`, or waits for it: so many milliseconds at most,
-    /// and where that is 0 not at all.
+    /// Reads what is there into the front of `buf`, or waits for it: so many milliseconds, and as
+    /// little more as the host can.
     fn read(&mut self, millis: u64, buf: &mut [u8]) -> Result<Got, PortFault>
         requires { 0 < length buf.old }
         ensures count { (n : ℕ) → result ≡ Ok (Got.Bytes n) → (0 < n) × (n ≤ length buf.old) }

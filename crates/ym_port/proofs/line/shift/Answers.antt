@@ -1,5 +1,5 @@
 -- Place by place.
-use Rattle.std.proofs.Common.{◌≡◌, ◌≢◌, ◌<◌, ◌≤◌, ◌+◌, ◌-◌, ◌∙◌, sym, length, drop, take, arith, rules}
+use Rattle.std.proofs.Common.{◌≡◌, ◌≢◌, ◌<◌, ◌+◌, ◌-◌, ◌∙◌, sym, length, arith, rules}
 use Rattle.std.proofs.lemmas.List.{drop-take, get_or-set_other}
 use Rattle.ym_port.proofs.Hearing.{shift-one}
 use Rattle.ym_port.proofs.line.shift.Goals as goal

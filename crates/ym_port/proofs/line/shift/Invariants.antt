@@ -1,5 +1,5 @@
 -- So many have moved; the others stand where they stood.
-use Rattle.std.proofs.Common.{◌≡◌, ℕ, ◌≤◌, ◌<◌, take, drop, length, get_or}
+use Rattle.std.proofs.Common.{◌≡◌, ℕ, ◌≤◌, take, drop, length, get_or}
 use Rattle.ym_port.proofs.line.shift.Given as goal
 
 abbrev pub invariant-loop-place : goal.invariant-loop-place

@@ -1,5 +1,5 @@
 -- Each way out of the loop is what the definition says there.
-use Rattle.std.proofs.Common.{◌≡◌, ◌+◌, ◌-◌, ◌∙◌, sym, ap, true, false, Ok, Err, arith, rules}
+use Rattle.std.proofs.Common.{◌≡◌, ◌+◌, ◌-◌, ◌∙◌, sym, true, false, arith, rules}
 use Rattle.ym_link.specs.declared.sweep.TheConstants.{MOST_READS}
 use Rattle.ym_port.specs.TimedPort.{is_clear}
 use Rattle.ym_port.proofs.Dropping.{cleared-ends, cleared-goes-on, cleared-over, cleared-out}

@@ -1,5 +1,5 @@
 -- What is left to read is what all of it comes to.
-use Rattle.std.proofs.Common.{◌≡◌, ◌<◌, ◌-◌, length}
+use Rattle.std.proofs.Common.{◌≡◌, ◌-◌, length}
 use Rattle.ym_link.specs.declared.sweep.TheConstants.{MOST_READS}
 use Rattle.ym_port.specs.TimedPort.{reads, room_for}
 use Rattle.ym_port.specs.Wire.{Tape}

@@ -1,5 +1,5 @@
 -- Byte by byte.
-use Rattle.std.proofs.Common.{◌≡◌, ◌<◌, length, arith, rules}
+use Rattle.std.proofs.Common.{◌<◌, length, arith}
 use Rattle.ym_port.proofs.Dropping.{drop-one}
 use Rattle.ym_port.proofs.line.Line.drop_all.Goals as goal
 

@@ -1,6 +1,6 @@
 -- What is left of the bytes makes of it what all of them do.
 use Rattle.std.proofs.Common.{◌≡◌, drop}
-use Rattle.ym_port.specs.TimedPort.{Dropped, dropped, dropped_of}
+use Rattle.ym_port.specs.TimedPort.{dropped, dropped_of}
 use Rattle.ym_port.proofs.line.Line.drop_all.Given as goal
 
 abbrev pub invariant-loop-byte : goal.invariant-loop-byte

@@ -1,5 +1,5 @@
 -- Byte by byte.
-use Rattle.std.proofs.Common.{◌≡◌, ◌<◌, length, take, arith, rules}
+use Rattle.std.proofs.Common.{◌<◌, length, take, arith, rules}
 use Rattle.ym_port.proofs.Hearing.{hear-one}
 use Rattle.ym_port.proofs.line.Line.reply.Goals as goal
 

@@ -1,5 +1,5 @@
 -- What passes goes on passing, whether the write was made or not.
-use Rattle.std.proofs.Common.{◌≡◌, refl}
+use Rattle.std.proofs.Common.{refl}
 use Rattle.ym_port.specs.Passing.{written_of}
 use Rattle.ym_port.proofs.Passing.{write-passes, tape_of}
 use Rattle.ym_port.proofs.timed_port.TimedPortPort.write.Goals as goal

@@ -1,0 +1,144 @@
+//! A TCP connection, as a line with a clock.
+
+ghost use Rattle.std.specs.Prelude.{◌≡◌, ◌<◌, ◌≤◌, ℕ, Ok, OnOk, OnErr, length};
+ghost use Rattle.ym_file.specs.Counts.{Rose};
+
+use crate::moments::{Drip, millis_of};
+use crate::socket_port::read_once;
+use std::io;
+use std::io::Write;
+use std::marker::Model;
+use std::net::TcpStream;
+use std::time::{Clock, Duration};
+use ym_link::{Got, PortFault};
+use ym_port::Wire;
+
+/// How many milliseconds a write may make no headway.
+const WRITE_MS: u64 = 10_000;
+
+/// A TCP connection with a clock. Nobody knows what it tells. Where bytes have been coming for
+/// 110 seconds with no pause as long as a wait, and nothing was written, it counts as quiet once: a
+/// peer that sends one byte after another holds nothing for longer. A write that makes no headway
+/// for ten seconds fails.
+#[derive(Drop)]
+pub struct SocketWire<R: Clock + Drop> {
+    clock: R,
+    stream: TcpStream,
+    /// The last moment that the clock told.
+    last: u64,
+    /// How long the stream's reads wait now, in milliseconds; 0 before the first read.
+    set_ms: u64,
+    /// Whether the stream's writes wait no longer than they may.
+    is_write_bounded: bool,
+    drip: Drip,
+    failed: u64,
+}
+
+impl<R: Clock + Drop> Model for SocketWire<R> {
+    ghost use Rattle.std.specs.Prelude.{ℕ};
+
+    ghost Value = { ℕ };
+
+    ghost view = { λ w. w.failed };
+}
+
+impl<R: Clock + Drop> SocketWire<R> {
+    /// A line over this connection.
+    pub fn new(clock: R, stream: TcpStream) -> SocketWire<R>
+        ensures { result ≡ 0 }
+    {
+        // Each block waits for its reply, so none may wait for more bytes; where this cannot be
+        // had, the line is slower.
+        let _ = stream.set_nodelay(true);
+        SocketWire {
+            clock,
+            stream,
+            last: 0,
+            set_ms: 0,
+            is_write_bounded: false,
+            drip: Drip::Nothing,
+            failed: 0,
+        }
+    }
+
+    /// Sets how long reads wait, where that changes: a millisecond at least, since none is no limit.
+    fn set_wait(&mut self, millis: u64) -> io::Result<()>
+        ensures { self.new ≡ self.old }
+    {
+        let wait = millis.max(1);
+        if self.set_ms != wait {
+            self.stream
+                .set_read_timeout(Some(Duration::from_millis(wait)))?;
+            self.set_ms = wait;
+        }
+        Ok(())
+    }
+
+    /// Sets how long writes wait, before the first one.
+    fn bound_writes(&mut self) -> io::Result<()>
+        ensures { self.new ≡ self.old }
+    {
+        if !self.is_write_bounded {
+            self.stream
+                .set_write_timeout(Some(Duration::from_millis(WRITE_MS)))?;
+            self.is_write_bounded = true;
+        }
+        Ok(())
+    }
+
+    /// Reads what is there, or waits, unless bytes have been coming for too long.
+    fn read_in_time(&mut self, millis: u64, buf: &mut [u8]) -> io::Result<Got>
+        requires { 0 < length buf.old }
+        ensures same { self.new ≡ self.old }
+        ensures count { (n : ℕ) → result ≡ Ok (Got.Bytes n) → (0 < n) × (n ≤ length buf.old) }
+    {
+        if self.drip.is_overdue(self.last) {
+            self.drip = Drip::Nothing;
+            return Ok(Got::Quiet);
+        }
+        self.set_wait(millis)?;
+        let got = read_once(&mut self.stream, buf)?;
+        self.drip = self.drip.after(self.last, got);
+        Ok(got)
+    }
+
+    /// Counts a failure.
+    fn fail(&mut self) -> PortFault
+        ensures { Rose self.old self.new }
+    {
+        self.failed = self.failed.saturating_add(1);
+        PortFault
+    }
+}
+
+impl<R: Clock + Drop> Wire for SocketWire<R> {
+    ghost tells = { λ _ _. ⊥ };
+
+    ghost failures = { λ w. w };
+
+    /// The last moment again, where the clock fails.
+    fn moment(&mut self) -> u64 {
+        if let Ok(time) = self.clock.monotonic() {
+            self.last = millis_of(time);
+        }
+        self.last
+    }
+
+    fn read(&mut self, millis: u64, buf: &mut [u8]) -> Result<Got, PortFault> {
+        match self.read_in_time(millis, buf) {
+            Ok(got) => Ok(got),
+            Err(_) => Err(self.fail()),
+        }
+    }
+
+    fn write(&mut self, bytes: &[u8]) -> Result<(), PortFault> {
+        self.drip = Drip::Nothing;
+        if self.bound_writes().is_err() {
+            return Err(self.fail());
+        }
+        match self.stream.write_all(bytes) {
+            Ok(()) => Ok(()),
+            Err(_) => Err(self.fail()),
+        }
+    }
+}
