@@ -1,4 +1,5 @@
 pub mod DirSink
+pub mod Drip
 pub mod OpenPart
 pub mod Part
 pub mod ReadAhead

@@ -1,6 +1,6 @@
 -- What reads that end by themselves say of a line: a read that waits ends after a tick where
 -- nothing came, and one that ends sooner with nothing did not wait.
-use Rattle.std.specs.Prelude.{◌≡◌, ℕ, ◌+◌, ◌==◌, ◌&&◌, ◌||◌, Bool, true, false, not}
+use Rattle.std.specs.Prelude.{◌≡◌, ℕ, ◌+◌, ◌==◌, ◌&&◌, ◌||◌, Bool, false, not}
 use Rattle.std.specs.Prelude.{nat_lt, nat_le, min, List, [], ◌∷◌, if◌then◌else◌, refl}
 use Rattle.ym_host.specs.declared.ticks.Tick.{Tick}
 use Rattle.ym_host.specs.declared.ticks.Tick.TheVariants.{Bytes, Quiet, HungUp, Endless}

@@ -3,15 +3,18 @@
 ghost use Rattle.std.specs.Prelude.{◌≡◌, ◌<◌, ◌≤◌, ℕ, Ok, OnOk, OnErr, length};
 ghost use Rattle.ym_file.specs.Counts.{Rose};
 
-use crate::moments::{Drip, millis_of};
-use crate::socket_port::read_once;
+use crate::drip::Drip;
+use crate::moments::millis_of;
 use std::io;
-use std::io::Write;
+use std::io::{ErrorKind, Read, Write};
 use std::marker::Model;
 use std::net::TcpStream;
 use std::time::{Clock, Duration};
 use ym_link::{Got, PortFault};
 use ym_port::Wire;
+
+/// How often a read that was interrupted is tried again.
+const TRIES: u32 = 1000;
 
 /// How many milliseconds a write may make no headway.
 const WRITE_MS: u64 = 10_000;
@@ -40,6 +43,27 @@ impl<R: Clock + Drop> Model for SocketWire<R> {
     ghost Value = { ℕ };
 
     ghost view = { λ w. w.failed };
+}
+
+/// Reads what is there into the front of `buf`, or waits as long as the stream is set to.
+fn read_once(stream: &mut TcpStream, buf: &mut [u8]) -> io::Result<Got>
+    requires { 0 < length buf.old }
+    ensures { (n : ℕ) → result ≡ Ok (Got.Bytes n) → (0 < n) × (n ≤ length buf.old) }
+{
+    for _ in 0..TRIES {
+        match stream.read(buf) {
+            Ok(0) => return Ok(Got::Closed),
+            Ok(n) => return Ok(Got::Bytes(n)),
+            Err(error) => match error.kind() {
+                ErrorKind::WouldBlock | ErrorKind::TimedOut => return Ok(Got::Quiet),
+                // A peer that ends with bytes unread resets the connection: it is closed too.
+                ErrorKind::ConnectionReset => return Ok(Got::Closed),
+                ErrorKind::Interrupted => {}
+                _ => return Err(error),
+            },
+        }
+    }
+    Err(io::Error::from(ErrorKind::Interrupted))
 }
 
 impl<R: Clock + Drop> SocketWire<R> {

@@ -3,7 +3,8 @@
 ghost use Rattle.std.specs.Prelude.{◌≡◌, ◌<◌, ◌≤◌, ◌+◌, ◌/◌, ℕ, Ok, OnOk, OnErr, length};
 ghost use Rattle.ym_file.specs.Counts.{Rose};
 
-use crate::moments::{Drip, millis_of};
+use crate::drip::Drip;
+use crate::moments::millis_of;
 use crate::ticks::{TICK_MS, Tick, Ticks};
 use std::io::{ErrorKind, Read, Write};
 use std::marker::Model;
@@ -36,7 +37,9 @@ pub enum TtyFault {
 /// A terminal that was set so that its reads end after a tick where nothing comes
 /// (`stty raw -echo min 0 time 1`): what reads it, what writes to it, and a clock. Nobody knows
 /// what it tells. Other readers and writers will do as well, such as pipes; a read of theirs that
-/// waits on waits as long as nothing comes.
+/// waits on waits as long as nothing comes. Where bytes have been coming for 110 seconds with no
+/// pause as long as a wait, and nothing was written, it counts as quiet once. A write waits as long
+/// as the other end holds it up.
 #[derive(Drop)]
 pub struct TtyWire<R: Clock + Drop, I: Read + Drop, O: Write + Drop> {
     clock: R,
@@ -96,7 +99,7 @@ impl<R: Clock + Drop, I: Read + Drop, O: Write + Drop> TtyWire<R, I, O> {
     }
 
     /// The moment, in milliseconds: the last one again, where the clock fails.
-    pub fn moment(&mut self) -> u64
+    fn look(&mut self) -> u64
         ensures { self.new ≡ self.old }
     {
         if let Ok(time) = self.clock.monotonic() {
@@ -148,12 +151,12 @@ impl<R: Clock + Drop, I: Read + Drop, O: Write + Drop> TtyWire<R, I, O> {
         ensures same { self.new ≡ self.old }
         ensures count { (n : ℕ) → result ≡ Ok (Got.Bytes n) → (0 < n) × (n ≤ length buf.old) }
     {
-        let start = self.moment();
+        let start = self.look();
         let count = match self.reader.read(buf) {
             Ok(count) => count,
             Err(error) => return self.refused(error),
         };
-        let millis = self.moment().saturating_sub(start);
+        let millis = self.look().saturating_sub(start);
         match self.ticks.take(count, millis) {
             Tick::Bytes => Ok(Got::Bytes(count)),
             Tick::Quiet => Ok(Got::Quiet),
@@ -164,17 +167,17 @@ impl<R: Clock + Drop, I: Read + Drop, O: Write + Drop> TtyWire<R, I, O> {
 
     /// Reads what is there into the front of `buf`, or waits for it: so many milliseconds at most,
     /// and then to the end of a tick.
-    pub fn read(&mut self, millis: u64, buf: &mut [u8]) -> Result<Got, PortFault>
+    fn read_ticks(&mut self, millis: u64, buf: &mut [u8]) -> Result<Got, PortFault>
         requires { 0 < length buf.old }
         ensures count { (n : ℕ) → result ≡ Ok (Got.Bytes n) → (0 < n) × (n ≤ length buf.old) }
         ensures ok { OnOk result (self.new ≡ self.old) }
         ensures failed { OnErr result (Rose self.old self.new) }
     {
-        let end = self.moment().saturating_add(millis);
+        let end = self.look().saturating_add(millis);
         for _ in 0..most_reads(millis) {
             match self.read_tick(buf) {
                 Ok(Got::Quiet) => {
-                    if self.moment() >= end {
+                    if self.look() >= end {
                         return Ok(Got::Quiet);
                     }
                 }
@@ -188,17 +191,6 @@ impl<R: Clock + Drop, I: Read + Drop, O: Write + Drop> TtyWire<R, I, O> {
         }
         Ok(Got::Quiet)
     }
-
-    /// Writes all the bytes, or fails.
-    pub fn write(&mut self, bytes: &[u8]) -> Result<(), PortFault>
-        ensures ok { OnOk result (self.new ≡ self.old) }
-        ensures failed { OnErr result (Rose self.old self.new) }
-    {
-        match self.writer.write_all(bytes) {
-            Ok(()) => Ok(()),
-            Err(error) => Err(self.fail(fault_of(error))),
-        }
-    }
 }
 
 impl<R: Clock + Drop, I: Read + Drop, O: Write + Drop> Wire for TtyWire<R, I, O> {
@@ -207,7 +199,7 @@ impl<R: Clock + Drop, I: Read + Drop, O: Write + Drop> Wire for TtyWire<R, I, O>
     ghost failures = { λ w. w };
 
     fn moment(&mut self) -> u64 {
-        TtyWire::moment(self)
+        self.look()
     }
 
     fn read(&mut self, millis: u64, buf: &mut [u8]) -> Result<Got, PortFault> {
@@ -215,13 +207,16 @@ impl<R: Clock + Drop, I: Read + Drop, O: Write + Drop> Wire for TtyWire<R, I, O>
             self.drip = Drip::Nothing;
             return Ok(Got::Quiet);
         }
-        let got = TtyWire::read(self, millis, buf)?;
+        let got = self.read_ticks(millis, buf)?;
         self.drip = self.drip.after(self.last, got);
         Ok(got)
     }
 
     fn write(&mut self, bytes: &[u8]) -> Result<(), PortFault> {
         self.drip = Drip::Nothing;
-        TtyWire::write(self, bytes)
+        match self.writer.write_all(bytes) {
+            Ok(()) => Ok(()),
+            Err(error) => Err(self.fail(fault_of(error))),
+        }
     }
 }

@@ -10,9 +10,10 @@ use std::net::{TcpListener, TcpStream};
 use std::test::Fail;
 use std::time::{Duration, Instant};
 use std::{io, thread};
-use ym_host::{SocketCarrier, SocketPort};
+use ym_host::{SocketCarrier, SocketWire};
 use ym_line::{Carrier, CarryFault, Way};
-use ym_link::{Got, Port, PortFault, Wait};
+use ym_link::{Got, PortFault};
+use ym_port::Wire;
 
 /// Both ends of a new connection.
 fn pair(rt: &HostRuntime) -> io::Result<(TcpStream, TcpStream)> {
@@ -22,35 +23,23 @@ fn pair(rt: &HostRuntime) -> io::Result<(TcpStream, TcpStream)> {
     Ok((near, far))
 }
 
-/// A new connection: its near end, and a port at the other one with these waits.
-fn port<'r>(
-    rt: &'r HostRuntime,
-    reply_ms: u32,
-    within_ms: u32,
-) -> Result<(TcpStream, SocketPort<&'r HostRuntime>), Fail>
-    requires reply { 0 < reply_ms }
-    requires within { 0 < within_ms }
-{
+/// A new connection: its near end, and the other one as a line.
+fn wire<'r>(rt: &'r HostRuntime) -> Result<(TcpStream, SocketWire<&'r HostRuntime>), Fail> {
     let (near, far) = pair(rt)?;
-    Ok((near, SocketPort::new(rt, far, reply_ms, within_ms)))
+    Ok((near, SocketWire::new(rt, far)))
 }
 
-/// What a read of a port gets.
-fn read(port: &mut SocketPort<&HostRuntime>, wait: Wait, buf: &mut [u8]) -> Result<Got, PortFault> {
+/// Whether a read of a line, which waits so many milliseconds, gets this.
+fn gets(wire: &mut SocketWire<&HostRuntime>, millis: u64, buf: &mut [u8], want: Got) -> bool {
     if buf.is_empty() {
-        return Err(PortFault);
+        return false;
     }
-    port.read(wait, buf)
+    wire.read(millis, buf) == Ok(want)
 }
 
-/// Whether a read of a port gets this.
-fn gets(port: &mut SocketPort<&HostRuntime>, wait: Wait, buf: &mut [u8], want: Got) -> bool {
-    read(port, wait, buf) == Ok(want)
-}
-
-/// Whether a port takes these bytes.
-fn takes(port: &mut SocketPort<&HostRuntime>, bytes: &[u8]) -> bool {
-    port.write(bytes).is_ok()
+/// Whether a line takes these bytes.
+fn takes(wire: &mut SocketWire<&HostRuntime>, bytes: &[u8]) -> bool {
+    wire.write(bytes).is_ok()
 }
 
 /// Writes bytes to one end of a connection.
@@ -58,112 +47,55 @@ fn write(stream: &mut TcpStream, bytes: &[u8]) -> io::Result<()> {
     stream.write_all(bytes)
 }
 
-/// Whether a read of a port finds the line quiet, after so many milliseconds at least and fewer than so many.
-fn is_quiet(
-    rt: &HostRuntime,
-    port: &mut SocketPort<&HostRuntime>,
-    wait: Wait,
-    least: u128,
-    most: u128,
-) -> bool {
+/// Whether a read of so many milliseconds finds the line quiet, and not before nor much later.
+fn is_quiet(rt: &HostRuntime, wire: &mut SocketWire<&HostRuntime>, millis: u64) -> bool {
     let mut buf = [0; 8];
     let Ok(start) = Instant::now(rt) else {
         return false;
     };
-    let is_quiet = gets(port, wait, &mut buf, Got::Quiet);
+    let is_quiet = gets(wire, millis, &mut buf, Got::Quiet);
+    let least = u128::from(millis.saturating_sub(10));
     match start.elapsed(rt) {
-        Ok(took) => is_quiet && took.as_millis() >= least && took.as_millis() < most,
+        Ok(took) => is_quiet && took.as_millis() >= least && took.as_millis() < 60_000,
         Err(_) => false,
     }
 }
 
 #[test]
-fn a_port_reads_what_is_there(rt: HostRuntime) -> Result<(), Fail> {
-    let (mut near, mut port) = port(&rt, 3000, 100)?;
+fn a_line_reads_what_is_there(rt: HostRuntime) -> Result<(), Fail> {
+    let (mut near, mut wire) = wire(&rt)?;
     let mut buf = [0; 8];
     write(&mut near, b"abcdefghij")?;
     let there = [
-        gets(&mut port, Wait::Reply, &mut buf, Got::Bytes(8)),
+        gets(&mut wire, 3000, &mut buf, Got::Bytes(8)),
         same(&buf, b"abcdefgh"),
-        gets(&mut port, Wait::Within, &mut buf, Got::Bytes(2)),
+        gets(&mut wire, 100, &mut buf, Got::Bytes(2)),
         buf.starts_with(b"ij"),
-        is_quiet(&rt, &mut port, Wait::Within, 90, 2990),
-        is_quiet(&rt, &mut port, Wait::Reply, 2990, 60_000),
+        is_quiet(&rt, &mut wire, 100),
+        is_quiet(&rt, &mut wire, 3000),
+        // what is there is read without a wait
+        gets(&mut wire, 0, &mut buf, Got::Quiet),
     ];
     drop(near);
     let closed = [
-        gets(&mut port, Wait::Within, &mut buf, Got::Closed),
-        gets(&mut port, Wait::Reply, &mut buf, Got::Closed),
+        gets(&mut wire, 100, &mut buf, Got::Closed),
+        gets(&mut wire, 3000, &mut buf, Got::Closed),
     ];
     assert!(rt;
-        same(&(there, closed), &([true; 6], [true; 2])),
+        same(&(there, closed), &([true; 7], [true; 2])),
         "{there:?} {closed:?}"
     );
     Ok(())
 }
 
-/// What the first read of a delivery gets, once it is not quiet.
-fn first_read(port: &mut SocketPort<&HostRuntime>) -> Result<Got, PortFault> {
-    let mut last = Ok(Got::Quiet);
-    for _ in 0..100 {
-        if last != Ok(Got::Quiet) {
-            break;
-        }
-        last = read(port, Wait::Reply, &mut [0; 1]);
-    }
-    last
-}
-
-/// What the first read within a delivery gets that does not get a byte, with a pause before each.
-fn last_read(rt: &HostRuntime, port: &mut SocketPort<&HostRuntime>) -> Result<Got, PortFault> {
-    let mut last = Ok(Got::Bytes(1));
-    for _ in 0..900 {
-        if last != Ok(Got::Bytes(1)) {
-            break;
-        }
-        thread::sleep(rt, Duration::from_millis(20));
-        last = read(port, Wait::Within, &mut [0; 1]);
-    }
-    last
-}
-
-/// Whether a port that is asked again and again gets a byte each time.
-fn gets_bytes(rt: &HostRuntime, port: &mut SocketPort<&HostRuntime>, wait: Wait) -> bool {
-    for _ in 0..30 {
-        thread::sleep(rt, Duration::from_millis(100));
-        if !gets(port, wait, &mut [0; 1], Got::Bytes(1)) {
-            return false;
-        }
-    }
-    true
-}
-
-/// A delivery ends ten times both waits after it has begun, though more has come: every byte is there before the first is read, so that
-/// no byte is late.
+/// The clock of a line goes on with the host's.
 #[test]
-fn a_port_hears_no_delivery_for_ever(rt: HostRuntime) -> Result<(), Fail> {
-    let (mut near, mut port) = port(&rt, 150, 50)?;
-    write(&mut near, [b'x'; 1000].as_slice())?;
-    let mut buf = [0; 1];
-    let start = Instant::now(&rt)?;
-    let delivery = [
-        same(&first_read(&mut port), &Ok(Got::Bytes(1))),
-        same(&last_read(&rt, &mut port), &Ok(Got::Quiet)),
-    ];
-    let took = start.elapsed(&rt)?.as_millis();
-    let next = [
-        // quiet until something is written
-        gets(&mut port, Wait::Within, &mut buf, Got::Quiet),
-        // a write, and a wait for a reply, begin a new delivery
-        takes(&mut port, b"y"),
-        gets(&mut port, Wait::Within, &mut buf, Got::Bytes(1)),
-        gets_bytes(&rt, &mut port, Wait::Reply),
-    ];
-    assert!(rt; took >= 2000);
-    assert!(rt;
-        same(&(delivery, next), &([true; 2], [true; 4])),
-        "{delivery:?} {next:?}"
-    );
+fn a_line_tells_the_moment(rt: HostRuntime) -> Result<(), Fail> {
+    let (_near, mut wire) = wire(&rt)?;
+    let before = wire.moment();
+    thread::sleep(&rt, Duration::from_millis(50));
+    let after = wire.moment();
+    assert!(rt; after >= before.saturating_add(50) && after < before.saturating_add(60_000));
     Ok(())
 }
 
@@ -174,18 +106,18 @@ fn comes(stream: &mut TcpStream, want: &[u8; 5]) -> bool {
 }
 
 #[test]
-fn a_port_writes(rt: HostRuntime) -> Result<(), Fail> {
-    let (mut near, mut port) = port(&rt, 3000, 100)?;
+fn a_line_writes(rt: HostRuntime) -> Result<(), Fail> {
+    let (mut near, mut wire) = wire(&rt)?;
     let written = [
-        takes(&mut port, b"abc"),
-        takes(&mut port, b""),
-        takes(&mut port, b"de"),
+        takes(&mut wire, b"abc"),
+        takes(&mut wire, b""),
+        takes(&mut wire, b"de"),
         comes(&mut near, b"abcde"),
         // a peer that ends with bytes unread is closed as well
-        takes(&mut port, b"unread"),
+        takes(&mut wire, b"unread"),
     ];
     drop(near);
-    let is_closed = gets(&mut port, Wait::Reply, &mut [0; 5], Got::Closed);
+    let is_closed = gets(&mut wire, 3000, &mut [0; 5], Got::Closed);
     assert!(rt;
         is_closed && same(&written, &[true; 5]),
         "{written:?} {is_closed}"
@@ -196,10 +128,10 @@ fn a_port_writes(rt: HostRuntime) -> Result<(), Fail> {
 /// A write to a peer that never reads makes no headway in the end.
 #[test]
 fn a_write_without_headway_fails(rt: HostRuntime) -> Result<(), Fail> {
-    let (_near, mut port) = port(&rt, 100, 50)?;
+    let (_near, mut wire) = wire(&rt)?;
     let bytes = [0; 65536];
     for _ in 0..1000 {
-        if !takes(&mut port, &bytes) {
+        if !takes(&mut wire, &bytes) {
             return Ok(());
         }
     }

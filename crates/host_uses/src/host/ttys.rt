@@ -5,8 +5,9 @@ use std::io;
 use std::io::{Cursor, ErrorKind, Read};
 use std::test::Fail;
 use std::time::{Clock, Duration};
-use ym_host::{TtyFault, TtyPort, TtyWire};
-use ym_link::{Got, Port, PortFault, Wait};
+use ym_host::{TtyFault, TtyWire};
+use ym_link::{Got, PortFault};
+use ym_port::Wire;
 
 /// What a read of the list comes to, after so many milliseconds.
 #[derive(Clone, Copy)]
@@ -143,30 +144,29 @@ fn a_clock_that_stands_still(rt: HostRuntime) -> Result<(), Fail> {
     Ok(())
 }
 
-/// How many reads within a delivery get a byte before one finds the line quiet.
-fn dripped(port: &mut TtyPort<Hand<'_>, Listed<'_>, Cursor<[u8; 64]>>, buf: &mut [u8; 8]) -> u32 {
+/// How many reads get a byte before one finds the line quiet.
+fn dripped(wire: &mut TtyWire<Hand<'_>, Listed<'_>, Cursor<[u8; 64]>>, buf: &mut [u8; 8]) -> u32 {
     for count in 0..1000 {
-        if port.read(Wait::Within, buf) != Ok(Got::Bytes(1)) {
+        if wire.read(1000, buf) != Ok(Got::Bytes(1)) {
             return count;
         }
     }
     1000
 }
 
-/// Bytes that come one after another, with no pause as long as a wait, are heard for ten times as
-/// long as both waits take.
+/// Bytes that come one after another, with no pause as long as a wait, are heard for 110 seconds at
+/// a time, or from a write on.
 #[test]
 fn bytes_that_drip(rt: HostRuntime) -> Result<(), Fail> {
     let moment = Cell::new(0);
     let reads = [Comes::Nothing(100), Comes::Byte(900)];
-    let mut port = TtyPort::new(wire(&reads, &moment), 2000, 1000);
+    let mut wire = wire(&reads, &moment);
     let mut buf = [0; 8];
-    assert_eq!(rt; port.read(Wait::Reply, &mut buf), Ok(Got::Bytes(1)));
-    let first = dripped(&mut port, &mut buf);
-    let next = dripped(&mut port, &mut buf);
-    assert_eq!(rt; (first, next), (33, 0));
-    assert_eq!(rt; port.read(Wait::Reply, &mut buf), Ok(Got::Bytes(1)));
-    assert!(rt; port.write(b"bytes").is_ok());
-    assert_eq!(rt; word(port.wire().fault()), "none");
+    let first = dripped(&mut wire, &mut buf);
+    assert_eq!(rt; wire.read(1000, &mut buf), Ok(Got::Bytes(1)));
+    assert!(rt; wire.write(b"bytes").is_ok());
+    let next = dripped(&mut wire, &mut buf);
+    assert_eq!(rt; (first, next), (124, 124));
+    assert_eq!(rt; word(wire.fault()), "none");
     Ok(())
 }

@@ -6,10 +6,11 @@ use std::net::{TcpListener, TcpStream};
 use std::test::Fail;
 use ym_frame::{Item, encode};
 use ym_header::write_end;
-use ym_host::{SocketCarrier, SocketPort};
+use ym_host::{SocketCarrier, SocketWire};
 use ym_line::LineFault;
 use ym_link::{Receiver, RecvState, receive_over};
 use ym_play::{PlayFault, play_script};
+use ym_port::{Role, TimedPort};
 
 /// Both ends of a new connection.
 fn pair(rt: &HostRuntime) -> io::Result<(TcpStream, TcpStream)> {
@@ -24,7 +25,7 @@ fn a_receiver_over_a_socket(rt: HostRuntime) -> Result<(), Fail> {
     let (mut near, far) = pair(&rt)?;
     let end = encode(&Item::Block(write_end()));
     near.write_all(end.as_bytes())?;
-    let mut port = SocketPort::new(&rt, far, 3000, 1000);
+    let mut port = TimedPort::new(SocketWire::new(&rt, far), Role::Receiver);
     let mut receiver = Receiver::new(rt.alloc());
     assert_eq!(rt; receive_over(&mut port, &mut receiver), Ok(()));
     assert_eq!(rt; receiver.state(), RecvState::Finished);

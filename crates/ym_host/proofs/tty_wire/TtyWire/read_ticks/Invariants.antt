@@ -1,6 +1,6 @@
 -- No read so far has failed.
 use Rattle.std.proofs.Common.{◌≡◌}
-use Rattle.ym_host.proofs.tty_wire.TtyWire.read.Given as goal
+use Rattle.ym_host.proofs.tty_wire.TtyWire.read_ticks.Given as goal
 
 abbrev pub invariant-loop : goal.invariant-loop
 invariant-loop g l = l.self ≡ l.fn.self
