@@ -44,9 +44,10 @@ layout:
 test: layout
 	@tools/gate.py
 
-# The program that plays cases to both ends, and recorded reads for tests/transfer.py.
+# The programs that play cases to both ends, and recorded lines for tests/transfer.py.
 cases:
 	cd crates/line_cases && rt run < stdin
+	cd crates/port_cases && rt run < stdin
 
 memory:
 	tests/memory.py

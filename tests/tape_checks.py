@@ -1,10 +1,10 @@
-"""What real ends of a line read, played again to the proved engines over ports that tell their events.
+"""What real ends of a line read, played again to the proved engines over the program's port.
 
 Each end runs under strace, which records what every read of the line brought, every wait that
-ended in quiet, and every write. The program `line_cases` plays the reads to the same engine over a
-scripted port, for which the engines' promises are exact: what it writes, how it ends, how many
-files are done, and which are committed, is what the definitions say of that tape. The process has
-to have written, reported and stored the same.
+ended in quiet, and every write, with the moment at which each was over. The program `port_cases`
+plays that to the same engine over the same port, on a line that does once more what it did. There
+the engine ends as its contract says: how, in which state, with how many files, and what it wrote.
+The process has to have written, reported and stored the same.
 """
 
 import ast
@@ -21,7 +21,7 @@ from tracing import calls_of, strace
 from transfer_checks import few_files
 from transfers import carried
 
-CASES = os.path.abspath(os.environ.get("CASES", os.path.join(ROOT, "crates", "line_cases", "out", "line_cases")))
+CASES = os.path.abspath(os.environ.get("CASES", os.path.join(ROOT, "crates", "port_cases", "out", "port_cases")))
 CALLS = "connect,accept,accept4,recvfrom,sendto,read,write,dup,fcntl"
 DATA = re.compile(r'(\d+), ("(?:\\x[0-9a-f]{2})*")')
 
@@ -30,8 +30,8 @@ WORDS = {"NoReply": "no-reply", "SourceFailed": "source-failed", "TooManyErrors"
 
 
 def tool(log):
-    """Strace, such that each call is seen with all its bytes."""
-    return strace(log, "-xx", "-s", "1000000", "-e", "trace=" + CALLS)
+    """Strace, such that each call is seen with all its bytes and its moments."""
+    return strace(log, "-ttt", "-T", "-xx", "-s", "1000000", "-e", "trace=" + CALLS)
 
 
 def line_of(calls):
@@ -49,49 +49,59 @@ def bytes_in(call, count):
     return ast.literal_eval("b" + DATA.match(call.arguments)[2])[:count]
 
 
+def deed_of(call):
+    """What a call of the line did, as `port_cases` takes it; nothing where it is to be left out."""
+    if call.name in ("sendto", "write"):
+        return "wrote" if call.answer.isdigit() else None
+    if call.answer == "0":
+        return "closed"
+    if call.answer.isdigit():
+        return bytes_in(call, int(call.answer)).hex()
+    if "EAGAIN" in call.rest:
+        return "quiet"
+    if "EINTR" in call.rest:
+        return None
+    raise AssertionError("a read failed: %r" % call.rest)
+
+
 def tape(log):
-    """What each read brought, a word each as `line_cases` takes it, and all the bytes written."""
+    """What the line did, a word each with the millisecond in which it was over, and all the bytes written."""
     calls = calls_of(log)
     line = line_of(calls)
-    reads, written = [], b""
+    deeds, written, first = [], b"", None
     for call in calls:
-        if not call.arguments.startswith(line + ","):
+        if call.name not in ("recvfrom", "read", "sendto", "write") or not call.arguments.startswith(line + ","):
             continue
-        if call.name in ("recvfrom", "read"):
-            if call.answer == "0":
-                reads.append("closed")
-            elif call.answer.isdigit():
-                reads.append(bytes_in(call, int(call.answer)).hex())
-            elif "EAGAIN" in call.rest:
-                reads.append("quiet")
-            elif "EINTR" not in call.rest:
-                raise AssertionError("a read failed: %r" % call.rest)
-        elif call.name in ("sendto", "write") and call.answer.isdigit():
+        deed = deed_of(call)
+        if deed:
+            first = call.over if first is None else first
+            deeds.append("%d:%s" % (1000 + 1000 * (call.over - first), deed))
+        if deed == "wrote":
             written += bytes_in(call, int(call.answer))
-    return reads, written
+    return deeds, written
 
 
-def played(role, files, reads):
-    """How the engine ends that reads this: how it returned, its state in the words of a report, its count, the files that it committed, and what it
+def played(role, files, deeds):
+    """How the engine ends whose line did this: how it returned, its state in the words of a report, its count, the files that it committed, and what it
     wrote."""
     head = " ".join([role, *("%s=%s" % (name, data.hex() or "-") for name, data in files)])
-    given = "%s | %s\n" % (head, " ".join(reads))
+    given = "%s | %s\n" % (head, " ".join(deeds))
     told = subprocess.run([CASES], input=given, capture_output=True, text=True, timeout=LIMIT)
     if told.returncode:
-        raise AssertionError("line_cases: " + told.stderr)
+        raise AssertionError("port_cases: " + told.stderr)
     said, *committed = told.stdout.removeprefix(given).splitlines()
-    found = re.fullmatch(r"  \S+ (\S+), (\d+) (?:done|kept), 0 faults, wrote ([0-9a-f]*)", said)
+    found = re.fullmatch(r"  \S+ (\S+), (\d+) (?:done|kept), 0 faults, 0 left, wrote ([0-9a-f]*)", said)
     if not found:
-        raise AssertionError("line_cases: %r" % said[:200])
+        raise AssertionError("port_cases: %r" % said[:200])
     state, count, wrote = found.groups()
     kept = [(name, bytes.fromhex(data)) for _, name, data in (line[2:].split(" ") for line in committed)]
     return WORDS.get(state, state.lower()), int(count), kept, bytes.fromhex(wrote)
 
 
 def wants_replayed(log, role, ended, files=(), kept=None):
-    """Fails where an end wrote, reported or stored anything but what its engine makes of what it read."""
-    reads, written = tape(log)
-    state, count, committed, wrote = played(role, files, reads)
+    """Fails where an end wrote, reported or stored anything but what its engine makes of what its line did."""
+    deeds, written = tape(log)
+    state, count, committed, wrote = played(role, files, deeds)
     if wrote != written:
         at = next((at for at, both in enumerate(zip(wrote, written)) if both[0] != both[1]), min(len(wrote), len(written)))
         raise AssertionError("%s wrote %d bytes, its engine %d; they part at byte %d" % (role, len(written), len(wrote), at))
@@ -103,7 +113,7 @@ def wants_replayed(log, role, ended, files=(), kept=None):
 
 
 def roles(flags):
-    return "send clear" + " short" * ("--short" in flags), "receive clear" + " once" * ("--single" in flags)
+    return "send" + " short" * ("--short" in flags), "receive" + " once" * ("--single" in flags)
 
 
 def between_both(files, relay_to, flags):
@@ -123,7 +133,7 @@ def between_both(files, relay_to, flags):
 
 def wants_program():
     if not os.access(CASES, os.X_OK):
-        raise Skipped("crates/line_cases is not built (make cases)")
+        raise Skipped("crates/port_cases is not built (make cases)")
 
 
 def from_sb(files, flags):

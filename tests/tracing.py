@@ -6,15 +6,19 @@ import shutil
 
 from program import Skipped
 
-CALL = re.compile(r"(\d+) +(\w+)\((.*)\) += (-?\d+|\?)(.*)")
+CALL = re.compile(r"(\d+) +(?:(\d+\.\d+) +)?(\w+)\((.*)\) += (-?\d+|\?)(.*)")
+TOOK = re.compile(r" <(\d+\.\d+)>$")
 
 
 class Call:
-    """One call: its name, its arguments as strace prints them, what it answered, what stands behind that, and whether it was made up."""
+    """One call: its name, its arguments as strace prints them, what it answered, what stands behind that, whether it was made up, and the second in
+    which it was over, where strace tells moments (-ttt -T)."""
 
-    def __init__(self, name, arguments, answer, rest):
+    def __init__(self, began, name, arguments, answer, rest):
         self.name, self.arguments, self.answer, self.rest = name, arguments, answer, rest
         self.is_injected = "(INJECTED)" in rest
+        took = TOOK.search(rest)
+        self.over = float(began) + float(took[1]) if began and took else None
 
     def __repr__(self):
         return "%s(%s)" % (self.name, self.arguments[:200])
@@ -36,7 +40,7 @@ def calls_of(log):
     """The calls in a log, in order. Each one has ended before the next one begins, since the program has one thread."""
     with open(log, encoding="ascii", errors="replace") as lines:
         found = [CALL.fullmatch(line.rstrip("\n")) for line in lines]
-    return [Call(it[2], it[3], it[4], it[5]) for it in found if it]
+    return [Call(*it.groups()[1:]) for it in found if it]
 
 
 def numbered(calls):

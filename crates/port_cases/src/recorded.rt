@@ -1,0 +1,181 @@
+//! A line that does once more what it did.
+//!
+//! What it did stands in order, apart by spaces, each with the moment in milliseconds at which it
+//! was over: `MS:quiet` and `MS:closed`, reads that brought nothing, `MS:BYTES`, what one read
+//! brought, and `MS:wrote`, a write.
+
+ghost use Rattle.std.specs.Prelude.{◌≡◌, ◌<◌, ◌≤◌, ℕ, Ok, Some, OnOk, OnErr, length};
+ghost use Rattle.ym_file.specs.Counts.{Rose};
+
+use crate::Unread;
+use std::alloc::Global;
+use std::marker::Model;
+use ym_link::{Got, PortFault};
+use ym_port::Wire;
+
+/// What a call of a line came to.
+#[derive(Drop)]
+enum Did {
+    /// A read brought nothing.
+    Quiet,
+    /// The line was closed.
+    Closed,
+    /// A read brought these bytes.
+    Brought(Vec<u8>),
+    /// It was written to.
+    Wrote,
+}
+
+/// What a line did, and when that was over.
+#[derive(Drop)]
+struct Deed {
+    at: u64,
+    did: Did,
+}
+
+/// A line that does once more what it did, and keeps what is written. Its clock tells when what it
+/// did last was over. A call that is not the next one of the record fails.
+#[derive(Drop)]
+pub struct Recorded {
+    deeds: Vec<Deed>,
+    done: usize,
+    now: u64,
+    written: Vec<u8>,
+    failed: u64,
+}
+
+impl Model for Recorded {
+    ghost use Rattle.std.specs.Prelude.{ℕ};
+
+    ghost Value = { ℕ };
+
+    ghost view = { λ r. r.failed };
+}
+
+/// Bytes that digits spell.
+pub fn bytes_of(alloc: Global, digits: &str) -> Result<Vec<u8>, Unread> {
+    match digits {
+        "-" => Ok(Vec::new(alloc)),
+        _ => hex::decode(alloc, digits).ok().ok_or(Unread),
+    }
+}
+
+/// What a word of the record says.
+fn deed_of(alloc: Global, word: &str) -> Result<Deed, Unread> {
+    let (at, what) = word.split_once(':').ok_or(Unread)?;
+    let at = at.parse::<u64>().ok().ok_or(Unread)?;
+    let did = match what {
+        "quiet" => Did::Quiet,
+        "closed" => Did::Closed,
+        "wrote" => Did::Wrote,
+        _ => Did::Brought(bytes_of(alloc, what)?),
+    };
+    Ok(Deed { at, did })
+}
+
+impl Recorded {
+    /// The line that did this.
+    pub fn new(alloc: Global, did: &str) -> Result<Recorded, Unread> {
+        let mut deeds = Vec::new(alloc);
+        for word in did.split_whitespace() {
+            deeds.push(deed_of(alloc, word)?)?;
+        }
+        Ok(Recorded {
+            deeds,
+            done: 0,
+            now: 0,
+            written: Vec::new(alloc),
+            failed: 0,
+        })
+    }
+
+    /// What was written to it.
+    pub fn written(&self) -> &[u8] {
+        self.written.as_slice()
+    }
+
+    /// How many of its calls failed.
+    pub fn failed(&self) -> u64 {
+        self.failed
+    }
+
+    /// How much of the record is left.
+    pub fn left(&self) -> usize {
+        self.deeds.len().saturating_sub(self.done)
+    }
+
+    /// What the next read brings; nothing where the next call was none.
+    fn take(&mut self, buf: &mut [u8]) -> Option<Got>
+        requires { 0 < length buf.old }
+        ensures same { self.new ≡ self.old }
+        ensures count { (n : ℕ) → result ≡ Some (Got.Bytes n) → (0 < n) × (n ≤ length buf.old) }
+    {
+        let deed = self.deeds.get(self.done)?;
+        let got = match &deed.did {
+            Did::Wrote => return None,
+            Did::Quiet => Got::Quiet,
+            Did::Closed => Got::Closed,
+            Did::Brought(bytes) => {
+                let count = bytes.len();
+                if count == 0 || count > buf.len() {
+                    return None;
+                }
+                buf[..count].copy_from_slice(bytes.as_slice());
+                Got::Bytes(count)
+            }
+        };
+        self.now = deed.at;
+        self.done = self.done.saturating_add(1);
+        Some(got)
+    }
+
+    /// Keeps what is written, and says whether the next call was a write.
+    fn keep(&mut self, bytes: &[u8]) -> bool
+        ensures { self.new ≡ self.old }
+    {
+        match self.deeds.get(self.done) {
+            Some(
+                Deed {
+                    at,
+                    did: Did::Wrote,
+                },
+            ) => self.now = *at,
+            _ => return false,
+        }
+        self.done = self.done.saturating_add(1);
+        self.written.extend_from_slice(bytes).is_ok()
+    }
+
+    /// Counts a failure.
+    fn fail(&mut self) -> PortFault
+        ensures { Rose self.old self.new }
+    {
+        self.failed = self.failed.saturating_add(1);
+        PortFault
+    }
+}
+
+impl Wire for Recorded {
+    ghost tells = { λ _ _. ⊥ };
+
+    ghost failures = { λ r. r };
+
+    fn moment(&mut self) -> u64 {
+        self.now
+    }
+
+    fn read(&mut self, _millis: u64, buf: &mut [u8]) -> Result<Got, PortFault> {
+        match self.take(buf) {
+            Some(got) => Ok(got),
+            None => Err(self.fail()),
+        }
+    }
+
+    fn write(&mut self, bytes: &[u8]) -> Result<(), PortFault> {
+        if self.keep(bytes) {
+            Ok(())
+        } else {
+            Err(self.fail())
+        }
+    }
+}
