@@ -166,7 +166,7 @@ name=$(basename "$0" .py)
 echo "$name $YMODEM" >> "$CALLED/called"
 ! grep -qx "$name" "$CALLED/fails" 2> /dev/null
 """
-TESTS = ["transfer", "shipped", "library", "bare", "uboot", "web", "counts"]
+TESTS = ["transfer", "lines", "shipped", "library", "bare", "uboot", "web", "counts"]
 # The page is made of one of the archives once more.
 TARGETS = ["x86_64-unknown-linux-gnu", "aarch64-unknown-linux-gnu", "wasm64-unknown-unknown", "wasm64-unknown-unknown"]
 

@@ -35,12 +35,12 @@ def tool(log):
 
 
 def line_of(calls):
-    """The descriptor of the line: what the end connected, or what came to it."""
-    for call in calls:
+    """The descriptor of the line, what the end connected or what came to it, and the calls behind that."""
+    for at, call in enumerate(calls):
         if call.name.startswith("accept") and call.answer.isdigit():
-            return call.answer
+            return call.answer, calls[at + 1:]
         if call.name == "connect" and (call.answer == "0" or "EINPROGRESS" in call.rest):
-            return call.arguments.split(",")[0]
+            return call.arguments.split(",")[0], calls[at + 1:]
     raise AssertionError("the end had no line")
 
 
@@ -66,8 +66,7 @@ def deed_of(call):
 
 def tape(log):
     """What the line did, a word each with the millisecond in which it was over, and all the bytes written."""
-    calls = calls_of(log)
-    line = line_of(calls)
+    line, calls = line_of(calls_of(log))
     deeds, written, first = [], b"", None
     for call in calls:
         if call.name not in ("recvfrom", "read", "sendto", "write") or not call.arguments.startswith(line + ","):
@@ -105,7 +104,7 @@ def wants_replayed(log, role, ended, files=(), kept=None):
     if wrote != written:
         at = next((at for at, both in enumerate(zip(wrote, written)) if both[0] != both[1]), min(len(wrote), len(written)))
         raise AssertionError("%s wrote %d bytes, its engine %d; they part at byte %d" % (role, len(written), len(wrote), at))
-    line = ("sender done %d %s" if role.startswith("send ") else "receiver files %d %s") % (count, state)
+    line = ("sender done %d %s" if role.startswith("send") else "receiver files %d %s") % (count, state)
     if ended.out.splitlines()[-1:] != [line]:
         raise AssertionError("the end told %r, its engine %r" % (ended.out[-80:], line))
     if kept is not None:

@@ -34,7 +34,7 @@ LOG = os.path.join(OUT, "gate.log")
 # Copies, since the gate is at work in the crates' own folders, by the variables that name them to the tests.
 TRIED = {"YMODEM": "ymodem", "CASES": "port_cases"}
 # The tests that need the library or the page come last: these are made meanwhile.
-TESTS = ("transfer", "shipped")
+TESTS = ("transfer", "lines", "shipped")
 # The last one tells what was skipped in the others.
 TESTS_OF_LIBRARY = ("library", "bare", "uboot", "web", "counts")
 

@@ -4,10 +4,14 @@ ghost use Rattle.std.specs.Prelude.{◌≡◌};
 ghost use Rattle.ym_host.specs.Drip as table;
 
 use ym_link::Got;
+use ym_port::Role;
 
-/// For how many milliseconds bytes may come with no pause and no write: ten times as long as a
-/// sender's longest first waits.
-pub const LONGEST_DRIP: u64 = 110_000;
+/// For how many milliseconds bytes may come to a sender with no pause and no write: ten times as
+/// long as it waits for a reply at first.
+pub const LONGEST_OF_REPLY: u64 = 100_000;
+
+/// The same of what comes to a receiver: ten times as long as it waits for a frame at first.
+pub const LONGEST_OF_FRAME: u64 = 30_000;
 
 /// How long bytes have been coming.
 #[derive(Clone, Copy)]
@@ -19,13 +23,17 @@ pub enum Drip {
 }
 
 impl Drip {
-    /// Whether they have for too long, at this moment.
-    pub fn is_overdue(self, moment: u64) -> bool
-        ensures { result ≡ table.is_overdue moment self }
+    /// Whether they have come to this end for too long, at this moment.
+    pub fn is_overdue(self, role: Role, moment: u64) -> bool
+        ensures { result ≡ table.is_overdue role moment self }
     {
+        let longest = match role {
+            Role::Sender => LONGEST_OF_REPLY,
+            Role::Receiver => LONGEST_OF_FRAME,
+        };
         match self {
             Drip::Nothing => false,
-            Drip::Since(start) => moment.saturating_sub(start) > LONGEST_DRIP,
+            Drip::Since(start) => moment.saturating_sub(start) > longest,
         }
     }
 

@@ -21,7 +21,7 @@ mod write_behind;
 
 pub use append::Append;
 pub use dir_sink::{DirSink, Durability, Leftover, StoreFault};
-pub use drip::{Drip, LONGEST_DRIP};
+pub use drip::{Drip, LONGEST_OF_FRAME, LONGEST_OF_REPLY};
 pub use file_source::{FileSource, RegularFile};
 pub use part::part_name;
 pub use read_at::ReadAt;

@@ -11,7 +11,7 @@ use std::marker::Model;
 use std::net::TcpStream;
 use std::time::{Clock, Duration};
 use ym_link::{Got, PortFault};
-use ym_port::Wire;
+use ym_port::{Role, Wire};
 
 /// How often a read that was interrupted is tried again.
 const TRIES: u32 = 1000;
@@ -19,14 +19,15 @@ const TRIES: u32 = 1000;
 /// How many milliseconds a write may make no headway.
 const WRITE_MS: u64 = 10_000;
 
-/// A TCP connection with a clock. Nobody knows what it tells. Where bytes have been coming for
-/// 110 seconds with no pause as long as a wait, and nothing was written, it counts as quiet once: a
-/// peer that sends one byte after another holds nothing for longer. A write that makes no headway
-/// for ten seconds fails.
+/// A TCP connection with a clock. Nobody knows what it tells. Where bytes have been coming for ten
+/// of its end's first waits with no pause as long as a wait, and nothing was written, it counts as
+/// quiet once: a peer that sends one byte after another holds nothing for longer. A write that makes
+/// no headway for ten seconds fails.
 #[derive(Drop)]
 pub struct SocketWire<R: Clock + Drop> {
     clock: R,
     stream: TcpStream,
+    role: Role,
     /// The last moment that the clock told.
     last: u64,
     /// How long the stream's reads wait now, in milliseconds; 0 before the first read.
@@ -67,8 +68,8 @@ fn read_once(stream: &mut TcpStream, buf: &mut [u8]) -> io::Result<Got>
 }
 
 impl<R: Clock + Drop> SocketWire<R> {
-    /// A line over this connection.
-    pub fn new(clock: R, stream: TcpStream) -> SocketWire<R>
+    /// A line over this connection, as this end has it.
+    pub fn new(clock: R, stream: TcpStream, role: Role) -> SocketWire<R>
         ensures { result ≡ 0 }
     {
         // Each block waits for its reply, so none may wait for more bytes; where this cannot be
@@ -77,6 +78,7 @@ impl<R: Clock + Drop> SocketWire<R> {
         SocketWire {
             clock,
             stream,
+            role,
             last: 0,
             set_ms: 0,
             is_write_bounded: false,
@@ -116,7 +118,7 @@ impl<R: Clock + Drop> SocketWire<R> {
         ensures same { self.new ≡ self.old }
         ensures count { (n : ℕ) → result ≡ Ok (Got.Bytes n) → (0 < n) × (n ≤ length buf.old) }
     {
-        if self.drip.is_overdue(self.last) {
+        if self.drip.is_overdue(self.role, self.last) {
             self.drip = Drip::Nothing;
             return Ok(Got::Quiet);
         }

@@ -11,7 +11,7 @@ use std::marker::Model;
 use std::time::{Clock, Duration};
 use std::{io, thread};
 use ym_link::{Got, PortFault};
-use ym_port::Wire;
+use ym_port::{Role, Wire};
 
 /// How many reads a wait makes beside those that its ticks take.
 const SPARE_READS: u64 = 10;
@@ -37,14 +37,15 @@ pub enum TtyFault {
 /// A terminal that was set so that its reads end after a tick where nothing comes
 /// (`stty raw -echo min 0 time 1`): what reads it, what writes to it, and a clock. Nobody knows
 /// what it tells. Other readers and writers will do as well, such as pipes; a read of theirs that
-/// waits on waits as long as nothing comes. Where bytes have been coming for 110 seconds with no
-/// pause as long as a wait, and nothing was written, it counts as quiet once. A write waits as long
-/// as the other end holds it up.
+/// waits on waits as long as nothing comes. Where bytes have been coming for ten of its end's first
+/// waits with no pause as long as a wait, and nothing was written, it counts as quiet once. A write
+/// waits as long as the other end holds it up.
 #[derive(Drop)]
 pub struct TtyWire<R: Clock + Drop, I: Read + Drop, O: Write + Drop> {
     clock: R,
     reader: I,
     writer: O,
+    role: Role,
     ticks: Ticks,
     /// The last moment that the clock told.
     last: u64,
@@ -76,15 +77,16 @@ fn fault_of(error: io::Error) -> TtyFault {
 }
 
 impl<R: Clock + Drop, I: Read + Drop, O: Write + Drop> TtyWire<R, I, O> {
-    /// A line that this reads and that writes. Whether its reads end by themselves is found out
-    /// where it is a terminal.
-    pub fn new(clock: R, reader: I, writer: O, is_terminal: bool) -> TtyWire<R, I, O>
+    /// A line that this reads and that writes, as this end has it. Whether its reads end by
+    /// themselves is found out where it is a terminal.
+    pub fn new(clock: R, reader: I, writer: O, is_terminal: bool, role: Role) -> TtyWire<R, I, O>
         ensures { result ≡ 0 }
     {
         TtyWire {
             clock,
             reader,
             writer,
+            role,
             ticks: Ticks::new(is_terminal),
             last: 0,
             drip: Drip::Nothing,
@@ -203,7 +205,7 @@ impl<R: Clock + Drop, I: Read + Drop, O: Write + Drop> Wire for TtyWire<R, I, O>
     }
 
     fn read(&mut self, millis: u64, buf: &mut [u8]) -> Result<Got, PortFault> {
-        if self.drip.is_overdue(self.last) {
+        if self.drip.is_overdue(self.role, self.last) {
             self.drip = Drip::Nothing;
             return Ok(Got::Quiet);
         }

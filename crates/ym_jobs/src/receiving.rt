@@ -193,7 +193,7 @@ where
         (page (O.contents out.old) (O.failures out.old)) result
         (page (O.contents out.new) (O.failures out.new)) }
 {
-    let port = TimedPort::new(SocketWire::new(rt, stream), Role::Receiver);
+    let port = TimedPort::new(SocketWire::new(rt, stream, Role::Receiver), Role::Receiver);
     let port = Eager::new(port, order.eager);
     receive_on(rt, alloc, port, order, out, teller)
 }

@@ -267,6 +267,6 @@ where
     let batch = open_batch(rt, alloc, paths, teller)?;
     let mut sender = sender_of(batch, shape)?;
     let stream = connect_telling(rt, port, teller)?;
-    let port = TimedPort::new(SocketWire::new(rt, stream), Role::Sender);
+    let port = TimedPort::new(SocketWire::new(rt, stream, Role::Sender), Role::Sender);
     send_on(rt, alloc, port, &mut sender, out, teller)
 }

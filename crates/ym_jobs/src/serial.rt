@@ -101,13 +101,13 @@ where
     match line {
         Some(path) => {
             let file = open_line(rt, path, teller)?;
-            let wire = TtyWire::new(rt, &file, &file, true);
+            let wire = TtyWire::new(rt, &file, &file, true, Role::Sender);
             send_through(rt, alloc, wire, &mut sender, out, teller)
         }
         None => {
             let reader = rt.reader();
             let is_terminal = reader.is_terminal();
-            let wire = TtyWire::new(rt, reader, io::writer(rt), is_terminal);
+            let wire = TtyWire::new(rt, reader, io::writer(rt), is_terminal, Role::Sender);
             send_through(rt, alloc, wire, &mut sender, out, teller)
         }
     }
@@ -160,13 +160,13 @@ where
     match line {
         Some(path) => {
             let file = open_line(rt, path, teller)?;
-            let wire = TtyWire::new(rt, &file, &file, true);
+            let wire = TtyWire::new(rt, &file, &file, true, Role::Receiver);
             receive_through(rt, alloc, wire, order, out, teller)
         }
         None => {
             let reader = rt.reader();
             let is_terminal = reader.is_terminal();
-            let wire = TtyWire::new(rt, reader, io::writer(rt), is_terminal);
+            let wire = TtyWire::new(rt, reader, io::writer(rt), is_terminal, Role::Receiver);
             receive_through(rt, alloc, wire, order, out, teller)
         }
     }

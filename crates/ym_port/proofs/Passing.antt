@@ -79,8 +79,8 @@ reads-quiet (suc n) w start room l t =
     let s = table.step w start room l t in
     behind-quiet (reads n w start room) (reads-quiet n w start room) s.answer s.line s.tape
     ∙ (step-quiet (read_gives room t.coming) w start l
-    (after_read (until w start l.timing - l.clock.at) room t)
-    ∙ waited-quiet (until w start l.timing - l.clock.at) room t)
+    (after_read (table.ends_at w start l - l.clock.at) room t)
+    ∙ waited-quiet (table.ends_at w start l - l.clock.at) room t)
 
 pub clear-step-quiet : (seen : Seen) (c : Clearing) (end : ℕ) (l : Line) (t : Tape)
     → written_of (clear_step seen c end l t).tape.done ≡ written_of t.done

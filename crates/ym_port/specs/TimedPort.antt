@@ -16,7 +16,8 @@ use Rattle.ym_port.specs.declared.written.TheConstants.{LONGEST_FRAME}
 use Rattle.ym_timing.specs.ByteRows.{heard_of, after_bytes}
 use Rattle.ym_timing.specs.Cancel.{cancels}
 use Rattle.ym_timing.specs.Clears as clears
-use Rattle.ym_timing.specs.Times.{new_clock, told, waited}
+use Rattle.ym_timing.specs.Pace as pace
+use Rattle.ym_timing.specs.Times.{new_clock, told, waited, later}
 use Rattle.ym_timing.specs.Timing.{new_timing, is_last, until, vain_of, after_byte, after_vain}
 use Rattle.ym_timing.specs.Writing.{wrote}
 use Rattle.ym_timing.specs.declared.clearing.Clearing.{Clearing}
@@ -95,9 +96,19 @@ vain_answers vain.Quiet = Some Silence
 abbrev pub ends : Wait → Line → Tape → Step
 ends w l t = record { answer = vain_answers (vain_at w l); line = gives_up w l; tape = t }
 
+-- until when a read waits, of a wait that began then: for more of a delivery since anything came
+abbrev pub ends_at : Wait → ℕ → Line → ℕ
+ends_at wait.Reply start l = until wait.Reply start l.timing
+ends_at wait.Within start l = until wait.Within l.clock.at l.timing
+
+-- by when it is over, where what comes is not to be heard: no wait is longer than one for a reply
+abbrev pub over_at : Wait → ℕ → Line → ℕ
+over_at wait.Reply start l = until wait.Reply start l.timing
+over_at wait.Within start l = later start (pace.wait l.timing.role l.timing.pace)
+
 -- nothing of what came is to be heard: it waits on, unless the wait that began then is over
 abbrev pub is_over : Wait → ℕ → Line → Bool
-is_over w start l = nat_le (until w start l.timing) l.clock.at
+is_over w start l = nat_le (over_at w start l) l.clock.at
 
 abbrev pub unheard : Wait → ℕ → Line → Tape → Step
 unheard w start l t =
@@ -123,7 +134,7 @@ closed_answers l = if is_last l.timing then Data (0x06 ∷ []) else End
 abbrev pub step_by : Seen → Wait → ℕ → Line → Tape → Step
 step_by (Data bytes) w start l t = brings bytes w start l t
 step_by Silence w start l t =
-    ends w (passed (until w start l.timing) (moment_of t) l) (after_moment t)
+    ends w (passed (ends_at w start l) (moment_of t) l) (after_moment t)
 step_by End w start l t =
     record { answer = Some (closed_answers l); line = closed w l; tape = t }
 step_by Failed w start l t = record { answer = Some Failed; line = l; tape = t }
@@ -132,7 +143,7 @@ step_by Failed w start l t = record { answer = Some Failed; line = l; tape = t }
 abbrev pub step : Wait → ℕ → ℕ → Line → Tape → Step
 step w start room l t =
     step_by (read_gives room t.coming) w start l
-    (after_read (until w start l.timing - l.clock.at) room t)
+    (after_read (ends_at w start l - l.clock.at) room t)
 
 -- what the whole answers, and how it leaves the line
 pub record Read : Type 0 where

@@ -168,12 +168,29 @@ impl Line {
         let _ = self.clock.waited(until, now);
     }
 
-    /// Whether a wait that began then is over.
+    /// Until when a read waits, of a wait that began then: more of a delivery is waited for since
+    /// anything came, also what is not to be heard.
+    #[inline]
+    pub fn until(&self, wait: Wait, start: u64) -> u64
+        ensures { result ≡ table.ends_at wait start self.now }
+    {
+        match wait {
+            Wait::Reply => self.timing.until(wait, start),
+            Wait::Within => self.timing.until(wait, self.clock.at),
+        }
+    }
+
+    /// Whether a wait that began then is over, where what comes is not to be heard: none is longer
+    /// than one for a reply, so noise without end holds an end no longer.
     #[inline]
     pub fn is_over(&self, wait: Wait, start: u64) -> bool
         ensures { result ≡ table.is_over wait start self.now }
     {
-        self.timing.until(wait, start) <= self.clock.at
+        let end = match wait {
+            Wait::Reply => self.timing.until(wait, start),
+            Wait::Within => start.saturating_add(self.timing.pace.wait(self.timing.role)),
+        };
+        end <= self.clock.at
     }
 
     /// Takes that a wait is over, in which nothing came that is to be heard.

@@ -197,7 +197,7 @@ fn read_once<W: Wire>(
     ensures ok { OnOk result (W.failures wire.new ≡ W.failures wire.old) }
     ensures failed { OnErr result (Rose (W.failures wire.old) (W.failures wire.new)) }
 {
-    let until = line.timing.until(wait, start);
+    let until = line.until(wait, start);
     let millis = until.saturating_sub(line.clock.at);
     let room = line.room(buf.len());
     match wire.read(millis, &mut buf[..room]) {

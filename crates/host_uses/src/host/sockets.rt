@@ -13,7 +13,7 @@ use std::{io, thread};
 use ym_host::{SocketCarrier, SocketWire};
 use ym_line::{Carrier, CarryFault, Way};
 use ym_link::{Got, PortFault};
-use ym_port::Wire;
+use ym_port::{Role, Wire};
 
 /// Both ends of a new connection.
 fn pair(rt: &HostRuntime) -> io::Result<(TcpStream, TcpStream)> {
@@ -26,7 +26,7 @@ fn pair(rt: &HostRuntime) -> io::Result<(TcpStream, TcpStream)> {
 /// A new connection: its near end, and the other one as a line.
 fn wire<'r>(rt: &'r HostRuntime) -> Result<(TcpStream, SocketWire<&'r HostRuntime>), Fail> {
     let (near, far) = pair(rt)?;
-    Ok((near, SocketWire::new(rt, far)))
+    Ok((near, SocketWire::new(rt, far, Role::Sender)))
 }
 
 /// Whether a read of a line, which waits so many milliseconds, gets this.

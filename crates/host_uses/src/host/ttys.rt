@@ -7,7 +7,7 @@ use std::test::Fail;
 use std::time::{Clock, Duration};
 use ym_host::{TtyFault, TtyWire};
 use ym_link::{Got, PortFault};
-use ym_port::Wire;
+use ym_port::{Role, Wire};
 
 /// What a read of the list comes to, after so many milliseconds.
 #[derive(Clone, Copy)]
@@ -83,7 +83,13 @@ fn wire<'a>(
         moment,
         at: 0,
     };
-    TtyWire::new(Hand(moment), reader, Cursor::new([0; 64]), true)
+    TtyWire::new(
+        Hand(moment),
+        reader,
+        Cursor::new([0; 64]),
+        true,
+        Role::Receiver,
+    )
 }
 
 /// Why it failed, in a word.
@@ -154,8 +160,8 @@ fn dripped(wire: &mut TtyWire<Hand<'_>, Listed<'_>, Cursor<[u8; 64]>>, buf: &mut
     1000
 }
 
-/// Bytes that come one after another, with no pause as long as a wait, are heard for 110 seconds at
-/// a time, or from a write on.
+/// Bytes that come one after another, with no pause as long as a wait, are heard for 30 seconds at
+/// a time by a receiver, or from a write on.
 #[test]
 fn bytes_that_drip(rt: HostRuntime) -> Result<(), Fail> {
     let moment = Cell::new(0);
@@ -166,7 +172,7 @@ fn bytes_that_drip(rt: HostRuntime) -> Result<(), Fail> {
     assert_eq!(rt; wire.read(1000, &mut buf), Ok(Got::Bytes(1)));
     assert!(rt; wire.write(b"bytes").is_ok());
     let next = dripped(&mut wire, &mut buf);
-    assert_eq!(rt; (first, next), (124, 124));
+    assert_eq!(rt; (first, next), (35, 35));
     assert_eq!(rt; word(wire.fault()), "none");
     Ok(())
 }

@@ -25,7 +25,7 @@ fn a_receiver_over_a_socket(rt: HostRuntime) -> Result<(), Fail> {
     let (mut near, far) = pair(&rt)?;
     let end = encode(&Item::Block(write_end()));
     near.write_all(end.as_bytes())?;
-    let mut port = TimedPort::new(SocketWire::new(&rt, far), Role::Receiver);
+    let mut port = TimedPort::new(SocketWire::new(&rt, far, Role::Receiver), Role::Receiver);
     let mut receiver = Receiver::new(rt.alloc());
     assert_eq!(rt; receive_over(&mut port, &mut receiver), Ok(()));
     assert_eq!(rt; receiver.state(), RecvState::Finished);
