@@ -225,7 +225,7 @@ class Function:
         reads = [i for i, it in enumerate(self.lines) if it.endswith("= %s;" % STACK)]
         self.needs_stack = bool(reads)
         for i in reads:
-            end = next(at for at in range(i, i + 9) if ROOM.search(self.lines[at]))
+            end = next(at for at in range(i, i + 12) if ROOM.search(self.lines[at]))
             found = ROOM.search(self.lines[end])
             asked = self.number(end, "j" + found[2]) + (found[1] == "<=")
             wants(asked == BELOW, "%s: room for %d more" % (self.name, asked))
