@@ -212,6 +212,23 @@ static void received(void) {
     wants(receives(&it, 0) == YM_ERROR_OUT_OF_STEP && it.last[0] == 0x18, "block 9 at first");
 }
 
+/* Block 0 once more is a repeat, and another one is out of step: it begins another file. */
+static void repeated(void) {
+    uint8_t zero[133], other[133], one[133], end[133];
+    const char *comes[] = { (char *)zero, (char *)zero, (char *)one, "\x04", "\x04", (char *)end };
+    size_t sizes[] = { 133, 133, 133, 1, 1, 133 };
+    struct played it = played_of(comes, sizes, COUNT(sizes));
+    frame_of(0, "f\0" "3", 3, zero);
+    frame_of(0, "g\0" "3", 3, other);
+    frame_of(1, "xyz", 3, one);
+    frame_of(0, "", 0, end);
+    wants(receives(&it, 0) == YM_DONE, "block 0 twice");
+    comes[1] = (char *)other;
+    again(&it);
+    wants(receives(&it, 0) == YM_ERROR_OUT_OF_STEP, "another block 0");
+    wants(it.written == 2 && it.last[0] == 0x18, "it is cancelled");
+}
+
 int main(void) {
     nobody(0);
     nobody(1);
@@ -222,6 +239,7 @@ int main(void) {
     sent();
     closed();
     received();
+    repeated();
     wants(!strcmp(ym_text(YM_DONE), "done") && !strcmp(ym_text((ym_error)99), "unknown"), "texts");
     return broken;
 }
