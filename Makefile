@@ -92,7 +92,7 @@ clean:
 # make portable          the same library as out/portable/ymodem.c and ymodem.h, for any C99 compiler and little-endian processor of 32 or 64
 #                        bits; needs wasm-opt and wasm2c (Debian's binaryen and wabt)
 # make test-portable     the checks of these two files
-# make install-lib       puts the archive of TARGET, the header and the file for pkg-config below $(DESTDIR)$(PREFIX)
+# make install-lib       puts the archive of TARGET, the headers and the file for pkg-config below $(DESTDIR)$(PREFIX)
 
 TARGETS = x86_64-unknown-linux-gnu aarch64-unknown-linux-gnu wasm64-unknown-unknown
 TARGET = x86_64-unknown-linux-gnu
@@ -122,7 +122,7 @@ test-portable: build portable
 
 install-lib: lib
 	install -D -m 644 out/lib/$(TARGET)/libymodem.a "$(DESTDIR)$(PREFIX)/lib/libymodem.a"
-	install -D -m 644 include/ymodem.h "$(DESTDIR)$(PREFIX)/include/ymodem.h"
+	install -D -m 644 -t "$(DESTDIR)$(PREFIX)/include" include/ymodem.h include/ymodem_io.h
 	install -d "$(DESTDIR)$(PREFIX)/lib/pkgconfig"
 	sed "s|@PREFIX@|$(PREFIX)|; s|@LIBDIR@|\$${prefix}/lib|; s|@VERSION@|$$(tools/version.py)|" include/ymodem.pc.in \
 	    > "$(DESTDIR)$(PREFIX)/lib/pkgconfig/ymodem.pc"

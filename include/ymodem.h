@@ -249,6 +249,72 @@ void ym_header_read(const uint8_t *body, size_t len, ym_header *header);
    of them. The body that ends a batch is 128 bytes 00. */
 uint32_t ym_header_write(const uint8_t *name, size_t name_len, uint64_t length, uint32_t stamp, uint64_t time, uint32_t mode, uint8_t *body, size_t room);
 
+/* ---- The line ----
+
+   When an end waits, asks again and lets its line clear, and what it does not hear: the rule of
+   docs/timing.md of the sources. ymodem_io.h, beside this header, is a loop over these calls. Times
+   are milliseconds of any clock that ym_line_now has made one that never runs backwards. Whatever
+   stands in these structs is a line, or a clearing. */
+
+/* What an end and its line have said of late, and when. */
+typedef struct ym_line {
+    YM_ALIGNED uint64_t kept[24];
+} ym_line;
+
+/* How far a line is clear. */
+typedef struct ym_clearing {
+    YM_ALIGNED uint64_t kept[4];
+} ym_clearing;
+
+/* What a read waits for: the first bytes of a delivery, or more of it. */
+enum ym_wait { YM_WAIT_FIRST, YM_WAIT_MORE };
+
+/* What a read that waited in vain comes to. */
+enum ym_vain { YM_VAIN_AGAIN, YM_VAIN_ACK, YM_VAIN_QUIET };
+
+/* Makes the line of an end that said and heard nothing: receives is 0 for a sender. */
+void ym_line_init(ym_line *line, uint32_t receives);
+
+/* The time, where the clock tells this: never less than before. */
+uint64_t ym_line_now(ym_line *line, uint64_t clock);
+
+/* The time, where a read waited until then in vain and the clock tells this. */
+uint64_t ym_line_waited(ym_line *line, uint64_t until, uint64_t clock);
+
+/* Until when a read waits that began then (enum ym_wait). */
+uint64_t ym_line_until(const ym_line *line, uint32_t wait, uint64_t start);
+
+/* Takes that a wait is over now, in which nothing came that is to be heard, or that the line closed.
+   Tells what that is (enum ym_vain): it waits on; an ACK that came before is heard; or nothing is. */
+uint32_t ym_line_expired(ym_line *line, uint32_t wait, uint64_t now);
+
+/* Takes bytes that came now, where `written` was written last, and puts what is to be heard of them
+   to the front of `heard`, which has room for twice as many. Tells how many bytes that are. Where
+   there is less room, nothing is done. */
+size_t ym_line_hear(ym_line *line, const uint8_t *bytes, size_t len, const uint8_t *written,
+    size_t written_len, uint64_t now, uint8_t *heard, size_t room);
+
+/* 1 where CAN CAN stands among bytes that a sender is to hear: a reply before it is none. */
+uint32_t ym_line_cancels(const uint8_t *bytes, size_t len);
+
+/* 1 where CAN CAN came while the line cleared, and is to be heard now; it is so once. */
+uint32_t ym_line_cancelled(ym_line *line);
+
+/* Begins a write of these bytes. */
+void ym_line_clearing(const ym_line *line, const uint8_t *bytes, size_t len, uint64_t now,
+    ym_clearing *clearing);
+
+/* Until when what comes is dropped before it; 0 where nothing is to be. */
+uint64_t ym_line_clear_at(const ym_line *line, const ym_clearing *clearing);
+
+/* Takes bytes that came now and are dropped, where `written` was written last. */
+void ym_line_drop(ym_line *line, ym_clearing *clearing, const uint8_t *bytes, size_t len,
+    const uint8_t *written, size_t written_len, uint64_t now);
+
+/* Takes that these bytes are written now, behind this clearing. */
+void ym_line_wrote(ym_line *line, const ym_clearing *clearing, const uint8_t *bytes, size_t len,
+    uint64_t now);
+
 /* ---- The layout of the structs ---- */
 
 #if defined(__cplusplus) && __cplusplus >= 201103L
@@ -326,6 +392,9 @@ YM_AT(ym_header, fault, 20);
 YM_AT(ym_header, name_len, 24);
 YM_AT(ym_header, stamp, 28);
 YM_AT(ym_header, mode, 32);
+
+YM_SIZE(ym_line, 192);
+YM_SIZE(ym_clearing, 32);
 
 #undef YM_AT
 #undef YM_SIZE

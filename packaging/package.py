@@ -131,7 +131,8 @@ class Build:
             os.makedirs(folder)
         words = ["strip", "--strip-debug", "--enable-deterministic-archives", "--remove-section=.comment", "--remove-section=.note"]
         subprocess.run([*words, "-o", os.path.join(libraries, "libymodem.a"), self.subject], check=True)
-        shutil.copy(os.path.join(ROOT, "include", "ymodem.h"), os.path.join(prefix, "include"))
+        for name in ("ymodem.h", "ymodem_io.h"):
+            shutil.copy(os.path.join(ROOT, "include", name), os.path.join(prefix, "include"))
         with open(os.path.join(ROOT, "include", "ymodem.pc.in"), encoding="utf-8") as it:
             text = it.read().replace("@PREFIX@", "/usr").replace("@LIBDIR@", "${prefix}/lib/x86_64-linux-gnu")
             text = text.replace("@VERSION@", number())

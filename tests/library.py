@@ -44,10 +44,11 @@ WORKERS = 250
 # ---- The header and the archives
 
 
-def header_alone(compiler, language, standard):
+def header_alone(header, compiler, language, standard):
     def check():
         needs(compiler)
-        command(compiler, "-x", language, "-std=" + standard, *STRICT, "-fsyntax-only", os.path.join(INCLUDE, "ymodem.h"))
+        words = ["-x", language, "-std=" + standard, *STRICT, "-fsyntax-only", "-I", INCLUDE]
+        command(compiler, *words, "-include", header, "/dev/null")
 
     return check
 
@@ -188,6 +189,10 @@ def promises():
     command(built("tests/library_promises.c", "promises"))
 
 
+def in_one_call():
+    command(built("tests/library_io.c", "io"))
+
+
 # ---- The same deliveries to an end of the library and to the program's
 
 # How an end can end.
@@ -252,7 +257,11 @@ def in_node():
 LANGUAGES = (("gcc", "clang"), "c", ("c99", "c11")), (("g++", "clang++"), "c++", ("c++98", "c++11", "c++17"))
 COMPILERS = [(it, language, standard) for some, language, standards in LANGUAGES for it in some for standard in standards]
 CHECKS = [
-    *(("ymodem.h alone: %s, %s" % (compiler, standard), header_alone(compiler, language, standard)) for compiler, language, standard in COMPILERS),
+    *(
+        ("%s alone: %s, %s" % (header, it, standard), header_alone(header, it, language, standard))
+        for header in ("ymodem.h", "ymodem_io.h")
+        for it, language, standard in COMPILERS
+    ),
     ("the sizes of the structs", sizes),
     ("what the archive leaves undefined", archive),
     ("receive from send", pair(c_receive, c_send)),
@@ -262,6 +271,7 @@ CHECKS = [
     ("send to ymodem receive, five deliveries damaged", to_program(Seeded(42, 0.2, 5))),
     ("calls with rubbish", calls),
     ("calls at the wrong time, rubbish, and what stays as it was", promises),
+    ("how ym_receive and ym_send end, over a line that is played", in_one_call),
     *(("the library's %s and the program's, %d streams" % (end, STREAMS), beside(end)) for end in ENDS),
     ("calls with rubbish under sanitizers", sanitized),
     ("calls with rubbish under valgrind", checked_by_valgrind),

@@ -20,7 +20,9 @@ static uint64_t chance(void) {
 
 static uint64_t below(uint64_t bound) { return chance() % bound; }
 
-enum place { RECEIVER, SENDER, ASK, FILL, BYTES, REPLY, BLOCKS, READER, HEADER, FRAME, PLACES };
+enum place {
+    RECEIVER, SENDER, ASK, FILL, BYTES, REPLY, BLOCKS, READER, HEADER, FRAME, LINE, CLEARING, PLACES
+};
 
 /* So many bytes before a page that faults, at a multiple of 8 where `len` is one. */
 static uint8_t *room(enum place place, size_t len) {
@@ -216,6 +218,61 @@ static void read_pieces(ym_reader *reader, ym_header *header) {
     wants(ym_frame_write((uint32_t)chance(), bytes, len, body, space) == framed, "a body of any size");
 }
 
+/* What comes to a line, some of it heard. */
+static void hears(ym_line *line, const uint8_t *written, size_t written_len) {
+    size_t len = below(40), space = below(3) ? 2 * len : below(80);
+    uint8_t *bytes = room(BYTES, len), *heard = room(REPLY, space);
+    ym_line before = *line;
+    rubbish(bytes, len);
+    if (below(2)) memcpy(bytes, written, len < written_len ? len : written_len);
+    size_t count = ym_line_hear(line, bytes, len, written, written_len, number(), heard, space);
+    wants(count <= 2 * len && count <= space, "more is heard than there is room for");
+    if (2 * len <= space) return;
+    wants(count == 0 && memcmp(line, &before, sizeof before) == 0, "a line hears without room");
+}
+
+static uint64_t in_vain[3];
+
+static void lines(ym_line *line, ym_clearing *clearing) {
+    size_t len = below(140);
+    uint8_t *written = room(FRAME, len);
+    uint64_t until = number(), now;
+    uint32_t wait = (uint32_t)below(3), vain;
+    rubbish(written, len);
+    rubbish(line, sizeof *line);
+    rubbish(clearing, sizeof *clearing);
+    if (below(2)) ym_line_init(line, (uint32_t)below(3));
+    for (uint64_t calls = below(8); calls; calls--) {
+        switch (below(7)) {
+        case 0:
+            now = ym_line_now(line, number());
+            wants(ym_line_now(line, number()) >= now, "a clock runs backwards");
+            break;
+        case 1: wants(ym_line_waited(line, until, number()) >= until, "a wait is over"); break;
+        case 2: hears(line, written, len); break;
+        case 3:
+            until = ym_line_until(line, wait, number());
+            vain = ym_line_expired(line, wait, until);
+            wants(vain <= YM_VAIN_QUIET, "a wait in vain");
+            in_vain[vain]++;
+            break;
+        case 4:
+            wants(ym_line_cancels(written, len) <= 1, "cancelled or not");
+            wants(ym_line_cancelled(line) <= 1 && !ym_line_cancelled(line), "cancelled once");
+            break;
+        case 5:
+            ym_line_drop(line, clearing, written, len, written, len, number());
+            now = ym_line_clear_at(line, clearing);
+            break;
+        default:
+            now = number();
+            ym_line_clearing(line, written, len, now, clearing);
+            wants(ym_line_clear_at(line, clearing) <= now + 60000 || now + 60000 < now, "a minute");
+            ym_line_wrote(line, clearing, written, len, now);
+        }
+    }
+}
+
 int main(int words, char **word) {
     long rounds = words > 1 ? atol(word[1]) : 100000;
     state = words > 2 ? strtoull(word[2], NULL, 10) | 1 : 88172645463325253ull;
@@ -225,15 +282,19 @@ int main(int words, char **word) {
     ym_fill *fill = (ym_fill *)(void *)room(FILL, sizeof *fill);
     ym_reader *reader = (ym_reader *)(void *)room(READER, sizeof *reader);
     ym_header *header = (ym_header *)(void *)room(HEADER, sizeof *header);
+    ym_line *line = (ym_line *)(void *)room(LINE, sizeof *line);
+    ym_clearing *clearing = (ym_clearing *)(void *)room(CLEARING, sizeof *clearing);
     for (long i = 0; i < rounds; i++) {
         receive(receiver, ask);
         send(sender, fill);
         read_frame();
         read_pieces(reader, header);
         whole_frame(reader);
+        lines(line, clearing);
     }
     for (int i = 0; i < 4; i++) wants(rounds < 20000 || asked[i], "some ask never came");
     for (int i = 0; i < 3; i++) wants(rounds < 20000 || filled[i], "some fill never came");
+    for (int i = 0; i < 3; i++) wants(rounds < 20000 || in_vain[i], "some wait never ended so");
     printf("%ld rounds\n", rounds);
     return 0;
 }

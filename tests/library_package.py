@@ -10,6 +10,7 @@ from skipping import needs
 
 FILES = (
     "include/ymodem.h",
+    "include/ymodem_io.h",
     "lib/x86_64-linux-gnu/libymodem.a",
     "lib/x86_64-linux-gnu/pkgconfig/ymodem.pc",
     "share/doc/libymodem-dev/library.md",

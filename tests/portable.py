@@ -161,7 +161,7 @@ def names(words):
 
 def has_each_call():
     """The calls of the header and no other name are for its users; of others it needs three."""
-    wanted = set(re.findall(r"^(?:void|uint32_t|size_t) (ym_\w+)\(", read(HEADER), re.M))
+    wanted = set(re.findall(r"^(?:void|uint32_t|uint64_t|size_t) (ym_\w+)\(", read(HEADER), re.M))
     found = names("gcc -fno-stack-protector")
     needed = {it for it, kind in found.items() if kind == "U"} - {"_GLOBAL_OFFSET_TABLE_"}
     defined = {it for it, kind in found.items() if kind in "TDBRCVW"}

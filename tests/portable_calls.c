@@ -34,6 +34,8 @@ static struct {
     ym_fill fill;
     ym_front front;
     ym_header header;
+    ym_line line;
+    ym_clearing clearing;
     uint64_t blocks[FILES];
     uint8_t bytes[LONGEST];
     uint8_t out[LONGEST];
@@ -247,19 +249,44 @@ static uint64_t call_frames(uint64_t which, size_t len) {
     }
 }
 
+static uint64_t call_line(uint64_t which, size_t len) {
+    const uint8_t *last = all.sender.frame;
+    size_t last_len = given.size % 1030;
+    switch (which) {
+    case 19:
+        if (given.word % 4 == 0) ym_line_init(&all.line, given.word % 3);
+        return 0;
+    case 20: return ym_line_now(&all.line, given.time);
+    case 21: return ym_line_waited(&all.line, given.length, given.time);
+    case 22: return ym_line_until(&all.line, given.word % 3, given.time);
+    case 23: return ym_line_expired(&all.line, given.word % 3, given.time);
+    case 24:
+        return ym_line_hear(&all.line, all.bytes, len, last, last_len, given.time, all.out, given.room);
+    case 25: return ym_line_cancels(all.bytes, len) + 2 * ym_line_cancelled(&all.line);
+    case 26:
+        ym_line_clearing(&all.line, all.bytes, len, given.time, &all.clearing);
+        return ym_line_clear_at(&all.line, &all.clearing);
+    case 27:
+        ym_line_drop(&all.line, &all.clearing, all.bytes, len, last, last_len, given.time);
+        return ym_line_clear_at(&all.line, &all.clearing);
+    default: ym_line_wrote(&all.line, &all.clearing, all.bytes, len, given.time); return 0;
+    }
+}
+
 int main(int words, char **word) {
     long calls = words > 1 ? atol(word[1]) : 100000;
     state = words > 2 ? strtoull(word[2], NULL, 10) | 1 : 88172645463325253ull;
     anything();
     for (long i = 0; i < calls; i++) {
         if (below(20) == 0) anything();
-        uint64_t which = below(19), answer;
+        uint64_t which = below(29), answer;
         size_t len = delivery();
         size_t files = (size_t)below(FILES + 1);
         draw();
         if (which < 5) answer = call_receiver(which, len);
         else if (which < 12) answer = call_sender(which, len, files);
-        else answer = call_frames(which, len);
+        else if (which < 19) answer = call_frames(which, len);
+        else answer = call_line(which, len);
         printf("%ld %d %llu %016llx\n", i, (int)which, (unsigned long long)answer,
             (unsigned long long)sum(&all, sizeof all));
     }

@@ -97,7 +97,8 @@ def library_is_installed():
         status, _, err = it.make("install-lib", "TARGETS=" + target, "PREFIX=" + to)
         wants(status == 0, "make install-lib: %s" % err)
         found = sorted(os.path.join(folder, name)[len(to) + 1 :] for folder, _, files in os.walk(to) for name in files)
-        wants_same(dict.fromkeys(found), dict.fromkeys(["include/ymodem.h", "lib/libymodem.a", "lib/pkgconfig/ymodem.pc"]))
+        wanted = ["include/ymodem.h", "include/ymodem_io.h", "lib/libymodem.a"]
+        wants_same(dict.fromkeys(found), dict.fromkeys([*wanted, "lib/pkgconfig/ymodem.pc"]))
 
 
 CHECKS = [

@@ -62,7 +62,7 @@ FILLED = re.compile(r"\bmemory_fill\(%sw2c_i(\d+), (w2c_i\d+), w2c_i(\d+)\)" % M
 STACK = "instance->w2c___stack_pointer"
 ROOM = re.compile(r"\(u64\)\(\(s64\)w2c_j\d+ (>=|<=|<) \(s64\)w2c_j(\d+)\)")
 DIVISION = re.compile(r"DIV_U\((\w+), w2c_([ij]\d+)\)")
-PROTOTYPE = re.compile(r"^(void|uint32_t|size_t) (ym_\w+)\(([^)]*)\);$", re.M)
+PROTOTYPE = re.compile(r"^(void|uint32_t|uint64_t|size_t) (ym_\w+)\(([^)]*)\);$", re.M)
 # What is not to be left of the module.
 LEFT = re.compile(
     r"instance|w2c_|TRAP|CALL_INDIRECT|\bf32|\bf64|DIV|REM_|ROT[LR]|CLZ|CTZ|POPCNT|TRUNC"
@@ -225,7 +225,7 @@ class Function:
         reads = [i for i, it in enumerate(self.lines) if it.endswith("= %s;" % STACK)]
         self.needs_stack = bool(reads)
         for i in reads:
-            end = next(at for at in range(i, i + 9) if ROOM.search(self.lines[at]))
+            end = next(at for at in range(i, i + 12) if ROOM.search(self.lines[at]))
             found = ROOM.search(self.lines[end])
             asked = self.number(end, "j" + found[2]) + (found[1] == "<=")
             wants(asked == BELOW, "%s: room for %d more" % (self.name, asked))

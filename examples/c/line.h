@@ -2,9 +2,11 @@
 #ifndef LINE_H
 #define LINE_H
 
+#include "ymodem_io.h"
+
 #include <errno.h>
 #include <poll.h>
-#include <stdint.h>
+#include <time.h>
 #include <unistd.h>
 
 static int put(int to, const uint8_t *bytes, size_t len) {
@@ -18,24 +20,30 @@ static int put(int to, const uint8_t *bytes, size_t len) {
     return 1;
 }
 
-/* How many bytes came, 0 where none came in time, -1 where the line is closed. */
-static ssize_t get(uint8_t *bytes, size_t room, int wait) {
+static int line_read(void *user, uint8_t *bytes, size_t len, uint32_t milliseconds) {
     struct pollfd line = { .fd = 0, .events = POLLIN };
-    int ready = poll(&line, 1, wait);
-    if (ready < 0) return errno == EINTR ? 0 : -1;
+    int ready;
+    (void)user;
+    do {
+        ready = poll(&line, 1, (int)milliseconds);
+    } while (ready < 0 && errno == EINTR);
     if (ready == 0) return 0;
-    ssize_t came = read(0, bytes, room);
-    return came > 0 ? came : -1;
+    ssize_t came = ready < 0 ? -1 : read(0, bytes, len);
+    return came > 0 ? (int)came : -1;
 }
 
-/* Drops what comes until the line has been quiet so long. 0 where it is closed. */
-static int clear(int quiet) {
-    uint8_t bytes[1029];
-    for (int i = 0; i < 4096; i++) {
-        ssize_t came = get(bytes, sizeof bytes, quiet);
-        if (came <= 0) return came == 0;
-    }
-    return 1;
+static int line_write(void *user, const uint8_t *bytes, size_t len) {
+    (void)user;
+    return put(1, bytes, len) ? 0 : -1;
 }
+
+static uint64_t line_clock(void *user) {
+    struct timespec now;
+    (void)user;
+    clock_gettime(CLOCK_MONOTONIC, &now);
+    return (uint64_t)now.tv_sec * 1000 + (uint64_t)now.tv_nsec / 1000000;
+}
+
+static const ym_io line = { NULL, line_read, line_write, line_clock };
 
 #endif

@@ -1,12 +1,13 @@
-//! Both ends of a transfer, frames, the check and block 0, for callers in C. Nothing here takes memory,
-//! keeps anything between calls or calls back. Each function returns, whatever stands in what it is
-//! given.
+//! Both ends of a transfer, what an end knows of its line, frames, the check and block 0, for
+//! callers in C. Nothing here takes memory, keeps anything between calls or calls back. Each function
+//! returns, whatever stands in what it is given.
 #![tactic(auto)]
 
 mod codes;
 mod feeding;
 mod frames;
 mod headers;
+mod line;
 mod reader;
 mod receiver;
 mod sender;

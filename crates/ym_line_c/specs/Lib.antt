@@ -1,0 +1,4 @@
+pub mod LineCodes
+pub mod Parts
+pub mod Line
+pub mod Bulk

@@ -1,0 +1,74 @@
+//! Bytes that came together.
+
+ghost use Rattle.std.specs.Prelude.{◌≡◌, ◌≤◌, ◌+◌, ◌*◌, ◌++◌, length, take};
+ghost use Rattle.ym_line_c.specs.Bulk.{after_dropping, cleared_by};
+ghost use Rattle.ym_timing.specs.ByteRows.{after_bytes, bytes_of, heard_of};
+
+use ym_timing::{Clearing, Say, Timing};
+
+/// The byte ACK.
+const ACK: u8 = 0x06;
+
+/// Puts what is heard of a byte behind the first `count` bytes, and answers how many those are
+/// then.
+#[tactic(auto, using(std::proofs::lemmas::List::take_more_set))]
+fn speak(say: Say, byte: u8, heard: &mut [u8], count: usize) -> usize
+    requires { count + 2 ≤ length heard.old }
+    ensures bytes { take result heard.new ≡ take count heard.old ++ bytes_of say byte }
+    ensures few { result ≤ count + 2 }
+{
+    match say {
+        Say::Nothing => count,
+        Say::Byte => {
+            heard[count] = byte;
+            count + 1
+        }
+        Say::AckAndByte => {
+            heard[count] = ACK;
+            heard[count + 1] = byte;
+            count + 2
+        }
+    }
+}
+
+/// Takes bytes that came at this moment, where this was written last, and puts what is to be heard
+/// of them to the front of `heard`. Answers how many bytes that are.
+#[tactic(auto, using(crate::proofs::Folds::after_more, crate::proofs::Folds::heard_more))]
+pub fn hear_bytes(
+    timing: &mut Timing,
+    bytes: &[u8],
+    written: &[u8],
+    now: u64,
+    heard: &mut [u8],
+) -> usize
+    requires { 2 * length bytes.now ≤ length heard.old }
+    ensures new { timing.new ≡ after_bytes bytes.now written.now now timing.old }
+    ensures heard { take result heard.new ≡ heard_of bytes.now written.now now timing.old }
+    ensures few { result ≤ 2 * length bytes.now }
+{
+    let mut count = 0;
+    for byte in bytes {
+        let say = timing.byte(*byte, written, now);
+        count = speak(say, *byte, heard, count);
+    }
+    count
+}
+
+/// Takes bytes that came at this moment and are dropped while the line clears.
+#[tactic(auto, using(crate::proofs::Folds::dropped_more, crate::proofs::Folds::cleared_more))]
+pub fn drop_bytes(
+    timing: &mut Timing,
+    clearing: Clearing,
+    bytes: &[u8],
+    written: &[u8],
+    now: u64,
+) -> Clearing
+    ensures new { timing.new ≡ after_dropping bytes.now clearing written.now now timing.old }
+    ensures clearing { result ≡ cleared_by bytes.now clearing written.now now timing.old }
+{
+    let mut clearing = clearing;
+    for byte in bytes {
+        clearing = timing.dropped(clearing, *byte, written, now);
+    }
+    clearing
+}

@@ -1,0 +1,57 @@
+//! How far a line is clear, as plain numbers.
+
+ghost use Rattle.std.specs.Prelude.{◌≡◌};
+ghost use Rattle.ym_line_c.specs.Line.{clearing_of};
+
+use crate::codes::{code_of_flag, code_of_heed, code_of_need, flag_of, heed_of, need_of};
+use ym_timing::Clearing;
+
+/// How far a line is clear.
+#[repr(C)]
+pub struct YmClearing {
+    /// Since when nothing came that counts.
+    pub from: u64,
+    /// When the last answer came.
+    pub answered_at: u64,
+    /// When it has cleared in any case.
+    pub end_at: u64,
+    /// 0: it has not to clear; 1: noise may be on it; 2: what was stuck; any other: several
+    /// answers.
+    pub need: u8,
+    /// How many answers may come yet.
+    pub owed: u8,
+    /// Whether anything came.
+    pub has_brought: u8,
+    /// 0: no byte came; 1: CAN came last; any other: other bytes came.
+    pub heed: u8,
+}
+
+impl YmClearing {
+    /// What these numbers stand for.
+    pub fn load(&self) -> Clearing
+        ensures { result ≡ clearing_of self.now }
+    {
+        Clearing {
+            need: need_of(self.need),
+            from: self.from,
+            owed: self.owed,
+            answered_at: self.answered_at,
+            end_at: self.end_at,
+            has_brought: flag_of(self.has_brought),
+            heed: heed_of(self.heed),
+        }
+    }
+
+    /// Keeps how far it is.
+    pub fn keep(&mut self, clearing: Clearing)
+        ensures { clearing_of self.new ≡ clearing }
+    {
+        self.from = clearing.from;
+        self.answered_at = clearing.answered_at;
+        self.end_at = clearing.end_at;
+        self.need = code_of_need(clearing.need);
+        self.owed = clearing.owed;
+        self.has_brought = code_of_flag(clearing.has_brought);
+        self.heed = code_of_heed(clearing.heed);
+    }
+}
