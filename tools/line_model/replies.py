@@ -2,7 +2,7 @@
 
 from dataclasses import dataclass
 
-from ends import ACK, CONTROLS, NAK, START
+from ends import ACK, CAN, CONTROLS, NAK, START
 
 WITHIN_MS = 1_000
 STALE_ASKS = 10
@@ -133,6 +133,8 @@ class Hold:
             return self.at_eot(byte, now)
         if kind == "end" and byte == ACK:
             return self.ack(now)
+        if kind == "end" and self.is_held and byte != CAN:
+            return b""
         if kind == "end":
             self.is_held = False
         return bytes([byte])

@@ -37,15 +37,18 @@ pub enum TtyFault {
 /// A terminal that was set so that its reads end after a tick where nothing comes
 /// (`stty raw -echo min 0 time 1`): what reads it, what writes to it, and a clock. Nobody knows
 /// what it tells. Other readers and writers will do as well, such as pipes; a read of theirs that
-/// waits on waits as long as nothing comes. Where bytes have been coming for ten of its end's first
-/// waits with no pause as long as a wait, and nothing was written, it counts as quiet once. A write
-/// waits as long as the other end holds it up.
+/// waits on waits as long as nothing comes, and none is made for a wait of a tenth of a second.
+/// Where bytes have been coming for ten of its end's first waits with no pause as long as a wait,
+/// and nothing was written, it counts as quiet once. A write waits as long as the other end holds it
+/// up.
 #[derive(Drop)]
 pub struct TtyWire<R: Clock + Drop, I: Read + Drop, O: Write + Drop> {
     clock: R,
     reader: I,
     writer: O,
     role: Role,
+    /// Whether its reads end by themselves.
+    is_terminal: bool,
     ticks: Ticks,
     /// The last moment that the clock told.
     last: u64,
@@ -87,6 +90,7 @@ impl<R: Clock + Drop, I: Read + Drop, O: Write + Drop> TtyWire<R, I, O> {
             reader,
             writer,
             role,
+            is_terminal,
             ticks: Ticks::new(is_terminal),
             last: 0,
             drip: Drip::Nothing,
@@ -205,6 +209,10 @@ impl<R: Clock + Drop, I: Read + Drop, O: Write + Drop> Wire for TtyWire<R, I, O>
     }
 
     fn read(&mut self, millis: u64, buf: &mut [u8]) -> Result<Got, PortFault> {
+        // A pipe's read waits on as long as nothing comes: so short a wait is not worth that.
+        if !self.is_terminal && millis <= TICK_MS {
+            return Ok(Got::Quiet);
+        }
         if self.drip.is_overdue(self.role, self.last) {
             self.drip = Drip::Nothing;
             return Ok(Got::Quiet);

@@ -66,9 +66,13 @@ at_eot byte now h =
     else (if nat_eq byte 0x15 then holding false h.at wary.Calm say.Byte h
     else holding false h.at h.wary say.Byte h))
 
+-- what a peer prints behind the ACK of the end block may have C in it, or NAK: CAN alone takes that
+-- ACK back
 abbrev pub at_end : ℕ → ℕ → Hold → Said
 at_end byte now h =
-    if nat_eq byte 0x06 then ack h.wary now h else holding false h.at h.wary say.Byte h
+    if nat_eq byte 0x06 then ack h.wary now h
+    else (if h.is_held && not (nat_eq byte 0x18) then record { hold = h; say = say.Nothing }
+    else holding false h.at h.wary say.Byte h)
 
 -- C alone right behind a new block 0 asks for what is on its way
 abbrev pub is_stale : ℕ → Bool → ℕ → Hold → Bool

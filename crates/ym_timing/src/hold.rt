@@ -150,13 +150,20 @@ impl Hold {
         }
     }
 
-    /// A control byte behind the end block.
+    /// A control byte behind the end block. What a peer prints behind its ACK may have C in it, or
+    /// NAK: CAN alone takes that ACK back.
     fn at_end(self, byte: u8, now: u64) -> Said
         ensures { result ≡ table.at_end byte now self }
     {
-        match byte {
-            ACK => self.ack(self.wary, now),
-            _ => self.holding(false, self.at, self.wary, Say::Byte),
+        if byte == ACK {
+            self.ack(self.wary, now)
+        } else if self.is_held && byte != CAN {
+            Said {
+                hold: self,
+                say: Say::Nothing,
+            }
+        } else {
+            self.holding(false, self.at, self.wary, Say::Byte)
         }
     }
 
