@@ -13,10 +13,12 @@ linked to it; the program as for transfer.py.
 import contextlib
 import os
 import random
+import re
 import socket
 import subprocess
 import sys
 import tempfile
+from concurrent.futures import ThreadPoolExecutor
 
 sys.dont_write_bytecode = True
 sys.path.insert(0, os.path.dirname(os.path.abspath(__file__)))
@@ -39,6 +41,11 @@ SOURCES = " ".join("tests/library_%s.c" % name for name in ("beside", "program",
 # Streams of deliveries that an end of the library and the program's hear, for each end, and how many are under way at once.
 STREAMS = 10_000
 WORKERS = 250
+
+# The program that plays cases to an engine, what it says of a sender, and how many of it run side by side.
+LINE_CASES = os.path.abspath(os.environ.get("LINE_CASES", os.path.join(ROOT, "crates", "line_cases", "out", "line_cases")))
+PLAYED = re.compile(r"  (?:Ok\(\(\)\)|Err\(Closed\)) (\w+), \d+ done, 0 faults, wrote ([0-9a-f]*)")
+PLAYED_AT_ONCE = 4
 
 
 # ---- The header and the archives
@@ -202,20 +209,46 @@ ENDS = {
 }
 
 
-def beside(end):
-    """Each delivery is answered alike, and both ends end alike; of every way to end there are some. A stream that went otherwise is made again,
-    since an end that had to wait for this machine has heard that nothing came."""
+def streams(end, top, workers):
+    """Makes streams of deliveries to this end of the library. Of every way to end there are some."""
+    words = [built(SOURCES, "beside-" + end), end, PROGRAM, top, "0", str(STREAMS), str(workers)]
+    done = subprocess.run(words, capture_output=True, text=True, timeout=LIMIT, check=False)
+    wants(done.returncode == 0, "status %d: %s" % (done.returncode, done.stderr[:900]))
+    *ends, _, _ = map(int, done.stdout.split())
+    wants(sum(ends) == STREAMS, "only %d streams" % sum(ends))
+    never = [name for name, count in zip(ENDS[end], ends) if name not in (None, "running") and not count]
+    wants(not never, "none ended %s" % never)
 
-    def check():
-        with tempfile.TemporaryDirectory(prefix="ymodem-") as top:
-            done = subprocess.run([built(SOURCES, "beside-" + end), end, PROGRAM, top, "0", str(STREAMS), str(WORKERS)], capture_output=True, text=True, timeout=LIMIT, check=False)
-        wants(done.returncode == 0, "status %d: %s" % (done.returncode, done.stderr[:900]))
-        *ends, _, _ = map(int, done.stdout.split())
-        wants(sum(ends) == STREAMS, "only %d streams" % sum(ends))
-        never = [name for name, count in zip(ENDS[end], ends) if name not in (None, "running") and not count]
-        wants(not never, "none ended %s" % never)
 
-    return check
+def beside_program():
+    """Each delivery is answered alike, and both ends end alike. A stream that went otherwise is made again, since an end that had to wait for this
+    machine has heard that nothing came."""
+    with tempfile.TemporaryDirectory(prefix="ymodem-") as top:
+        streams("receiver", top, WORKERS)
+
+
+def beside_engine():
+    """The engine of `send` hears what the library's sender heard, over a port that plays it, and writes the same and ends alike. The program's own
+    port hands on what it hears by moments, and its tests are others."""
+    if not os.access(LINE_CASES, os.X_OK):
+        raise Skipped("crates/line_cases is not built (make cases)")
+    with tempfile.TemporaryDirectory(prefix="ymodem-") as top:
+        streams("sender", top, PLAYED_AT_ONCE)
+        with ThreadPoolExecutor(PLAYED_AT_ONCE) as pool:
+            played = sum(pool.map(wants_alike, (os.path.join(top, "worker %d" % at) for at in range(PLAYED_AT_ONCE))))
+    wants(played == STREAMS, "only %d streams were played" % played)
+
+
+def wants_alike(folder):
+    """Plays the cases of this folder, and gives how many they were."""
+    played = 0
+    with open(os.path.join(folder, "cases")) as cases, open(os.path.join(folder, "wanted")) as wanted:
+        with subprocess.Popen([LINE_CASES], stdin=cases, stdout=subprocess.PIPE, text=True) as it:
+            for _, told, state in zip(it.stdout, it.stdout, wanted):
+                came = PLAYED.fullmatch(told.rstrip("\n"))
+                wants(came and "%s %s\n" % came.groups() == state, "stream %d of %s: %s, wanted %s" % (played, folder[-1], told[:90], state[:60]))
+                played += 1
+    return played
 
 
 def from_package():
@@ -272,7 +305,8 @@ CHECKS = [
     ("calls with rubbish", calls),
     ("calls at the wrong time, rubbish, and what stays as it was", promises),
     ("how ym_receive and ym_send end, over a line that is played", in_one_call),
-    *(("the library's %s and the program's, %d streams" % (end, STREAMS), beside(end)) for end in ENDS),
+    ("the library's sender and the engine's, %d streams" % STREAMS, beside_engine),
+    ("the library's receiver and the program's, %d streams" % STREAMS, beside_program),
     ("calls with rubbish under sanitizers", sanitized),
     ("calls with rubbish under valgrind", checked_by_valgrind),
     ("receive from sb", with_lrzsz(pair(c_receive, lambda names: ["sb", "-q", *names]))),

@@ -1,5 +1,6 @@
 /* An end of the library beside that of the program: both hear the same deliveries, and have to answer the same bytes and to end alike. The
-   deliveries are made by chance, each so that it ends where the end in question needs no more bytes: so nobody waits.
+   deliveries are made by chance, each so that it ends where the end in question needs no more bytes: so nobody waits. Those to a sender are
+   written down, for the program `line_cases`.
 
    usage: library_beside sender|receiver PROGRAM FOLDER FIRST STREAMS WORKERS
    FOLDER is for the files. On standard output: how often each end was seen, and how many deliveries were heard. */
@@ -31,22 +32,21 @@ static int bound(uint16_t *port) {
     return it;
 }
 
-static int made(int is_sender, int socket, uint16_t port, char *command, char *folder) {
+static int made(int is_sender, uint16_t port, char *command, char *folder) {
     seed((0x9E3779B97F4A7C15ull * (stream + 1)) | 1);
-    return is_sender ? sends(socket, port, command) : receives(port, command, folder);
+    return is_sender ? sends(folder) : receives(port, command, folder);
 }
 
 /* A stream at which the machine was late, so that an end had waited in vain, goes well when it is made again. */
 static void work(int is_sender, char *command, const char *top, unsigned worker, unsigned last) {
     char folder[512];
     uint16_t port;
-    int socket = bound(&port);
+    bound(&port);
     snprintf(folder, sizeof folder, "%s/worker %u", top, worker);
     wants(mkdir(folder, 0755) == 0 || errno == EEXIST, "a folder");
-    wants(!is_sender || listen(socket, 4) == 0, "listen");
     while ((stream = __atomic_fetch_add(&counts->next, 1, __ATOMIC_RELAXED)) < last) {
         int tries = 0;
-        while (!made(is_sender, socket, port, command, folder) && ++tries < TRIES) {
+        while (!made(is_sender, port, command, folder) && ++tries < TRIES) {
             __atomic_fetch_add(&counts->again, 1, __ATOMIC_RELAXED);
             if (!is_sender) emptied(folder);
         }
@@ -65,7 +65,7 @@ int main(int count, char **word) {
     counts = mmap(NULL, sizeof *counts, PROT_READ | PROT_WRITE, MAP_SHARED | MAP_ANONYMOUS, -1, 0);
     wants(counts != MAP_FAILED, "mmap");
     counts->next = first;
-    write_files(word[3]);
+    make_files();
     for (unsigned i = 0; i < workers; i++) {
         pid_t child = fork();
         wants(child >= 0, "fork");

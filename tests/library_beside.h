@@ -40,10 +40,11 @@ void at_once(int line);
 
 /* ---- library_sends.c */
 
-void write_files(const char *folder);
+void make_files(void);
 uint64_t blocks_of(uint64_t length, int is_short);
-/* A stream of replies, to a sender of the library and to `ymodem send`, which calls at this socket. */
-int sends(int listener, uint16_t port, char *command);
+/* A stream of replies to a sender of the library: a line more in the file `cases` of this folder, which the program `line_cases` plays to the
+   engine of `ymodem send`, and what has to come of it, in `wanted`: the state, and what is written. */
+int sends(const char *folder);
 
 /* ---- library_receives.c */
 

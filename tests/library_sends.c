@@ -1,12 +1,8 @@
-/* Senders: that of the library beside `ymodem send`. */
+/* Senders: that of the library beside the engine that `ymodem send` runs. */
 #include "library_beside.h"
 
-#include <errno.h>
-#include <fcntl.h>
 #include <stdio.h>
 #include <string.h>
-#include <sys/socket.h>
-#include <unistd.h>
 
 /* ---- The files that are sent */
 
@@ -14,15 +10,13 @@ enum { FILES = 5 };
 
 static const uint64_t lengths[FILES] = { 0, 1, 1500, 3073, 1024 };
 static uint8_t contents[FILES][4096];
-static char paths[FILES][512];
+static char names[FILES][8];
 
-void write_files(const char *folder) {
+void make_files(void) {
     seed(88172645463325253ull);
     for (int i = 0; i < FILES; i++) {
         some(contents[i], (size_t)lengths[i]);
-        snprintf(paths[i], sizeof paths[i], "%s/file %d", folder, i);
-        int file = open(paths[i], O_WRONLY | O_CREAT | O_TRUNC, 0644);
-        wants(file >= 0 && write(file, contents[i], (size_t)lengths[i]) == (ssize_t)lengths[i] && close(file) == 0, "a file");
+        snprintf(names[i], sizeof names[i], "file%d", i);
     }
 }
 
@@ -38,8 +32,7 @@ static int fills(ym_sender *sender, const struct batch *batch, const ym_fill *wh
     unsigned file = batch->first + what->file;
     uint8_t body[1024];
     if (what->kind == YM_FILL_HEADER) {
-        const char *name = strrchr(paths[file], '/') + 1;
-        return ym_sender_header(sender, (const uint8_t *)name, strlen(name), lengths[file], 0, 0, 0) == 0;
+        return ym_sender_header(sender, (const uint8_t *)names[file], strlen(names[file]), lengths[file], 0, 0, 0) == 0;
     }
     if (what->kind == YM_FILL_NOTHING) return 1;
     uint64_t longs = batch->is_short ? 0 : lengths[file] / 1024;
@@ -50,17 +43,10 @@ static int fills(ym_sender *sender, const struct batch *batch, const ym_fill *wh
     return ym_sender_block(sender, body, size) == 0;
 }
 
-/* The program passes over C alone right behind a new block 0, since a receiver that was started early has asked several times. */
-static int passes_over(const ym_sender *sender, int is_new) {
-    return is_new && sender->mode == 1 && sender->len > 3 && sender->frame[1] == 0;
-}
-
-/* A reply: noise and control bytes, up to where the sender needs no more. Most streams are calm, and repeat nothing: after a repeat the
-   program lets the line clear, which takes two seconds. */
-static size_t a_reply(const ym_sender *sender, const struct batch *batch, int is_calm, int gives_up, int is_new, uint8_t *bytes) {
+/* A reply: noise and control bytes, up to where the sender needs no more. Most streams are calm, and repeat nothing. */
+static size_t a_reply(const ym_sender *sender, const struct batch *batch, int is_calm, int gives_up, uint8_t *bytes) {
     static const uint8_t controls[] = { 0x06, 0x06, 0x06, 0x06, 0x43, 0x43, 0x15, 0x18 }, progress[] = { 0x06, 0x43 };
     size_t len = 0;
-    if (passes_over(sender, is_new)) bytes[len++] = 0;
     while (len < DELIVERY && !ym_sender_settled(sender, batch->blocks, batch->count, bytes, len)) {
         uint8_t next = (uint8_t)below(256);
         if (gives_up) next = 0x15;
@@ -78,52 +64,68 @@ static size_t a_reply(const ym_sender *sender, const struct batch *batch, int is
     return len;
 }
 
-static const char *const sent[] = { "running", "finished", "no-reply", "cancelled", "source-failed" };
+static const char *const sent[] = { "Running", "Finished", "NoReply", "Cancelled", "SourceFailed" };
 
-int sends(int listener, uint16_t port, char *command) {
+static FILE *file_in(const char *folder, const char *name) {
+    char path[600];
+    snprintf(path, sizeof path, "%s/%s", folder, name);
+    FILE *it = fopen(path, "w");
+    wants(it != NULL, "a file");
+    return it;
+}
+
+static void spell(FILE *it, const uint8_t *bytes, size_t len) {
+    for (size_t i = 0; i < len; i++) fprintf(it, "%02x", bytes[i]);
+}
+
+/* What was written: each frame once, and CAN CAN. */
+struct written { uint8_t bytes[MOST * 1029 + 2]; size_t len; };
+
+static void keep(struct written *it, const uint8_t *bytes, size_t len) {
+    memcpy(it->bytes + it->len, bytes, len);
+    it->len += len;
+}
+
+int sends(const char *folder) {
     static const uint8_t cancel[2] = { 0x18, 0x18 };
+    static FILE *cases, *wanted;
+    static struct written written;
     ym_sender sender;
     struct batch batch = { .first = below(FILES), .is_short = below(4) == 0 };
-    char number[8], last[64], *words[FILES + 6] = { command, "send", "--port", number };
-    size_t at = 4;
+    if (!cases) cases = file_in(folder, "cases"), wanted = file_in(folder, "wanted");
+    written.len = 0;
     batch.count = 1 + below(FILES - batch.first);
-    if (batch.is_short) words[at++] = "--short";
+    fprintf(cases, batch.is_short ? "send short" : "send");
     for (size_t i = 0; i < batch.count; i++) {
-        batch.blocks[i] = blocks_of(lengths[batch.first + i], batch.is_short);
-        words[at++] = paths[batch.first + i];
+        size_t at = batch.first + i;
+        batch.blocks[i] = blocks_of(lengths[at], batch.is_short);
+        fprintf(cases, " %s=%s", names[at], lengths[at] ? "" : "-");
+        spell(cases, contents[at], (size_t)lengths[at]);
     }
-    snprintf(number, sizeof number, "%u", port);
-    struct program it = started(words);
-    wants(readable(listener), "the program does not call");
-    it.line = accept4(listener, NULL, NULL, SOCK_CLOEXEC);
-    wants(it.line >= 0, "accept");
-    at_once(it.line);
-    int is_calm = below(10) != 0, is_well = 1, is_new = 0, heard = 0, repeats = 0, gives_up_at = below(10) == 0 ? (int)below(20) : MOST;
+    fprintf(cases, " |");
+    int is_calm = below(10) != 0, heard = 0, repeats = 0, gives_up_at = below(10) == 0 ? (int)below(20) : MOST;
     ym_sender_init(&sender, batch.blocks, batch.count);
-    for (; is_well && sender.state == YM_SENDING && heard < MOST; heard++) {
-        uint8_t bytes[DELIVERY], before[1029];
+    for (; sender.state == YM_SENDING && heard < MOST; heard++) {
+        uint8_t bytes[DELIVERY];
         ym_fill what;
-        size_t had = sender.mode ? sender.len : 0;
-        memcpy(before, sender.frame, had);
-        int gives_up = heard >= gives_up_at && sender.mode == 1 && !passes_over(&sender, is_new);
-        size_t len = a_reply(&sender, &batch, is_calm, gives_up, is_new, bytes);
+        int gives_up = heard >= gives_up_at && sender.mode == 1;
+        size_t len = a_reply(&sender, &batch, is_calm, gives_up, bytes);
         if (is_calm && heard == gives_up_at && below(2)) len = (size_t)(memcpy(bytes, cancel, 2), 2);
-        is_well = puts_all(&it, bytes, len);
+        fprintf(cases, " ");
+        spell(cases, bytes, len);
         ym_sender_hear(&sender, batch.blocks, batch.count, bytes, len, &what);
         wants(fills(&sender, &batch, &what), "a fill");
         uint32_t out = ym_sender_out(&sender, batch.blocks, batch.count);
-        if (is_well && out == YM_OUT_FRAME) is_well = comes(&it, sender.frame, sender.len, "a frame");
-        if (is_well && out == YM_OUT_CANCEL) is_well = comes(&it, cancel, 2, "the end");
+        if (out == YM_OUT_FRAME) keep(&written, sender.frame, sender.len);
+        if (out == YM_OUT_CANCEL) keep(&written, cancel, 2);
         repeats += out == YM_OUT_FRAME && what.kind == YM_FILL_NOTHING;
         is_calm |= repeats > 3 || len == DELIVERY;
-        is_new = out == YM_OUT_FRAME && (what.kind != YM_FILL_NOTHING || sender.len != had || memcmp(before, sender.frame, had) != 0);
     }
+    fprintf(cases, "\n");
+    fprintf(wanted, "%s ", sent[sender.state]);
+    spell(wanted, written.bytes, written.len);
+    fprintf(wanted, "\n");
     __atomic_fetch_add(&counts->deliveries, (unsigned)heard, __ATOMIC_RELAXED);
-    if (is_well && sender.state != YM_SENDING) {
-        snprintf(last, sizeof last, " %s\n", sent[sender.state]);
-        is_well = ends(&it, sender.state == YM_SENT ? 0 : 1, last);
-    }
-    if (is_well) __atomic_fetch_add(&counts->ended[sender.state], 1, __ATOMIC_RELAXED);
-    gone(&it);
-    return is_well;
+    __atomic_fetch_add(&counts->ended[sender.state], 1, __ATOMIC_RELAXED);
+    return 1;
 }

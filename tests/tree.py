@@ -33,7 +33,7 @@ lib)
     ;;
 ci)
     [ ! -e "$CALLED/slow" ] || echo $$ > "$CALLED/process"
-    for name in port_cases ymodem; do
+    for name in line_cases port_cases ymodem; do
         mkdir -p "crates/$name/out" && cp "$YMODEM" "crates/$name/out/$name"
         echo "rt: $name proved"
     done

@@ -32,7 +32,7 @@ ROOT = proved.ROOT
 OUT = os.path.join(ROOT, "out")
 LOG = os.path.join(OUT, "gate.log")
 # Copies, since the gate is at work in the crates' own folders, by the variables that name them to the tests.
-TRIED = {"YMODEM": "ymodem", "CASES": "port_cases"}
+TRIED = {"YMODEM": "ymodem", "CASES": "port_cases", "LINE_CASES": "line_cases"}
 # The tests that need the library or the page come last: these are made meanwhile.
 TESTS = ("transfer", "lines", "shipped")
 # The last one tells what was skipped in the others.
