@@ -113,7 +113,7 @@ def shows_progress(child):
     child.sees(b"\rfirst.bin: 20%, 1024 of 5120 bytes, ")
     child.sees(b"\rfirst.bin: 60%, 3072 of 5120 bytes, ")
     child.sees(b" left, 1 repeated")
-    child.sees(b"\rfirst.bin: 5120 bytes in ")
+    child.sees(b"\r\x1b[?7hfirst.bin: 5120 bytes in ")
     child.sees(b"B/s, 1 repeated\r\n")
 
 

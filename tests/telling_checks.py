@@ -14,6 +14,10 @@ from telling import FAULT, FILE, connecting, listening, missing, wants
 
 LOUD = ("--verbose",)
 NOT_SAFE = header(b"../first", b"0")
+THERE = "cannot store '%s': it is there already; move it away first\n"
+CANCELLED = "the other end cancelled (CAN CAN)\n"
+CLOSED = "the other end closed the connection\n"
+UNSAFE = "the sender gave an unsafe name: a path, not UTF-8, or with control characters\n"
 
 
 def unsent(path, told):
@@ -93,7 +97,8 @@ def port_in_use(*words):
             port = held.getsockname()[1]
             more = [there] if words[0] == "receive" else []
             run(*words, "-p", port, *more, given=b"").wants(3, "", FAULT)
-            run(*words, "-p", port, "--verbose", *more, given=b"").wants(3, "", "port %d is in use\n" % port + FAULT)
+            told = "port %d is in use by another program: choose another one\n" % port
+            run(*words, "-p", port, "--verbose", *more, given=b"").wants(3, "", told + FAULT)
 
     return check
 
@@ -102,7 +107,8 @@ def nobody_listens():
     with folders() as (here, _):
         paths, port = write_files(here, FILE), free_port()
         run("send", "-p", port, *paths).wants(3, "", FAULT)
-        run("send", "-p", port, "--verbose", *paths).wants(3, "", connecting(port) + "127.0.0.1:%d refused the connection\n" % port + FAULT)
+        told = connecting(port) + "nobody listens on 127.0.0.1:%d: is the receiver running?\n" % port
+        run("send", "-p", port, "--verbose", *paths).wants(3, "", told + FAULT)
 
 
 def sent_to(peer, status, state, told, fault=""):
@@ -208,7 +214,7 @@ def sends(data):
 CHECKS = [
     ("tells why a file is not sent: it is missing", unsent(missing, "cannot open '%s': no such file or directory\n")),
     ("tells why a file is not sent: it is a folder", unsent(lambda here: here, "cannot open '%s': not a regular file\n")),
-    ("tells why a file is not stored: it is there", unstored((), FILE, "cannot store 'first.bin': it is there already\n")),
+    ("tells why a file is not stored: it is there", unstored((), FILE, THERE % "first.bin")),
     (
         "tells why a file is not stored: a part is left",
         unstored(
@@ -220,13 +226,23 @@ CHECKS = [
     (
         "tells why a file is not stored: its part is in use",
         unstored(
-            ("--discard-parts",), [("first.bin.part", b"held")], "cannot store 'first.bin': 'first.bin.part' is in use, or is no part\n", lock=True
+            ("--discard-parts",),
+            [("first.bin.part", b"held")],
+            "cannot store 'first.bin': 'first.bin.part' is in use by another program, or is no part\n",
+            lock=True,
         ),
     ),
-    ("tells why a file is not stored: its name came meanwhile", meanwhile(takes_the_name, "cannot store 'a': it is there already\n", ["a"])),
+    (
+        "tells why a file is not stored: its name came meanwhile",
+        meanwhile(takes_the_name, THERE % "a", ["a"]),
+    ),
     (
         "tells why a file is not stored: its part was replaced",
-        meanwhile(replaces_the_part, "cannot store 'a': 'a.part' is no longer what was written\n", ["a.part", "other"]),
+        meanwhile(
+            replaces_the_part,
+            "cannot store 'a': 'a.part' was changed by another program\n",
+            ["a.part", "other"],
+        ),
     ),
     ("tells that the folder is missing, before it listens", no_folder(missing, "no such file or directory")),
     ("tells that the folder is none, before it listens", no_folder(a_file, "not a directory")),
@@ -234,9 +250,15 @@ CHECKS = [
     ("tells that a port is in use: receive", port_in_use("receive")),
     ("tells that a port is in use: loop", port_in_use("loop")),
     ("tells that nobody listens", nobody_listens),
-    ("tells that a receiver cancelled", sent_to(cancels, 1, "cancelled", "the peer sent CAN CAN\n")),
-    ("tells that a receiver left", sent_to(leaves, 3, "running", "the peer closed the connection\n", "fault: closed\n")),
-    ("tells that a sender cancelled", received_from(sends(CANCEL), 1, "cancelled", "the peer sent CAN CAN\n")),
-    ("tells that a sender left", received_from(leaves_at_once, 3, "running", "the peer closed the connection\n", "fault: closed\n")),
-    ("tells that a name is not safe", received_from(sends(NOT_SAFE), 1, "bad-header name-unsafe", "the name in block 0 is not safe\n")),
+    ("tells that a receiver cancelled", sent_to(cancels, 1, "cancelled", CANCELLED)),
+    ("tells that a receiver left", sent_to(leaves, 3, "running", CLOSED, "fault: closed\n")),
+    ("tells that a sender cancelled", received_from(sends(CANCEL), 1, "cancelled", CANCELLED)),
+    (
+        "tells that a sender left",
+        received_from(leaves_at_once, 3, "running", CLOSED, "fault: closed\n"),
+    ),
+    (
+        "tells that a name is not safe",
+        received_from(sends(NOT_SAFE), 1, "bad-header name-unsafe", UNSAFE),
+    ),
 ]

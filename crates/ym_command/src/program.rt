@@ -295,7 +295,10 @@ where
             tell_version(out, error)
         }
         Err(JobFault::Words(error)) => tell_words(err, error),
-        Err(JobFault::Value) => tell_fault(err, CommandFault::Port),
+        Err(JobFault::Value) => {
+            teller.tell("--port takes a number from 1 to 65535, in digits");
+            tell_fault(err, CommandFault::Port)
+        }
         Err(JobFault::Memory) => tell_fault(err, CommandFault::Memory),
     }
 }

@@ -2,9 +2,9 @@
 use Rattle.std.specs.Prelude.{Option, None, Some}
 use Rattle.ym_host.specs.declared.tty_wire.TtyFault.{TtyFault}
 use Rattle.ym_host.specs.declared.tty_wire.TtyFault.TheVariants as fault
-use Rattle.ym_show.specs.Reasons.{reason_of}
-use Rattle.ym_show.specs.declared.end_message.EndMessage.{EndMessage}
-use Rattle.ym_show.specs.declared.end_message.EndMessage.TheVariants as end
+use Rattle.ym_text.specs.Reasons.{reason_of}
+use Rattle.ym_text.specs.declared.end_message.EndMessage.{EndMessage}
+use Rattle.ym_text.specs.declared.end_message.EndMessage.TheVariants as end
 use Rattle.ym_jobs.specs.declared.told_line.LineWords.{LineWords}
 
 abbrev pub connection_words : LineWords

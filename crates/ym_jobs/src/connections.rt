@@ -6,7 +6,8 @@ ghost use Rattle.ym_file.specs.Counts.{Rose};
 use std::io;
 use std::io::Write;
 use std::net::{Ipv4Addr, Net, SocketAddr, TcpListener, TcpStream};
-use ym_show::{LineMessage, Teller};
+use ym_show::Teller;
+use ym_text::LineMessage;
 
 /// Connections that come one after another.
 pub trait Connections {

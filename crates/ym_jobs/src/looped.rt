@@ -10,7 +10,8 @@ use std::io::Write;
 use std::net::{Ipv4Addr, Net, SocketAddr, TcpListener, TcpStream};
 use ym_host::SocketCarrier;
 use ym_play::{Input, Output, session_over};
-use ym_show::{LineMessage, Teller};
+use ym_show::Teller;
+use ym_text::LineMessage;
 
 /// Listens on 127.0.0.1 at this port, connects to it, and makes a carrier of both ends.
 fn carrier_at<R: Net<Listener = TcpListener, Stream = TcpStream>>(

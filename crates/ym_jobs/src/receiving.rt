@@ -19,7 +19,7 @@ use crate::store::Store;
 use crate::telling::{tell_end, tell_not_stored};
 use crate::told_line::{LineWords, ToldLine};
 use std::alloc::{AllocError, Global};
-use std::cell::Cell;
+use std::cell::RefCell;
 use std::fs::{File, Files};
 use std::io;
 use std::io::Write;
@@ -33,10 +33,11 @@ use ym_link::{Confirm, EndFault, Port, ReceiverInto, RecvState, receive_over};
 use ym_pair::laws::a_receiver_commits_what_it_heard;
 use ym_play::{Output, StreamFault};
 use ym_port::{Role, TimedPort};
-use ym_show::{
-    Eager, EndMessage, FileMessage, Meter, Reason, Replies, StoreWatch, Teller, Watched,
-    WatchedPort, check_folder,
-};
+use ym_show::{Eager, Meter, ReceiveWatch, Receiving, Teller, Watched, WatchedPort, check_folder};
+use ym_text::{EndMessage, FileMessage, Lately, Reason};
+
+/// After so many seconds without a byte it gives up: ten deliveries, each waited for so long.
+const QUIET_S: u64 = 30;
 
 /// Prints a line for each file.
 fn print_files<O: Output>(out: &mut O, headers: &[Header]) -> Result<(), StreamFault>
@@ -147,27 +148,39 @@ pub(crate) fn look_at<R: Files<File = File>, E: Write + Drop>(
     looked
 }
 
-/// Tells why a receiver has ended.
-fn tell_receiver<E: Write + Drop>(
-    teller: &mut Teller<E>,
+/// How a receiver has ended.
+#[derive(Drop)]
+struct Outcome {
+    /// Its own end.
     state: RecvState,
-    answer: &Result<u8, CommandFault>,
+    /// The file that its sink was last given, where that is known.
+    last: Option<String>,
+    /// Why the sink has failed, where it has.
+    why: Option<StoreFault>,
+    /// What came of late.
+    lately: Lately,
+    /// What faults of its port are told as.
     words: LineWords,
-) {
-    let is_running = state == RecvState::Running;
-    let why = EndMessage::of_receiver(state);
-    tell_end(teller, answer, is_running, words, why);
 }
 
-/// Tells why the last file was not stored, where the sink of a receiver failed.
-fn tell_last<E: Write + Drop>(
+/// Tells why a receiver has ended, and, where its sink failed, why the last file was not stored.
+fn tell_outcome<E: Write + Drop>(
     teller: &mut Teller<E>,
     alloc: Global,
-    state: RecvState,
-    last: Option<String>,
-    why: Option<StoreFault>,
+    answer: &Result<u8, CommandFault>,
+    outcome: Outcome,
     leftover: Leftover,
 ) {
+    let Outcome {
+        state,
+        last,
+        why,
+        lately,
+        words,
+    } = outcome;
+    let is_running = state == RecvState::Running;
+    let message = EndMessage::of_receiver(state, lately);
+    tell_end(teller, answer, is_running, words, message);
     match last {
         Some(name) if state == RecvState::SinkFailed => {
             tell_not_stored(teller, alloc, name.as_str(), why, leftover);
@@ -198,6 +211,17 @@ where
     receive_on(rt, alloc, port, order, out, teller)
 }
 
+/// Who watches a receiver's sink or its port, and shows it so.
+fn watch_of<'s, 't, E: Write + Drop, C: Clock + Drop>(
+    shown: &'s RefCell<Receiving<'t, E, C>>,
+    is_looked_at: bool,
+) -> ReceiveWatch<'s, 't, E, C> {
+    ReceiveWatch {
+        shown,
+        is_looked_at,
+    }
+}
+
 /// Receives the files that come over a port of the program's own, and prints them and how the
 /// receiver has ended. Where somebody looks, how far each file is is shown, and why one was not
 /// stored and why the receiver has ended told.
@@ -219,26 +243,31 @@ where
         (page (O.contents out.new) (O.failures out.new)) }
 {
     let sink = open_sink(rt, alloc, order)?;
-    let is_counted = teller.is_loud;
-    let replies = Cell::new(0);
+    let is_looked_at = teller.is_loud;
     let besides = match order.confirm {
         Confirm::Once => 1,
         Confirm::Twice => 2,
     };
-    let meter = Meter::new(alloc, rt, teller);
-    let watch = StoreWatch::new(alloc, meter, &replies, besides);
+    let meter = Meter::new(alloc, rt, teller, QUIET_S);
+    let shown = RefCell::new(Receiving::new(alloc, meter, besides));
+    let watch = watch_of(&shown, is_looked_at);
     let watched = Watched { sink, watch };
     let receiver = ReceiverInto::with_sink(alloc, watched, order.confirm);
-    let watch = Replies {
-        count: &replies,
-        is_counted,
-    };
+    let watch = watch_of(&shown, is_looked_at);
     let mut port = WatchedPort { port, watch };
     let (watched, state, answer) = receive_batch(&mut port, receiver, out);
-    let Watched { sink, watch } = watched;
-    let last = watch.into_last();
-    tell_receiver(teller, state, &answer, port.port.words());
-    let why = sink.first_fault();
-    tell_last(teller, alloc, state, last, why, order.leftover);
+    let words = port.port.words();
+    drop(port);
+    let why = watched.sink.first_fault();
+    drop(watched);
+    let (last, lately) = shown.into_inner().end();
+    let outcome = Outcome {
+        state,
+        last,
+        why,
+        lately,
+        words,
+    };
+    tell_outcome(teller, alloc, &answer, outcome, order.leftover);
     answer
 }

@@ -7,12 +7,14 @@ ghost use Rattle.ym_core.specs.Standing.{new_standing};
 ghost use Rattle.ym_link.specs.Sender.{counts};
 ghost use Rattle.ym_machine.specs.declared.limits.TheConstants.{MOST_FILES};
 ghost use Rattle.ym_jobs.specs.Sending.{last_part, IsBatch, MayRefuse, RefusesFile, SenderRuns, TellsSender, SendsOn, SendGives, send_gives};
+ghost use Rattle.ym_jobs.specs.Page.{page};
 ghost use Rattle.ym_jobs.specs.Status.{send_answer};
 
 use crate::command_fault::CommandFault;
 use crate::telling::tell_end;
 use crate::told_line::ToldLine;
 use std::alloc::Global;
+use std::cell::RefCell;
 use std::fs::{File, Files};
 use std::io::Write;
 use std::net::{Ipv4Addr, Net, SocketAddr, TcpStream};
@@ -28,12 +30,14 @@ use ym_link::{BatchFault, EndFault, Port, SendState, SenderFrom, SourceFile, sen
 use ym_pair::laws::a_sender_was_acknowledged;
 use ym_play::{Output, StreamFault};
 use ym_port::{Role, TimedPort};
-use ym_show::{
-    EndMessage, FileMessage, LineMessage, Meter, Reason, SendWatch, Teller, WatchedPort,
-};
+use ym_show::{Meter, SendWatch, Sending, Teller, WatchedPort};
+use ym_text::{EndMessage, FileMessage, LineMessage, Reason};
 
 /// How many milliseconds a sender waits for somebody to answer its call.
 const CALL_WAIT_MS: u64 = 10_000;
+
+/// After so many seconds without a byte it gives up: ten deliveries, each waited for so long.
+const QUIET_S: u64 = 100;
 
 /// How often a sender calls again where nobody listens yet, and how many milliseconds it waits before: two seconds in all.
 const CALLS: u32 = 40;
@@ -207,6 +211,16 @@ fn tell_sender<S: Source, O: Output>(
     answer_of(ended, printed, state)
 }
 
+/// Runs a sender over a port.
+fn run_sender<P: Port, S: Source>(port: &mut P, sender: &mut SenderFrom<S>) -> Result<(), EndFault>
+    ensures { SenderRuns (P.tells port.old) (P.tells port.new) sender.old
+        (P.failures port.old) (P.failures port.new) result sender.new }
+{
+    a_sender_was_acknowledged();
+    a_step_keeps_the_batch();
+    send_over(port, sender)
+}
+
 /// Runs a sender over a port, and prints how it has ended. The answer is its status: 0 where it has finished.
 pub fn send_batch<P: Port, S: Source, O: Output>(
     port: &mut P,
@@ -216,13 +230,23 @@ pub fn send_batch<P: Port, S: Source, O: Output>(
     ensures { (ended : Result Unit Why) × SenderRuns (P.tells port.old) (P.tells port.new) sender.old (P.failures port.old) (P.failures port.new) ended sender.new
         × TellsSender ended sender.new (record { holds = O.contents out.old; failed = O.failures out.old }) result (record { holds = O.contents out.new; failed = O.failures out.new }) }
 {
-    a_sender_was_acknowledged();
-    a_step_keeps_the_batch();
-    let ended = send_over(port, sender);
+    let ended = run_sender(port, sender);
     tell_sender(ended, sender, out)
 }
 
-/// The same over a port of the program's own. Where somebody looks, how far each file is is shown, and why the sender has ended told.
+/// Who watches a sender's port, and shows it so.
+fn watch_of<'s, 't, E: Write + Drop, C: Clock + Drop>(
+    shown: &'s RefCell<Sending<'t, E, C>>,
+    is_looked_at: bool,
+) -> SendWatch<'s, 't, E, C> {
+    SendWatch {
+        shown,
+        is_looked_at,
+    }
+}
+
+/// The same over a port of the program's own. Where somebody looks, how far each file is or whom it
+/// waits for is shown, and why the sender has ended told.
 pub(crate) fn send_on<P: ToldLine + Drop, S: Source, O: Output, C: Clock, E: Write + Drop>(
     rt: &C,
     alloc: Global,
@@ -231,20 +255,24 @@ pub(crate) fn send_on<P: ToldLine + Drop, S: Source, O: Output, C: Clock, E: Wri
     out: &mut O,
     teller: &mut Teller<E>,
 ) -> Result<u8, CommandFault>
-    ensures { SendsOn sender.old sender.new (record { holds = O.contents out.old; failed = O.failures out.old }) result (record { holds = O.contents out.new; failed = O.failures out.new }) }
+    ensures { SendsOn sender.old sender.new
+        (page (O.contents out.old) (O.failures out.old)) result
+        (page (O.contents out.new) (O.failures out.new)) }
 {
-    let mut port = WatchedPort {
-        port,
-        watch: SendWatch::new(Meter::new(alloc, rt, teller)),
-    };
-    let answer = send_batch(&mut port, sender, out);
-    port.watch.end();
+    let is_looked_at = teller.is_loud;
+    let shown = RefCell::new(Sending::new(Meter::new(alloc, rt, teller, QUIET_S)));
+    let watch = watch_of(&shown, is_looked_at);
+    let mut port = WatchedPort { port, watch };
+    let ended = run_sender(&mut port, sender);
     let words = port.port.words();
     drop(port);
+    // What is printed stands in lines of its own, also where both go to one terminal.
+    let lately = shown.into_inner().end();
+    let answer = tell_sender(ended, sender, out);
     let state = sender.state();
     let is_running = state == SendState::Running;
-    let why = EndMessage::of_sender(state);
-    tell_end(teller, &answer, is_running, words, why);
+    let message = EndMessage::of_sender(state, lately);
+    tell_end(teller, &answer, is_running, words, message);
     answer
 }
 

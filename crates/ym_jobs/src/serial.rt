@@ -19,7 +19,8 @@ use ym_host::{OpenFault, TtyWire, open_tty};
 use ym_link::SenderFrom;
 use ym_play::Output;
 use ym_port::{Role, TimedPort};
-use ym_show::{Eager, Reason, Teller, TtyMessage};
+use ym_show::{Eager, Teller};
+use ym_text::{Reason, TtyMessage};
 
 /// Why the terminal at this path is not opened, as it is told.
 fn refused<'a>(path: &'a str, fault: &OpenFault) -> TtyMessage<'a> {

@@ -36,6 +36,7 @@ impl<K: Store + Drop, V: SinkWatch + Drop> Store for Watched<K, V> {
     }
 
     fn close(&mut self) -> Result<(), SinkFault> {
+        self.watch.ended();
         self.sink.close()
     }
 }

@@ -5,7 +5,8 @@ use crate::told_line::LineWords;
 use std::alloc::Global;
 use std::io::Write;
 use ym_host::{Leftover, StoreFault, part_name};
-use ym_show::{EndMessage, FileMessage, Reason, Teller};
+use ym_show::Teller;
+use ym_text::{EndMessage, FileMessage, Reason};
 
 /// Tells why an end has ended: the fault of its port, where it was still running, or else what its state says.
 pub(crate) fn tell_end<E: Write + Drop>(

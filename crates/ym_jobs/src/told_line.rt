@@ -8,7 +8,8 @@ use std::time::Clock;
 use ym_host::{SocketWire, TtyFault, TtyWire};
 use ym_link::Port;
 use ym_port::TimedPort;
-use ym_show::{Eager, EndMessage, Reason};
+use ym_show::Eager;
+use ym_text::{EndMessage, Reason};
 
 /// What the faults of a line are told as.
 #[derive(Clone, Copy, Debug, PartialEq, Eq)]

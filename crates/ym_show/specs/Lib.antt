@@ -1,4 +1,1 @@
 pub mod Eager
-pub mod Messages
-pub mod Progress
-pub mod Reasons

@@ -1,10 +1,12 @@
 //! How far files are, shown to somebody who looks.
 
-use crate::progress::{Progress, Took, Whole, progress_line, rate_of};
 use crate::teller::Teller;
 use std::alloc::Global;
 use std::io::Write;
 use std::time::{Clock, Duration, Instant};
+use ym_text::{
+    Awaited, Came, Lately, Progress, Took, Waiting, Whole, progress_line, rate_of, waiting_line,
+};
 
 /// How long a rate is measured at least, in milliseconds.
 const RATE_MS: u64 = 2000;
@@ -29,13 +31,29 @@ struct Course {
     shown: Instant,
 }
 
-/// Shows how far each file is, at most ten times a second on a terminal and every ten seconds elsewhere, and a line for each file that is whole.
+/// What an end heard of late.
+#[derive(Clone, Copy)]
+struct Quiet {
+    /// What came since it last got on.
+    came: Came,
+    /// When bytes came last, or when it began to wait for the first ones.
+    since: Option<Instant>,
+    /// When it was last shown whom it waits for.
+    shown: Option<Instant>,
+}
+
+/// Shows how far each file is, at most ten times a second on a terminal and every ten seconds
+/// elsewhere, and a line for each file that is whole. Where nothing comes it shows whom its end
+/// waits for.
 #[derive(Drop)]
 pub struct Meter<'t, E: Write + Drop, C: Clock + Drop> {
     alloc: Global,
     clock: C,
     teller: &'t mut Teller<E>,
     course: Option<Course>,
+    quiet: Quiet,
+    /// After so many seconds without a byte its end gives up.
+    limit: u64,
 }
 
 /// The milliseconds from one time to a later one.
@@ -62,19 +80,20 @@ impl Course {
 }
 
 impl<'t, E: Write + Drop, C: Clock + Drop> Meter<'t, E, C> {
-    /// Nothing is under way.
-    pub fn new(alloc: Global, clock: C, teller: &'t mut Teller<E>) -> Meter<'t, E, C> {
+    /// Nothing is under way. After so many seconds without a byte its end gives up.
+    pub fn new(alloc: Global, clock: C, teller: &'t mut Teller<E>, limit: u64) -> Meter<'t, E, C> {
         Meter {
             alloc,
             clock,
             teller,
             course: None,
+            quiet: Quiet {
+                came: Came::Nothing,
+                since: None,
+                shown: None,
+            },
+            limit,
         }
-    }
-
-    /// Whether somebody looks.
-    pub fn is_looked_at(&self) -> bool {
-        self.teller.is_loud
     }
 
     /// A file begins. Where there is no clock or no memory, it is not shown.
@@ -133,6 +152,65 @@ impl<'t, E: Write + Drop, C: Clock + Drop> Meter<'t, E, C> {
             name: course.name.as_str(),
             took,
         });
+    }
+
+    /// How long it is since this time, in milliseconds; or nothing where there is no clock.
+    fn millis_since(&self, start: Option<Instant>) -> u64 {
+        match (start, Instant::now(&self.clock)) {
+            (Some(start), Ok(now)) => millis_between(start, now),
+            _ => 0,
+        }
+    }
+
+    /// Its end waits. That is shown where nothing has come yet, and then as often as a file is
+    /// shown, once a second has passed.
+    pub fn wait(&mut self, awaited: Awaited) {
+        let is_first = self.quiet.since.is_none();
+        if is_first {
+            self.quiet.since = Instant::now(&self.clock).ok();
+        }
+        let millis = self.millis_since(self.quiet.since);
+        let is_due = match self.quiet.shown {
+            None if is_first => self.teller.look.at_err,
+            None => 1000 <= millis && self.teller.pause_ms() <= millis,
+            shown => 1000 <= millis && self.teller.pause_ms() <= self.millis_since(shown),
+        };
+        if is_due {
+            self.quiet.shown = Instant::now(&self.clock).ok();
+            self.show_waiting(Waiting {
+                awaited,
+                seconds: millis / 1000,
+                limit: self.limit,
+            });
+        }
+    }
+
+    /// Shows what it waits for.
+    fn show_waiting(&mut self, waiting: Waiting) {
+        let columns = self.teller.look.columns;
+        if let Ok(line) = waiting_line(self.alloc, waiting, columns) {
+            self.teller.show(line.as_str());
+        }
+    }
+
+    /// These bytes came.
+    pub fn hear(&mut self, bytes: &[u8]) {
+        self.quiet.came = self.quiet.came.with(bytes);
+        self.quiet.since = Instant::now(&self.clock).ok();
+        self.quiet.shown = None;
+    }
+
+    /// Its end got on.
+    pub fn get_on(&mut self) {
+        self.quiet.came = Came::Nothing;
+    }
+
+    /// What came since its end last got on, and for how long nothing did.
+    pub fn lately(&self) -> Lately {
+        Lately {
+            came: self.quiet.came,
+            seconds: self.millis_since(self.quiet.since) / 1000,
+        }
     }
 
     /// No file is shown any more.

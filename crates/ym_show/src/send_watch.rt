@@ -1,10 +1,13 @@
-//! Who watches the port of a sender.
+//! Who watches the port of a sender, and what is shown of it.
 
 use crate::meter::Meter;
 use crate::watched_port::PortWatch;
+use std::cell::RefCell;
 use std::io::Write;
 use std::time::Clock;
 use ym_header::{ZeroRef, read_borrowed};
+use ym_link::Wait;
+use ym_text::{Awaited, Lately};
 
 /// The first bytes of frames.
 const SHORT: u8 = 0x01;
@@ -22,29 +25,34 @@ enum Stage {
     In { number: u8, count: u64 },
 }
 
-/// Watches the port of a sender where somebody looks, and shows how far its files are: a block is done when the next one is written.
+/// What is shown of a sender: how far its files are, or whom it waits for. A block is done when the
+/// next one is written.
 #[derive(Drop)]
-pub struct SendWatch<'t, E: Write + Drop, C: Clock + Drop> {
+pub struct Sending<'t, E: Write + Drop, C: Clock + Drop> {
     meter: Meter<'t, E, C>,
     stage: Stage,
+    /// What it waits for.
+    awaited: Awaited,
     done: u64,
     repeats: u64,
 }
 
-impl<'t, E: Write + Drop, C: Clock + Drop> SendWatch<'t, E, C> {
+impl<'t, E: Write + Drop, C: Clock + Drop> Sending<'t, E, C> {
     /// Nothing was written yet.
-    pub fn new(meter: Meter<'t, E, C>) -> SendWatch<'t, E, C> {
-        SendWatch {
+    pub fn new(meter: Meter<'t, E, C>) -> Sending<'t, E, C> {
+        Sending {
             meter,
             stage: Stage::Between,
+            awaited: Awaited::Asking,
             done: 0,
             repeats: 0,
         }
     }
 
-    /// The showing ends.
-    pub fn end(&mut self) {
+    /// The showing ends. The answer is what came of late.
+    pub fn end(&mut self) -> Lately {
         self.meter.end();
+        self.meter.lately()
     }
 
     /// A block 0 was written: the file before it is whole, and another one begins, or none.
@@ -67,11 +75,15 @@ impl<'t, E: Write + Drop, C: Clock + Drop> SendWatch<'t, E, C> {
     /// A block was written.
     fn block(&mut self, number: u8, body: &[u8]) {
         match self.stage {
-            Stage::Between => self.header(body),
+            Stage::Between => {
+                self.meter.get_on();
+                self.header(body);
+            }
             Stage::In { number: last, .. } if last == number => {
                 self.repeats = self.repeats.saturating_add(1);
             }
             Stage::In { count, .. } => {
+                self.meter.get_on();
                 self.done = self.done.saturating_add(count);
                 self.stage = Stage::In {
                     number,
@@ -83,23 +95,71 @@ impl<'t, E: Write + Drop, C: Clock + Drop> SendWatch<'t, E, C> {
     }
 
     /// A frame was written.
+    fn look_at(&mut self, bytes: &[u8]) {
+        self.awaited = Awaited::Answer;
+        match bytes {
+            [SHORT | LONG, number, _, body @ .., _, _] => self.block(*number, body),
+            [EOT] => self.end_file(),
+            _ => {}
+        }
+    }
+
+    /// An EOT was written.
+    fn end_file(&mut self) {
+        if self.stage != Stage::Between {
+            self.meter.get_on();
+        }
+        self.stage = Stage::Between;
+    }
+}
+
+/// Watches the port of a sender where somebody looks. Its copies share what they show.
+#[derive(Drop)]
+pub struct SendWatch<'s, 't, E: Write + Drop, C: Clock + Drop> {
+    /// What is shown.
+    pub shown: &'s RefCell<Sending<'t, E, C>>,
+    /// Whether somebody looks.
+    pub is_looked_at: bool,
+}
+
+impl<'s, 't, E: Write + Drop, C: Clock + Drop> SendWatch<'s, 't, E, C> {
+    /// A frame was written.
     // kept out of the way of a write that nobody looks at
     #[cold]
     #[inline(never)]
-    fn look_at(&mut self, bytes: &[u8]) {
-        match bytes {
-            [SHORT | LONG, number, _, body @ .., _, _] => self.block(*number, body),
-            [EOT] => self.stage = Stage::Between,
-            _ => {}
+    fn frame(&self, bytes: &[u8]) {
+        if let Ok(mut shown) = self.shown.try_borrow_mut() {
+            shown.look_at(bytes);
         }
     }
 }
 
-impl<'t, E: Write + Drop, C: Clock + Drop> PortWatch for SendWatch<'t, E, C> {
+impl<'s, 't, E: Write + Drop, C: Clock + Drop> PortWatch for SendWatch<'s, 't, E, C> {
+    #[inline(always)]
+    fn waits(&mut self, wait: Wait) {
+        if !self.is_looked_at || wait != Wait::Reply {
+            return;
+        }
+        if let Ok(mut shown) = self.shown.try_borrow_mut() {
+            let awaited = shown.awaited;
+            shown.meter.wait(awaited);
+        }
+    }
+
+    #[inline(always)]
+    fn came(&mut self, bytes: &[u8]) {
+        if !self.is_looked_at {
+            return;
+        }
+        if let Ok(mut shown) = self.shown.try_borrow_mut() {
+            shown.meter.hear(bytes);
+        }
+    }
+
     #[inline(always)]
     fn wrote(&mut self, bytes: &[u8]) {
-        if self.meter.is_looked_at() {
-            self.look_at(bytes);
+        if self.is_looked_at {
+            self.frame(bytes);
         }
     }
 }

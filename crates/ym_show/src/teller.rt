@@ -5,6 +5,7 @@ ghost use Rattle.std.specs.Prelude.{◌≡◌, ◌&&◌, ◌||◌, not, false};
 use std::fmt::Display;
 use std::io;
 use std::io::Write;
+use unicode_width::UnicodeWidthStr;
 
 /// How many milliseconds pass between two showings of a line that is rewritten in place, and of one that is not.
 const LIVE_MS: u64 = 100;
@@ -16,8 +17,27 @@ const LINES_MS: u64 = 10_000;
 pub struct Look {
     /// Standard error is a terminal.
     pub at_err: bool,
-    /// So many characters of a line are shown there.
+    /// So many cells of a line are shown there.
     pub columns: usize,
+    /// So many cells it has for certain. Else the terminal is asked to cut a line in place where
+    /// its own ends.
+    pub is_exact: bool,
+}
+
+/// What keeps a terminal from going on in the next line, and what ends that.
+const NO_WRAP: &str = "\u{1b}[?7l";
+
+const WRAP: &str = "\u{1b}[?7h";
+
+impl Look {
+    /// What stands around a line that is rewritten in place.
+    fn marks(self) -> (&'static str, &'static str) {
+        if self.is_exact {
+            ("", "")
+        } else {
+            (NO_WRAP, WRAP)
+        }
+    }
 }
 
 /// Tells lines to somebody who looks at a writer, or nothing.
@@ -29,7 +49,7 @@ pub struct Teller<E: Write + Drop> {
     pub look: Look,
     /// Whether it tells anything.
     pub is_loud: bool,
-    /// How many characters stand in the line that is rewritten in place.
+    /// How many cells the line takes that is rewritten in place.
     pub standing: usize,
 }
 
@@ -69,7 +89,8 @@ impl<E: Write + Drop> Teller<E> {
         if width == 0 {
             return Ok(());
         }
-        write!(self.err, "\r{:width$}\r", "")
+        let (before, behind) = self.look.marks();
+        write!(self.err, "{before}\r{:width$}\r{behind}", "")
     }
 
     /// Tells a line. Where it cannot be written it is lost: it is no part of what the program is asked to do.
@@ -95,9 +116,13 @@ impl<E: Write + Drop> Teller<E> {
         if !self.look.at_err {
             return self.tell(line);
         }
-        let width = self.standing;
-        self.standing = line.chars().count();
-        let _ = write!(self.err, "\r{line:width$}").and_then(|()| self.err.flush());
+        let cells = line.width();
+        let rest = self.standing.saturating_sub(cells);
+        self.standing = cells;
+        let (before, behind) = self.look.marks();
+        let _ = write!(self.err, "{before}\r{line}{:rest$}{behind}", "").and_then(|()| self
+            .err
+            .flush());
     }
 
     /// Ends the showing of a file: what is told next stands in a line of its own.

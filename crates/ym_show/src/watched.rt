@@ -15,6 +15,9 @@ pub trait SinkWatch {
 
     /// The open file was committed.
     fn committed(&mut self);
+
+    /// The sink is asked for no more: what comes behind it is told of it.
+    fn ended(&mut self);
 }
 
 /// A sink, and who watches it. It holds what the sink holds, and fails where that fails.

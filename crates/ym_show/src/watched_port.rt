@@ -6,6 +6,12 @@ use ym_link::{Got, Port, PortFault, Wait};
 
 /// Who watches a port. What it does changes nothing of the port.
 pub trait PortWatch {
+    /// A read begins, which waits so long.
+    fn waits(&mut self, wait: Wait);
+
+    /// These bytes came.
+    fn came(&mut self, bytes: &[u8]);
+
     /// These bytes were written.
     fn wrote(&mut self, bytes: &[u8]);
 }
@@ -27,7 +33,12 @@ impl<P: Port + Drop, V: PortWatch + Drop> Port for WatchedPort<P, V> {
     ghost failures = { λ w. P.failures w.port };
 
     fn read(&mut self, wait: Wait, buf: &mut [u8]) -> Result<Got, PortFault> {
-        self.port.read(wait, buf)
+        self.watch.waits(wait);
+        let got = self.port.read(wait, buf);
+        if let Ok(Got::Bytes(count)) = got {
+            self.watch.came(&buf[..count]);
+        }
+        got
     }
 
     #[inline(always)]

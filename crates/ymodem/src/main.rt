@@ -2,11 +2,12 @@
 //! over a connection or a serial line.
 #![tactic(auto)]
 
-use std::io::{ErrorKind, IsTerminal};
+use std::io::{ErrorKind, IsTerminal, Write};
 use std::process::ExitCode;
 use std::{env, io};
 use ym_command::command;
-use ym_show::{Look, ShownOut, Teller};
+use ym_show::{Look, Teller};
+use ym_text::ShownOut;
 
 /// The status where a word is not UTF-8.
 const REFUSED: u8 = 2;
@@ -20,26 +21,54 @@ fn words(rt: &HostRuntime) -> io::Result<Vec<String>> {
     Ok(words)
 }
 
-/// How many characters of a line a terminal shows: one less than it has, so that the cursor stays in the line. The variable COLUMNS says how many it
-/// has, else it counts as 80.
-fn columns(rt: &HostRuntime) -> usize {
-    let told = match env::var(rt, "COLUMNS") {
+/// How many cells a line of the terminal has, where the variable COLUMNS says it.
+fn columns(rt: &HostRuntime) -> Option<usize> {
+    match env::var(rt, "COLUMNS") {
         Ok(text) => text.as_str().parse::<usize>().ok(),
         Err(_) => None,
-    };
-    told.unwrap_or(80).saturating_sub(1)
+    }
+}
+
+/// Whether the terminal knows escapes: one that has no name, or is named dumb, may show them as
+/// they are.
+fn is_plain(rt: &HostRuntime) -> bool {
+    match env::var(rt, "TERM") {
+        Ok(name) => matches!(name.as_str(), "" | "dumb"),
+        Err(_) => true,
+    }
+}
+
+/// Where somebody looks. A line shows one cell less than the terminal has, so that the cursor stays
+/// in it. Where nothing says how many it has it counts as 80, and is asked to cut what is longer.
+fn look(rt: &HostRuntime) -> Look {
+    let told = columns(rt);
+    Look {
+        at_err: rt.stderr().is_terminal(),
+        columns: told.unwrap_or(80).saturating_sub(1),
+        is_exact: told.is_some() || is_plain(rt),
+    }
+}
+
+/// Tells somebody who gave no words at a terminal that a script is read there, and how to get help.
+fn greet<E: Write + Drop>(rt: &HostRuntime, words: &[String], teller: &mut Teller<E>) {
+    if words.len() < 2 && rt.stdin().is_terminal() {
+        teller.tell(
+            "reading a script, to its end (Ctrl-D); `ymodem --help` tells what else there is",
+        );
+    }
 }
 
 /// Does what the words ask for. The answer is the status.
 fn run(rt: &HostRuntime) -> u8 {
-    let look = Look {
-        at_err: rt.stderr().is_terminal(),
-        columns: columns(rt),
-    };
+    let look = look(rt);
     let mut teller = Teller::new(rt.stderr(), look);
     let mut out = ShownOut::new(rt.alloc(), rt.stdout(), rt.stdout().is_terminal());
     let mut err = ShownOut::new(rt.alloc(), rt.stderr(), look.at_err);
-    match words(rt) {
+    let words = words(rt);
+    if let Ok(words) = &words {
+        greet(rt, words.as_slice(), &mut teller);
+    }
+    match words {
         Ok(words) => command(
             rt,
             rt.alloc(),

@@ -6,7 +6,16 @@ use std::io::ErrorKind;
 use std::test::Fail;
 use ym_header::HeaderFault;
 use ym_link::{RecvState, SendState};
-use ym_show::{EndMessage, FileMessage, LineMessage, Look, Reason, Shown, Teller};
+use ym_show::{Look, Teller};
+use ym_text::{
+    Awaited, Came, EndMessage, FileMessage, Lately, LineMessage, Reason, Shown, Waiting,
+    waiting_line,
+};
+
+const SILENT: Lately = Lately {
+    came: Came::Nothing,
+    seconds: 30,
+};
 
 #[test]
 fn of_connections(rt: HostRuntime) -> Result<(), Fail> {
@@ -17,10 +26,13 @@ fn of_connections(rt: HostRuntime) -> Result<(), Fail> {
             LineMessage::Connecting(4000),
             "connecting to 127.0.0.1:4000",
         ),
-        (LineMessage::InUse(4000), "port 4000 is in use"),
+        (
+            LineMessage::InUse(4000),
+            "port 4000 is in use by another program: choose another one",
+        ),
         (
             LineMessage::Refused(4000),
-            "127.0.0.1:4000 refused the connection",
+            "nobody listens on 127.0.0.1:4000: is the receiver running?",
         ),
     ] {
         assert!(rt; shows(&rt, &message, want)?, "{want}");
@@ -40,7 +52,7 @@ fn of_files(rt: HostRuntime) -> Result<(), Fail> {
         ),
         (
             FileMessage::IsThere("a"),
-            "cannot store 'a': it is there already",
+            "cannot store 'a': it is there already; move it away first",
         ),
         (
             FileMessage::PartIsLeft("a", "a.part"),
@@ -62,23 +74,86 @@ fn of_files(rt: HostRuntime) -> Result<(), Fail> {
 fn of_ends(rt: HostRuntime) -> Result<(), Fail> {
     for (message, want) in [
         (
-            EndMessage::of_sender(SendState::Cancelled),
-            "the peer sent CAN CAN",
+            EndMessage::of_sender(SendState::Cancelled, SILENT),
+            "the other end cancelled (CAN CAN)",
         ),
         (
-            EndMessage::of_sender(SendState::NoReply),
-            "no reply, ten times in a row",
+            EndMessage::of_sender(SendState::NoReply, SILENT),
+            "nothing came for 30 s: is the receiver running, at the same speed?",
         ),
         (
-            EndMessage::of_receiver(RecvState::BadHeader(HeaderFault::NameUnsafe)),
-            "the name in block 0 is not safe",
+            EndMessage::of_receiver(RecvState::TooManyErrors, SILENT),
+            "nothing came for 30 s: is the sender running, at the same speed?",
+        ),
+        (
+            EndMessage::of_receiver(RecvState::BadHeader(HeaderFault::NoLength), SILENT),
+            "the sender gave a file no length: let it send by YMODEM, and not by XMODEM",
         ),
     ] {
         let message = message.ok_or("nothing is told")?;
         assert!(rt; shows(&rt, &message, want)?, "{want}");
     }
-    assert!(rt; same(&EndMessage::of_sender(SendState::Finished), &None));
-    assert!(rt; same(&EndMessage::of_receiver(RecvState::Finished), &None));
+    let finished = EndMessage::of_sender(SendState::Finished, SILENT);
+    assert!(rt; same(&finished, &None));
+    let finished = EndMessage::of_receiver(RecvState::Finished, SILENT);
+    assert!(rt; same(&finished, &None));
+    Ok(())
+}
+
+/// What a receiver tells that heard these bytes in ten deliveries, and no block.
+fn told_of(rt: &HostRuntime, pieces: &[&[u8]]) -> Result<String, Fail> {
+    let mut came = Came::Nothing;
+    for piece in pieces {
+        came = came.with(piece);
+    }
+    let lately = Lately { came, seconds: 3 };
+    let message = EndMessage::of_receiver(RecvState::TooManyErrors, lately);
+    let message = message.ok_or("nothing is told")?;
+    Ok(format!(in rt.alloc(); "{message}")?)
+}
+
+#[test]
+fn of_what_came(rt: HostRuntime) -> Result<(), Fail> {
+    let silence: &[&[u8]] = &[b""];
+    let asks: &[&[u8]] = &[b"C", b"CC"];
+    let prompt: &[&[u8]] = &[b"C", b"\r\n", b"Unknown command 'C' - try 'help'\r\n=> "];
+    let noise: &[&[u8]] = &[b"C", b"=> ", b"\xfe"];
+    let noise_first: &[&[u8]] = &[b"\x00", b"=> "];
+    for (pieces, want) in [
+        (silence, "nothing came for 3 s"),
+        (asks, "nothing came but C"),
+        (prompt, "what comes is no YMODEM"),
+        (noise, "nothing whole came"),
+        (noise_first, "nothing whole came"),
+    ] {
+        let told = told_of(&rt, pieces)?;
+        assert!(rt; told.as_str().starts_with(want), "{told}");
+    }
+    Ok(())
+}
+
+#[test]
+fn of_waits(rt: HostRuntime) -> Result<(), Fail> {
+    for (awaited, columns, want) in [
+        (
+            Awaited::Asking,
+            80,
+            "waiting for the receiver to ask (C), 12 s of 100",
+        ),
+        (Awaited::Asking, 40, "waiting for C, 12 s of 100"),
+        (Awaited::Answer, 40, "waiting for an answer, 12 s of 100"),
+        (Awaited::Sender, 40, "waiting for the sender, 12 s of 100"),
+        (Awaited::More, 40, "waiting for more, 12 s of 100"),
+        (Awaited::More, 8, "waiting "),
+    ] {
+        let waiting = Waiting {
+            awaited,
+            seconds: 12,
+            limit: 100,
+        };
+        let line = waiting_line(rt.alloc(), waiting, columns)?;
+        assert!(rt; same(&line.as_str(), &want), "{want}");
+    }
     Ok(())
 }
 
@@ -107,6 +182,7 @@ fn told_or_not(rt: HostRuntime) -> Result<(), Fail> {
         let look = Look {
             at_err: is_loud,
             columns: 80,
+            is_exact: true,
         };
         let mut teller = Teller::new(Vec::new(rt.alloc()), look);
         teller.tell(LineMessage::Connected);

@@ -2,7 +2,8 @@
 
 use super::{same, shows};
 use std::test::Fail;
-use ym_show::{Look, Progress, Teller, Took, Whole, progress_line};
+use ym_show::{Look, Teller};
+use ym_text::{Progress, Took, Whole, progress_line};
 
 const HALF: Progress = Progress {
     done: 14500,
@@ -41,16 +42,43 @@ fn lines(rt: HostRuntime) -> Result<(), Fail> {
     Ok(())
 }
 
-/// The name gives way first.
+/// What gives way in a line, as it gets narrower.
 #[test]
 fn narrow_lines(rt: HostRuntime) -> Result<(), Fail> {
+    let again = Progress { repeats: 3, ..HALF };
     for (columns, want) in [
-        (53, "firmw: 50%, 14500 of 29000 bytes, 1100 B/s, 0:13 left"),
-        (10, ": 50%, 145"),
+        (
+            80,
+            "firmware-2.bin: 50%, 14500 of 29000 bytes, 1100 B/s, 0:13 left, 3 repeated",
+        ),
+        (
+            72,
+            "firmware-2.b: 50%, 14500 of 29000 bytes, 1100 B/s, 0:13 left, 3 repeated",
+        ),
+        (70, "firmware-2.bin: 50%, 1100 B/s, 0:13 left, 3 repeated"),
+        (39, "firmware-2.bi: 50%, 1100 B/s, 0:13 left"),
+        (37, "firmware-2.bin: 50%, 1100 B/s"),
+        (20, "firmware-2.bin: 50%"),
+        (10, "firmw: 50%"),
+        (3, ": 5"),
         (0, ""),
     ] {
-        let line = progress_line(rt.alloc(), "firmware.bin", HALF, columns)?;
-        assert!(rt; same(&line.as_str(), &want), "{want}");
+        let line = progress_line(rt.alloc(), "firmware-2.bin", again, columns)?;
+        assert!(rt; same(&line.as_str(), &want), "{line}");
+    }
+    Ok(())
+}
+
+/// A wide character takes two cells, and a combining mark none.
+#[test]
+fn cells_of_names(rt: HostRuntime) -> Result<(), Fail> {
+    for (name, columns, want) in [
+        ("日本語の名前.bin", 17, "日本語の名前: 50%"),
+        ("日本語の名前.bin", 16, "日本語の名: 50%"),
+        ("e\u{301}te\u{301}.bin", 8, "e\u{301}te\u{301}: 50%"),
+    ] {
+        let line = progress_line(rt.alloc(), name, HALF, columns)?;
+        assert!(rt; same(&line.as_str(), &want), "{line}");
     }
     Ok(())
 }
@@ -75,18 +103,33 @@ fn whole_files(rt: HostRuntime) -> Result<(), Fail> {
     Ok(())
 }
 
-/// A line that is rewritten in place gives way to one that stays.
-#[test]
-fn in_place(rt: HostRuntime) -> Result<(), Fail> {
+/// What a teller wrote on a terminal that showed two lines in place, and then told one.
+fn in_place(rt: &HostRuntime, first: &str, is_exact: bool) -> Vec<u8> {
     let look = Look {
         at_err: true,
         columns: 80,
+        is_exact,
     };
     let mut teller = Teller::new(Vec::new(rt.alloc()), look);
-    teller.show("abc");
+    teller.show(first);
     teller.show("d");
     teller.tell("whole");
-    let want = b"\rabc\rd  \r \rwhole\n".as_slice();
-    assert!(rt; same(&teller.err.as_slice(), &want));
-    Ok(())
+    teller.err
+}
+
+/// A line that is rewritten in place gives way to one that stays, whichever cells it takes.
+#[test]
+fn lines_in_place(rt: HostRuntime) {
+    for (first, is_exact, want) in [
+        ("abc", true, b"\rabc\rd  \r \rwhole\n".as_slice()),
+        ("日本", true, b"\r\xe6\x97\xa5\xe6\x9c\xac\rd   \r \rwhole\n"),
+        (
+            "ab",
+            false,
+            b"\x1b[?7l\rab\x1b[?7h\x1b[?7l\rd \x1b[?7h\x1b[?7l\r \r\x1b[?7hwhole\n",
+        ),
+    ] {
+        let got = in_place(&rt, first, is_exact);
+        assert!(rt; same(&got.as_slice(), &want), "{first}");
+    }
 }

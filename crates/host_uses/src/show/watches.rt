@@ -1,16 +1,21 @@
 //! Transfers that are watched.
 
-use std::cell::Cell;
+use std::cell::RefCell;
 use std::test::Fail;
 use ym_frame::{Block, Item, encode};
 use ym_header::{Header, Stamp, write, write_end};
-use ym_show::{Look, Meter, PortWatch, Replies, SendWatch, SinkWatch, StoreWatch, Teller};
+use ym_link::Wait;
+use ym_show::{
+    Look, Meter, PortWatch, ReceiveWatch, Receiving, SendWatch, Sending, SinkWatch, Teller,
+};
+use ym_text::Came;
 
 /// A teller of lines that is loud, where no terminal is.
 fn teller(rt: &HostRuntime) -> Teller<Vec<u8>> {
     let look = Look {
         at_err: false,
         columns: 80,
+        is_exact: true,
     };
     let mut teller = Teller::new(Vec::new(rt.alloc()), look);
     teller.heed(true, false);
@@ -31,12 +36,19 @@ fn a_sender(rt: HostRuntime) -> Result<(), Fail> {
     let next = encode(&Item::Block(Block::new(2, &[7; 128])?));
     let eot = encode(&Item::Eot);
     let end = encode(&Item::Block(write_end()));
-    let mut watch = SendWatch::new(Meter::new(rt.alloc(), &rt, &mut teller));
+    let meter = Meter::new(rt.alloc(), &rt, &mut teller, 100);
+    let shown = RefCell::new(Sending::new(meter));
+    let mut watch = SendWatch {
+        shown: &shown,
+        is_looked_at: true,
+    };
     for frame in [&first, &block, &next, &next, &eot, &eot, &end] {
         watch.wrote(frame.as_bytes());
     }
-    watch.end();
+    watch.came(b"=> ");
     drop(watch);
+    let lately = shown.into_inner().end();
+    assert!(rt; lately.came == Came::Text);
     assert!(rt; told(&teller, b"a.txt: 130 bytes in ", b"B/s, 1 repeated\n"));
     Ok(())
 }
@@ -45,25 +57,57 @@ fn a_sender(rt: HostRuntime) -> Result<(), Fail> {
 fn a_receiver(rt: HostRuntime) -> Result<(), Fail> {
     let mut teller = teller(&rt);
     let header = Header::new(rt.alloc(), "a.txt", 130, Stamp::Nothing)?;
-    let count = Cell::new(0);
-    let mut replies = Replies {
-        count: &count,
-        is_counted: true,
+    let meter = Meter::new(rt.alloc(), &rt, &mut teller, 30);
+    let shown = RefCell::new(Receiving::new(rt.alloc(), meter, 2));
+    let mut port = ReceiveWatch {
+        shown: &shown,
+        is_looked_at: true,
     };
-    let meter = Meter::new(rt.alloc(), &rt, &mut teller);
-    let mut watch = StoreWatch::new(rt.alloc(), meter, &count, 2);
-    replies.wrote(b"C");
-    watch.begins(&header);
-    replies.wrote(b"\x06C");
-    watch.added(128);
-    replies.wrote(b"\x06");
-    replies.wrote(b"\x15");
-    watch.added(2);
-    replies.wrote(b"\x06");
-    replies.wrote(b"\x15");
-    watch.committed();
-    let last = watch.into_last();
+    let mut sink = ReceiveWatch {
+        shown: &shown,
+        is_looked_at: true,
+    };
+    port.waits(Wait::Reply);
+    port.wrote(b"C");
+    sink.begins(&header);
+    port.wrote(b"\x06C");
+    sink.added(128);
+    port.wrote(b"\x06");
+    port.came(b"\x00");
+    port.wrote(b"\x15");
+    sink.added(2);
+    port.wrote(b"\x06");
+    port.wrote(b"\x15");
+    sink.committed();
+    port.came(b"=> ");
+    sink.ended();
+    drop(port);
+    drop(sink);
+    let (last, lately) = shown.into_inner().end();
     assert!(rt; last.is_some());
+    assert!(rt; lately.came == Came::Text);
     assert!(rt; told(&teller, b"a.txt: 130 bytes in ", b"B/s, 1 repeated\n"));
     Ok(())
+}
+
+/// Whom a sender waits for is told at once where a terminal is.
+#[test]
+fn a_wait(rt: HostRuntime) {
+    let look = Look {
+        at_err: true,
+        columns: 40,
+        is_exact: true,
+    };
+    let mut teller = Teller::new(Vec::new(rt.alloc()), look);
+    let meter = Meter::new(rt.alloc(), &rt, &mut teller, 100);
+    let shown = RefCell::new(Sending::new(meter));
+    let mut watch = SendWatch {
+        shown: &shown,
+        is_looked_at: true,
+    };
+    watch.waits(Wait::Reply);
+    watch.waits(Wait::Within);
+    drop(watch);
+    drop(shown);
+    assert!(rt; told(&teller, b"\rwaiting for C, 0 s of 100", b"of 100"));
 }

@@ -28,6 +28,7 @@ pub(super) fn ran(rt: &HostRuntime, line: &str, input: &[u8]) -> Result<Ending, 
     let look = Look {
         at_err: false,
         columns: 80,
+        is_exact: true,
     };
     let mut teller = Teller::new(Vec::new(alloc), look);
     let status = command(

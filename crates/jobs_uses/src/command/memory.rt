@@ -35,6 +35,7 @@ fn run(rt: &HostRuntime, words: &[&str], input: &[u8], status: u8, line: &str) -
     let look = Look {
         at_err: false,
         columns: 80,
+        is_exact: true,
     };
     let mut teller = Teller::new(page(), look);
     let ended = command(rt, alloc, list, &mut input, &mut out, &mut err, &mut teller);

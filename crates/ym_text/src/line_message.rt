@@ -1,7 +1,7 @@
 //! What is told of a connection.
 
 ghost use Rattle.std.specs.Prelude.{◌≡◌, Some};
-ghost use Rattle.ym_show.specs.Messages.{line_text, no_line};
+ghost use Rattle.ym_text.specs.Messages.{line_text, no_line};
 
 use crate::reason::Reason;
 use std::io::ErrorKind;
@@ -45,8 +45,14 @@ impl fmt::Display for LineMessage {
             LineMessage::Listening(port) => write!(f, "listening on 127.0.0.1:{port}"),
             LineMessage::Connected => write!(f, "connected"),
             LineMessage::Connecting(port) => write!(f, "connecting to 127.0.0.1:{port}"),
-            LineMessage::InUse(port) => write!(f, "port {port} is in use"),
-            LineMessage::Refused(port) => write!(f, "127.0.0.1:{port} refused the connection"),
+            LineMessage::InUse(port) => write!(
+                f,
+                "port {port} is in use by another program: choose another one"
+            ),
+            LineMessage::Refused(port) => write!(
+                f,
+                "nobody listens on 127.0.0.1:{port}: is the receiver running?"
+            ),
             LineMessage::Failed(port, why) => write!(f, "no connection at 127.0.0.1:{port}: {why}"),
         }
     }

@@ -1,10 +1,9 @@
 //! How far a file is, in words.
 
 ghost use Rattle.std.specs.Prelude.{◌≡◌, Some};
-ghost use Rattle.ym_show.specs.Progress.{rate_of, rate_text, repeats_text, left_text, percent_of, left_of, progress_text, took_text};
+ghost use Rattle.ym_text.specs.Progress.{rate_of, rate_text, repeats_text, left_text, percent_of, left_of, progress_text, took_text};
 
 use crate::shown::Shown;
-use std::alloc::{AllocError, Global};
 use std::fmt;
 
 /// How far a file is.
@@ -109,28 +108,50 @@ impl fmt::Display for Progress {
     }
 }
 
-/// The front of a text, of at most so many characters.
-fn front(text: &str, count: usize) -> &str {
-    match text.char_indices().nth(count) {
-        Some((end, _)) => &text[..end],
-        None => text,
-    }
+/// How much of it a line tells, the most first.
+#[derive(Clone, Copy, Debug, PartialEq, Eq)]
+pub enum Detail {
+    /// All of it.
+    All,
+    /// All but the numbers of bytes.
+    NoBytes,
+    /// Nor how many blocks were repeated.
+    NoRepeats,
+    /// Nor how long it takes yet.
+    NoLeft,
+    /// The hundredths alone.
+    Percent,
 }
 
-/// The line that tells how far the file of this name is, of at most so many characters: a name that is too long for it is cut.
-pub fn progress_line(
-    alloc: Global,
-    name: &str,
-    progress: Progress,
-    columns: usize,
-) -> Result<String, AllocError> {
-    let told = format!(in alloc; ": {progress}")?;
-    let shown = Shown(name);
-    let shown = format!(in alloc; "{shown}")?;
-    let room = columns.saturating_sub(told.as_str().chars().count());
-    let mut line = String::from_str(alloc, front(shown.as_str(), room))?;
-    line.push_str(front(told.as_str(), columns))?;
-    Ok(line)
+/// How far a file is, in so much detail.
+#[derive(Clone, Copy, Debug, PartialEq, Eq)]
+pub struct Brief {
+    /// How far it is.
+    pub progress: Progress,
+    /// How much of that is told.
+    pub detail: Detail,
+}
+
+impl fmt::Display for Brief {
+    ghost use Rattle.ym_text.specs.Briefs.{brief_text};
+
+    ghost output = { λ b. Some (brief_text b.detail b.progress.done b.progress.length
+        b.progress.rate b.progress.repeats) };
+
+    fn fmt<W: fmt::Write>(&self, f: &mut fmt::Formatter<W>) -> fmt::Result {
+        let progress = self.progress;
+        let percent = progress.percent();
+        let rate = Rate(progress.rate);
+        let left = Left(progress.seconds_left());
+        let repeats = Repeats(progress.repeats);
+        match self.detail {
+            Detail::All => write!(f, "{progress}"),
+            Detail::NoBytes => write!(f, "{percent}%, {rate}{left}{repeats}"),
+            Detail::NoRepeats => write!(f, "{percent}%, {rate}{left}"),
+            Detail::NoLeft => write!(f, "{percent}%, {rate}"),
+            Detail::Percent => write!(f, "{percent}%"),
+        }
+    }
 }
 
 /// How long a file took that is whole.
@@ -175,7 +196,7 @@ impl fmt::Display for Whole<'_> {
 }
 
 /// How many bytes a second so many bytes in so many milliseconds are; all of them where it took no millisecond.
-pub(crate) fn rate_of(bytes: u64, millis: u64) -> u64
+pub fn rate_of(bytes: u64, millis: u64) -> u64
     ensures { result ≡ rate_of bytes millis }
 {
     if millis == 0 {

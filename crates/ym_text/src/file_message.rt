@@ -50,7 +50,10 @@ impl fmt::Display for FileMessage<'_> {
             }
             FileMessage::IsThere(name) => {
                 let name = Shown(name);
-                write!(f, "cannot store '{name}': it is there already")
+                write!(
+                    f,
+                    "cannot store '{name}': it is there already; move it away first"
+                )
             }
             FileMessage::PartIsLeft(name, part) => {
                 let name = Shown(name);
@@ -65,7 +68,7 @@ impl fmt::Display for FileMessage<'_> {
                 let part = Shown(part);
                 write!(
                     f,
-                    "cannot store '{name}': '{part}' is in use, or is no part"
+                    "cannot store '{name}': '{part}' is in use by another program, or is no part"
                 )
             }
             FileMessage::PartIsGone(name, part) => {
@@ -73,7 +76,7 @@ impl fmt::Display for FileMessage<'_> {
                 let part = Shown(part);
                 write!(
                     f,
-                    "cannot store '{name}': '{part}' is no longer what was written"
+                    "cannot store '{name}': '{part}' was changed by another program"
                 )
             }
             FileMessage::CannotStore(name, why) => {

@@ -1,7 +1,7 @@
 //! Why the system refused a call.
 
 ghost use Rattle.std.specs.Prelude.{◌≡◌, Some};
-ghost use Rattle.ym_show.specs.Reasons.{reason_text};
+ghost use Rattle.ym_text.specs.Reasons.{reason_text};
 
 use std::io::ErrorKind;
 use std::{fmt, io};
@@ -28,7 +28,7 @@ pub enum Reason {
 }
 
 impl Reason {
-    ghost use Rattle.ym_show.specs.Reasons.{reason_of};
+    ghost use Rattle.ym_text.specs.Reasons.{reason_of};
 
     /// The reason that an error gives.
     pub fn of(error: &io::Error) -> Reason

@@ -4,8 +4,8 @@ use Rattle.std.specs.IoError.{error_kind, raw_os_error}
 use Rattle.std.specs.declared.io.Error.{Error}
 use Rattle.std.specs.declared.io.ErrorKind.{ErrorKind}
 use Rattle.std.specs.declared.io.ErrorKind.TheVariants as kind
-use Rattle.ym_show.specs.declared.reason.Reason.{Reason}
-use Rattle.ym_show.specs.declared.reason.Reason.TheVariants as why
+use Rattle.ym_text.specs.declared.reason.Reason.{Reason}
+use Rattle.ym_text.specs.declared.reason.Reason.TheVariants as why
 
 abbrev pub reason_text : Reason → List ℕ
 reason_text why.Absent = codes "no such file or directory"

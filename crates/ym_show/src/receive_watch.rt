@@ -1,0 +1,170 @@
+//! Who watches the sink of a receiver, and its port.
+
+use crate::meter::Meter;
+use crate::watched::SinkWatch;
+use crate::watched_port::PortWatch;
+use std::alloc::Global;
+use std::cell::RefCell;
+use std::io::Write;
+use std::time::Clock;
+use ym_header::Header;
+use ym_link::Wait;
+use ym_text::{Awaited, Lately};
+
+/// What is shown of a receiver.
+#[derive(Drop)]
+pub struct Receiving<'t, E: Write + Drop, C: Clock + Drop> {
+    alloc: Global,
+    meter: Meter<'t, E, C>,
+    /// How many replies a file takes besides those to its blocks.
+    besides: u64,
+    /// The name of the file that the sink was last given, where there was memory for it.
+    last: Option<String>,
+    /// What it waits for.
+    awaited: Awaited,
+    /// How often it has written since that file was begun, the file's blocks, and its bytes.
+    replies: u64,
+    blocks: u64,
+    done: u64,
+}
+
+impl<'t, E: Write + Drop, C: Clock + Drop> Receiving<'t, E, C> {
+    /// Nothing has come yet. A file takes so many replies besides those to its blocks.
+    pub fn new(alloc: Global, meter: Meter<'t, E, C>, besides: u64) -> Receiving<'t, E, C> {
+        Receiving {
+            alloc,
+            meter,
+            besides,
+            last: None,
+            awaited: Awaited::Sender,
+            replies: 0,
+            blocks: 0,
+            done: 0,
+        }
+    }
+
+    /// The name of the file that the sink was last given, where there was memory for it, and what
+    /// came of late. The showing ends.
+    pub fn end(&mut self) -> (Option<String>, Lately) {
+        self.meter.end();
+        (self.last.take(), self.meter.lately())
+    }
+
+    /// A file of this header is begun.
+    fn begin(&mut self, header: &Header) {
+        self.last = String::from_str(self.alloc, header.name()).ok();
+        self.awaited = Awaited::More;
+        self.replies = 0;
+        self.blocks = 0;
+        self.done = 0;
+        self.meter.get_on();
+        self.meter.begin(header.name(), header.length());
+    }
+
+    /// A block of so many bytes was stored.
+    fn add(&mut self, count: usize) {
+        self.blocks = self.blocks.saturating_add(1);
+        self.done = self.done.saturating_add(count as u64);
+        self.meter.get_on();
+        let repeats = self.replies.saturating_sub(self.blocks);
+        self.meter.advance(self.done, repeats);
+    }
+
+    /// The file is whole.
+    fn finish(&mut self) {
+        let replies = self.blocks.saturating_add(self.besides);
+        self.meter.get_on();
+        self.meter.finish(self.replies.saturating_sub(replies));
+    }
+}
+
+/// Watches the sink of a receiver and its port where somebody looks, and shows how far its files
+/// are, or whom it waits for. Its copies share what they show.
+#[derive(Drop)]
+pub struct ReceiveWatch<'s, 't, E: Write + Drop, C: Clock + Drop> {
+    /// What is shown.
+    pub shown: &'s RefCell<Receiving<'t, E, C>>,
+    /// Whether somebody looks.
+    pub is_looked_at: bool,
+}
+
+impl<'s, 't, E: Write + Drop, C: Clock + Drop> ReceiveWatch<'s, 't, E, C> {
+    /// A block of so many bytes was stored.
+    // kept out of the way of a block that nobody looks at
+    #[cold]
+    #[inline(never)]
+    fn block(&self, count: usize) {
+        if let Ok(mut shown) = self.shown.try_borrow_mut() {
+            shown.add(count);
+        }
+    }
+
+    /// Something was written.
+    #[cold]
+    #[inline(never)]
+    fn reply(&self) {
+        if let Ok(mut shown) = self.shown.try_borrow_mut() {
+            shown.replies = shown.replies.saturating_add(1);
+        }
+    }
+}
+
+impl<'s, 't, E: Write + Drop, C: Clock + Drop> PortWatch for ReceiveWatch<'s, 't, E, C> {
+    #[inline(always)]
+    fn waits(&mut self, wait: Wait) {
+        if !self.is_looked_at || wait != Wait::Reply {
+            return;
+        }
+        if let Ok(mut shown) = self.shown.try_borrow_mut() {
+            let awaited = shown.awaited;
+            shown.meter.wait(awaited);
+        }
+    }
+
+    #[inline(always)]
+    fn came(&mut self, bytes: &[u8]) {
+        if !self.is_looked_at {
+            return;
+        }
+        if let Ok(mut shown) = self.shown.try_borrow_mut() {
+            shown.meter.hear(bytes);
+        }
+    }
+
+    #[inline(always)]
+    fn wrote(&mut self, _bytes: &[u8]) {
+        if self.is_looked_at {
+            self.reply();
+        }
+    }
+}
+
+impl<'s, 't, E: Write + Drop, C: Clock + Drop> SinkWatch for ReceiveWatch<'s, 't, E, C> {
+    fn begins(&mut self, header: &Header) {
+        if !self.is_looked_at {
+            return;
+        }
+        if let Ok(mut shown) = self.shown.try_borrow_mut() {
+            shown.begin(header);
+        }
+    }
+
+    #[inline(always)]
+    fn added(&mut self, count: usize) {
+        if self.is_looked_at {
+            self.block(count);
+        }
+    }
+
+    fn committed(&mut self) {
+        if let Ok(mut shown) = self.shown.try_borrow_mut() {
+            shown.finish();
+        }
+    }
+
+    fn ended(&mut self) {
+        if let Ok(mut shown) = self.shown.try_borrow_mut() {
+            shown.meter.end();
+        }
+    }
+}

@@ -1,0 +1,103 @@
+-- The lines that tell what the program does and why it failed, without their ends.
+use Rattle.std.specs.Prelude.{ℕ, List, ◌++◌, codes, decimal, Option, Some, None}
+use Rattle.ym_header.specs.declared.fault.HeaderFault.{HeaderFault}
+use Rattle.ym_header.specs.declared.fault.HeaderFault.TheVariants as header
+use Rattle.ym_core.specs.declared.state.RecvState.{RecvState}
+use Rattle.ym_core.specs.declared.state.RecvState.TheVariants as recv
+use Rattle.ym_core.specs.declared.state.SendState.{SendState}
+use Rattle.ym_core.specs.declared.state.SendState.TheVariants as send
+use Rattle.ym_text.specs.declared.came.Came.{Came}
+use Rattle.ym_text.specs.declared.came.Came.TheVariants as came
+use Rattle.ym_text.specs.declared.came.Lately.{Lately}
+use Rattle.ym_text.specs.declared.reason.Reason.{Reason}
+use Rattle.ym_text.specs.declared.line_message.LineMessage.{LineMessage}
+use Rattle.ym_text.specs.declared.line_message.LineMessage.TheVariants as line
+use Rattle.ym_text.specs.declared.end_message.EndMessage.{EndMessage}
+use Rattle.ym_text.specs.declared.end_message.EndMessage.TheVariants as end
+use Rattle.std.specs.IoError.{error_kind}
+use Rattle.std.specs.declared.io.Error.{Error}
+use Rattle.std.specs.declared.io.ErrorKind.{ErrorKind}
+use Rattle.std.specs.declared.io.ErrorKind.TheVariants as kind
+use Rattle.ym_text.specs.Reasons.{reason_of, reason_text}
+
+abbrev pub line_text : LineMessage → List ℕ
+line_text (line.Listening port) = codes "listening on 127.0.0.1:" ++ decimal port
+line_text line.Connected = codes "connected"
+line_text (line.Connecting port) = codes "connecting to 127.0.0.1:" ++ decimal port
+line_text (line.InUse port) =
+    codes "port " ++ (decimal port ++ codes " is in use by another program: choose another one")
+line_text (line.Refused port) =
+    codes "nobody listens on 127.0.0.1:" ++ (decimal port ++ codes ": is the receiver running?")
+line_text (line.Failed port why) = codes "no connection at 127.0.0.1:" ++ (decimal port ++ (codes ": " ++ reason_text why))
+
+-- why there is no connection
+abbrev pub no_line_for : ℕ → ErrorKind → Reason → LineMessage
+no_line_for port kind.AddrInUse why = line.InUse port
+no_line_for port kind.ConnectionRefused why = line.Refused port
+no_line_for port _ why = line.Failed port why
+
+abbrev pub no_line : ℕ → Error → LineMessage
+no_line port error = no_line_for port (error_kind error) (reason_of error)
+
+abbrev pub header_text : HeaderFault → List ℕ
+header_text header.NameEmpty = codes "the sender gave a file an empty name"
+header_text header.NameLong = codes "the sender gave a file a name of more than 255 bytes"
+header_text header.NameUnsafe =
+    codes "the sender gave an unsafe name: a path, not UTF-8, or with control characters"
+header_text header.NoLength =
+    codes "the sender gave a file no length: let it send by YMODEM, and not by XMODEM"
+header_text header.LengthLarge =
+    codes "the sender gave a file a length above 9223372036854775807"
+header_text header.Memory = codes "out of memory"
+
+-- what came in place of what an end waited for, and what to look at then; the other end is named
+abbrev pub came_text : List ℕ → Came → ℕ → List ℕ
+came_text other came.Nothing seconds =
+    codes "nothing came for " ++ (decimal seconds ++ (codes " s: is the "
+    ++ (other ++ codes " running, at the same speed?")))
+came_text other came.Asks seconds =
+    codes "nothing came but C, ten times: does the "
+    ++ (other ++ codes " get what is written to it?")
+came_text other came.Text seconds =
+    codes "what comes is no YMODEM: is a shell or a boot loader's prompt at the other end?"
+came_text other came.Other seconds =
+    codes "nothing whole came, ten times in a row: do both ends have the same speed?"
+
+abbrev pub lately_text : List ℕ → Lately → List ℕ
+lately_text other lately = came_text other lately.came lately.seconds
+
+abbrev pub end_text : EndMessage → List ℕ
+end_text end.PeerCancelled = codes "the other end cancelled (CAN CAN)"
+end_text end.PeerClosed = codes "the other end closed the connection"
+end_text end.LineFailed = codes "the connection failed"
+end_text end.LineHungUp = codes "the line hung up"
+end_text end.LineEndless =
+    codes "reads of the line do not end by themselves: set it by `stty raw -echo min 0 time 1`"
+end_text (end.LineRefused why) = codes "the line failed: " ++ reason_text why
+end_text (end.NoReply lately) = lately_text (codes "receiver") lately
+end_text (end.NoBlock lately) = lately_text (codes "sender") lately
+end_text end.SourceFailed =
+    codes "a file could not be read, or has changed since it was looked at"
+end_text end.OutOfStep =
+    codes "a block came out of turn: the ends have lost each other, send again"
+end_text (end.BadHeader fault) = header_text fault
+end_text end.TooManyFiles = codes "more than 65535 files came: send the rest in another batch"
+
+-- why a sender has ended so, where this came of late, unless it has finished or still runs
+abbrev pub sender_end : Lately → SendState → Option EndMessage
+sender_end lately send.Running = None
+sender_end lately send.Finished = None
+sender_end lately send.NoReply = Some (end.NoReply lately)
+sender_end lately send.Cancelled = Some end.PeerCancelled
+sender_end lately send.SourceFailed = Some end.SourceFailed
+
+-- the same of a receiver, whose sink is told of elsewhere
+abbrev pub receiver_end : Lately → RecvState → Option EndMessage
+receiver_end lately recv.Running = None
+receiver_end lately recv.Finished = None
+receiver_end lately recv.TooManyErrors = Some (end.NoBlock lately)
+receiver_end lately recv.Cancelled = Some end.PeerCancelled
+receiver_end lately recv.OutOfStep = Some end.OutOfStep
+receiver_end lately (recv.BadHeader fault) = Some (end.BadHeader fault)
+receiver_end lately recv.TooManyFiles = Some end.TooManyFiles
+receiver_end lately recv.SinkFailed = None

@@ -1,0 +1,75 @@
+//! What came of late.
+
+ghost use Rattle.std.specs.Prelude.{◌≡◌, ◌≢◌, ◌↔◌, [], IsTrue, All};
+ghost use Rattle.ym_text.specs.Readable.{IsAsk, IsTextByte};
+
+/// The byte by which a receiver asks.
+const ASK: u8 = b'C';
+
+/// What came since an end last got on.
+#[derive(Clone, Copy, Debug, PartialEq, Eq)]
+pub enum Came {
+    /// No byte.
+    Nothing,
+    /// C alone.
+    Asks,
+    /// Text, as a person reads it.
+    Text,
+    /// Other bytes, or some of them.
+    Other,
+}
+
+/// Whether these bytes are C alone.
+fn is_asks(bytes: &[u8]) -> bool
+    ensures { IsTrue result ↔ All IsAsk bytes.now }
+{
+    bytes.iter().all(|&byte| byte == ASK)
+}
+
+/// Whether these bytes are characters of ASCII that are printed, or controls that stand in what a
+/// shell shows: BEL to CR, and ESC.
+fn is_text(bytes: &[u8]) -> bool
+    ensures { IsTrue result ↔ All IsTextByte bytes.now }
+{
+    bytes
+        .iter()
+        .all(|&byte| matches!(byte, 7..=13 | 27 | 32..=126))
+}
+
+impl Came {
+    ghost use Rattle.ym_text.specs.Came.{and_asks, and_text};
+
+    /// After these bytes more.
+    pub fn with(self, bytes: &[u8]) -> Came
+        ensures quiet { bytes.now ≡ [] → result ≡ self }
+        ensures asks { bytes.now ≢ [] → All IsAsk bytes.now → result ≡ and_asks self }
+        ensures text { ¬ All IsAsk bytes.now → All IsTextByte bytes.now → result ≡ and_text self }
+        ensures other { ¬ All IsAsk bytes.now → ¬ All IsTextByte bytes.now → result ≡ Came.Other }
+    {
+        if bytes.is_empty() {
+            return self;
+        }
+        if is_asks(bytes) {
+            return match self {
+                Came::Nothing => Came::Asks,
+                came => came,
+            };
+        }
+        if !is_text(bytes) {
+            return Came::Other;
+        }
+        match self {
+            Came::Other => Came::Other,
+            _ => Came::Text,
+        }
+    }
+}
+
+/// What came since an end last got on, and for how many seconds nothing did.
+#[derive(Clone, Copy, Debug, PartialEq, Eq)]
+pub struct Lately {
+    /// What came.
+    pub came: Came,
+    /// For how many seconds nothing came.
+    pub seconds: u64,
+}

@@ -1,0 +1,182 @@
+//! What is told of how an end has ended.
+
+ghost use Rattle.std.specs.Prelude.{◌≡◌, Some};
+ghost use Rattle.ym_text.specs.Messages.{end_text, sender_end, receiver_end};
+
+use crate::came::{Came, Lately};
+use crate::reason::Reason;
+use std::fmt;
+use ym_header::HeaderFault;
+use ym_link::{RecvState, SendState};
+
+/// Why an end has ended before its batch was whole. Its `Display` is the line that tells it, without its end.
+#[derive(Clone, Copy, Debug, PartialEq, Eq)]
+pub enum EndMessage {
+    /// The other end cancelled.
+    PeerCancelled,
+    /// The other end closed the connection.
+    PeerClosed,
+    /// The connection failed.
+    LineFailed,
+    /// The terminal that is the line has hung up.
+    LineHungUp,
+    /// Its reads do not end by themselves.
+    LineEndless,
+    /// The system refused a call of it.
+    LineRefused(Reason),
+    /// A sender heard nothing of use, as often as it may; what came in place of it.
+    NoReply(Lately),
+    /// A receiver heard nothing of use, as often as it may; what came in place of it.
+    NoBlock(Lately),
+    /// A file that is sent could not be read, or is another one than it was.
+    SourceFailed,
+    /// A block came out of turn.
+    OutOfStep,
+    /// A block 0 was refused.
+    BadHeader(HeaderFault),
+    /// One more file came than a batch may have.
+    TooManyFiles,
+}
+
+impl EndMessage {
+    /// Why a sender has ended in this state, where it has not finished, and this came of late.
+    pub fn of_sender(state: SendState, lately: Lately) -> Option<EndMessage>
+        ensures { result ≡ sender_end lately state }
+    {
+        match state {
+            SendState::Running | SendState::Finished => None,
+            SendState::NoReply => Some(EndMessage::NoReply(lately)),
+            SendState::Cancelled => Some(EndMessage::PeerCancelled),
+            SendState::SourceFailed => Some(EndMessage::SourceFailed),
+        }
+    }
+
+    /// Why a receiver has ended in this state, where it has not finished, and this came of late. Of
+    /// a sink that failed more is told elsewhere.
+    pub fn of_receiver(state: RecvState, lately: Lately) -> Option<EndMessage>
+        ensures { result ≡ receiver_end lately state }
+    {
+        match state {
+            RecvState::Running | RecvState::Finished | RecvState::SinkFailed => None,
+            RecvState::TooManyErrors => Some(EndMessage::NoBlock(lately)),
+            RecvState::Cancelled => Some(EndMessage::PeerCancelled),
+            RecvState::OutOfStep => Some(EndMessage::OutOfStep),
+            RecvState::BadHeader(fault) => Some(EndMessage::BadHeader(fault)),
+            RecvState::TooManyFiles => Some(EndMessage::TooManyFiles),
+        }
+    }
+}
+
+/// Why a block 0 was refused.
+#[derive(Clone, Copy)]
+struct HeaderWords(HeaderFault);
+
+impl fmt::Display for HeaderWords {
+    ghost use Rattle.ym_text.specs.Messages.{header_text};
+
+    ghost output = { λ words. Some (header_text words.0) };
+
+    fn fmt<W: fmt::Write>(&self, f: &mut fmt::Formatter<W>) -> fmt::Result {
+        match self.0 {
+            HeaderFault::NameEmpty => write!(f, "the sender gave a file an empty name"),
+            HeaderFault::NameLong => {
+                write!(f, "the sender gave a file a name of more than 255 bytes")
+            }
+            HeaderFault::NameUnsafe => write!(
+                f,
+                "the sender gave an unsafe name: a path, not UTF-8, or with control characters"
+            ),
+            HeaderFault::NoLength => write!(
+                f,
+                "the sender gave a file no length: let it send by YMODEM, and not by XMODEM"
+            ),
+            HeaderFault::LengthLarge => write!(
+                f,
+                "the sender gave a file a length above 9223372036854775807"
+            ),
+            HeaderFault::Memory => write!(f, "out of memory"),
+        }
+    }
+}
+
+/// What came in place of what an end waited for, and what to look at then.
+#[derive(Clone, Copy)]
+struct LatelyWords {
+    /// What came.
+    lately: Lately,
+    /// The other end.
+    other: &'static str,
+}
+
+impl fmt::Display for LatelyWords {
+    ghost use Rattle.ym_text.specs.Messages.{lately_text};
+
+    ghost output = { λ words. Some (lately_text words.other.now words.lately) };
+
+    fn fmt<W: fmt::Write>(&self, f: &mut fmt::Formatter<W>) -> fmt::Result {
+        let seconds = self.lately.seconds;
+        let other = self.other;
+        match self.lately.came {
+            Came::Nothing => write!(
+                f,
+                "nothing came for {seconds} s: is the {other} running, at the same speed?"
+            ),
+            Came::Asks => write!(
+                f,
+                "nothing came but C, ten times: does the {other} get what is written to it?"
+            ),
+            Came::Text => write!(
+                f,
+                "what comes is no YMODEM: is a shell or a boot loader's prompt at the other end?"
+            ),
+            Came::Other => write!(
+                f,
+                "nothing whole came, ten times in a row: do both ends have the same speed?"
+            ),
+        }
+    }
+}
+
+impl fmt::Display for EndMessage {
+    ghost output = { λ message. Some (end_text message) };
+
+    fn fmt<W: fmt::Write>(&self, f: &mut fmt::Formatter<W>) -> fmt::Result {
+        match *self {
+            EndMessage::PeerCancelled => write!(f, "the other end cancelled (CAN CAN)"),
+            EndMessage::PeerClosed => write!(f, "the other end closed the connection"),
+            EndMessage::LineFailed => write!(f, "the connection failed"),
+            EndMessage::LineHungUp => write!(f, "the line hung up"),
+            EndMessage::LineEndless => write!(
+                f,
+                "reads of the line do not end by themselves: set it by `stty raw -echo min 0 time 1`"
+            ),
+            EndMessage::LineRefused(why) => write!(f, "the line failed: {why}"),
+            EndMessage::NoReply(lately) => {
+                let other = "receiver";
+                let words = LatelyWords { lately, other };
+                write!(f, "{words}")
+            }
+            EndMessage::NoBlock(lately) => {
+                let other = "sender";
+                let words = LatelyWords { lately, other };
+                write!(f, "{words}")
+            }
+            EndMessage::SourceFailed => write!(
+                f,
+                "a file could not be read, or has changed since it was looked at"
+            ),
+            EndMessage::OutOfStep => write!(
+                f,
+                "a block came out of turn: the ends have lost each other, send again"
+            ),
+            EndMessage::BadHeader(fault) => {
+                let words = HeaderWords(fault);
+                write!(f, "{words}")
+            }
+            EndMessage::TooManyFiles => write!(
+                f,
+                "more than 65535 files came: send the rest in another batch"
+            ),
+        }
+    }
+}
