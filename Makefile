@@ -9,19 +9,20 @@
 # make edits             tries every edit of the crates, many in a check; the gate tries a few of them.
 #                        CRATES="A B" takes those of these crates, ANEW=1 also what was settled
 # make plants            plants wrong bodies that no contract refuses, and tells for each by which test it is caught (docs/plants.md).
-#                        CRATES="A B" takes those of these crates, TESTS=1 asks the tests alone
+#                        CRATES="A B" takes those of these crates, or of share, include or web; TESTS=1 asks the tests alone
 # make interop           the program against lrzsz, which has to be installed
 # make install           puts the program, ymodem-tty, the manual pages and the completion below $(DESTDIR)$(PREFIX)
-# make portable          the library for C as two files for every processor, 32 bits too: out/portable
+# make portable          the library for C as files for every processor, 32 bits too: out/portable
 # make deb, make dist    the same as a Debian package, with one of the library for C beside it, and as a tar file, in out/
 # make charts            draws the charts of docs/pictures from the traces that the program prints
+# make recording         records a transfer anew, and draws it: docs/pictures/transfer.svg, which the README shows
 # make bench             measures the program
 # All need the toolchain: `rt` on the path, and Python 3.
 
 PREFIX ?= /usr/local
 PROGRAM = crates/ymodem/out/ymodem
 
-.PHONY: play build check layout test cases memory edits plants interop install deb dist charts bench clean
+.PHONY: play build check layout test cases memory edits plants interop install deb dist charts recording bench clean
 
 play:
 	@tools/prove.py play
@@ -56,7 +57,7 @@ edits:
 	@tools/edits.py $(if $(ANEW),--anew) $(if $(JOBS),--jobs $(JOBS)) $(CRATES)
 
 plants:
-	@tools/plants.py $(if $(TESTS),--tests) $(CRATES)
+	@tools/plants.py $(if $(TESTS),--tests) $(if $(JOBS),--jobs $(JOBS)) $(CRATES)
 
 interop: build
 	tests/transfer.py --interop
@@ -76,6 +77,9 @@ dist: build portable
 charts: build
 	docs/pictures/draw.py $(PROGRAM)
 
+recording: build
+	docs/pictures/record.py $(PROGRAM)
+
 bench: build
 	bench/play.py
 	bench/sockets.py
@@ -89,9 +93,9 @@ clean:
 # make lib               proves and builds it: out/lib/TARGET/libymodem.a for each of TARGETS
 # make test-lib          the checks of the library, which `make test` runs too: on this machine, on a board without an operating system (QEMU), and
 #                        of `ymodem send` to U-Boot
-# make portable          the same library as out/portable/ymodem.c and ymodem.h, for any C99 compiler and little-endian processor of 32 or 64
-#                        bits; needs wasm-opt and wasm2c (Debian's binaryen and wabt)
-# make test-portable     the checks of these two files
+# make portable          the same library as out/portable/ymodem.c, ymodem.h and ymodem_io.h, for any C99 compiler and little-endian processor
+#                        of 32 or 64 bits; needs wasm-opt and wasm2c (Debian's binaryen and wabt)
+# make test-portable     all checks of these files, and on boards in QEMU; `make test` makes the short ones
 # make install-lib       puts the archive of TARGET, the headers and the file for pkg-config below $(DESTDIR)$(PREFIX)
 
 TARGETS = x86_64-unknown-linux-gnu aarch64-unknown-linux-gnu wasm64-unknown-unknown
@@ -116,9 +120,9 @@ portable:
 	@tools/portable.py out/lib/$(WASM)/libymodem.a out/portable
 
 test-portable: build portable
-	@$(MAKE) --no-print-directory lib TARGETS=$(TARGET)
+	@$(MAKE) --no-print-directory lib TARGETS="$(TARGET) aarch64-unknown-linux-gnu"
 	tests/portable.py --long
-	tests/cortex_m.py
+	tests/boards.py --long
 
 install-lib: lib
 	install -D -m 644 out/lib/$(TARGET)/libymodem.a "$(DESTDIR)$(PREFIX)/lib/libymodem.a"
@@ -130,14 +134,16 @@ install-lib: lib
 
 # ---- The page
 
-# make web               proves and builds it: out/web, the page and the module for other pages
+# make web               proves and builds it: out/web, the page and the module for other pages;
+#                        needs wasm-opt (Debian's binaryen)
 # make web-serve         shows it on 127.0.0.1, at PORT
-# make test-web          the checks of the page in a browser, which `make test` runs too
+# make web-picture       takes the picture of it for docs/web.md, in Chromium
+# make test-web          the checks of the page in browsers, which `make test` runs too
 
 PORT = 8000
 WASM = wasm64-unknown-unknown
 
-.PHONY: web web-serve test-web
+.PHONY: web web-serve web-picture test-web
 
 web:
 	@$(MAKE) --no-print-directory lib TARGETS=$(WASM)
@@ -145,6 +151,9 @@ web:
 
 web-serve: web
 	cd out/web && python3 -m http.server --bind 127.0.0.1 $(PORT)
+
+web-picture: web
+	docs/pictures/web.py
 
 test-web: build web
 	tests/web.py

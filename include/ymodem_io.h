@@ -32,7 +32,10 @@ typedef enum ym_error {
     YM_ERROR_CANCELLED,    /* the peer cancelled */
     YM_ERROR_OUT_OF_STEP,  /* a block came that is neither the next nor the last one */
     YM_ERROR_MOST_FILES,   /* one file more than a batch may have */
-    YM_ERROR_HEADER        /* the name or the length of a file is refused */
+    /* The header of a file is refused, in the order of enum ym_fault: its name is empty, has more
+       than 255 bytes, or is unsafe; it tells no length, or one above 2^63 - 1. */
+    YM_ERROR_NAME_EMPTY, YM_ERROR_NAME_LONG, YM_ERROR_NAME_UNSAFE, YM_ERROR_NO_LENGTH,
+    YM_ERROR_LENGTH_LARGE
 } ym_error;
 
 /* The line. Each answers below 0 where the line is closed, or fails. */
@@ -78,18 +81,18 @@ typedef struct ym_source {
 
 /* What an error is called. */
 static inline const char *ym_text(ym_error error) {
-    switch (error) {
-    case YM_DONE: return "done";
-    case YM_ERROR_LINE: return "the line failed";
-    case YM_ERROR_FILES: return "a file failed";
-    case YM_ERROR_NO_REPLY: return "no reply";
-    case YM_ERROR_TOO_MANY: return "too many errors";
-    case YM_ERROR_CANCELLED: return "cancelled by the peer";
-    case YM_ERROR_OUT_OF_STEP: return "the peer is out of step";
-    case YM_ERROR_MOST_FILES: return "too many files";
-    case YM_ERROR_HEADER: return "a file's name or length is refused";
-    default: return "unknown";
-    }
+    static const char *const texts[] = {
+        "done", "the line failed", "a file failed", "no reply", "too many errors",
+        "cancelled by the peer", "the peer is out of step", "too many files",
+        "a file's name is empty", "a file's name has more than 255 bytes",
+        "a file's name is unsafe", "a file has no length", "a file's length is above 2^63 - 1"
+    };
+    return (size_t)error < sizeof texts / sizeof *texts ? texts[(size_t)error] : "unknown";
+}
+
+/* The error of a header that is refused: they stand in the order of enum ym_fault. */
+static inline ym_error ym_refused(uint32_t fault) {
+    return (ym_error)(YM_ERROR_NAME_EMPTY + (fault - YM_NAME_EMPTY));
 }
 
 /* ---- The line */
@@ -109,12 +112,15 @@ static const uint8_t ym_can_can[2] = { 0x18, 0x18 };
 
 static inline void ym_end_begin(ym_end *end, const ym_io *io, int sends, uint8_t *written) {
     end->io = io;
-    end->now = 0;
+    end->now = end->written_len = 0;
     end->sends = sends;
     end->closed = 0;
     end->written = written;
-    end->written_len = 0;
     ym_line_init(&end->line, !sends);
+}
+
+static inline void ym_copy(uint8_t *to, const uint8_t *from, size_t len) {
+    while (len--) *to++ = *from++;
 }
 
 static inline void ym_end_look(ym_end *end) {
@@ -137,8 +143,7 @@ static inline size_t ym_end_get(ym_end *end, uint64_t until, size_t most) {
 }
 
 static inline int ym_end_hears(ym_end *end, const uint8_t *bytes, size_t len) {
-    size_t i;
-    for (i = 0; i < len; i++) end->heard[i] = bytes[i];
+    ym_copy(end->heard, bytes, len);
     return (int)len;
 }
 
@@ -157,7 +162,7 @@ static inline int ym_end_takes(ym_end *end, size_t came) {
 static inline int ym_end_read(ym_end *end, uint32_t wait, size_t most) {
     static const uint8_t ack[1] = { 0x06 };
     uint64_t start;
-    int32_t reads;
+    uint32_t vain, reads;
     if (ym_line_cancelled(&end->line)) return ym_end_hears(end, ym_can_can, 2);
     if (end->closed) return -1;
     if (wait == YM_WAIT_FIRST) ym_end_look(end);
@@ -167,12 +172,10 @@ static inline int ym_end_read(ym_end *end, uint32_t wait, size_t most) {
         int heard = ym_end_takes(end, came);
         if (heard) return heard;
         if (!end->closed && end->now < ym_line_until(&end->line, wait, start)) continue;
-        switch (ym_line_expired(&end->line, wait, end->now)) {
-        case YM_VAIN_ACK: return ym_end_hears(end, ack, 1);
-        case YM_VAIN_QUIET: return end->closed ? -1 : 0;
-        default:
-            if (end->closed) return -1;
-        }
+        vain = ym_line_expired(&end->line, wait, end->now);
+        if (vain == YM_VAIN_ACK) return ym_end_hears(end, ack, 1);
+        if (end->closed) return -1;
+        if (vain == YM_VAIN_QUIET) return 0;
     }
     return 0;
 }
@@ -180,7 +183,7 @@ static inline int ym_end_read(ym_end *end, uint32_t wait, size_t most) {
 /* Writes a frame or a reply, behind what has to clear before it. 0 where the line failed. */
 static inline int ym_end_write(ym_end *end, const uint8_t *bytes, size_t len) {
     ym_clearing clearing;
-    int32_t reads;
+    uint32_t reads;
     ym_end_look(end);
     ym_line_clearing(&end->line, bytes, len, end->now, &clearing);
     for (reads = 0; reads < YM_MOST_READS && !end->closed; reads++) {
@@ -191,9 +194,8 @@ static inline int ym_end_write(ym_end *end, const uint8_t *bytes, size_t len) {
             end->now);
     }
     ym_line_wrote(&end->line, &clearing, bytes, len, end->now);
-    for (end->written_len = 0; end->written_len < len; end->written_len++) {
-        end->written[end->written_len] = bytes[end->written_len];
-    }
+    ym_copy(end->written, bytes, len);
+    end->written_len = len;
     return end->io->write(end->io->user, bytes, len) >= 0;
 }
 
@@ -247,10 +249,8 @@ typedef struct ym_opening {
 
 static inline ym_opening ym_opening_of(const ym_receiver *receiver) {
     ym_opening it = { receiver->len, { 0, 0 } };
-    if (it.len > 1 && it.len <= sizeof receiver->held) {
-        it.check[0] = receiver->held[it.len - 2];
-        it.check[1] = receiver->held[it.len - 1];
-    }
+    if (it.len < 2 || it.len > sizeof receiver->held) return it;
+    ym_copy(it.check, receiver->held + it.len - 2, 2);
     return it;
 }
 
@@ -262,14 +262,14 @@ static inline int ym_is_other_file(const ym_receiver *receiver, const ym_ask *as
     return it.len != old.len || it.check[0] != old.check[0] || it.check[1] != old.check[1];
 }
 
-static inline ym_error ym_received(uint32_t state) {
-    switch (state) {
+static inline ym_error ym_received(const ym_stand *stand) {
+    switch (stand->state) {
     case YM_FINISHED: return YM_DONE;
     case YM_TOO_MANY_ERRORS: return YM_ERROR_TOO_MANY;
     case YM_CANCELLED: return YM_ERROR_CANCELLED;
     case YM_OUT_OF_STEP: return YM_ERROR_OUT_OF_STEP;
     case YM_TOO_MANY_FILES: return YM_ERROR_MOST_FILES;
-    case YM_BAD_HEADER: return YM_ERROR_HEADER;
+    case YM_BAD_HEADER: return ym_refused(stand->fault);
     default: return YM_ERROR_FILES;
     }
 }
@@ -292,7 +292,7 @@ static inline ym_error ym_receive(const ym_io *io, const ym_sink *sink) {
         if (len && !ym_end_write(&end, reply, len)) return YM_ERROR_LINE;
         if (other) return YM_ERROR_OUT_OF_STEP;
     }
-    return ym_received(receiver.stand.state);
+    return ym_received(&receiver.stand);
 }
 
 /* ---- The sender */
@@ -319,32 +319,44 @@ static inline int ym_send_block(const ym_source *source, ym_sender *sender, cons
     return ym_sender_block(sender, body, size) == 0;
 }
 
-/* 0 where it cannot; below 0 where the header is refused. */
-static inline int ym_send_fills(const ym_source *source, ym_sender *sender, const ym_fill *fill) {
+static inline ym_error ym_send_header(const ym_source *source, ym_sender *sender, uint32_t which) {
     ym_file file;
-    switch (fill->kind) {
-    case YM_FILL_HEADER:
-        if (!source->about(source->user, fill->file, &file)) return 0;
-        return ym_sender_header(sender, file.name, file.name_len, file.length, file.stamp,
-            file.time, file.mode) == 0 ? 1 : -1;
-    case YM_FILL_BLOCK: return ym_send_block(source, sender, fill);
-    default: return 1;
-    }
+    uint32_t fault;
+    if (!source->about(source->user, which, &file)) return YM_ERROR_FILES;
+    fault = ym_sender_header(sender, file.name, file.name_len, file.length, file.stamp, file.time,
+        file.mode);
+    return fault ? ym_refused(fault) : YM_DONE;
 }
 
-/* Reads one delivery: how many bytes; below 0 where the line is closed. */
+static inline ym_error ym_send_fills(const ym_source *source, ym_sender *sender,
+    const ym_fill *fill) {
+    if (fill->kind == YM_FILL_HEADER) return ym_send_header(source, sender, fill->file);
+    if (fill->kind != YM_FILL_BLOCK || ym_send_block(source, sender, fill)) return YM_DONE;
+    return YM_ERROR_FILES;
+}
+
+/* Reads one delivery: how many bytes; below 0 where the line is closed. One byte may make two. */
 static inline int ym_send_hears(ym_end *end, const ym_source *source, const ym_sender *sender,
     uint8_t *bytes) {
     size_t held = 0;
-    while (held + 2 * YM_PIECE <= YM_DELIVERY) {
-        int len = ym_end_read(end, held ? YM_WAIT_MORE : YM_WAIT_FIRST, YM_PIECE), i;
+    while (held + 2 <= YM_DELIVERY) {
+        int len = ym_end_read(end, held ? YM_WAIT_MORE : YM_WAIT_FIRST, (YM_DELIVERY - held) / 2);
         if (len < 0) return len;
         if (!len) break;
-        for (i = 0; i < len; i++) bytes[held + (size_t)i] = end->heard[i];
+        ym_copy(bytes + held, end->heard, (size_t)len);
         held += (size_t)len;
         if (ym_sender_settled(sender, source->blocks, source->files, bytes, held)) break;
     }
     return (int)held;
+}
+
+/* Writes what is to be sent now. 0 where the line failed. */
+static inline int ym_send_says(ym_end *end, const ym_source *source, const ym_sender *sender) {
+    switch (ym_sender_out(sender, source->blocks, source->files)) {
+    case YM_OUT_FRAME: return ym_end_write(end, sender->frame, sender->len);
+    case YM_OUT_CANCEL: return ym_end_write(end, ym_can_can, 2);
+    default: return 1;
+    }
 }
 
 static inline ym_error ym_sent(uint32_t state) {
@@ -363,8 +375,9 @@ static inline ym_error ym_send(const ym_io *io, const ym_source *source) {
     ym_fill fill;
     ym_file file;
     uint8_t bytes[YM_DELIVERY], written[1029];
+    ym_error error = YM_DONE;
     size_t i;
-    int len, filled = 1;
+    int len;
     if (source->files > 65535) return YM_ERROR_MOST_FILES;
     for (i = 0; i < source->files; i++) {
         if (!source->about(source->user, i, &file)) return YM_ERROR_FILES;
@@ -376,19 +389,11 @@ static inline ym_error ym_send(const ym_io *io, const ym_source *source) {
         len = ym_send_hears(&end, source, &sender, bytes);
         if (len < 0) return YM_ERROR_LINE;
         ym_sender_hear(&sender, source->blocks, source->files, bytes, (size_t)len, &fill);
-        filled = ym_send_fills(source, &sender, &fill);
-        if (filled <= 0) ym_sender_failed(&sender, source->blocks, source->files);
-        switch (ym_sender_out(&sender, source->blocks, source->files)) {
-        case YM_OUT_FRAME:
-            if (!ym_end_write(&end, sender.frame, sender.len)) return YM_ERROR_LINE;
-            break;
-        case YM_OUT_CANCEL:
-            if (!ym_end_write(&end, ym_can_can, 2)) return YM_ERROR_LINE;
-            break;
-        default: break;
-        }
+        error = ym_send_fills(source, &sender, &fill);
+        if (error != YM_DONE) ym_sender_failed(&sender, source->blocks, source->files);
+        if (!ym_send_says(&end, source, &sender)) return YM_ERROR_LINE;
     }
-    return filled < 0 ? YM_ERROR_HEADER : ym_sent(sender.state);
+    return error != YM_DONE ? error : ym_sent(sender.state);
 }
 
 #endif

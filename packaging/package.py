@@ -2,7 +2,7 @@
 """Makes a Debian package or a tar file of the program, ymodem-tty, the manual pages, the completion and the documents, or a Debian package of the
 library for C: the archive, the header, the file for pkg-config, the examples and their documents.
 
-The tar file and the package of the library also have the library as two files in C, where PORTABLE, the folder that they are in, is given.
+The tar file and the package of the library also have the library as files in C, where PORTABLE, the folder that they are in, is given.
 
 Two packages of one commit are the same, byte for byte: all times are that of the commit, or the environment variable SOURCE_DATE_EPOCH, and the
 version is the program's with the commit behind it, or the environment variable VERSION.
@@ -144,11 +144,11 @@ class Build:
 
 
     def install_portable(self, prefix):
-        """The same for the library as two files in C, for processors that the archive is not for."""
+        """The same for the library as files in C, for processors that the archive is not for."""
         if self.portable:
             to = os.path.join(prefix, "share", "ymodem", "portable")
             os.makedirs(to)
-            for name in ("ymodem.c", "ymodem.h"):
+            for name in ("ymodem.c", "ymodem.h", "ymodem_io.h"):
                 shutil.copy(os.path.join(self.portable, name), to)
 
 

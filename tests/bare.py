@@ -128,7 +128,7 @@ def refuses_what_has_no_room():
             it.truncate(0x44000000 - ROOM + 1)
         port.sees(READY)
         from_program([large], status=1, told="sender done 0 cancelled\n")(port)
-        again = port.sees(rb"loader: not received, state 6\r\n" + READY).end()
+        again = port.sees(rb"not received: a file failed\r\n" + READY).end()
         from_program(write_files(here, files))(port)
         wants_loaded(port, child, files, again)
 

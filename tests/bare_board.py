@@ -1,4 +1,4 @@
-"""QEMU's board `virt`, 64-bit ARM, with its serial port on a connection, and a sender put on that line."""
+"""Boards of QEMU, each with its serial port on a connection, and a sender put on that line."""
 
 import contextlib
 import re
@@ -12,6 +12,7 @@ from relay import at_once
 from skipping import needs
 
 QEMU = "qemu-system-aarch64"
+NOTHING_ELSE = ("-display", "none", "-monitor", "none", "-nic", "none")
 
 
 class Port(threading.Thread):
@@ -67,14 +68,15 @@ class Port(threading.Thread):
 
 
 @contextlib.contextmanager
-def board(*words, memory="64M", cpu="cortex-a53"):
-    """A board that was turned on: its serial port, and the process of QEMU."""
-    needs(QEMU)
+def turned_on(*machine):
+    """A board of QEMU that was turned on: its serial port, and the process."""
+    needs(machine[0])
     with socket.create_server(("127.0.0.1", 0)) as listener:
         listener.settimeout(LIMIT)
         line = "tcp:127.0.0.1:%d" % listener.getsockname()[1]
-        words = [QEMU, "-M", "virt", "-cpu", cpu, "-m", memory, "-display", "none", "-monitor", "none", "-nic", "none", "-serial", line, *words]
-        child = subprocess.Popen(words, stdin=subprocess.DEVNULL, stdout=subprocess.DEVNULL, stderr=subprocess.PIPE)
+        words = [*machine, "-display", "none", "-monitor", "none", "-nic", "none", "-serial", line]
+        how = {"stdin": subprocess.DEVNULL, "stdout": subprocess.DEVNULL, "stderr": subprocess.PIPE}
+        child = subprocess.Popen(words, **how)
         try:
             end, _ = listener.accept()
             at_once(end)
@@ -88,12 +90,20 @@ def board(*words, memory="64M", cpu="cortex-a53"):
             child.communicate()
 
 
+def board(*words, memory="64M", cpu="cortex-a53", machine=None):
+    """A board, by default QEMU's `virt` of 64-bit ARM."""
+    machine = machine or (QEMU, "-M", "virt", "-cpu", cpu)
+    return turned_on(*machine, "-m", memory, *words)
+
+
 def from_program(paths, line=None, status=0, told=None):
     """What sends by `ymodem send`, over a line that may be damaged."""
 
     def send(port):
         with sending(paths, line) as (sender, called):
-            port.carry(called())
+            # It may close with bytes unread: what the board says behind the batch.
+            with contextlib.suppress(ConnectionResetError):
+                port.carry(called())
             sender.ended().wants(status, told or "sender done %d finished\n" % len(paths))
 
     return send

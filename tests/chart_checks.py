@@ -37,7 +37,7 @@ def are_shown():
         with open(os.path.join(ROOT, page), encoding="utf-8") as it:
             for link in re.findall(r"\]\(([^)]*\.svg)\)", it.read()):
                 shown.add(os.path.normpath(os.path.join(ROOT, os.path.dirname(page), link)))
-    wanted = {file for file, _ in charts()}
+    wanted = {file for file, _ in charts()} | {os.path.join(PICTURES, "transfer.svg")}
     if shown != wanted:
         raise AssertionError("shown: %s; drawn: %s" % (sorted(shown), sorted(wanted)))
 

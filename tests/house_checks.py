@@ -70,8 +70,34 @@ def counts_that_rose():
         wants("the place", "%s: %s:" % (WIDE, SOURCE) in found, True)
 
 
+PLANT = """file: src/append.rt
+old: self.write_%s(bytes)
+new: Ok(())
+by: host_uses::host::sinks::%s
+"""
+PLANTED = "crates/ym_host/plants/append.append.once_more.edit"
+CANNOT = "plants that cannot be tried: ym_host/append.append.once_more: "
+CATCHER = "a_file_gets_its_name_when_it_is_whole"
+
+
+def plants_out_of_step():
+    """A plant is told that changes what is not there, or names a test that is not there, and so is a table that lacks one."""
+    with tree() as it:
+        table = "tables of other bodies: docs/plants.md: tools/plants.py table writes it"
+        it.write(PLANTED, PLANT % ("none", CATCHER))
+        twice = CANNOT + "it cannot be applied: an 'old:' text is in src/append.rt 0 times, and not once"
+        wants("what it tells of a text that is not there", told(it), (True, [twice, table]))
+        it.write(PLANTED, PLANT % ("all", CATCHER + "_once"))
+        nobody = CANNOT + "there is no host_uses::host::sinks::%s_once" % CATCHER
+        wants("what it tells of a test that is not there", told(it), (True, [nobody, table]))
+        it.write(PLANTED, PLANT % ("all", CATCHER))
+        wants("the table", it.run("tools/plants.py", "table")[0], 0)
+        wants("what it tells of a plant in the table", told(it), (False, []))
+
+
 CHECKS = [
     ("the house as it stands", as_it_stands),
+    ("plants out of step", plants_out_of_step),
     ("broken rules of the house", broken_rules),
     ("long sentences", long_sentences),
     ("counts that rose", counts_that_rose),

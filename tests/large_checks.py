@@ -7,7 +7,7 @@ import shutil
 
 from frames import CANCEL, FRAME_LENGTHS, SOH, START, header
 from peers import send_to
-from program import LIMIT, Skipped, folders, free_port, running
+from program import LIMIT, Skipped, file_lines, folders, free_port, run, running, wants_stored, write_files
 from waits import listeners, wait_until
 
 MIB, GIB = 1 << 20, 1 << 30
@@ -121,12 +121,30 @@ def length_is_told(size):
     return check
 
 
+def many_files(count):
+    """A batch of so many files: each is there, and told by both ends."""
+
+    def check():
+        files = [("%04d" % at, b"%d" % at) for at in range(count)]
+        with folders() as (here, there):
+            paths, port = write_files(here, files), free_port()
+            with running("receive", "--port", port, "--eager", "--no-sync", there) as receive:
+                wait_until(lambda: listeners(port), "it listened", receive)
+                run("send", "--port", port, *paths).wants(0, "sender done %d finished\n" % count)
+                told = file_lines(files) + "receiver files %d finished\n" % count
+                receive.ended().wants(0, told)
+            wants_stored(there, files)
+
+    return check
+
+
 LENGTHS = [turn + by for turn in TURNS for by in (-1, 0, 1)] + [(1 << 40) + 1]
 
 CHECKS = [
     ("3 MiB at full speed", arrives(fill, 3 * MIB)),
     ("3 MiB and a byte at full speed, --no-sync", arrives(fill, 3 * MIB + 1, ["--no-sync"])),
     ("64 MiB at full speed", arrives(fill, 64 * MIB)),
+    ("a batch of 1,100 files", many_files(1100)),
     *(("a file of %d bytes tells its length" % it, length_is_told(it)) for it in LENGTHS),
 ]
 

@@ -1,5 +1,5 @@
 #!/usr/bin/env python3
-"""Tries the library for C: its header, the example programs against `ymodem`, `sb` and `rb`, on a line that is damaged too, calls with rubbish,
+"""Tries the library for C: its headers, the example programs against `ymodem`, `sb` and `rb`, on a line that is damaged too, calls with rubbish,
 each end of the library beside that of the program, both ends in WebAssembly, and its Debian package.
 
 Prints a line for each check, and ends with the line 'N passed, M failed, K skipped'; the status is 1 where a check failed. It needs Python and a C
@@ -261,6 +261,22 @@ def from_package():
         pair(lambda there: [top + "/receive", there], lambda names: [top + "/send", *names])()
 
 
+def as_shown(send):
+    """The receiver that docs/library.md shows, as it stands there."""
+
+    def check():
+        with open(os.path.join(ROOT, "docs", "library.md"), encoding="utf-8") as it:
+            found = re.search(r"^## A receiver, step by step\n\n```c\n(.*?)^```", it.read(), re.M | re.S)
+        wants(found, "docs/library.md shows no receiver")
+        with tempfile.TemporaryDirectory(prefix="ymodem-") as top:
+            with open(os.path.join(top, "shown.inc"), "w", encoding="utf-8") as it:
+                it.write(found[1])
+            program = built("tests/library_shown.c", "shown-by-" + send([])[0].split("/")[-1], "-I", top)
+        pair(lambda there: [program], send)()
+
+    return check
+
+
 def with_lrzsz(check):
     def checked():
         needs("sb", "rb")
@@ -302,6 +318,8 @@ CHECKS = [
     ("send to ymodem receive", to_program()),
     ("receive from ymodem send, five deliveries damaged", from_program(Seeded(41, 0.2, 5))),
     ("send to ymodem receive, five deliveries damaged", to_program(Seeded(42, 0.2, 5))),
+    ("the receiver that docs/library.md shows, from send", as_shown(c_send)),
+    ("the receiver that docs/library.md shows, from sb", with_lrzsz(as_shown(lambda names: ["sb", "-q", *names]))),
     ("calls with rubbish", calls),
     ("calls at the wrong time, rubbish, and what stays as it was", promises),
     ("how ym_receive and ym_send end, over a line that is played", in_one_call),

@@ -159,12 +159,19 @@ static const char *const replies[] = { "C", "\x06" "C", "\x06", "\x15", "\x06" "
 static const size_t reply_sizes[] = { 1, 2, 1, 1, 2, 1 };
 
 static void sent(void) {
+    char name[257] = { 0 };
     struct played it = played_of(replies, reply_sizes, COUNT(reply_sizes));
     wants(sends(&it, "name", 1) == YM_DONE, "a batch");
     wants(it.written == 5 && it.last[0] == 1 && it.last[3] == 0, "five frames, the end block last");
     wants(it.now == 100, "a tenth of a second is waited for, behind the last ACK");
     again(&it);
-    wants(sends(&it, "a/b", 1) == YM_ERROR_HEADER && it.written == 1, "a name with a slash");
+    wants(sends(&it, "a/b", 1) == YM_ERROR_NAME_UNSAFE, "a name with a slash");
+    wants(it.written == 1 && it.last[0] == 0x18, "CAN CAN in place of its header");
+    again(&it);
+    wants(sends(&it, "", 1) == YM_ERROR_NAME_EMPTY && it.written == 1, "no name");
+    again(&it);
+    memset(name, 'n', 256);
+    wants(sends(&it, name, 1) == YM_ERROR_NAME_LONG && it.written == 1, "a name of 256 bytes");
     again(&it);
     wants(sends(&it, "name", 2) == YM_ERROR_FILES, "a file of which nothing is told");
     again(&it);
@@ -206,7 +213,13 @@ static void received(void) {
     wants(receives(&it, 0) == YM_ERROR_FILES && it.last[0] == 0x18, "a file that is refused");
     frame_of(0, "f\0x", 3, zero + 1);
     again(&it);
-    wants(receives(&it, 0) == YM_ERROR_HEADER && it.last[0] == 0x18, "a header without a length");
+    wants(receives(&it, 0) == YM_ERROR_NO_LENGTH && it.last[0] == 0x18, "no length");
+    frame_of(0, "f/g\0" "7", 5, zero + 1);
+    again(&it);
+    wants(receives(&it, 0) == YM_ERROR_NAME_UNSAFE && it.last[0] == 0x18, "a path");
+    frame_of(0, "f\0" "9223372036854775808", 21, zero + 1);
+    again(&it);
+    wants(receives(&it, 0) == YM_ERROR_LENGTH_LARGE && it.last[0] == 0x18, "a length of 2^63");
     frame_of(9, "f\0" "3", 3, zero + 1);
     again(&it);
     wants(receives(&it, 0) == YM_ERROR_OUT_OF_STEP && it.last[0] == 0x18, "block 9 at first");
@@ -229,6 +242,19 @@ static void repeated(void) {
     wants(it.written == 2 && it.last[0] == 0x18, "it is cancelled");
 }
 
+/* Each error has a name of its own. */
+static void texts(void) {
+    wants(!strcmp(ym_text(YM_DONE), "done"), "the text of a batch that is through");
+    wants(!strcmp(ym_text(YM_ERROR_NO_LENGTH), "a file has no length"), "that of a fault");
+    for (int one = YM_DONE; one <= YM_ERROR_LENGTH_LARGE + 1; one++) {
+        int known = one <= YM_ERROR_LENGTH_LARGE;
+        wants(!strcmp(ym_text((ym_error)one), "unknown") == !known, "an error without a text");
+        for (int other = YM_DONE; other < one; other++) {
+            wants(strcmp(ym_text((ym_error)one), ym_text((ym_error)other)), "two of one text");
+        }
+    }
+}
+
 int main(void) {
     nobody(0);
     nobody(1);
@@ -240,6 +266,6 @@ int main(void) {
     closed();
     received();
     repeated();
-    wants(!strcmp(ym_text(YM_DONE), "done") && !strcmp(ym_text((ym_error)99), "unknown"), "texts");
+    texts();
     return broken;
 }

@@ -22,9 +22,9 @@ FILES = (
     "share/doc/libymodem-dev/copyright",
     "share/doc/libymodem-dev/changelog.gz",
 )
-# The library as two files, where they have been made, and what the package has then.
+# The library as files in C, where they have been made, and what the package has then.
 PORTABLE = os.path.join(ROOT, "out", "portable")
-PORTABLE_FILES = tuple("share/ymodem/portable/" + it for it in ("ymodem.c", "ymodem.h"))
+PORTABLE_FILES = tuple("share/ymodem/portable/" + it for it in ("ymodem.c", "ymodem.h", "ymodem_io.h"))
 # What a package is made of. The version stands in a source of the program.
 PARTS = ("packaging", "include", "examples", "docs", "tools", "crates/ym_words/src/command.rt")
 

@@ -98,6 +98,10 @@ static void no_sender(const ym_sender *rubbish, const char *what) {
     wants(hears(&now, "C", 1) == YM_FILL_NOTHING, what);
     wants(now.state == YM_NO_REPLY && now.len == 0, what);
     wants(ym_sender_out(&now, blocks, 2) == YM_OUT_NOTHING, what);
+    now = *rubbish, now.len = now.len > 1029 ? now.len : 0;
+    header(&now);
+    ym_sender_block(&now, body, 1024);
+    wants(ym_sender_out(&now, blocks, 2) == YM_OUT_NOTHING, what);
 }
 
 static void rubbish_senders(void) {
@@ -115,6 +119,7 @@ static void rubbish_senders(void) {
     it = good, it.retries = 256, no_sender(&it, "256 retries");
     it = good, it.state = 5, no_sender(&it, "state 5");
     it = good, it.cancel_pending = 2, no_sender(&it, "two CAN CAN to go");
+    it = good, it.cancel_pending = 2, it.place = 1, it.number = 1, no_sender(&it, "at a block");
     it = good, it.len = 1030, no_sender(&it, "a frame longer than its room");
 }
 
@@ -191,15 +196,38 @@ static void fails_while_it_runs(void) {
     wants(receiver.stand.state == YM_HOST_FAILED, "one that runs fails");
 }
 
-/* Numbers that no receiver has are one that has ended: it asks nothing and says nothing. */
-static void no_receiver(const ym_receiver *rubbish, const char *what) {
-    ym_receiver now = *rubbish;
-    ym_ask ask;
+/* An answer that says nothing, of a receiver that has ended behind it. */
+static void answers_nothing(ym_receiver *receiver, uint32_t done, const char *what) {
     uint8_t reply[2] = { 9, 9 };
-    ym_receiver_hear(&now, &ask);
-    wants(ask.kind == YM_NOTHING, what);
-    wants(ym_receiver_answer(&now, 1, reply, 2) == 0 && reply[0] == 9, what);
-    wants(now.stand.state == YM_HOST_FAILED && now.len == 0, what);
+    wants(ym_receiver_answer(receiver, done, reply, 2) == 0, what);
+    wants(reply[0] == 9 && reply[1] == 9, what);
+    wants(receiver->stand.state == YM_HOST_FAILED && receiver->len == 0, what);
+    wants(receiver->reply == 0, what);
+}
+
+/* Nothing was heard, and nothing is answered. */
+static int unheard(ym_receiver *receiver, uint32_t done) {
+    uint8_t reply[2] = { 9, 9 };
+    return ym_receiver_answer(receiver, done, reply, 2) == 0 && reply[0] == 9;
+}
+
+/* Numbers that no receiver has are one that has ended: it asks nothing and says nothing, whether
+   its host did what was asked or not, and whether it has heard, or stands so as if it had. */
+static void no_receiver(const ym_receiver *rubbish, const char *what) {
+    for (uint32_t done = 0; done < 2; done++) {
+        ym_receiver now = *rubbish, before;
+        ym_ask ask;
+        ym_receiver_hear(&now, &ask);
+        wants(ask.kind == YM_NOTHING, what);
+        answers_nothing(&now, done, what);
+        for (uint32_t reply = 1; reply <= 6; reply++) {
+            now = *rubbish;
+            now.reply = reply;
+            answers_nothing(&now, done, what);
+        }
+        before = now = *rubbish;
+        wants(unheard(&now, done) && SAME(now, before), what);
+    }
 }
 
 static void rubbish_receivers(void) {
@@ -226,9 +254,10 @@ static void rubbish_receivers(void) {
     wants(fed(&it, "\x01", 1) == 0 && ym_receiver_wants(&it) == 0, "no byte more");
     ym_receiver_hear(&good, &ask);
     wants(ask.kind == YM_ADD && ask.count == 3, "bytes are to be added");
-    it = good, it.next.state = 8;
-    wants(ym_receiver_answer(&it, 1, reply, 2) == 0, "no answer to rubbish");
-    wants(it.stand.state == YM_HOST_FAILED, "rubbish that is to come has ended");
+    it = good, it.next.state = 8, answers_nothing(&it, 1, "rubbish that is to come has ended");
+    it = good, it.next.state = 8, answers_nothing(&it, 0, "nor does its host's failure cancel");
+    it = good, it.len = 1030, answers_nothing(&it, 1, "more bytes held behind what was heard");
+    it = good, it.len = 1030, answers_nothing(&it, 0, "and they cancel nothing");
     it = good, it.reply = 7;
     wants(ym_receiver_answer(&it, 1, reply, 2) == 0 && it.reply == 7, "a reply of no number");
 }

@@ -141,10 +141,33 @@ static int called(struct program *it, uint16_t port) {
     return wrong("nobody listens");
 }
 
+/* `receive` keeps in step before its table hears anything: while only the same block 0 can come once more, it hears another one as block 2. */
+struct turn { enum { ANY_FILE, SAME_FILE, NO_FILE } next; size_t len; uint8_t check[2]; };
+
+static int is_block_0(const uint8_t *bytes, size_t len) {
+    return len >= 133 && bytes[0] != 0 && bytes[1] == 0 && bytes[2] == 255;
+}
+
+static int is_the_same(const struct turn *turn, const uint8_t *bytes, size_t len) {
+    return len == turn->len && memcmp(bytes + len - 2, turn->check, 2) == 0;
+}
+
+static void keep_in_step(const struct turn *turn, uint8_t *bytes, size_t len) {
+    if (turn->next == SAME_FILE && is_block_0(bytes, len) && !is_the_same(turn, bytes, len)) bytes[1] = 2, bytes[2] = 253;
+}
+
+static void is_answered(struct turn *turn, const uint8_t *bytes, size_t len, const uint8_t *reply, size_t replied) {
+    if (replied == 1 && reply[0] == 0x06) turn->next = NO_FILE;
+    if (replied != 2 || reply[0] != 0x06) return;
+    turn->next = is_block_0(bytes, len) ? SAME_FILE : ANY_FILE;
+    if (turn->next == SAME_FILE) turn->len = len, memcpy(turn->check, bytes + len - 2, 2);
+}
+
 int receives(uint16_t port, char *command, char *folder) {
     ym_receiver receiver;
     struct sending sending;
-    int confirm = (int)below(2), is_calm = below(100) < 90, heard = 0;
+    /* One that is stuck says what stands behind its first block 0 again and again. */
+    int confirm = (int)below(2), is_calm = below(100) < 90, is_stuck = below(100) < 2, heard = 0;
     char number[8], last[96], *words[9] = { command, "receive", "--port", number, "--no-sync" };
     size_t at = 5;
     if (confirm) words[at++] = "--single";
@@ -156,6 +179,7 @@ int receives(uint16_t port, char *command, char *folder) {
     int is_well = called(&it, port);
     ym_receiver_init(&receiver, (uint32_t)confirm);
     a_file(&sending);
+    struct turn turn = { ANY_FILE, 0, { 0, 0 } };
     /* Where nothing comes at first, both ask. It takes seconds. */
     size_t len = below(20) == 0 ? heard_of(&receiver, bytes, 0, reply) : 0;
     is_well = is_well && comes(&it, reply, len, "the first C");
@@ -163,10 +187,12 @@ int receives(uint16_t port, char *command, char *folder) {
         size_t size = a_delivery(&sending, is_calm, bytes);
         is_calm |= size == DELIVERY;
         is_well = puts_all(&it, bytes, size);
+        keep_in_step(&turn, bytes, size);
         len = heard_of(&receiver, bytes, size, reply);
+        is_answered(&turn, bytes, size, reply, len);
         is_well = is_well && comes(&it, reply, len, "a reply");
         sending.same++;
-        if (reply[0] == 0x06 || reply[0] == 0x15 || sending.same > 3) sending.at++, sending.same = 0;
+        if (!(is_stuck && sending.at == 1) && (reply[0] == 0x06 || reply[0] == 0x15 || sending.same > 3)) sending.at++, sending.same = 0;
         if (sending.at > sending.blocks + 2) a_file(&sending);
     }
     __atomic_fetch_add(&counts->deliveries, (unsigned)heard, __ATOMIC_RELAXED);

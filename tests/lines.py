@@ -1,8 +1,10 @@
 #!/usr/bin/env python3
-"""Tries `send` and `receive`, and lrzsz's `sb` and `rb`, over lines with delay, jitter, echo, noise, late starts and stalls, in real time.
+"""Tries `send` and `receive`, `ymodem sb` and `ymodem rb` on terminals, and lrzsz's `sb` and `rb`,
+over lines with delay, jitter, echo, noise, late starts and stalls, in real time.
 
-In every session what the ends say has to be so: each file that `send` counts is stored, `receive` counts what is stored, and nobody says that it finished
-while a file is missing. Where the counts allow, the batch has to be there whole.
+In every session what the ends say has to be so: each file that a sender counts is stored, a receiver
+counts what is stored, and nobody says that it finished while a file is missing. Where the counts
+allow, the batch has to be there whole.
 
 usage: lines.py [--long] [--seeds N] [--at-once N] [WORD..]
   --long      every row, with 20 seeds each, in place of the short form
@@ -25,71 +27,79 @@ sys.path.insert(0, os.path.dirname(os.path.abspath(__file__)))
 
 from program import PROGRAM
 from reporting import Report, missing
-from session import Line, Shape, session
+from session import SOCKETS, TERMINALS, Line, Shape, session
 
 FILES = [(name, random.Random(name).randbytes(size)) for name, size in (("a", 1), ("b", 300), ("c", 3000), ("d", 9000), ("e", 20000))]
 FEW = [("a", b""), ("b", random.Random(5).randbytes(300)), ("c", random.Random(6).randbytes(1500))]
 
 PAIRS = (("send", "receive"), ("send", "rb"), ("sb", "receive"), ("sb", "rb"))
+PAIRS_ON_TERMINALS = (TERMINALS, ("ymodem sb", "rb"), ("sb", "ymodem rb"))
 
 
 class Row:
-    """Sessions of one kind. `wants` says whether each of them has to be whole; else only that nothing false is said."""
+    """Sessions of one kind, of these ends. `wants` says whether each of them has to be whole; else
+    only that nothing false is said."""
 
-    def __init__(self, name, make, wants=True, seeds=1):
-        self.name, self.make, self.wants, self.seeds = name, make, wants, seeds
+    def __init__(self, name, make, ends=SOCKETS, wants=True, seeds=1):
+        self.name = name + (", over terminals" if ends == TERMINALS else "")
+        self.make, self.wants, self.seeds = make, wants, seeds
+        self.needs_lrzsz = "sb" in ends or "rb" in ends
 
 
 def pair_name(ends):
     return "%s to %s" % ends
 
 
-def delay_rows(steps, jitter, wants):
+def delay_rows(ends, steps, jitter, wants):
     for delay in steps:
         for how, flags in (("", ((), ())), (", --short", (("--short",), ())), (", --single", ((), ("--single",)))):
             def make(seed, delay=delay, flags=flags):
                 line = Line(Shape(delay, jitter), seed=seed)
-                return session(FEW, line, flags=flags)
+                return session(FEW, line, ends, flags)
 
-            yield Row("delay %.2f s each way%s%s" % (delay, jitter and ", jitter %g s" % jitter or "", how), make, wants)
+            name = "delay %.2f s each way%s" % (delay, jitter and ", jitter %g s" % jitter or "")
+            yield Row(name + how, make, ends, wants)
 
 
-def late_rows(seconds, delays):
+def late_rows(ends, seconds, delays):
     for delay in delays:
         for late in seconds:
             for who in ("sender", "receiver"):
                 def make(seed, delay=delay, late=late, who=who):
-                    return session(FEW, Line(Shape(delay), seed=seed), late=(who, late))
+                    return session(FEW, Line(Shape(delay), seed=seed), ends, late=(who, late))
 
                 # a receiver gives up after 30 s alone, a sender after 100
-                yield Row("the %s %d s late, delay %g s" % (who, late, delay), make, who == "receiver" and late < 60 or late <= 21)
+                wants = who == "receiver" and late < 60 or late <= 21
+                yield Row("the %s %d s late, delay %g s" % (who, late, delay), make, ends, wants)
 
 
-def stall_rows(seconds, delays, places):
+def stall_rows(ends, seconds, delays, places):
     for delay in delays:
         for long in seconds:
             for who in ("sender", "receiver"):
                 for at in places:
-                    def make(seed, delay=delay, long=long, who=who, at=at):
-                        return session(FEW, Line(Shape(delay), seed=seed, stall=(who, at, long)))
+                    def make(seed, delay=delay, stall=(who, at, long)):
+                        return session(FEW, Line(Shape(delay), seed=seed, stall=stall), ends)
 
-                    yield Row("the %s stalls %d s at its write %d, delay %g s" % (who, long, at, delay), make, long <= 12)
+                    name = "the %s stalls %d s at its write %d, delay %g s" % (who, long, at, delay)
+                    yield Row(name, make, ends, long <= 12)
 
 
-def echo_rows():
-    for ends, sides in ((("send", "receive"), ("there", "back", "there back")), (("send", "rb"), ("there",))):
+def echo_rows(both, sender_with_rb):
+    for ends, sides in ((both, ("there", "back", "there back")), (sender_with_rb, ("there",))):
         for echo in sides:
             for delay in (0, 0.3):
                 def make(seed, ends=ends, echo=echo, delay=delay):
                     return session(FEW, Line(Shape(delay), seed=seed, echo=echo), ends)
 
                 # a receiver whose own C comes back to it takes it for noise; see docs/serial.md
-                yield Row("echo (%s), %s, delay %g s" % (echo, pair_name(ends), delay), make, "there" == echo)
+                name = "echo (%s), %s, delay %g s" % (echo, pair_name(ends), delay)
+                yield Row(name, make, ends, "there" == echo)
     for cut in (2, 3, 40):
         def make(seed, cut=cut):
-            return session(FEW, Line(seed=seed, echo="there", cut=cut))
+            return session(FEW, Line(seed=seed, echo="there", cut=cut), both)
 
-        yield Row("an echo of the first %d bytes" % cut, make, False)
+        yield Row("an echo of the first %d bytes" % cut, make, both, False)
 
 
 NOISE = (
@@ -103,13 +113,13 @@ NOISE = (
 )
 
 
-def noise_rows(seeds):
+def noise_rows(pairs, seeds):
     for name, how in NOISE:
-        for ends in PAIRS:
+        for ends in pairs:
             def make(seed, how=how, ends=ends):
                 return session(FILES, Line(Shape(rate=11520, **how), seed=seed), ends)
 
-            yield Row("noise: %s, %s" % (name, pair_name(ends)), make, False, seeds)
+            yield Row("noise: %s, %s" % (name, pair_name(ends)), make, ends, False, seeds)
 
 
 def steps(first, last, step=0.25):
@@ -117,26 +127,34 @@ def steps(first, last, step=0.25):
 
 
 def long_rows(seeds):
-    return [
-        *delay_rows(steps(0, 4), 0, True),
-        *delay_rows(steps(0, 4), 1, True),
-        *delay_rows(steps(4.25, 12), 0, False),
-        *delay_rows(steps(4.25, 12, 1), 1, False),
-        *late_rows((0, 1, 3, 5, 10, 20, 29, 45, 60), (0, 0.5, 2)),
-        *stall_rows((1, 3, 6, 9, 12, 21, 30), (0, 0.5, 2), range(1, 9)),
-        *echo_rows(),
-        *noise_rows(seeds),
-    ]
+    rows = []
+    for ends, pairs in ((SOCKETS, PAIRS), (TERMINALS, PAIRS_ON_TERMINALS)):
+        rows += [
+            *delay_rows(ends, steps(0, 4), 0, True),
+            *delay_rows(ends, steps(0, 4), 1, True),
+            *delay_rows(ends, steps(4.25, 12), 0, False),
+            *delay_rows(ends, steps(4.25, 12, 1), 1, False),
+            *late_rows(ends, (0, 1, 3, 5, 10, 20, 29, 45, 60), (0, 0.5, 2)),
+            *stall_rows(ends, (1, 3, 6, 9, 12, 21, 30), (0, 0.5, 2), range(1, 9)),
+            *echo_rows(ends, pairs[1]),
+            *noise_rows(pairs, seeds),
+        ]
+    return rows
 
 
 def short_rows(seeds):
     return [
-        *delay_rows((0.5, 1.5, 2, 3), 0, True),
-        *delay_rows((1.5,), 1, True),
-        *late_rows((5, 20), (0.5,)),
-        *stall_rows((6, 12), (0, 0.5), (1, 2, 3, 5)),
-        *echo_rows(),
-        *[row for row in noise_rows(seeds) if "flipped, 0.05%" in row.name],
+        *delay_rows(SOCKETS, (0.5, 1.5, 2, 3), 0, True),
+        *delay_rows(SOCKETS, (1.5,), 1, True),
+        *late_rows(SOCKETS, (5, 20), (0.5,)),
+        *stall_rows(SOCKETS, (6, 12), (0, 0.5), (1, 2, 3, 5)),
+        *echo_rows(SOCKETS, PAIRS[1]),
+        *delay_rows(TERMINALS, (0.5, 2), 0, True),
+        *delay_rows(TERMINALS, (1.5,), 1, True),
+        *late_rows(TERMINALS, (5, 20), (0.5,)),
+        *stall_rows(TERMINALS, (6, 12), (0.5,), (1, 2, 5)),
+        *echo_rows(TERMINALS, PAIRS_ON_TERMINALS[1]),
+        *[it for it in noise_rows(PAIRS + PAIRS_ON_TERMINALS, seeds) if "flipped, 0.05%" in it.name],
     ]
 
 
@@ -177,7 +195,8 @@ def main():
     rows = [row for row in rows if not asked.words or any(word in row.name for word in asked.words)]
     has_lrzsz = shutil.which("sb") and shutil.which("rb")
     report = Report()
-    asyncio.run(run([row for row in rows if has_lrzsz or "rb" not in row.name and "sb" not in row.name], asked.at_once, report))
+    rows = [row for row in rows if has_lrzsz or not row.needs_lrzsz]
+    asyncio.run(run(rows, asked.at_once, report))
     return report.end()
 
 

@@ -1,14 +1,17 @@
 """Transfers with the programs `sb` and `rb` of lrzsz, over a pump between their standard streams and a connection."""
 
+import contextlib
 import os
 import random
 import shutil
 import socket
 import subprocess
+import tempfile
 import threading
 import time
 
 from claims import Claim, claim_of_receive, claim_of_send, wants_true
+from frames import block
 from late_checks import ASKED, BATCHES, EMPTY_FIRST, SINGLE
 from program import LIMIT, connected, folders, free_port, running, stored, wants_stored, write_files
 from serial_line import Apart, Counted, SerialLine
@@ -151,7 +154,62 @@ def late_checks():
     return checks
 
 
+def until(stream, wanted):
+    """Reads until these bytes came."""
+    got = b""
+    while wanted not in got:
+        more = os.read(stream.fileno(), 1024)
+        if not more:
+            raise AssertionError("%r came in place of %r" % (got, wanted))
+        got += more
+
+
+def piped(words, folder, **how):
+    pipes = dict(stdin=subprocess.PIPE, stdout=subprocess.PIPE, bufsize=0)
+    return subprocess.Popen(words, cwd=folder, **pipes, **how)
+
+
+def rb_that_is_killed():
+    """`rb` that is killed leaves what came so far under the file's own name."""
+    with tempfile.TemporaryDirectory() as there:
+        with piped(["rb"], there, stderr=subprocess.DEVNULL) as rb:
+            until(rb.stdout, b"C")
+            rb.stdin.write(block(0, b"a.bin\x00500000 0 100644\x00".ljust(128, b"\0")))
+            until(rb.stdout, b"\x06C")
+            for number in range(1, 101):
+                rb.stdin.write(block(number, bytes(1024)))
+                until(rb.stdout, b"\x06")
+            rb.kill()
+        left = stored(there)
+        if list(left) != ["a.bin"] or len(left["a.bin"]) >= 500000:
+            raise AssertionError("it left %r" % {name: len(data) for name, data in left.items()})
+
+
+def sb_that_is_cancelled():
+    """`sb` tells no more than that it was cancelled, and that the transfer is incomplete."""
+    with tempfile.TemporaryDirectory() as here:
+        write_files(here, [("f.bin", bytes(5000))])
+        shows, other = os.openpty()
+        with piped(["sb", "f.bin"], here, stderr=other) as sb:
+            os.close(other)
+            sb.stdin.write(b"C")
+            until(sb.stdout, b"f.bin")
+            sb.stdin.write(b"\x18" * 5)
+            sb.stdin.close()
+            status = sb.wait(LIMIT)
+        told = b""
+        with contextlib.suppress(OSError):  # what a terminal says whose other end is closed
+            while more := os.read(shows, 4096):
+                told += more
+        os.close(shows)
+        last = told.split()[-3:]
+        if (status, last) != (128, [b"Cancelled", b"Transfer", b"incomplete"]):
+            raise AssertionError("status %d, and it told %r" % (status, told))
+
+
 CHECKS = [
+    ("rb that is killed leaves a file", rb_that_is_killed),
+    ("what sb tells where it is cancelled", sb_that_is_cancelled),
     ("files from sb", from_sb()),
     ("files from sb -k", from_sb("-k")),
     ("files from sb, --single", from_sb(receive_flags=["--single"])),

@@ -166,7 +166,7 @@ name=$(basename "$0" .py)
 echo "$name $YMODEM" >> "$CALLED/called"
 ! grep -qx "$name" "$CALLED/fails" 2> /dev/null
 """
-TESTS = ["transfer", "lines", "shipped", "library", "bare", "uboot", "web", "counts"]
+TESTS = ["transfer", "lines", "shipped", "library", "bare", "uboot", "boards", "portable", "web", "counts"]
 # The page is made of one of the archives once more.
 TARGETS = ["x86_64-unknown-linux-gnu", "aarch64-unknown-linux-gnu", "wasm64-unknown-unknown", "wasm64-unknown-unknown"]
 
@@ -177,6 +177,7 @@ def tree_with_gate():
         for name in ["memory", *TESTS]:
             it.write("tests/%s.py" % name, TEST)
         it.write("web/build.py", '#!/bin/sh\nmkdir -p "$2"\n')
+        it.write("tools/portable.py", "#!/bin/sh\n")
         yield it
 
 
@@ -187,7 +188,12 @@ def gate():
         wants("its status", (status, err), (0, ""))
         called = it.called()
         tests = ["%s %s/out/tried/ymodem" % (name, it.top) for name in TESTS]
-        wants("its tests, in order", [call for call in called if call in tests], tests)
+        made = [call for call in called if call in tests]
+        wants("its tests", sorted(made), sorted(tests))
+        for first, behind in (("transfer", "shipped"), ("library", "bare"), ("bare", "web"), ("uboot", "boards")):
+            places = [made.index(tests[TESTS.index(name)]) for name in (first, behind)]
+            wants("%s and %s in turn" % (first, behind), places, sorted(places))
+        wants("its last test", made[-1:], tests[-1:])
         beside = ["ci", "memory " + it.environment["YMODEM"], *("lib --target " + name for name in TARGETS)]
         wants("its other calls", sorted(call for call in called if call not in tests), sorted(beside))
         wants("its last line", out.splitlines()[-1], "18 passed, 0 failed")

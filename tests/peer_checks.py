@@ -5,7 +5,7 @@ import socket
 import struct
 import time
 
-from frames import ACK, CAN, CANCEL, DELIVERY, END, EOT, NAK, START, block, header, mixed, short
+from frames import ACK, ACK_START, CAN, CANCEL, DELIVERY, END, EOT, NAK, START, block, header, mixed, short
 from peers import receive_from, send_to
 from program import folders, free_port, run, wants_stored, write_files
 
@@ -91,6 +91,32 @@ def talks(*turns):
     return peer
 
 
+def in_pieces(*turns, length=50):
+    """The same, where what is sent comes in pieces, apart by more than a read takes."""
+
+    def peer(end):
+        end.setsockopt(socket.IPPROTO_TCP, socket.TCP_NODELAY, 1)
+        for data, reply in turns:
+            for at in range(0, len(data), length):
+                end.sendall(data[at : at + length])
+                time.sleep(0.05)
+            expect(end, reply)
+        expect_no_more(end)
+
+    return peer
+
+
+# A file without bytes whose EOT was refused: what may come is its block 0 once more, or that EOT.
+REFUSED = ((header(b"a"), ACK_START), (bytes((EOT,)), bytes((NAK,))))
+STORED = (*REFUSED, (bytes((EOT,)), ACK_START))
+
+
+def out_of_step(peer, files=()):
+    """`receive` ends at once, and has stored these files and no others."""
+    lines = "".join("file %s %d - -\n" % (name, len(data)) for name, data in files)
+    return from_sender(peer, 1, lines + "receiver files %d out-of-step\n" % len(files), there=files)
+
+
 def closes_in_a_file(end):
     end.sendall(header(b"cut", b"3000"))
     expect(end, bytes((ACK, START)))
@@ -151,6 +177,18 @@ OF_RECEIVE = [
     ("cancels", from_sender(talks((CANCEL, b"")), 1, "receiver files 0 cancelled\n")),
     ("sends block 2 first", from_sender(
         talks((header(b"a", b"3000"), bytes((ACK, START))), (block(2, bytes(1024)), CANCEL)), 1, "receiver files 0 out-of-step\n")),
+    ("goes on to another file behind a refused EOT", out_of_step(talks(*REFUSED, (header(b"b", b"3"), CANCEL)))),
+    ("goes on to another file, piece by piece", out_of_step(in_pieces(*REFUSED, (header(b"b", b"3"), CANCEL)))),
+    ("goes on to another file in a long block 0", out_of_step(talks(*REFUSED, (header(b"b" * 200, b"3"), CANCEL)))),
+    ("goes on to another file behind block 0", out_of_step(talks((header(b"a", b"3"), ACK_START), (header(b"b", b"3"), CANCEL)))),
+    ("ends the batch behind a refused EOT", out_of_step(talks(*REFUSED, (END, CANCEL)))),
+    ("goes on to a third file behind a refused EOT", out_of_step(talks(*STORED, (header(b"b"), ACK_START), REFUSED[1], (header(b"c"), CANCEL)), [("a", b"")])),
+    (
+        "repeats block 0 behind a refused EOT",
+        from_sender(
+            in_pieces(*REFUSED, REFUSED[0], (bytes((EOT,)), ACK_START), (END, bytes((ACK,)))), 0, "file a 0 - -\nreceiver files 1 finished\n", there=[("a", b"")]
+        ),
+    ),
     ("sends a data block first", from_sender(talks((block(1, bytes(128)), CANCEL)), 1, "receiver files 0 out-of-step\n")),
     ("names a file outside DIR", bad_header(header(b"../outside"), "name-unsafe")),
     ("names a file ..", bad_header(header(b".."), "name-unsafe")),

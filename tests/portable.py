@@ -1,20 +1,21 @@
 #!/usr/bin/env python3
-"""Tries the library for C as one pair of files, out/portable/ymodem.c and ymodem.h: that it is made
-the same twice, what it compiles with, what it takes on a Cortex-M, and that it answers as the
-proved archive does, on 64 and on 32 bits.
+"""Tries the library for C as files for every processor, out/portable/ymodem.c, ymodem.h and
+ymodem_io.h: that they are made the same twice, what they compile with, what they take on a
+Cortex-M, and that they answer as the proved archive does, on 64 and on 32 bits.
 
 Prints a line for each check, and ends with the line 'N passed, M failed, K skipped'; the status is
 1 where a check failed. It needs Python, a C compiler and the archive for x86-64; a check that needs
 another compiler, QEMU, nm, ar, valgrind, wasm-opt, wasm2c or rt is skipped where that is missing,
-and says so.
+and says so. Where the files are not made, since wasm-opt or wasm2c is missing, each is.
 
 usage: portable.py [--long] [WORD..]     only the checks whose names have one of these words
---long: compilers at each level, and the checks of tests/library.py over these files, on 64 and on
-32 bits, which need the program, as for transfer.py.
+--long: compilers at each level, calls on each processor by gcc and by clang, and the checks of
+tests/library.py over these files, on 64 and on 32 bits, which need the program, as for transfer.py.
 The files are in the folder that YM_PORTABLE names, else out/portable; the archive is as for
 library.py.
 """
 
+import glob
 import os
 import re
 import subprocess
@@ -26,6 +27,9 @@ sys.dont_write_bytecode = True
 sys.path.insert(0, os.path.dirname(os.path.abspath(__file__)))
 
 from library_built import LIBRARY, STRICT
+from package_checks import FIXED, linked_program
+from portable_built import HEADER, IO, PORTABLE, SOURCE, needs_portable
+from portable_compilers import BOARD, BOARD_32, COMPILERS, RUNS, RUNS_AT_LENGTH, WORDS_32
 from portable_size import sizes
 from program import PROGRAM, ROOT
 from reporting import report
@@ -33,56 +37,15 @@ from skipping import Skipped, needs
 from wanting import command, wants
 
 TESTS = os.path.join(ROOT, "tests")
-PORTABLE = os.path.abspath(os.environ.get("YM_PORTABLE", os.path.join(ROOT, "out", "portable")))
-SOURCE, HEADER = (os.path.join(PORTABLE, "ymodem." + it) for it in "ch")
 WASM = os.path.join(ROOT, "out", "lib", "wasm64-unknown-unknown", "libymodem.a")
 BUILT = tempfile.TemporaryDirectory(prefix="ymodem-portable-")
 AT_ONCE = 4
 SUITE = threading.Lock()
 
-# gcc for x86-64 makes programs for i386 too, with gcc-12-multilib, and Linux's headers for x86-64.
-WORDS_32 = "-m32 -idirafter /usr/include/x86_64-linux-gnu"
-NEWLIB = "/usr/lib/arm-none-eabi/include"
-RISCV_32 = "riscv64-unknown-elf-gcc --specs=picolibc.specs -mabi=ilp32 -march="
-COMPILERS = {
-    "gcc": "gcc",
-    "clang": "clang",
-    "gcc -m32": "gcc " + WORDS_32,
-    "clang -m32": "clang " + WORDS_32,
-    "Cortex-M0+": "arm-none-eabi-gcc -mthumb -mcpu=cortex-m0plus",
-    "Cortex-M3": "arm-none-eabi-gcc -mthumb -mcpu=cortex-m3",
-    "Cortex-M4, clang": "clang --target=thumbv7em-none-eabi -isystem " + NEWLIB,
-    "ARM, Linux": "arm-linux-gnueabihf-gcc",
-    "RISC-V, 64 bits": "riscv64-linux-gnu-gcc",
-    "RV32I": RISCV_32 + "rv32i",
-    "RV32IMAC": RISCV_32 + "rv32imac",
-    "MIPS, little-endian": "mipsel-linux-gnu-gcc",
-}
 STANDARDS = ("c99", "c11")
 LEVELS = ("-O0", "-Os", "-O2", "-O3")
 FEW = (("c99", "-Os"), ("c11", "-O2"))
 
-# A program for QEMU's board of a Cortex-M3, whose standard output and words are those of QEMU.
-SECTIONS = "--section-start=.vectors=0,-Ttext-segment=0x10000,-Tdata=0x20000000"
-ON_A_BOARD = "arm-none-eabi-gcc -mthumb -Os --specs=rdimon.specs -Wl,%s -mcpu=" % SECTIONS
-QUIET = "qemu-system-arm -M mps2-an385 -display none -monitor none -serial none"
-BOARD = QUIET + " -semihosting-config enable=on,target=native"
-
-# What plays the calls: how it is compiled, and what runs it.
-RUNS = {
-    "gcc -O0": ("gcc -O0", ""),
-    "gcc -O2": ("gcc -O2", ""),
-    "gcc -O3, both files at once": ("gcc -O3 -flto", ""),
-    "clang -O2": ("clang -O2", ""),
-    "gcc -m32 -Os": ("gcc -Os " + WORDS_32, ""),
-    "gcc -m32 -O3, both files at once": ("gcc -O3 -flto " + WORDS_32, ""),
-    "clang -m32 -O2": ("clang -O2 " + WORDS_32, ""),
-    "ARM, Linux": ("arm-linux-gnueabihf-gcc -Os -static", "qemu-arm"),
-    "RISC-V, 64 bits": ("riscv64-linux-gnu-gcc -O2 -static", "qemu-riscv64"),
-    "MIPS, little-endian": ("mipsel-linux-gnu-gcc -O2 -static", "qemu-mipsel"),
-    "Cortex-M3": (ON_A_BOARD + "cortex-m3", BOARD),
-    "Cortex-M0+, on the same board": (ON_A_BOARD + "cortex-m0plus", BOARD),
-}
 # A program, where the headers are those for the processor.
 EMPTY = """#include <stdint.h>
 #include <string.h>
@@ -116,20 +79,35 @@ def without_a_warning(words, how):
     return check
 
 
-def header_alone(words, language, standards):
+def header_alone(words, language, standards, header=HEADER, padded=("-Wpadded",)):
     """Every ABI has the layout that the header asserts, and none fills a struct in."""
 
     def check():
         compiles(words, "-c")
         compiler, *flags = words.split()
         if language == "c++":
-            compiler = {"gcc": "g++", "clang": "clang++"}[compiler]
+            compiler = re.sub("gcc$", "g++", compiler.replace("clang", "clang++"))
         needs(compiler)
         for standard in standards:
-            how = ["-x", language, "-std=" + standard, *STRICT, "-Wpadded", "-fsyntax-only"]
-            command(compiler, *flags, *how, HEADER)
+            how = ["-x", language, "-std=" + standard, *STRICT, *padded, "-fsyntax-only"]
+            command(compiler, *flags, *how, "-include", header, "/dev/null")
 
     return check
+
+
+# gcc for Linux on other processors, which comes without C++: clang takes the headers there.
+C_ALONE = ("ARM, Linux", "ARM, 64 bits", "RISC-V, 64 bits", "MIPS, little-endian")
+
+
+def headers(name, words):
+    """The checks of both headers by a compiler, in C and C++."""
+    languages = {"c": STANDARDS, "c++": ("c++11", "c++17")}
+    if name in C_ALONE:
+        del languages["c++"]
+    for header, told, padded in ((HEADER, "ymodem.h", ("-Wpadded",)), (IO, "ymodem_io.h", ())):
+        for language, standards in languages.items():
+            check = header_alone(words, language, standards, header, padded)
+            yield "%s alone, %s: %s" % (told, language, name), check
 
 
 def read(path):
@@ -140,12 +118,11 @@ def read(path):
 def is_same_twice():
     """Two runs, in folders of their own, make what stands in out/portable."""
     needs("rt", "wasm-opt", "wasm2c")
-    if not os.path.isfile(WASM):
-        raise Skipped("there is no %s: make portable" % WASM)
+    wants(os.path.isfile(WASM), "there is no %s: make portable" % WASM)
     for prefix in ("ymodem-", "ymodem two "):
         with tempfile.TemporaryDirectory(prefix=prefix) as to:
             command(os.path.join(ROOT, "tools", "portable.py"), WASM, to)
-            for path in (SOURCE, HEADER):
+            for path in (SOURCE, HEADER, IO):
                 made = os.path.join(to, os.path.basename(path))
                 wants(read(path) == read(made), "%s differs" % path)
 
@@ -170,6 +147,32 @@ def has_each_call():
     wants(not {it for it, kind in found.items() if kind in "bBdDcC"}, "it keeps %s" % found)
 
 
+HOST = """#include "ymodem_io.h"
+ym_error moves(const ym_io *io, const ym_sink *sink, const ym_source *source);
+ym_error moves(const ym_io *io, const ym_sink *sink, const ym_source *source) {
+    return sink ? ym_receive(io, sink) : ym_send(io, source);
+}
+"""
+
+
+def has_all_for_a_host():
+    """What stands in the tar file of `make dist` is what stands here, and a host of both calls that
+    move a batch is made of it alone."""
+    program = linked_program()
+    needs("strip", "readelf")
+    with tempfile.TemporaryDirectory(prefix="ymodem-dist-") as top:
+        pack = os.path.join(ROOT, "packaging", "package.py")
+        made = command(pack, "dist", program, top, PORTABLE, env=FIXED).strip()
+        command("tar", "-xzf", made, "-C", top)
+        [there] = glob.glob(top + "/*/share/ymodem/portable")
+        for path in (SOURCE, HEADER, IO):
+            wants(read(path) == read(os.path.join(there, os.path.basename(path))), path)
+        with open(os.path.join(there, "host.c"), "w", encoding="utf-8") as it:
+            it.write(HOST)
+        how = ["-std=c99", *STRICT, "-O2", "-c", "host.c", "ymodem.c"]
+        command("gcc", *how, cwd=there)
+
+
 def rubbish(words, rounds, seed, *before):
     """tests/library_calls.c, whose structs and buffers end where a page begins that faults."""
 
@@ -184,8 +187,10 @@ def rubbish(words, rounds, seed, *before):
 
 
 def played(made, run, calls, seed):
-    if run == BOARD:
-        words = "%s,arg=calls,arg=%d,arg=%d -kernel" % (BOARD, calls, seed)
+    if run in (BOARD, BOARD_32):
+        # picolibc gives the program a name, and newlib takes the first word for it
+        named = ",arg=calls" if run == BOARD else ""
+        words = "%s%s,arg=%d,arg=%d -kernel" % (run, named, calls, seed)
         return command(*words.split(), made).splitlines()
     return command(*run.split(), made, str(calls), str(seed)).splitlines()
 
@@ -273,21 +278,11 @@ LIMITS = (14 * 1024, 3584, 24 * 1024)
 CHECKS = [
     ("two runs make the same", is_same_twice),
     ("each call of ymodem.h, and nothing else, is in it", has_each_call),
-    *(("ymodem.h alone: " + name, header_alone(words, "c", STANDARDS)) for name, words in NAMED),
-    *(
-        ("ymodem.h alone, C++: " + name, header_alone(words, "c++", ("c++11", "c++17")))
-        for name, words in list(NAMED)[:4]
-    ),
+    ("what make dist has of it is enough for a host", has_all_for_a_host),
+    *(it for named in NAMED for it in headers(*named)),
     *(("without a warning: " + name, without_a_warning(words, FEW)) for name, words in NAMED),
-    ("calls with rubbish: gcc", rubbish("gcc -O2", 50_000, 11)),
     ("calls with rubbish: gcc -m32", rubbish("gcc -O2 " + WORDS_32, 50_000, 12)),
-    ("calls with rubbish: gcc -O3, both files at once", rubbish("gcc -O3 -flto", 50_000, 13)),
     ("calls with rubbish under sanitizers", rubbish("clang " + SANITIZED, 20_000, 14)),
-    (
-        "calls with rubbish under sanitizers: gcc -m32",
-        rubbish("gcc %s %s" % (SANITIZED, WORDS_32), 20_000, 15),
-    ),
-    ("calls with rubbish under valgrind", rubbish("gcc -O1 -g", 1000, 16, *UNDER_VALGRIND)),
     *(
         ("%d calls as the archive: %s" % (CALLS, name), answers_as_the_archive(*how, name))
         for name, how in RUNS.items()
@@ -300,16 +295,37 @@ LONG = [
         ("without a warning, at each level: " + name, without_a_warning(words, EACH_LEVEL))
         for name, words in NAMED
     ),
+    *(
+        ("%d calls as the archive: %s" % (CALLS, name), answers_as_the_archive(*how, name))
+        for name, how in RUNS_AT_LENGTH.items()
+    ),
+    ("calls with rubbish: gcc", rubbish("gcc -O2", 50_000, 11)),
+    ("calls with rubbish: gcc -O3, both files at once", rubbish("gcc -O3 -flto", 50_000, 13)),
+    (
+        "calls with rubbish under sanitizers: gcc -m32",
+        rubbish("gcc %s %s" % (SANITIZED, WORDS_32), 20_000, 15),
+    ),
+    ("calls with rubbish under valgrind", rubbish("gcc -O1 -g", 1000, 16, *UNDER_VALGRIND)),
     ("the checks of tests/library.py, on 64 bits", suite("-m64")),
     ("the checks of tests/library.py, on 32 bits", suite(WORDS_32, *CHOSEN_32)),
 ]
 
 
+def where_it_is_made(check):
+    def checked():
+        needs_portable()
+        wants(os.path.isfile(SOURCE), "there is no %s: make portable" % SOURCE)
+        check()
+
+    return checked
+
+
 def main(words):
     is_long = "--long" in words
     checks = CHECKS + (LONG if is_long else [])
-    needed = [SOURCE, HEADER, LIBRARY] + [PROGRAM] * is_long
-    return report(checks, [it for it in words if it != "--long"], AT_ONCE, needed)
+    checks = [(name, where_it_is_made(check)) for name, check in checks]
+    chosen = [it for it in words if it != "--long"]
+    return report(checks, chosen, AT_ONCE, [LIBRARY] + [PROGRAM] * is_long)
 
 
 if __name__ == "__main__":

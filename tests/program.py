@@ -15,7 +15,7 @@ ROOT = os.path.dirname(os.path.dirname(os.path.abspath(__file__)))
 PROGRAM = os.path.abspath(os.environ.get("YMODEM", os.path.join(ROOT, "crates", "ymodem", "out", "ymodem")))
 
 # Seconds after which what a check still waits for has failed. It is no measure of the program: a machine that is busy takes its time.
-LIMIT = 300
+LIMIT = int(os.environ.get("LIMIT", "300"))
 
 # Several transfers run side by side, each with its sockets and pipes.
 resource.setrlimit(resource.RLIMIT_NOFILE, (resource.getrlimit(resource.RLIMIT_NOFILE)[1],) * 2)

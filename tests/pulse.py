@@ -5,11 +5,15 @@ a machine that runs a process when it is due. A pulse beats all the while, and k
 `TOLERATED`, the ends, the relay and the peers of the checks that ran meanwhile may have been as late, at any place, and a check that failed shows nothing.
 """
 
+import functools
 import threading
 import time
 
 BEAT = 0.02
 TOLERATED = 0.25
+
+# How often a check is made on a machine that does not keep time.
+TRIES = 4
 
 
 class Pulse(threading.Thread):
@@ -34,3 +38,25 @@ class Pulse(threading.Thread):
     def was_late(self, since):
         """Whether a beat was late since then."""
         return any(now > since for _, now in list(self.late))
+
+
+@functools.cache
+def beating():
+    """The pulse of this process, from its first use on."""
+    return Pulse()
+
+
+def in_time(check):
+    """The check, made again where it failed while this machine did not keep time: that shows
+    nothing."""
+
+    def made():
+        for left in reversed(range(TRIES)):
+            began, pulse = time.monotonic(), beating()
+            try:
+                return check()
+            except AssertionError:
+                if not left or not pulse.was_late(began):
+                    raise
+
+    return made

@@ -1,4 +1,4 @@
-"""The commands of pages, as they stand there.
+"""The commands of docs/scripts.md, as they stand there.
 
 Each is run, on a port that is free and with the program that is tested.
 """
@@ -9,11 +9,10 @@ import subprocess
 import tempfile
 
 from program import LIMIT, PROGRAM, ROOT, free_port, wants_same
-from waits import listeners, wait_until
 
 PROGRAM_THERE = "crates/ymodem/out/ymodem"
-# The pages that show a session from a script, and a transfer over a connection.
-SCRIPTS, CONNECTIONS = "docs/scripts.md", "docs/serial.md"
+# The page that shows a session from a script.
+SCRIPTS = "docs/scripts.md"
 
 
 def text_of(page):
@@ -58,25 +57,6 @@ def example():
         wants_same({"the session": ended(started(words, top), words)}, {"the session": found[2]})
 
 
-def send_and_receive():
-    port = free_port()
-    shown = [line(CONNECTIONS, "ymodem %s --port 4000" % it) for it in ("receive", "send")]
-    receive, send = (it.replace("4000", str(port)) for it in shown)
-    with tempfile.TemporaryDirectory(prefix="ymodem-") as top:
-        os.mkdir(os.path.join(top, "downloads"))
-        for name in ("firmware.bin", "settings.txt"):
-            with open(os.path.join(top, name), "w", encoding="utf-8") as it:
-                it.write(name * 100)
-        receiver = started(receive, top)
-        wait_until(lambda: listeners(port) or receiver.poll() is not None, "somebody listened")
-        try:
-            ended(started(send, top), send)
-            ended(receiver, receive)
-        finally:
-            receiver.kill()
-        wants_same({it: None for it in os.listdir(os.path.join(top, "downloads"))}, {"firmware.bin": None, "settings.txt": None})
-
-
 def loop():
     words = line(SCRIPTS, "ymodem loop --port 4000").replace("4000", str(free_port()))
     with tempfile.TemporaryDirectory(prefix="ymodem-") as top:
@@ -87,6 +67,5 @@ def loop():
 
 CHECKS = [
     ("the session of docs/scripts.md", example),
-    ("the lines of docs/serial.md to receive and to send", send_and_receive),
     ("the line of docs/scripts.md to play over a connection", loop),
 ]

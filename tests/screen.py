@@ -21,17 +21,25 @@ class Screen:
         self.tmux = ["tmux", "-f", "/dev/null", "-S", os.path.join(folder, "tmux")]
         kept = {name: text for name, text in os.environ.items() if name not in ("COLUMNS", "TMUX")}
         self.environment = {**kept, "TERM": "xterm", "LC_ALL": "C.UTF-8", **environment}
-        # The cursor stays where the command leaves it, until this is stopped.
-        command = "%s; echo \"[ended $?]\"; exec sleep %d" % (command, LIMIT)
+        # The cursor stays where the command leaves it, until this is stopped. Ctrl-C ends the command
+        # alone.
+        command = "trap : INT; %s; echo \"[ended $?]\"; exec sleep %d" % (command, LIMIT)
         self.call("new-session", "-d", "-x", str(columns), "-y", str(LINES), command)
 
     def call(self, *words):
-        how = {"env": self.environment, "capture_output": True, "text": True, "check": True}
-        return subprocess.run([*self.tmux, *words], timeout=LIMIT, **how).stdout
+        how = {"env": self.environment, "capture_output": True, "text": True, "check": False}
+        ran = subprocess.run([*self.tmux, *words], timeout=LIMIT, **how)
+        if ran.returncode:
+            raise AssertionError("tmux %s: %s" % (words[0], ran.stderr))
+        return ran.stdout
 
-    def lines(self):
+    def lines(self, *of):
         """Its lines, without those below the last one that has something."""
-        return self.call("capture-pane", "-p").rstrip("\n").split("\n")
+        return self.call("capture-pane", "-p", *of).rstrip("\n").split("\n")
+
+    def all_lines(self):
+        """The same with those that were moved out at the top."""
+        return self.lines("-S", "-")
 
     def sees(self, found):
         """Waits until this is true of its lines, and gives them."""
@@ -50,7 +58,7 @@ class Screen:
         self.call("send-keys", *keys)
 
     def stop(self):
-        with contextlib.suppress(subprocess.CalledProcessError):
+        with contextlib.suppress(AssertionError):
             self.call("kill-server")
 
 

@@ -11,11 +11,17 @@ import random
 import tempfile
 import time
 
+from cable import Plug, ticking
 from claims import Claim, claim_of_receive, claim_of_send, wants_true
 from program import PROGRAM, Ending, free_port, stored, write_files
 
 # A session that takes longer than this is stopped; it shows nothing but that.
 LIMIT = 1500
+
+# The ends that are ours: over connections, and on terminals. `sb` and `rb` alone are lrzsz's.
+SOCKETS = ("send", "receive")
+TERMINALS = ("ymodem sb", "ymodem rb")
+OURS = SOCKETS + TERMINALS
 
 
 class Shape:
@@ -109,10 +115,11 @@ class Line:
 
 
 class End:
-    """An end that runs: its process, and the two streams of its line."""
+    """An end that runs: its process, the two streams of its line, and what closes that."""
 
-    def __init__(self, process, streams):
-        self.process, self.streams, self.began = process, streams, time.monotonic()
+    def __init__(self, process, streams, close=lambda: None):
+        self.process, self.streams, self.close = process, streams, close
+        self.began = time.monotonic()
 
     async def ended(self, words):
         out, err = await asyncio.gather(taken(self.process.stdout), taken(self.process.stderr))
@@ -166,12 +173,37 @@ async def piped_end(*words, cwd=None):
     return end
 
 
+async def terminal_end(word, *words):
+    """`sb` or `rb` of the program, on a terminal. Nobody tells the other end that it has ended."""
+    plug, reader, loop = Plug(), asyncio.StreamReader(), asyncio.get_running_loop()
+    ticking(plug.outer)
+    ends = [os.fdopen(os.dup(plug.inner), mode, 0) for mode in ("rb", "wb")]
+    coming, _ = await loop.connect_read_pipe(lambda: asyncio.StreamReaderProtocol(reader), ends[0])
+    going, _ = await loop.connect_write_pipe(asyncio.BaseProtocol, ends[1])
+
+    def close():
+        coming.close()
+        if not going.is_closing():
+            going.abort()
+        plug.pull()
+
+    return End(await started(PROGRAM, word, "--line", plug.path, *words), (reader, going), close)
+
+
 async def sender(who, flags, paths):
-    return await (piped_end("sb", *paths) if who == "sb" else send_end(flags, paths))
+    if who == "sb":
+        return await piped_end("sb", *paths)
+    if who in TERMINALS:
+        return await terminal_end("sb", *flags, *paths)
+    return await send_end(flags, paths)
 
 
 async def receiver(who, flags, folder):
-    return await (piped_end("rb", "-y", cwd=folder) if who == "rb" else receive_end(flags, folder))
+    if who == "rb":
+        return await piped_end("rb", "-y", cwd=folder)
+    if who in TERMINALS:
+        return await terminal_end("rb", *flags, folder)
+    return await receive_end(flags, folder)
 
 
 class Outcome:
@@ -181,7 +213,7 @@ class Outcome:
         self.seconds, self.is_whole, self.fault, self.told = seconds, is_whole, fault, told
 
 
-async def session(files, line, ends=("send", "receive"), flags=((), ()), late=("", 0)):
+async def session(files, line, ends=SOCKETS, flags=((), ()), late=("", 0)):
     """Runs both ends over this line, `late` the one of them that starts so many seconds after the other, and judges what both say in the end."""
     with tempfile.TemporaryDirectory(prefix="ymodem-") as top:
         here, there = os.path.join(top, "here"), os.path.join(top, "there")
@@ -207,6 +239,7 @@ async def session(files, line, ends=("send", "receive"), flags=((), ()), late=("
             for end in both:
                 with contextlib.suppress(ProcessLookupError):
                     end.process.kill()
+                end.close()
             carried.cancel()
         return judged(files, there, endings, ends, time.monotonic() - began)
 
@@ -219,11 +252,13 @@ def judged(files, folder, endings, ends, seconds):
     told = " | ".join((it.out.splitlines() or [""])[-1] for it in endings)
     try:
         claims = [
-            claim_of_send(endings[0]) if ends[0] == "send" else Claim("sb", endings[0].status == 0),
-            claim_of_receive(endings[1], files) if ends[1] == "receive" else Claim("rb", endings[1].status == 0),
+            claim_of_send(endings[0]) if ends[0] in OURS else Claim("sb", not endings[0].status),
+            claim_of_receive(endings[1], files)
+            if ends[1] in OURS
+            else Claim("rb", not endings[1].status),
         ]
         # what lrzsz says of itself is its own
-        wants_true(files, kept, [claim for claim, who in zip(claims, ends) if who in ("send", "receive")])
+        wants_true(files, kept, [claim for claim, who in zip(claims, ends) if who in OURS])
     except AssertionError as fault:
         return Outcome(seconds, False, str(fault), told)
     return Outcome(seconds, kept == dict(files) and all(claim.is_finished for claim in claims), None, told)

@@ -19,31 +19,44 @@ sys.path.insert(0, os.path.dirname(os.path.abspath(__file__)))
 import chart_checks
 import edits_checks
 import gate_checks
+import hang_up_checks
+import help_checks
 import house_checks
 import make_checks
 import package_checks
+import pasted_checks
 import readme_checks
+import recording_checks
 import screen_checks
+import screen_tty_checks
 import serial_checks
 import showing_checks
 import starting_checks
+import stop_checks
 import telling_checks
+import terminal_program_checks
 import tty_checks
 import user_checks
 import words_checks
 from program import PROGRAM
-from reporting import report
+from pulse import in_time
+from reporting import Report, chosen, missing
 
+# These wait for lines most of the time.
+LINES = (serial_checks, hang_up_checks, tty_checks, stop_checks, terminal_program_checks)
+LINES_AT_ONCE = 24
 BOOKS = (
     telling_checks,
     showing_checks,
     screen_checks,
+    screen_tty_checks,
     starting_checks,
-    serial_checks,
-    tty_checks,
     readme_checks,
+    pasted_checks,
     words_checks,
+    help_checks,
     chart_checks,
+    recording_checks,
     make_checks,
     user_checks,
     package_checks,
@@ -54,8 +67,18 @@ BOOKS = (
 AT_ONCE = 8
 
 
+def checks_of(books):
+    return [it for some in books for it in some.CHECKS]
+
+
 def main(words):
-    return report([it for some in BOOKS for it in some.CHECKS], words, AT_ONCE, [PROGRAM])
+    if missing(PROGRAM):
+        return 1
+    told = Report()
+    lines = [(name, in_time(check)) for name, check in checks_of(LINES)]
+    told.make(chosen(lines, words), LINES_AT_ONCE)
+    told.make(chosen(checks_of(BOOKS), words), AT_ONCE)
+    return told.end()
 
 
 if __name__ == "__main__":

@@ -7,7 +7,7 @@ import threading
 import time
 
 from frames import ACK, EOT, NAK, START, frames_of
-from peers import PlainReceiver, called, frames_at
+from peers import PlainReceiver, called, frames_at, receive_from, send_to
 from program import LIMIT, PROGRAM, connected, file_lines, folders, free_port, run, running, wants_stored, write_files
 from telling import DATA, FILE, connecting, line, listening, missing, under_terminal, wants
 from terminal import UnderTerminal
@@ -90,22 +90,44 @@ def paced(damaged=None):
     return peer
 
 
-def paced_sender(end):
-    """A sender that takes its time for each frame, and writes the second block twice, the first time damaged."""
-    for at, frame in enumerate(frames_of(FILE)):
-        if at == 0:
-            end.recv(1)
-        time.sleep(PACE)
-        if at == 2:
-            end.sendall(frame[:-1] + bytes((frame[-1] ^ 1,)))
-            wants("the answer to a damaged block", end.recv(1), bytes((NAK,)))
-        end.sendall(frame)
-        if frame[0] == EOT:
-            wants("the answer to the first EOT", end.recv(1), bytes((NAK,)))
+def damaging(count, pace=0.0):
+    """A sender that takes so many seconds for each frame, and whose second block comes damaged so often."""
+
+    def peer(end):
+        for at, frame in enumerate(frames_of(FILE)):
+            if at == 0:
+                end.recv(1)
+            time.sleep(pace)
+            for _ in range(count if at == 2 else 0):
+                end.sendall(frame[:-1] + bytes((frame[-1] ^ 1,)))
+                wants("the answer to a damaged block", end.recv(1), bytes((NAK,)))
             end.sendall(frame)
-        wants("an answer", end.recv(1), bytes((ACK,)))
-        if frame[0] == EOT or at == 0:
-            wants("the call for more", end.recv(1), bytes((START,)))
+            if frame[0] == EOT:
+                wants("the answer to the first EOT", end.recv(1), bytes((NAK,)))
+                end.sendall(frame)
+            wants("an answer", end.recv(1), bytes((ACK,)))
+            if frame[0] == EOT or at == 0:
+                wants("the call for more", end.recv(1), bytes((START,)))
+
+    return peer
+
+
+def refusing(count):
+    """A receiver that refuses the second block so often."""
+
+    def peer(end):
+        receiver, left = PlainReceiver(), count
+        end.sendall(bytes((START,)))
+        for frame in frames_at(end):
+            if frame[:2] == b"\x02\x02" and left:
+                left -= 1
+                end.sendall(bytes((NAK,)))
+            else:
+                end.sendall(receiver.answer(frame))
+            if receiver.is_finished:
+                return
+
+    return peer
 
 
 def shows_progress(child):
@@ -136,7 +158,7 @@ def progress_of_receive():
         with under_terminal("receive", "-p", port, "--eager", there) as receive:
             receive.sees(b"listening")
             with connected(port) as end:
-                peer = threading.Thread(target=paced_sender, args=(end,), daemon=True)
+                peer = threading.Thread(target=damaging(1, PACE), args=(end,), daemon=True)
                 peer.start()
                 shows_progress(receive)
                 receive.sees(line("receiver files 1 finished"))
@@ -182,6 +204,23 @@ def whole_files_in_lines():
                 raise AssertionError("it told %r" % got)
 
 
+def counts_repeats(count):
+    """With --verbose both ends tell how many blocks were repeated."""
+
+    def check():
+        wanted = WHOLE + (b", %d repeated" % count if count else b"")
+        with folders() as (_, there):
+            received = receive_from(damaging(count), there, ("--eager", "--verbose"))
+            received.wants(0, file_lines(FILE) + "receiver files 1 finished\n", received.err)
+        sent = send_to(refusing(count), FILE, ("--verbose",))
+        sent.wants(0, "sender done 1 finished\n", sent.err)
+        for ended in (received, sent):
+            if not re.fullmatch(wanted, ended.err.splitlines()[-1].encode()):
+                raise AssertionError("it told %r" % ended.err)
+
+    return check
+
+
 CHECKS = [
     ("tells on a terminal what it does", transfer_under_terminals),
     ("tells nothing on a terminal with --quiet", quiet_on_a_terminal),
@@ -190,4 +229,7 @@ CHECKS = [
     ("shows no line as wide as the terminal", width_of_a_terminal),
     ("tells a line for each whole file with --verbose", whole_files_in_lines),
     ("shows escapes in names on a terminal alone", names_on_a_terminal),
+    ("counts no repeat with --verbose", counts_repeats(0)),
+    ("counts a repeat with --verbose", counts_repeats(1)),
+    ("counts three repeats with --verbose", counts_repeats(3)),
 ]

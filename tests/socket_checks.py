@@ -10,7 +10,7 @@ import sys
 from frames import ACK, CANCEL, END, START, header
 from peer_checks import SCRIPT, expect, expect_no_more, talks
 from peers import PlainReceiver, receive_from, receive_plainly, send_to
-from program import LIMIT, Skipped, folders, free_port, run, running, write_files
+from program import LIMIT, Skipped, connected, folders, free_port, run, running, write_files
 from storing import received, told
 from tracing import calls_of, is_stopped, strace
 from waits import listeners, wait_until
@@ -172,6 +172,28 @@ def loops(before, _):
     ended.wants(0, ended.out)
 
 
+def state_of(child):
+    """S where a process waits, T where it is stopped."""
+    with open("/proc/%d/stat" % child.child.pid, encoding="ascii") as it:
+        return it.read().rpartition(")")[2].split()[0]
+
+
+def is_stopped_and_goes_on():
+    """A stop interrupts the read of a line. That is no failure of the line."""
+    with folders() as (_, there):
+        port = free_port()
+        with running("receive", "--port", port, "--eager", there) as receive, connected(port, receive) as end:
+            end.settimeout(LIMIT)
+            for _ in range(3):
+                expect(end, bytes((START,)))
+                for by, state in ((signal.SIGSTOP, "T"), (signal.SIGCONT, "S")):
+                    wait_until(lambda: state_of(receive) in "ST", "it waited", receive)
+                    receive.child.send_signal(by)
+                    wait_until(lambda state=state: state_of(receive) == state, "it took the signal", receive)
+            end.sendall(END)
+            receive.ended().wants(0, "receiver files 0 finished\n")
+
+
 # A byte is written, and the next one within the second that the program waits for more of a delivery: one of 2048 such bytes would last for a quarter of an
 # hour. The program takes ten of its waits of them: 30 seconds in `receive`, and 100 in `send`.
 GAP = 0.5
@@ -227,6 +249,7 @@ CHECKS = [
     ("sockets: loop, and somebody who connects behind it", stranger_second),
     ("sockets: send connects to itself", connects_to_itself),
     ("sockets: loop, and a far end that gets nothing", silent_far_end),
+    ("sockets: receive, stopped while it waits, goes on", is_stopped_and_goes_on),
     ("sockets: receive sends at once", nodelay(receives, 1)),
     ("sockets: send sends at once", nodelay(sends, 1)),
     ("sockets: loop sends at once at both ends", nodelay(loops, 2)),

@@ -36,6 +36,17 @@ def leaves_no_probe():
         wants("the folder", os.listdir(there), [])
 
 
+def leaves_what_is_there():
+    """A file of the name by which it looks at the folder stays, with its bytes."""
+    with folders() as (here, there):
+        paths, port, mine = write_files(here, FILE), free_port(), [(".ymodem.part", b"mine")]
+        write_files(there, mine)
+        with running("receive", "-p", port, "--eager", there) as receive:
+            run("send", "-p", port, *paths).wants(0, "sender done 1 finished\n")
+            receive.ended().wants(0, file_lines(FILE) + "receiver files 1 finished\n")
+        wants_stored(there, [*mine, *FILE])
+
+
 def asks_at_once():
     """With --eager the first C comes at once; on a machine that is slow, at one of the tries."""
     soonest = LIMIT
@@ -123,6 +134,7 @@ def version():
 
 CHECKS = [
     ("leaves nothing of its look at the folder", leaves_no_probe),
+    ("leaves a file .ymodem.part that was there", leaves_what_is_there),
     ("calls again where nobody listens yet", calls_again),
     ("asks at once with --eager", asks_at_once),
     ("takes a file of sb at once with --eager", sb_to_eager),

@@ -5,8 +5,9 @@ import os
 import random
 
 from peers import PlainReceiver, receive_plainly, send_to
-from program import folders, wants_stored, write_files
+from program import folders, wants_same, wants_stored, write_files
 from storing import PART, Meanwhile, part_of, received, refused, told
+from tracing import strace
 
 DATA = random.Random(4).randbytes(5000)
 FILE = [("first", DATA)]
@@ -144,6 +145,38 @@ def taken_name():
         wants_stored(there, made)
 
 
+def taken_name_without_links():
+    """The same on a file system without hard links."""
+    with folders() as (log, there):
+        made = [("first", b"made meanwhile")]
+        no_links = strace(os.path.join(log, "log"), "-e", "inject=link,linkat:error=EPERM")
+        meanwhile = Meanwhile(IN_THE_FILE, lambda: write_files(there, made))
+        ended, _ = received(FILE, there, before=no_links, meanwhile=meanwhile)
+        ended.wants(3, refused(0, FILE), FAULT)
+        wants_stored(there, made)
+
+
+def no_name_is_given():
+    """Without hard links a name is made, and the part renamed over it: where that fails, the name is taken away again."""
+    with folders() as (log, there):
+        refused_calls = ("-e", "inject=link,linkat:error=EPERM", "-e", "inject=rename,renameat,renameat2:error=EIO")
+        ended, _ = received(FILE, there, before=strace(os.path.join(log, "log"), *refused_calls))
+        ended.wants(3, refused(0, FILE), FAULT)
+        wants_stored(there, [])
+
+
+def linked_source():
+    """A FILE that is a link to one is sent, under the link's own name."""
+    with folders() as (here, _):
+        (path,) = write_files(here, [("elsewhere", DATA)])
+        link = os.path.join(here, "first")
+        os.symlink(path, link)
+        receiver = PlainReceiver()
+        ended = send_to(lambda end: receive_plainly(end, receiver), None, paths=[link])
+        ended.wants(0, "sender done 1 finished\n")
+        wants_same(receiver.kept, {"first": DATA})
+
+
 def lost_part():
     """Somebody removes the part while it is written."""
     with folders() as (_, there):
@@ -227,8 +260,11 @@ CHECKS = [
     ("parts: one that was replaced by another file", replaced_part(by_another_file)),
     ("parts: one that was removed", lost_part),
     ("parts: a NAME that is made meanwhile", taken_name),
+    ("parts: a NAME that is made meanwhile, without hard links", taken_name_without_links),
     ("names of 249 to 255 bytes", stores(long_names())),
     ("names of 249 to 255 bytes, --no-sync --discard-parts", stores(long_names(), ["--no-sync", *DISCARD], [(part_of("n" * 255), b"left")])),
+    ("parts: one that gets no name, without hard links", no_name_is_given),
+    ("a FILE that is a link is sent", linked_source),
     ("a file that shrinks before its first block", changed_source(shrinks)),
     ("a file that grows before its first block", changed_source(grows)),
     ("a file that is replaced before its first block", changed_source(is_replaced)),

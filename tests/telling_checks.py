@@ -5,14 +5,16 @@ import fcntl
 import os
 import socket
 import subprocess
+import time
 
-from frames import ACK_START, CANCEL, EOT, NAK, START, header
-from peers import receive_from, send_to
+from frames import ACK, ACK_START, CANCEL, END, EOT, NAK, START, header
+from peers import PlainReceiver, frames_at, receive_from, send_to
 from program import PROGRAM, folders, free_port, run, running, wants_stored, write_files
 from skipping import Skipped, needs
 from telling import FAULT, FILE, connecting, listening, missing, wants
 
 LOUD = ("--verbose",)
+ECHOES = "the line echoes what is sent: is a %s running there?\n"
 NOT_SAFE = header(b"../first", b"0")
 THERE = "cannot store '%s': it is there already; move it away first\n"
 CANCELLED = "the other end cancelled (CAN CAN)\n"
@@ -211,6 +213,68 @@ def sends(data):
     return peer
 
 
+def echoes_frames(end):
+    """Hands back each frame before it answers it."""
+    receiver = PlainReceiver()
+    end.sendall(bytes((START,)))
+    for frame in frames_at(end):
+        end.sendall(frame)
+        end.sendall(receiver.answer(frame))
+
+
+def echoes_replies(end):
+    """Hands back each reply before it goes on."""
+    end.sendall(header(b"a"))
+    for reply, then in ((ACK_START, bytes((EOT,))), (bytes((NAK,)), bytes((EOT,))), (ACK_START, END)):
+        reads(end, reply)
+        end.sendall(reply + then)
+    reads(end, bytes((ACK,)))
+
+
+def told_once(ends, what):
+    """It is told once that the line echoes, where somebody looks, and all is whole."""
+
+    def check():
+        for flags in ((), LOUD):
+            ended = ends(flags)
+            wants("the status", ended.status, 0)
+            wants("how often it was told", ended.err.count(ECHOES % what), len(flags))
+
+    return check
+
+
+def received_with_echo(flags):
+    with folders() as (_, there):
+        return receive_from(echoes_replies, there, flags)
+
+
+def answers_late(end):
+    """Answers block 0 and its copy after more than ten seconds each, and then asks for each block again."""
+    end.sendall(bytes((START,)))
+    frames = frames_at(end)
+    for seconds in (10.5, 10):
+        next(frames)
+        time.sleep(seconds)
+        end.sendall(ACK_START)
+    for frame in frames:
+        if frame[1] == 1:
+            end.sendall(bytes((NAK,)))
+
+
+def tells_that_answers_are_late():
+    ended = send_to(answers_late, FILE, LOUD)
+    ended.wants(1, "sender done 0 no-reply\n", ended.err)
+    wants("what it told", ended.err.splitlines()[-1], "answers take longer than 10 seconds: use a line that hands on sooner")
+
+
+def goes_on(end):
+    """Goes on to another file where only a repeat of block 0 can come."""
+    end.sendall(header(b"a"))
+    reads(end, ACK_START)
+    end.sendall(header(b"b"))
+    reads(end, CANCEL)
+
+
 CHECKS = [
     ("tells why a file is not sent: it is missing", unsent(missing, "cannot open '%s': no such file or directory\n")),
     ("tells why a file is not sent: it is a folder", unsent(lambda here: here, "cannot open '%s': not a regular file\n")),
@@ -256,6 +320,13 @@ CHECKS = [
     (
         "tells that a sender left",
         received_from(leaves_at_once, 3, "running", CLOSED, "fault: closed\n"),
+    ),
+    ("tells once that the line of a sender echoes", told_once(lambda flags: send_to(echoes_frames, FILE, flags), "receiver")),
+    ("tells once that the line of a receiver echoes", told_once(received_with_echo, "sender")),
+    ("tells that answers take longer than usual peers wait", tells_that_answers_are_late),
+    (
+        "tells that the ends are out of step",
+        received_from(goes_on, 1, "out-of-step", "a block came out of turn: the two ends are out of step, send again\n"),
     ),
     (
         "tells that a name is not safe",

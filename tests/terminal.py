@@ -65,10 +65,22 @@ class UnderTerminal:
         self.shown = self.shown.partition(text)[2]
         return self.shown
 
+    def shows(self, text, seconds=0.5):
+        """Whether this text is shown, soon."""
+        if text not in self.shown and select.select([self.end], [], [], seconds)[0]:
+            self.shown += os.read(self.end, 65536)
+        return text in self.shown
+
     def ended(self):
         return self.child.wait(LIMIT)
+
+    def hang_up(self):
+        """The terminal is gone, as where its window is closed."""
+        os.close(self.end)
+        self.end = None
 
     def stop(self):
         self.child.kill()
         self.child.wait()
-        os.close(self.end)
+        if self.end is not None:
+            os.close(self.end)

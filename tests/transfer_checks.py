@@ -3,10 +3,11 @@
 import os
 import random
 
+from claims import claim_of_receive, claim_of_send, wants_true
 from frames import EOT, START
 from program import folders, free_port, run, running, wants_stored, write_files
 from relay import Clean, Damage, Relay, Seeded, Watch
-from transfers import Told, transfer
+from transfers import Told, carried, transfer
 
 SIZES = (0, 1, 2, 127, 128, 129, 255, 256, 257, 895, 896, 1023, 1024, 1025, 1151, 1152, 1153, 2047, 2048, 2049)
 ODD_SIZES = (3000, 3001, 9999, 32767, 32768, 33333, 70001)
@@ -44,6 +45,17 @@ def damaged(seed, share, flags, files, longest=4):
         transfer(files, line, flags)
         if not line.bad_frames or not line.bad_replies or line.most_in_a_row > line.longest or line.most_in_a_row < longest:
             raise AssertionError("the relay damaged %d frames, %d replies, %d in a row" % (line.bad_frames, line.bad_replies, line.most_in_a_row))
+
+    return check
+
+
+def heavily_damaged(seed, share, flags, files):
+    """The same, where a sender may let the line clear for longer than its receiver goes on: what either end claims is so, whether both finish or not."""
+
+    def check():
+        line = Seeded(seed, share, most=20)
+        ends = carried(files, lambda port: Relay(line, port), flags)
+        wants_true(files, ends.kept, [claim_of_send(ends.sent), claim_of_receive(ends.received, files)])
 
     return check
 
@@ -284,7 +296,8 @@ CHECKS = [
     *[("5 files, every third delivery damaged, seed %d" % (seed + 20), damaged(seed + 20, 0.33, flags, thirty_files()[seed * 5 : seed * 5 + 5], 1))
       for seed, flags in enumerate(([], ["--short"], ["--single"], ["--short", "--single"], []))],
     *[("3 files, most deliveries damaged, seed %d" % seed, damaged(seed, 0.7, flags, few_files()))
-      for seed, flags in ((6, []), (7, ["--short"]), (8, ["--single"]), (9, []), (10, ["--short", "--single"]))],
+      for seed, flags in ((6, []), (7, ["--short"]), (8, ["--single"]), (9, []))],
+    ("3 files, most deliveries damaged, seed 10", heavily_damaged(10, 0.7, ["--short", "--single"], few_files())),
     ("damage that the ends have to wait out", unfilled),
     ("each ACK C behind a block 0 cut to a C", cut_replies),
     ("nine bad deliveries of one block are survived", nine_bad_blocks),

@@ -68,7 +68,7 @@ class Tree:
         for name in names:
             source, to = os.path.join(ROOT, name), os.path.join(self.top, name)
             if os.path.isdir(source):
-                shutil.copytree(source, to, ignore=shutil.ignore_patterns("out", "proofs", "must-fail", "edits", "__pycache__"))
+                shutil.copytree(source, to, ignore=shutil.ignore_patterns("out", "proofs", "__pycache__"))
             else:
                 os.makedirs(self.top, exist_ok=True)
                 shutil.copy2(source, to)

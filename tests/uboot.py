@@ -5,106 +5,46 @@ Prints a line for each check, and ends with the line 'N passed, M failed, K skip
 (Debian's packages qemu-system-arm and u-boot-qemu) a check is skipped, and says so.
 
 usage: uboot.py [WORD..]    only the checks whose names have one of these words
-U-Boot is the file that U_BOOT names, else that of the package u-boot-qemu; the program as for transfer.py.
+       uboot.py --long [--seeds N] [--at-once N] [WORD..]
+                            each board, bits of frames and of replies flipped, so many seeds (20), by
+                            `send` and by `sb` in turns: whole ones, false reports, median seconds
+U-Boot is the file that U_BOOT names, else that of the package u-boot-qemu; the program as for transfer.py. The long form needs qemu-system-misc, -x86 and -ppc as well.
 """
 
+import argparse
 import os
 import random
 import sys
 import tempfile
-import zlib
 
 sys.dont_write_bytecode = True
 sys.path.insert(0, os.path.dirname(os.path.abspath(__file__)))
 
-from bare_board import QEMU, board, from_program
+import uboot_runs
+import uboot_session
+from bare_board import from_program
 from calls import sending
 from program import PROGRAM, write_files
-from relay import Clean, Seeded
-from reporting import report
-from skipping import Skipped, needs
-
-U_BOOT = os.environ.get("U_BOOT", "/usr/lib/u-boot/qemu_arm64/u-boot.bin")
-PROMPT = rb"\n=> "
-AT = 0x42000000
-
-
-def typed(port, text, answer):
-    """Types a line at the prompt, waits for what U-Boot says to it, and gives the match."""
-    start = len(port.said)
-    port.type(text.encode() + b"\r")
-    return port.sees(answer, start)
-
-
-class Flips(Clean):
-    """A line that flips a bit of five of the first deliveries, those of both ways counted together."""
-
-    def __init__(self, seed):
-        self.random = random.Random(seed)
-        self.which = self.random.sample(range(2, 14), 5)
-        self.count = self.bad_frames = self.bad_replies = 0
-        self.most = len(self.which)
-
-    def is_struck(self):
-        self.count += 1
-        return self.count in self.which
-
-    def flipped(self, data):
-        at = self.random.randrange(len(data))
-        return data[:at] + bytes((data[at] ^ 1 << self.random.randrange(8),)) + data[at + 1 :]
-
-    def there(self, frame):
-        is_struck = self.is_struck()
-        self.bad_frames += is_struck
-        # a frame is struck behind its first bytes, so that it stays one
-        return frame[:3] + self.flipped(frame[3:]) if is_struck and len(frame) > 3 else frame
-
-    def back(self, reply):
-        is_struck = self.is_struck()
-        self.bad_replies += is_struck
-        return self.flipped(reply) if is_struck else reply
-
-
-def ready(port, data):
-    """U-Boot waits for a file: where what it says of that begins."""
-    typed(port, "mw.b %x 55 %x" % (AT, len(data)), PROMPT)
-    said = typed(port, "loady %x" % AT, rb"## Ready for binary \(ymodem\) download to 0x42000000 at 115200 bps\.\.\.\r?\n")
-    return said.end()
+from relay import Seeded
+from reporting import missing, report
+from uboot_boards import ARM64
+from uboot_runs import Flips
 
 
 def load(port, data, line=None, name="image.bin"):
     """Sends a file to `loady`, and compares its length and its CRC-32."""
-    start = ready(port, data)
+    start = ARM64.ready(port, data)
     with tempfile.TemporaryDirectory(prefix="ymodem-") as here:
         from_program(write_files(here, [(name, data)]), line)(port)
-    wants_loaded(port, data, start)
-
-
-def wants_loaded(port, data, start):
-    total = port.sees(rb"## Total Size\s+= 0x([0-9a-f]+) = (\d+) Bytes.*" + PROMPT, start)
-    if int(total[1], 16) != len(data) or int(total[2]) != len(data):
-        raise AssertionError("it got %s bytes of %d" % (total[2].decode(), len(data)))
-    summed = typed(port, "crc32 %x %x" % (AT, len(data)), rb"==> ([0-9a-f]{8})\r?" + PROMPT)
-    if int(summed[1], 16) != zlib.crc32(data):
-        raise AssertionError("its CRC-32 is %s, wanted %08x" % (summed[1].decode(), zlib.crc32(data)))
-
-
-def prompted(port):
-    port.sees(rb"Hit any key to stop autoboot")
-    port.type(b"\r")
-    port.sees(PROMPT)
+    ARM64.wants_loaded(port, data, start)
 
 
 def takes(sizes, line=None):
     """One U-Boot takes a file of each size, one after another."""
 
     def check():
-        needs(QEMU)
-        if not os.path.exists(U_BOOT):
-            raise Skipped("U-Boot: there is no %s" % U_BOOT)
         chance = random.Random(71)
-        with board("-bios", U_BOOT, memory="256M", cpu="cortex-a57") as (port, _):
-            prompted(port)
+        with ARM64.started() as port:
             for size in sizes:
                 load(port, chance.randbytes(size), line)
 
@@ -115,18 +55,14 @@ def across_damage(seed):
     """It is there whole, or the sender does not say that it has finished."""
 
     def check():
-        needs(QEMU)
-        if not os.path.exists(U_BOOT):
-            raise Skipped("U-Boot: there is no %s" % U_BOOT)
         data = random.Random(seed).randbytes(20000)
-        with board("-bios", U_BOOT, memory="256M", cpu="cortex-a57") as (port, _), tempfile.TemporaryDirectory(prefix="ymodem-") as here:
-            prompted(port)
-            start = ready(port, data)
+        with ARM64.started() as port, tempfile.TemporaryDirectory(prefix="ymodem-") as here:
+            start = ARM64.ready(port, data)
             with sending(write_files(here, [("image.bin", data)]), Flips(seed)) as (sender, called):
                 port.carry(called())
                 ran = sender.ended()
             if ran.status == 0 or "finished" in ran.out:
-                wants_loaded(port, data, start)
+                ARM64.wants_loaded(port, data, start)
 
     return check
 
@@ -135,9 +71,25 @@ CHECKS = [
     *(("loady from ymodem send: %d bytes, and %d" % pair, takes(pair)) for pair in ((1, 1024), (127, 1025), (128, 3000), (129, 1023))),
     ("loady from ymodem send: 300,001 bytes", takes((300001,))),
     ("loady from ymodem send: 40,000 bytes, two deliveries damaged", takes((40000,), Seeded(73, 0.2, 2))),
+    *uboot_session.CHECKS,
     *(("loady from ymodem send: five bits flipped near the start, seed %d" % seed, across_damage(seed)) for seed in (1, 2, 7)),
+    ("loady from ymodem send: at full speed behind a damaged block", uboot_runs.recovers(ARM64)),
 ]
 
 
+def main():
+    words = argparse.ArgumentParser(usage=__doc__)
+    words.add_argument("--long", action="store_true")
+    words.add_argument("--seeds", type=int, default=20)
+    words.add_argument("--at-once", type=int, default=2)
+    words.add_argument("words", nargs="*")
+    asked = words.parse_args()
+    if not asked.long:
+        return report(CHECKS, asked.words, needed=[PROGRAM])
+    if missing(PROGRAM):
+        return 1
+    return uboot_runs.run(asked.seeds, asked.at_once, asked.words)
+
+
 if __name__ == "__main__":
-    sys.exit(report(CHECKS, sys.argv[1:], needed=[PROGRAM]))
+    sys.exit(main())

@@ -1,4 +1,5 @@
-"""Debian's Chromium without a window, driven over the pipe of its DevTools protocol."""
+"""A browser without a window and its pages, as the checks use them; and Debian's Chromium, driven
+over the pipe of its DevTools protocol."""
 
 import base64
 import json
@@ -12,8 +13,8 @@ import time
 from program import LIMIT
 from skipping import Skipped
 
-# The first version whose modules may have memory of 64 bits.
-FIRST = 133
+# The first version that the page says it works in.
+FIRST = 95
 
 
 def found():
@@ -24,14 +25,49 @@ def found():
     said = subprocess.run([path, "--version"], stdout=subprocess.PIPE, stderr=subprocess.DEVNULL, text=True, timeout=LIMIT).stdout
     version = next((int(word.partition(".")[0]) for word in said.split() if word[:1].isdigit()), 0)
     if version < FIRST:
-        raise Skipped("chromium %d: no 64-bit memory (from %d on)" % (version, FIRST))
+        raise Skipped("chromium %d: too old (from %d on)" % (version, FIRST))
     return path
 
 
-class Browser:
-    """A browser with pages, gone at the end."""
+class Remote:
+    """Calls of a browser, whose answers come in any order. `send` hands on a text."""
 
     def __init__(self):
+        self.number = 0
+        self.done, self.events, self.changed = {}, [], threading.Condition()
+
+    def take(self, text):
+        """Takes what the browser says; nothing where it has gone."""
+        it = json.loads(text) if text else {"id": None}
+        with self.changed:
+            if "id" in it:
+                self.done[it["id"]] = it
+            else:
+                self.events.append(it)
+            self.changed.notify_all()
+
+    def asked(self, what):
+        """The answer to a call."""
+        with self.changed:
+            self.number += 1
+            number = self.number
+            self.send(json.dumps({"id": number, **what}))
+            self.changed.wait_for(lambda: number in self.done or None in self.done, timeout=LIMIT)
+            it = self.done.pop(number, None)
+        if it is None:
+            raise AssertionError("%s: the browser did not answer" % what["method"])
+        if "error" in it:
+            raise AssertionError("%s: %s" % (what["method"], it.get("message", it["error"])))
+        return it["result"]
+
+
+class Chromium(Remote):
+    """Chromium with pages, gone at the end."""
+
+    name = "chromium"
+
+    def __init__(self):
+        super().__init__()
         path = found()
         self.folder = tempfile.TemporaryDirectory(prefix="ymodem-web-", ignore_cleanup_errors=True)
         there, self.words = os.pipe()
@@ -58,44 +94,33 @@ class Browser:
         )
         os.close(there)
         os.close(here)
-        self.number = 0
-        self.done, self.events, self.changed = {}, [], threading.Condition()
         threading.Thread(target=self.listen, daemon=True).start()
 
     def listen(self):
         held = b""
-        while True:
-            came = os.read(self.answers, 1 << 20)
-            if not came:
-                with self.changed:
-                    self.done[None] = True
-                    self.changed.notify_all()
-                return
+        while came := os.read(self.answers, 1 << 20):
             *texts, held = (held + came).split(b"\0")
-            with self.changed:
-                for text in texts:
-                    it = json.loads(text)
-                    if "id" in it:
-                        self.done[it["id"]] = it
-                    else:
-                        self.events.append(it)
-                self.changed.notify_all()
+            for text in texts:
+                self.take(text)
+        self.take(None)
+
+    def send(self, text):
+        left = text.encode() + b"\0"
+        while left:
+            left = left[os.write(self.words, left) :]
 
     def call(self, method, session=None, **what):
-        with self.changed:
-            self.number += 1
-            number = self.number
-            text = {"id": number, "method": method, "params": what, **({"sessionId": session} if session else {})}
-            left = json.dumps(text).encode() + b"\0"
-            while left:
-                left = left[os.write(self.words, left) :]
-            self.changed.wait_for(lambda: number in self.done or None in self.done, timeout=LIMIT)
-            it = self.done.pop(number, None)
-        if it is None:
-            raise AssertionError("%s: the browser did not answer" % method)
-        if "error" in it:
-            raise AssertionError("%s: %s" % (method, it["error"]))
-        return it["result"]
+        where = {"sessionId": session} if session else {}
+        return self.asked({"method": method, "params": what, **where})
+
+    def storage(self):
+        """A place where pages keep what they remember."""
+        return self.call("Target.createBrowserContext")["browserContextId"]
+
+    def page(self, address, before="", storage=None, **size):
+        """A new page, with a script that runs before its own. It shares what it remembers with the
+        pages of the same storage alone."""
+        return ChromiumPage(self, address, before, storage or self.storage(), **size)
 
     def close(self):
         self.child.terminate()
@@ -109,11 +134,34 @@ class Browser:
 
 
 class Page:
-    """A page of the browser."""
+    """A page of a browser: what each browser does in its own way stands below."""
 
-    def __init__(self, browser, address, before="", width=1180, height=900):
-        self.browser = browser
-        self.target = browser.call("Target.createTarget", url="about:blank", newWindow=True)["targetId"]
+    def until(self, script, limit=int(os.environ.get("YM_LIMIT", LIMIT))):
+        """Waits until an expression holds."""
+        end = time.monotonic() + limit
+        while True:
+            try:
+                if self.run(script):
+                    return
+            except AssertionError as fault:
+                # the page is being loaded
+                if "navigated" not in str(fault) and "context" not in str(fault):
+                    raise
+            if time.monotonic() > end:
+                raise AssertionError("the page never came to: " + script)
+            time.sleep(0.05)
+
+    def until_loaded(self):
+        self.until("document.readyState === 'complete' && location.href !== 'about:blank'")
+
+
+class ChromiumPage(Page):
+    """A page of Chromium."""
+
+    def __init__(self, browser, address, before, storage, width=1180, height=900):
+        self.browser, self.storage = browser, storage
+        where = {"browserContextId": storage, "newWindow": True}
+        self.target = browser.call("Target.createTarget", url="about:blank", **where)["targetId"]
         self.session = browser.call("Target.attachToTarget", targetId=self.target, flatten=True)["sessionId"]
         for domain in ("Page", "Runtime", "Log", "DOM"):
             self.call(domain + ".enable")
@@ -121,7 +169,7 @@ class Page:
         if before:
             self.call("Page.addScriptToEvaluateOnNewDocument", source=before)
         self.call("Page.navigate", url=address)
-        self.until("document.readyState === 'complete' && location.href !== 'about:blank'")
+        self.until_loaded()
 
     def call(self, method, **what):
         return self.browser.call(method, self.session, **what)
@@ -140,32 +188,30 @@ class Page:
             raise AssertionError("in the page: " + details.get("exception", {}).get("description", details["text"]))
         return it["result"].get("value")
 
-    def until(self, script, limit=int(os.environ.get("YM_LIMIT", LIMIT))):
-        """Waits until an expression holds."""
-        end = time.monotonic() + limit
-        while True:
-            try:
-                if self.run(script):
-                    return
-            except AssertionError as fault:
-                # the page is being loaded
-                if "navigated" not in str(fault) and "context" not in str(fault):
-                    raise
-            if time.monotonic() > end:
-                raise AssertionError("the page never came to: " + script)
-            time.sleep(0.05)
-
     def give(self, selector, paths):
         """Puts files into an input."""
         root = self.call("DOM.getDocument")["root"]["nodeId"]
         node = self.call("DOM.querySelector", nodeId=root, selector=selector)["nodeId"]
         self.call("DOM.setFileInputFiles", nodeId=node, files=list(paths))
 
-    def key(self, key, code=None, text="", modifiers=0):
-        numbers = {"Tab": 9, "Enter": 13, "Escape": 27, "Space": 32}
-        what = {"key": " " if key == "Space" else key, "code": code or key, "windowsVirtualKeyCode": numbers.get(key, ord(key[0].upper())), "modifiers": modifiers}
-        self.call("Input.dispatchKeyEvent", type="keyDown", **what, **({"text": text} if text else {}))
+    def key(self, key):
+        """Presses a key: a sign, or one that has a name."""
+        numbers = {"Tab": 9, "Enter": 13, "ArrowDown": 40}
+        number = numbers.get(key, ord(key[0].upper()))
+        what = {"key": key, "code": key, "windowsVirtualKeyCode": number}
+        text = {"Enter": "\r"}.get(key, key if len(key) == 1 else "")
+        down = {"text": text} if text else {}
+        self.call("Input.dispatchKeyEvent", type="keyDown", **what, **down)
         self.call("Input.dispatchKeyEvent", type="keyUp", **what)
+
+    def front(self):
+        """Puts the page before all others."""
+        self.call("Page.bringToFront")
+
+    def downloads_into(self, folder):
+        """Where the browser keeps what is saved from now on."""
+        where = {"behavior": "allow", "downloadPath": folder, "browserContextId": self.storage}
+        self.browser.call("Browser.setDownloadBehavior", **where)
 
     def picture(self, path, whole=True):
         """A screenshot, of the whole page."""

@@ -9,8 +9,8 @@ import tempfile
 
 from program import ROOT, folders, wants_same, wants_stored, write_files
 from relay import Seeded
+from skipping import needs
 from wanting import command, wants
-from web_browser import Page
 from web_peers import Flips, lrzsz, needs_lrzsz, program_receives, program_sends
 
 WEB = os.path.join(ROOT, "out", "web")
@@ -27,6 +27,8 @@ def files():
 
 TOOLS = """
 globalThis.tools = {
+  // what stands between a connection and a transfer
+  over: (port) => port,
   bytes: (text) => Uint8Array.from(atob(text), (sign) => sign.charCodeAt(0)),
   text: async (file) => new Promise((resolve) => {
     const reader = new FileReader();
@@ -43,12 +45,22 @@ globalThis.tools = {
 """
 
 
-class Empty:
-    """A page with the module as `y`."""
+# Makes `y` of the module, as a page does that has it in a script of its own.
+IMPORT = """new Promise((resolve, reject) => {
+  const script = document.createElement("script");
+  Object.assign(script, { type: "module", onerror: reject });
+  globalThis.imported = (it) => resolve(void (globalThis.y = it));
+  script.textContent = 'import * as it from "/ymodem.js"; imported(it);';
+  document.head.append(script);
+})"""
 
-    def __init__(self, room):
-        self.page = Page(room.browser, room.base + "/empty", TOOLS)
-        self.page.run("import('/ymodem.js').then((it) => { globalThis.y = it; })")
+
+class Empty:
+    """A page with the module as `y`, and with a script that runs before."""
+
+    def __init__(self, room, before=""):
+        self.page = room.browser.page(room.base + "/empty", TOOLS + before)
+        self.page.run(IMPORT)
 
     def __enter__(self):
         return self.page
@@ -61,8 +73,8 @@ def received(page, address):
     """The files that the page receives there: names and bytes."""
     script = """(async () => {
       const port = await y.openWebSocket(%s);
-      const done = await y.receive(port);
-      port.close();
+      // the port is open until the page is closed: the last answer may be under way
+      const done = await y.receive(tools.over(port));
       const made = [];
       for (const { name, file } of done.files) made.push([name, await tools.text(file)]);
       return JSON.stringify(made);
@@ -75,8 +87,8 @@ def sends(page, address, batch):
     script = """(async () => {
       const port = await y.openWebSocket(%s);
       const files = %s.map(([name, text]) => ({ name, data: tools.bytes(text) }));
-      // the port is open until the page is closed: the other end has its last answer to write
-      const done = await y.send(port, files);
+      // and so here: the other end has its last answer to write
+      const done = await y.send(tools.over(port), files);
       return done.files.length;
     })()"""
     wants(page.run(script % (json.dumps(address), data)) == len(batch), "not all files are reported as done")
@@ -137,7 +149,7 @@ def layout(_):
     with open(os.path.join(ROOT, "web", "codes.js"), encoding="utf-8") as it:
         text = re.search(r"const LAYOUT = \{(.*?)\n\};", it.read(), re.S).group(1)
     asked = {name: dict(re.findall(r"(\w+): (\d+)", fields)) for name, fields in re.findall(r"(\w+): \{([^}]*)\}", text)}
-    inside = {"ym_receiver": {"length": "stand.length", "taken": "stand.taken", "files": "stand.files", "state": "stand.state", "fault": "stand.fault", "in_file": "stand.in_file"}, "ym_front": {"width": "size"}}
+    inside = {"ym_receiver": {"length": "stand.length", "taken": "stand.taken", "blocks": "stand.blocks", "files": "stand.files", "state": "stand.state", "fault": "stand.fault", "in_file": "stand.in_file"}, "ym_front": {"width": "size"}}
     lines, wanted = [], []
     for name, fields in asked.items():
         for field, at in fields.items():
@@ -157,7 +169,29 @@ def layout(_):
 def sizes(_):
     """What is shipped is as small as docs/web.md says."""
     sizes = {name: os.path.getsize(os.path.join(WEB, name)) for name in os.listdir(WEB)}
-    wants(sizes["ymodem.wasm"] < 40 << 10 and sum(sizes.values()) < 140 << 10, "too large: %s" % sizes)
+    small = sizes["ymodem.wasm"] < 33_000 and sum(sizes.values()) < 144_000
+    wants(small, "too large: %s" % sizes)
+
+
+def calls(_):
+    """The module has the calls that are made, for memory of 32 bits, and needs nothing."""
+    sources = os.path.join(ROOT, "web")
+    called = set()
+    for name in os.listdir(sources):
+        with open(os.path.join(sources, name), encoding="utf-8") as it:
+            called |= set(re.findall(r"\bcalls\.(ym_\w+)", it.read()))
+    script = """
+      const module = new WebAssembly.Module(require("fs").readFileSync(process.argv[1]));
+      const { memory } = new WebAssembly.Instance(module, {}).exports;
+      const names = WebAssembly.Module.exports(module).map((it) => it.name);
+      console.log(JSON.stringify([names, WebAssembly.Module.imports(module).length]));
+      // memory of 64 bits grows by a BigInt
+      memory.grow(1);
+    """
+    needs("node")
+    path = os.path.join(WEB, "ymodem.wasm")
+    names, wanted = json.loads(command("node", "-e", script, path))
+    wants(set(names) == called | {"memory", "__heap_base"} and not wanted, "it has %s" % names)
 
 
 def exact(room):
@@ -186,11 +220,21 @@ def exact(room):
     wants(not got["locked"], "the streams are locked")
 
 
-def ended_by(script, wanted):
+# A clock by which ten seconds pass in one: for ends that only wait.
+FASTER = """
+(() => {
+  const [now, wait] = [performance.now.bind(performance), setTimeout];
+  performance.now = () => 10 * now();
+  globalThis.setTimeout = (act, millis = 0) => wait(act, millis / 10);
+})();
+"""
+
+
+def ended_by(script, wanted, before=""):
     """A transfer that does not end well: its codes at both ends."""
 
     def check(room):
-        with Empty(room) as page:
+        with Empty(room, before) as page:
             got = json.loads(page.run("(async () => { const [here, there] = tools.pair(); const data = new Uint8Array(5000); %s })()" % script))
         wants(got == wanted, "%s, wanted %s" % (got, wanted))
 
@@ -200,64 +244,23 @@ def ended_by(script, wanted):
 BOTH = "const ends = await Promise.all([tools.ended(%s), tools.ended(%s)]); return JSON.stringify(ends.map((it) => [it.code, it.files.length]));"
 
 
-def stalls(room):
-    """Both ends in one page, on a line that now and then hands on late what one of them wrote, so that it is written twice and answered twice."""
-    with Empty(room) as page:
-        got = json.loads(
-            page.run(
-                """(async () => {
-      const waits = { reply: 1500, within: 200 };
-      let left = 6, count = 0, late = 0;
-      // the stalls of each way: at these pieces
-      const slow = () => {
-        let until = 0, last = Promise.resolve(), to;
-        const readable = new ReadableStream({ start: (controller) => { to = controller; } });
-        const writable = new WritableStream({
-          write(piece) {
-            const now = performance.now();
-            if (left > 0 && ++count % 13 === 0) { left--; until = now + 1700; }
-            if (until > now) late++;
-            last = last.then(() => new Promise((resolve) => setTimeout(resolve, until - performance.now()))).then(() => to.enqueue(piece));
-          },
-        });
-        return { readable, writable };
-      };
-      const [one, two] = [slow(), slow()];
-      const here = { readable: one.readable, writable: two.writable }, there = { readable: two.readable, writable: one.writable };
-      const files = Array.from({ length: 9 }, (_, at) => ({ name: `file ${at}`, data: new Uint8Array(1024 * at + 300).fill(at + 1) }));
-      const [sent, received] = await Promise.all([tools.ended(y.send(here, files, { waits })), tools.ended(y.receive(there, { waits: { ...waits, reply: 800 } }))]);
-      const same = [];
-      for (const { file, name } of received.files) {
-        const bytes = new Uint8Array(await file.arrayBuffer());
-        const wanted = files.find((it) => it.name === name).data;
-        same.push(bytes.length === wanted.length && bytes.every((byte, at) => byte === wanted[at]));
-      }
-      return JSON.stringify({ late, codes: [sent.code, received.code], sent: sent.files.length, same });
-    })()"""
-            )
-        )
-    wants(got["codes"] == ["", ""] and got["sent"] == 9 and got["same"] == [True] * 9, "%s" % got)
-    wants(got["late"] >= 6, "the line was not late: %s" % got)
-
-
-WAITS = "{ waits: { reply: 60, within: 20 } }"
 STOP = "const stop = new AbortController();"
 STUCK = "const stuck = { readable: here.readable, writable: new WritableStream({ write: () => new Promise(() => {}) }) };"
 
 CHECKS = [
     ("the fields of the structs", layout),
     ("the sizes of what is shipped", sizes),
+    ("the calls of the module", calls),
     ("two ends in one page", exact),
-    ("two ends on a line that stalls", stalls),
     ("receives thirty files from ymodem send", from_program()),
     ("sends thirty files to ymodem receive", to_program()),
     ("receives thirty files from ymodem send, six deliveries damaged", from_program(lambda: Seeded(51, 0.05, 6))),
     ("sends thirty files to ymodem receive, six deliveries damaged", to_program(lambda: Seeded(52, 0.05, 6))),
     ("a name that cannot be sent", ended_by("const it = await tools.ended(y.send(here, [{ name: 'a/b', data }], { heard: Uint8Array.of(67) })); return JSON.stringify([it.code, it.fault]);", ["bad-header", "name-unsafe"])),
     ("a sink that fails", ended_by(BOTH % ("y.send(here, [{ name: 'a', data: '' }, { name: 'b', data }])", "y.receive(there, { onFile: ({ name }) => { if (name === 'b') throw new Error('full'); } })"), [["cancelled", 1], ["host-failed", 1]])),
-    ("nobody sends", ended_by("const it = await tools.ended(y.receive(there, %s)); return JSON.stringify([it.code, it.answered]);" % WAITS, ["too-many-errors", False])),
-    ("nobody receives", ended_by("const it = await tools.ended(y.send(here, [{ name: 'a', data }], %s)); return JSON.stringify([it.code, it.answered]);" % WAITS, ["no-reply", False])),
-    ("the line takes nothing", ended_by(STUCK + "const it = await tools.ended(y.receive(stuck, %s)); return JSON.stringify([it.code]);" % WAITS, ["device"])),
+    ("nobody sends", ended_by("const it = await tools.ended(y.receive(there)); return JSON.stringify([it.code, it.answered]);", ["too-many-errors", False], FASTER)),
+    ("nobody receives", ended_by("const it = await tools.ended(y.send(here, [{ name: 'a', data }])); return JSON.stringify([it.code, it.answered]);", ["no-reply", False], FASTER)),
+    ("the line takes nothing", ended_by(STUCK + "const it = await tools.ended(y.receive(stuck)); return JSON.stringify([it.code]);", ["device"], FASTER)),
     ("the line is closed", ended_by("here.writable.close(); const it = await tools.ended(y.receive(there)); return JSON.stringify([it.code]);", ["closed"])),
     ("the sender is stopped", ended_by(STOP + BOTH % ("y.send(here, [{ name: 'a', data }], { signal: stop.signal })", "y.receive(there, { onProgress: ({ bytes }) => bytes > 2000 && stop.abort() })"), [["aborted", 0], ["cancelled", 0]])),
     ("the receiver is stopped", ended_by(STOP + BOTH % ("y.send(here, [{ name: 'a', data }])", "y.receive(there, { signal: stop.signal, onProgress: ({ bytes }) => bytes > 2000 && stop.abort() })"), [["cancelled", 0], ["aborted", 0]])),

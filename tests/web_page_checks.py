@@ -25,6 +25,10 @@ def update(room):
         picture(page, "2-ready")
         click(page, "#send")
         until_share(page, 0.4)
+        # the line stands still, and how fast it went can still be seen
+        until_says(page, "#figures", "standing still for")
+        told = text(page, "#figures")
+        wants("/s" in told and " left" in told, "while the line stands still the page says " + told)
         picture(page, "3-sending")
         page.scheme("dark")
         picture(page, "3-sending-dark")
@@ -39,19 +43,21 @@ def update(room):
         # the line is the terminal's again
         page.run("document.getElementById('screen').focus()")
         for sign in "help":
-            page.key(sign, text=sign)
-        page.key("Enter", text="\r")
+            page.key(sign)
+        page.key("Enter")
         until_says(page, "#screen", "Unknown command 'help'")
         loader.close()
 
 
 def save(page, folder):
     """Presses each button that saves a file, as the browser keeps it."""
-    page.browser.call("Browser.setDownloadBehavior", behavior="allow", downloadPath=folder)
+    page.downloads_into(folder)
     names = page.run("[...document.querySelectorAll('#received a')].map((it) => it.download)")
     for at, name in enumerate(names):
         page.run("document.querySelectorAll('#received a')[%d].click()" % at)
-        wait_until(lambda: os.path.exists(os.path.join(folder, name)), "the browser has saved " + name)
+        # one that is being saved may have another name beside its own
+        is_saved = lambda: name in os.listdir(folder) and not any(it.endswith(".part") for it in os.listdir(folder))
+        wait_until(is_saved, "the browser has saved " + name)
 
 
 def receives(room):
@@ -142,8 +148,8 @@ def cancels_receiving(room):
         with program_sends(write_files(here, [("a", b"first"), *firmware()]), damage=line) as (bridge, ended):
             dial(page, bridge.address)
             begin_receiving(page)
+            until_says(page, "#now-file", "firmware.bin")
             until_share(page, 0.2)
-            wants(text(page, "#now-file") == "firmware.bin", "another file is under way")
             click(page, "#cancel")
             line.go_on()
             until_ended(page)

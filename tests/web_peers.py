@@ -5,10 +5,12 @@ import random
 import socket
 import subprocess
 import threading
+import time
 
 from calls import receiving, sending
 from program import LIMIT, connected
 from skipping import needs
+from wanting import wants
 from web_bridge import Bridge
 
 
@@ -43,6 +45,48 @@ class Held:
 
     def go_on(self):
         self.goes_on.set()
+
+
+class Paced:
+    """A line that carries so many bytes a second, as a serial one does."""
+
+    def __init__(self, rate):
+        self.rate, self.free = rate, 0.0
+
+    def __call__(self, data):
+        self.free = max(self.free, time.monotonic()) + len(data) / self.rate
+        time.sleep(max(0.0, self.free - time.monotonic()))
+        return data
+
+
+class Peer(threading.Thread):
+    """A peer of the check's own behind a bridge: it does this with its end of the line."""
+
+    def __init__(self, act):
+        super().__init__(daemon=True)
+        with socket.create_server(("127.0.0.1", 0)) as listener:
+            far = socket.create_connection(listener.getsockname())
+            self.end, _ = listener.accept()
+        self.end.settimeout(LIMIT)
+        self.bridge = Bridge(lambda: far)
+        self.act, self.fault = act, None
+        self.start()
+
+    def run(self):
+        try:
+            self.act(self.end)
+        except Exception as fault:  # told by the check
+            self.fault = fault
+
+    def __enter__(self):
+        return self
+
+    def __exit__(self, kind, *_):
+        if kind is None:
+            self.join(LIMIT)
+            wants(not self.is_alive() and self.fault is None, "the peer: %r" % self.fault)
+        self.bridge.is_cut.set()
+        self.end.close()
 
 
 def needs_lrzsz(check):

@@ -14,8 +14,9 @@ from web_bridge import Bridge
 from web_module_checks import Empty
 from web_peers import lrzsz
 
-# MiB a second.
+# MiB a second: over a WebSocket, and with both ends in one page of Chromium.
 LEAST = 4
+LEAST_IN_ONE_PAGE = 20
 FRAME = 1029
 
 
@@ -30,10 +31,11 @@ class Rates:
     def add(self, what, rate):
         self.best[what] = max(rate, self.best.get(what, 0))
 
-    def end(self, what, text):
+    def end(self, what, text, least):
         """Notes what was measured, and judges one of it."""
-        self.room.note(text % self.best)
-        wants(not self.room.are_rates_wanted or self.best[what] >= LEAST, "%.1f MiB/s" % self.best[what])
+        self.room.note("%s, %s" % (self.room.browser.name, text % self.best))
+        is_quick = self.best[what] >= least
+        wants(is_quick or not self.room.are_rates_wanted, "%.1f MiB/s" % self.best[what])
 
 
 IN_ONE_PAGE = """(async () => {
@@ -82,9 +84,9 @@ def in_one_page(room):
     with Empty(room) as page:
         for _ in range(rates.tries):
             rates.add("both", page.run(IN_ONE_PAGE % (rates.size, rates.size)))
-            if rates.best["both"] >= LEAST:
+            if rates.best["both"] >= LEAST_IN_ONE_PAGE:
                 break
-    rates.end("both", "both ends in one page: %(both).1f MiB/s")
+    rates.end("both", "both ends in one page: %(both).1f MiB/s", LEAST_IN_ONE_PAGE)
 
 
 def exchange(page, size):
@@ -116,7 +118,8 @@ def over_socket(room):
                 rates.add("rb", page.run(TO_RB % (json.dumps(bridge.address), rates.size, rates.size)))
             if rates.best["sb"] >= LEAST:
                 break
-    rates.end("sb", "over a WebSocket: from sb %(sb).1f MiB/s, to rb %(rb).1f, the same bytes without a protocol %(bare).1f")
+    told = "over a WebSocket: from sb %(sb).1f MiB/s, to rb %(rb).1f"
+    rates.end("sb", told + ", the same bytes without a protocol %(bare).1f", LEAST)
 
 
 CHECKS = [

@@ -1,11 +1,23 @@
 """For whom the page is: who uses the keyboard alone, a narrow window, a dark screen or a screen reader, or a browser that lacks something; and its policy."""
 
 import json
+import time
 
-from program import folders, wants_stored, write_files
+from program import LIMIT, folders, wants_stored, write_files
 from wanting import wants
 from web_peers import Held, Loader, needs_lrzsz
 from web_shown import SIZE, Loud, Shown, begin, dial, firmware, picture, text, until_ended, until_share
+
+
+WAY = "document.querySelector('[name=way]:checked').value"
+
+
+def until_focus_shows(page):
+    """Waits until it shows where the keyboard is, which it does in the window in front."""
+    end = time.monotonic() + LIMIT
+    while page.run("getComputedStyle(document.activeElement).outlineStyle") == "none":
+        wants(time.monotonic() < end, "where the keyboard is does not show")
+        page.front()
 
 
 def by_keyboard(room):
@@ -21,22 +33,23 @@ def by_keyboard(room):
                 page.key("Tab")
             raise AssertionError("the Tab key never reaches " + wanted)
 
-        reach("serial")
-        shown = page.run("getComputedStyle(document.activeElement).outlineStyle")
-        wants(shown != "none", "where the keyboard is does not show")
-        page.key("ArrowDown", "ArrowDown")
-        page.run("document.querySelector('[name=way][value=socket]').checked || document.querySelector('[name=way][value=socket]').click()")
+        way = page.run(WAY)
+        reach(way)
+        until_focus_shows(page)
+        if way == "serial":
+            page.key("ArrowDown")
+        wants(page.run(WAY) == "socket", "the arrow key chooses nothing")
         reach("address")
         page.run("document.getElementById('address').value = %s" % json.dumps(loader.bridge.address))
-        page.key("Enter", text="\r")
+        page.key("Enter")
         page.until("!document.getElementById('connected').hidden")
         wants(focused() == "screen", "not at the terminal but at " + focused())
         reach("pick")
         page.give("#pick", write_files(here, [("a.txt", b"hello")]))
         reach("send-command")
         for sign in "loady":
-            page.key(sign, text=sign)
-        page.key("Enter", text="\r")
+            page.key(sign)
+        page.key("Enter")
         until_ended(page)
         wants(focused() == "result-title", "not at the result but at " + focused())
         wants_stored(there, [("a.txt", b"hello")])
@@ -50,7 +63,11 @@ def narrow(room):
         dial(page, loader.bridge.address)
         page.give("#pick", write_files(here, [("a-name-that-is-rather-long-for-such-a-window-" * 4 + ".bin", bytes(90000))]))
         fits = lambda: wants(page.run("document.documentElement.scrollWidth <= innerWidth"), "wider than the window")
+        wide = "document.querySelector('#chosen%s').clientWidth"
+        share = page.run("%s / %s" % (wide % " .name", wide % ""))
+        wants(share > 0.9, "a long name has %d %% of its row" % (100 * share))
         fits()
+        picture(page, "13-narrow-chosen")
         begin(page, [], "loady")
         until_share(page, 0.2)
         fits()
@@ -200,34 +217,71 @@ def contrast(room):
             wants(not poor, "%s: %s" % (scheme, poor))
 
 
+NO_SERIAL = "delete Navigator.prototype.serial;"
+OFF = "['choose', 'again', 'dial'].every((id) => document.getElementById(id).disabled)"
+
+
 def lacking(room):
-    """A browser without serial ports and 64-bit memory."""
-    before = "WebAssembly.validate = () => false; delete Navigator.prototype.serial;"
-    with Shown(room, before) as page:
+    """A browser without serial ports, which cannot run the module: it connects all the same."""
+    with Shown(room, "WebAssembly.validate = () => false;" + NO_SERIAL) as page:
         said = text(page, "#lacks")
-        wants("64-bit memory" in said and "133" in said and "serial ports" in said, "the page says " + said)
-        wants(page.run("document.querySelector('[name=way]:checked').value") == "socket", "serial ports are offered")
+        wants("cannot run this page's module" in said, "the page says " + said)
+        wants("serial ports" in said, "the page says " + said)
+        wants(page.run(WAY) == "socket", "serial ports are offered")
+        wants(not page.run(OFF), "it cannot be connected")
         picture(page, "14-lacking")
+
+
+def cut_off(room):
+    """A browser without serial ports and WebSockets: the page says so, and Connect is off."""
+    with Shown(room, NO_SERIAL + "delete globalThis.WebSocket;") as page:
+        said = text(page, "#lacks")
+        wants("serial ports" in said, "the page says " + said)
+        wants("cannot connect to anything" in said, "the page says " + said)
+        wants(page.run(OFF), "Connect is offered")
+        wants(page.run("document.querySelectorAll('[name=way]:enabled').length") == 0, "a way is offered")
+        wants(page.run("document.getElementById('send').disabled"), "Send is offered")
+        picture(page, "15-cut-off")
+
+
+BROKEN = """
+globalThis.broken = [];
+document.addEventListener("securitypolicyviolation", (it) => broken.push(it.effectiveDirective));
+"""
+
+# What a script of others may try. A text as a timer's act is made into code where that is allowed.
+TRIED = """(async () => {
+  const made = (name, how) => document.body.append(Object.assign(document.createElement(name), how));
+  made("script", { textContent: "globalThis.alien = 'a script'" });
+  made("img", { src: "http://127.0.0.1:1/a.png" });
+  const fetched = await fetch("http://127.0.0.1:1/").then(() => "fetched", (fault) => fault.name);
+  setTimeout("globalThis.alien = 'a text'");
+  await new Promise((done) => setTimeout(done));
+  return [fetched, globalThis.alien ?? ""];
+})()"""
 
 
 def policy(room):
     """No code from text, no script of others, nothing fetched."""
-    with Loud(room) as page:
-        tried = page.call("Runtime.evaluate", expression="eval('1 + 1')", allowUnsafeEvalBlockedByCSP=False)
-        wants("exceptionDetails" in tried, "code is made from text")
-        wants(page.run("fetch('http://127.0.0.1:1/').then(() => 'fetched', (fault) => fault.name)") == "TypeError", "fetched")
-        wants(page.run("(() => { const it = document.createElement('script'); it.textContent = 'globalThis.alien = 1'; document.body.append(it); return globalThis.alien === undefined; })()"), "an alien script runs")
-        said = " ".join(page.complaints())
-        wants("Content Security Policy" in said, "the browser does not say why: " + said)
+    with Loud(room, BROKEN) as page:
+        wants(page.run(TRIED) == ["TypeError", ""], "it fetches, or runs what is not its own")
+        wanted = ["connect-src", "img-src", "script-src", "script-src-elem"]
+        page.until("broken.length >= %d" % len(wanted))
+        wants(sorted(page.run("broken")) == wanted, "it broke %s" % page.run("broken"))
 
 
 CHECKS = [
     ("page: from a disk, its policy", policy),
-    ("page: names for who does not see it", names),
     ("page: the rules for who does not see it", rules),
-    ("page: what a screen reader is told of a transfer", needs_lrzsz(spoken)),
     ("page: contrast", contrast),
     ("page: a browser that lacks what it needs", lacking),
+    ("page: a browser that reaches nothing", cut_off),
     ("page: the keyboard alone", needs_lrzsz(by_keyboard)),
     ("page: a narrow window", needs_lrzsz(narrow)),
+]
+
+# What needs the browser's own tree of the page, which Chromium's DevTools tell alone.
+OF_CHROMIUM = [
+    ("page: names for who does not see it", names),
+    ("page: what a screen reader is told of a transfer", needs_lrzsz(spoken)),
 ]

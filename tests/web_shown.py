@@ -7,7 +7,6 @@ import random
 
 from program import ROOT
 from wanting import wants
-from web_browser import Page
 
 PAGE = "file://" + os.path.join(ROOT, "out", "web", "index.html")
 PICTURES = os.path.join(ROOT, "out", "pictures")
@@ -19,7 +18,7 @@ class Loud:
     """The page, from the disk; closed at the end."""
 
     def __init__(self, room, before="", **how):
-        self.page = Page(room.browser, PAGE, before, **how)
+        self.page = room.browser.page(PAGE, before, **how)
 
     def __enter__(self):
         return self.page
@@ -40,9 +39,10 @@ class Shown(Loud):
 
 def picture(page, name):
     """Keeps a picture of the page, but in a tree that is only read."""
+    folder = os.path.join(PICTURES, page.browser.name)
     with contextlib.suppress(PermissionError):
-        os.makedirs(PICTURES, exist_ok=True)
-        page.picture(os.path.join(PICTURES, name + ".png"))
+        os.makedirs(folder, exist_ok=True)
+        page.picture(os.path.join(folder, name + ".png"))
 
 
 def click(page, where):

@@ -16,12 +16,18 @@ BY_SCRIPT = {"sb": "send", "rb": "receive"}
 OF_SCRIPT = ("--line",)
 
 
+def said_of(*command):
+    """The help of a command, as it is printed."""
+    how = {"stdin": subprocess.DEVNULL, "capture_output": True, "text": True, "check": False}
+    said = subprocess.run([PROGRAM, *command, "--help"], **how)
+    return said.stdout + said.stderr
+
+
 class Help:
     """What the help of a command says: what it is about, its options with a line each, its arguments, and the paragraphs behind them."""
 
     def __init__(self, *command):
-        said = subprocess.run([PROGRAM, *command, "--help"], stdin=subprocess.DEVNULL, capture_output=True, text=True, check=False)
-        text = said.stdout + said.stderr
+        text = said_of(*command)
         self.about = text.partition("\n")[0]
         self.commands = dict(re.findall(r"^  (\w+) +(.+)$", section(text, "Commands"), re.M))
         self.options, self.lines = set(), {}
@@ -38,7 +44,7 @@ def section(text, name):
 
 
 def plain(text):
-    return " ".join(text.replace("`", "").split())
+    return re.sub(r" ([,.;])", r"\1", " ".join(text.replace("`", "").split()))
 
 
 def page(name):
@@ -54,7 +60,7 @@ def text_of(source):
             line = re.sub(r"\bFl (\S)", r"-\1", re.sub(r"^\.(Fl )?", lambda found: "Fl " if found[1] else "", line))
             line = re.sub(r"\b(It|Cm|Ar|Li|Ql|Xr|Nm|Op|Pp|Ev) ?", "", line)
         lines.append(line.replace("\\e", "\\"))
-    return re.sub(r" ([,.;])", r"\1", plain("\n".join(lines)))
+    return plain("\n".join(lines))
 
 
 def pieces(paragraph):
@@ -101,7 +107,7 @@ def page_of_script():
     said = subprocess.run([os.path.join(ROOT, "share", "ymodem-tty"), "--help"], capture_output=True, text=True, check=False).stderr
     whole = text_of(page("ymodem-tty.1"))
     paragraph = next(it for it in said.split("\n\n") if it.startswith("LINE"))
-    wanted = [said.partition("\n")[0], *pieces(paragraph)[1:-1]]
+    wanted = [said.partition("\n")[0], *pieces(paragraph)[:4]]
     lacking = [it for it in wanted if it not in whole]
     if lacking:
         raise AssertionError("ymodem-tty.1 lacks what the script says: %r" % lacking)

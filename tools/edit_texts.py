@@ -36,6 +36,9 @@ class Unfit(Exception):
 class Edit:
     """An edit, as its file says it."""
 
+    # Where the files stand that it may change.
+    parts = PARTS
+
     def __init__(self, file):
         self.file, self.name = file, os.path.basename(file)
         with open(file, encoding="utf-8", errors="replace") as it:
@@ -51,7 +54,7 @@ class Edit:
             elif line.startswith("old: "):
                 old = line[len("old: ") :]
             elif line.startswith("new:"):
-                if not path.startswith(PARTS) or os.path.normpath(path) != path:
+                if not path.startswith(self.parts) or os.path.normpath(path) != path:
                     raise Unfit("no 'file:' line names a file of src/, specs/ or proofs/")
                 if not old:
                     raise Unfit("a 'new:' line has no 'old:' line ahead of it")

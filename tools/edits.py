@@ -56,6 +56,8 @@ ROOM = os.path.join(tempfile.gettempdir(), "edits-%d-%s" % (os.getuid(), sum_of(
 # Counted up where an edit may be judged otherwise than before: what was kept is tried again then.
 JUDGEMENT = 1
 TRIED = ("must-fail", "edits")
+# What is told of an edit that is not refused.
+PROVED = "still proved"
 
 
 class Trial:
@@ -63,6 +65,8 @@ class Trial:
 
     # The folders that they stand in.
     parts = TRIED
+    # Whether most of them may be proved, so that what a run leaves open is tried together again.
+    are_proved = False
 
     def __init__(self, name, listed, version, anew):
         self.name, self.seed = name, os.path.join(ROOM, name, "seed")
@@ -234,6 +238,11 @@ class Run:
         if len(self.edits) == 1:
             self.trial.settle(self.edits[0], *judged(self.edits[0], ran.status, said))
             return []
+        if ran.status == 0:
+            # Each function is proved by itself, by the contracts of those that it calls.
+            for edit in self.edits:
+                self.trial.settle(edit, PROVED)
+            return []
         return self.left(said) if said.has_verdict else self.halves()
 
     def halves(self):
@@ -251,6 +260,8 @@ class Run:
                 self.trial.settle(edit)
             else:
                 left.append(edit)
+        if self.trial.are_proved and len(left) < len(self.edits):
+            return self.trial.together(left)
         # Those that wait for a function of another edit may be told of without that.
         waiting = [it for it in left if said.waits(it.names)] * (len(left) < len(self.edits))
         alone = [Run(self.trial, it) for it in left if it not in waiting]
@@ -262,7 +273,7 @@ def judged(edit, status, said):
     run would find the same."""
     is_own = said.refuses(edit.names) or not edit.functions
     if status == 0:
-        return "still proved", True
+        return PROVED, True
     if said.is_unread(status):
         return "cannot be read: %s" % said.first_error(), status == 1
     if status == 1 and is_own:

@@ -33,10 +33,14 @@ OUT = os.path.join(ROOT, "out")
 LOG = os.path.join(OUT, "gate.log")
 # Copies, since the gate is at work in the crates' own folders, by the variables that name them to the tests.
 TRIED = {"YMODEM": "ymodem", "CASES": "port_cases", "LINE_CASES": "line_cases"}
-# The tests that need the library or the page come last: these are made meanwhile.
-TESTS = ("transfer", "lines", "shipped")
-# The last one tells what was skipped in the others.
-TESTS_OF_LIBRARY = ("library", "bare", "uboot", "web", "counts")
+# The tests side by side, those of a row in turn: most of them wait for lines and peers.
+ROWS = (("transfer", "shipped"), ("lines",), ("library", "bare", "web"), ("uboot", "boards", "portable"))
+# These need the library or the page, which are made meanwhile.
+TESTS_OF_LIBRARY = {"library", "bare", "web", "uboot", "boards", "portable"}
+# What the library as files for every processor is made of, and by.
+WASM = os.path.join(OUT, "lib", "wasm64-unknown-unknown", "libymodem.a")
+# It comes last, and tells what was skipped in the others.
+LAST = "counts"
 
 # The lines that are passed on as they come, and the one of a crate that is proved, by which time its program is built.
 TOLD = re.compile(r"rt: \w+(: its tests are)? (proved|NOT PROVED)|rt: \w+ is kept|rt: \w+: trying its must-fail edits")
@@ -170,41 +174,101 @@ def memory():
     return shown("tests/memory.py", [os.path.join(ROOT, "tests", "memory.py")])
 
 
-def library_and_page():
+def library_and_page(installed):
     """Makes the library for C and the page in a copy of the tree, where no gate holds the crates' folders."""
     with tempfile.TemporaryDirectory(prefix="ymodem-lib-") as top:
         copy = os.path.join(top, "tree")
-        shutil.copytree(ROOT, copy, ignore=shutil.ignore_patterns("out", ".git", "must-fail", "edits", "__pycache__"))
-        if shown("the library for C and the page", ["make", "--no-print-directory", "lib", "web"], copy):
+        shutil.copytree(ROOT, copy, ignore=shutil.ignore_patterns("out", ".git", "must-fail", "edits", "plants", "__pycache__"))
+        if shown("the library for C", ["make", "--no-print-directory", "lib"], copy):
             return 1
-        for part in ("lib", "web"):
-            shutil.rmtree(os.path.join(OUT, part), ignore_errors=True)
-            shutil.copytree(os.path.join(copy, "out", part), os.path.join(OUT, part))
+        brought(copy, "lib")
+        installed.thread.join()
+        return page(copy) or portable()
+
+
+def brought(copy, part):
+    """Has what a copy of the tree made stand here, in place of what stood here."""
+    shutil.rmtree(os.path.join(OUT, part), ignore_errors=True)
+    shutil.copytree(os.path.join(copy, "out", part), os.path.join(OUT, part))
+
+
+def cannot_make(what, part, *makers):
+    """Whether one of these programs is missing. Then nothing is left there, and the tests of it are skipped."""
+    if all(map(shutil.which, makers)):
+        return False
+    shutil.rmtree(os.path.join(OUT, part), ignore_errors=True)
+    tell("%s not made: that needs %s" % (what, " and ".join(makers)))
+    return True
+
+
+def page(copy):
+    """Makes the page, in a copy of the tree."""
+    if cannot_make("the page is", "web", "wasm-opt"):
+        return 0
+    if shown("the page", ["make", "--no-print-directory", "web"], copy):
+        return 1
+    brought(copy, "web")
     return 0
+
+
+def portable():
+    """Makes the library as files for every processor, of the archive for wasm64."""
+    if cannot_make("the library as files for every processor is", "portable", "wasm-opt", "wasm2c"):
+        return 0
+    return shown("the library as files for every processor", [os.path.join(ROOT, "tools", "portable.py"), WASM, os.path.join(OUT, "portable")])
+
+
+class Row:
+    """Tests that are made in turn, beside those of other rows."""
+
+    def __init__(self, names, gate, library, environment):
+        self.names, self.gate, self.library, self.environment = names, gate, library, environment
+        self.failed = None
+        self.thread = threading.Thread(target=self.run, daemon=True)
+        self.thread.start()
+
+    def run(self):
+        for name in self.names:
+            if name in TESTS_OF_LIBRARY and not self.library.has_ended_well() or self.gate.is_given_up:
+                return
+            if made(name, self.environment):
+                self.failed = "tests/%s.py" % name
+                return
+
+
+def made(name, environment):
+    return shown("tests/%s.py" % name, [os.path.join(ROOT, "tests", name + ".py")], env=environment)
+
+
+def copies():
+    """Copies of the programs that the gate built, and the environment that names them."""
+    there = os.path.join(OUT, "tried")
+    os.makedirs(there, exist_ok=True)
+    for name in TRIED.values():
+        shutil.copy2(os.path.join(ROOT, "crates", name, "out", name), there)
+    return {**os.environ, **{variable: os.path.join(there, name) for variable, name in TRIED.items()}}
 
 
 def tried(gate, before, library):
     """The tests, of copies of the programs that the gate built. Gives the name of the first that fails."""
     if not gate.has_proved(*TRIED.values()):
         return None
-    there = os.path.join(OUT, "tried")
-    os.makedirs(there, exist_ok=True)
-    for name in TRIED.values():
-        shutil.copy2(os.path.join(ROOT, "crates", name, "out", name), there)
-    environment = {**os.environ, **{variable: os.path.join(there, name) for variable, name in TRIED.items()}}
+    environment = copies()
     before.thread.join()
-    for name in TESTS + TESTS_OF_LIBRARY:
-        if name in TESTS_OF_LIBRARY and not library.has_ended_well() or gate.is_given_up:
-            return None
-        if shown("tests/%s.py" % name, [os.path.join(ROOT, "tests", name + ".py")], env=environment):
-            return "tests/%s.py" % name
-    return None
+    rows = [Row(names, gate, library, environment) for names in ROWS]
+    while any(row.thread.is_alive() for row in rows) and not any(row.failed for row in rows):
+        time.sleep(0.2)
+    failed = next((row.failed for row in rows if row.failed), None)
+    if failed or gate.is_given_up:
+        return failed
+    return "tests/%s.py" % LAST if made(LAST, environment) else None
 
 
 def judged(gate, beside):
     """Begins all that goes on beside the gate, and waits for its end. Gives the gate's status, or the name of what failed."""
-    works = (("packages", packages), ("the library for C and the page", library_and_page), ("tests/memory.py", memory))
-    beside += [Beside(name, work, gate) for name, work in works]
+    installed = Beside("packages", packages, gate)
+    works = (("the library for C and the page", lambda: library_and_page(installed)), ("tests/memory.py", memory))
+    beside += [installed, *(Beside(name, work, gate) for name, work in works)]
     failed = tried(gate, *beside[:2])
     for it in beside:
         failed = failed or (None if it.has_ended_well() else it.name)

@@ -15,6 +15,10 @@ import os
 import re
 import sys
 
+sys.dont_write_bytecode = True
+
+import plant_table
+
 ROOT = os.path.dirname(os.path.dirname(os.path.abspath(__file__)))
 CRATES = os.path.join(ROOT, "crates")
 LIMITS = os.path.join(ROOT, "tools", "house.json")
@@ -209,6 +213,7 @@ RULES = {
     "more than %d lines in the README" % README_LINES: lines_of_the_readme,
     "more than %d words in %s and %s" % (PROMISES_WORDS, *PROMISES): words_of_the_promises,
     "more than %d words a sentence" % MEAN_WORDS: long_sentences,
+    **plant_table.RULES,
 }
 
 # ---- Counts that may only fall. Each gives the places that are counted.

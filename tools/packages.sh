@@ -2,13 +2,13 @@
 # Which of Debian's packages the tests need beside Python, and whether they are there. A check that
 # needs what is not there is skipped, and says so.
 #
-# usage: packages.sh [portable]           names those that are not installed
-#        packages.sh install [portable]   installs them, as root
-# With `portable` those of `make portable` and its checks are meant too.
+# usage: packages.sh           names those that are not installed
+#        packages.sh install   installs them, as root
 set -eu
-packages="lrzsz socat picocom strace mandoc lintian bash zsh fish binutils qemu-system-arm u-boot-qemu
-    gcc-aarch64-linux-gnu chromium g++ clang lld llvm valgrind nodejs pkgconf locales"
-portable="binaryen wabt qemu-user gcc-12-multilib gcc-arm-none-eabi libnewlib-arm-none-eabi
+packages="lrzsz socat picocom minicom screen strace mandoc lintian bash zsh fish binutils
+    qemu-system-arm qemu-system-misc u-boot-qemu gcc-aarch64-linux-gnu libc6-dev-arm64-cross
+    chromium firefox-esr g++ clang lld llvm valgrind nodejs pkgconf locales
+    binaryen wabt qemu-user gcc-12-multilib gcc-arm-none-eabi libnewlib-arm-none-eabi
     gcc-arm-linux-gnueabihf libc6-dev-armhf-cross gcc-mipsel-linux-gnu libc6-dev-mipsel-cross
     gcc-riscv64-linux-gnu libc6-dev-riscv64-cross gcc-riscv64-unknown-elf picolibc-riscv64-unknown-elf"
 
@@ -32,8 +32,7 @@ install() {
 
 act=
 [ "${1-}" != install ] || { act=install; shift; }
-[ "${1-}" != portable ] || { packages="$packages $portable"; shift; }
-[ $# -eq 0 ] || { sed -n '2,7s/^# \{0,1\}//p' "$0" >&2; exit 2; }
+[ $# -eq 0 ] || { sed -n '2,6s/^# \{0,1\}//p' "$0" >&2; exit 2; }
 [ -z "$act" ] || [ -z "$(missing)" ] || install
 left=$(missing | tr '\n' ' ')
 [ -z "$left" ] || echo "not installed, so what needs them is skipped: $left"

@@ -1,20 +1,23 @@
 #!/usr/bin/env python3
 """Plants wrong bodies, one at a time in a copy, and tells for each by what it is caught.
 
-A plant is a file of crates/NAME/plants/: an edit as those of must-fail/ and edits/ are, with a line
-`by: CATCHER`, which names what has to catch it. Most wrong bodies are refused by the prover, and
-stand as edits: `make edits` tries those. The plants are bodies that no contract refuses, so a
-catcher is one of these:
+Most wrong bodies are refused by the prover, and stand as edits: `make edits` tries those. The
+plants are bodies that no contract refuses. plant_files.py says how one is written, and what may
+catch it.
 
-  CRATE::MODULE::TEST          a test of a crate of tests, tried without proofs
-  tests/FILE.py CHECK          a check of the program that is built with the plant
-  nothing: WHY                 nobody catches it, for this reason
+The prover is asked first. A plant of a crate that it refuses belongs among the edits by now, and
+fails here. Then the catcher that is named has to pass without the plant, and to fail with it. One
+that never ends has failed, too. What it said is kept in out/plants. The last line is 'N passed, M
+failed'.
 
-The prover is asked first. A plant that it refuses belongs among the edits by now, and fails here.
-Then the catcher that is named has to fail with the plant. The last line is 'N passed, M failed'.
-
-usage: plants.py [--tests] [CRATE..]
+usage: plants.py [--tests | --prover] [--jobs N] [HOME | HOME/NAME]..
+       plants.py table
   --tests   asks tests alone, and not the prover
+  --prover  asks the prover alone
+  --jobs N  so many checks of the prover at a time; else as many as there are processors
+  HOME      only the plants of this crate, or of share, include or web
+  NAME      only the plants whose names begin so
+  table     writes the tables of docs/ that list all plants and all edits
 """
 
 import os
@@ -23,115 +26,217 @@ import shutil
 import subprocess
 import sys
 import tempfile
+from concurrent.futures import ThreadPoolExecutor
 
 sys.dont_write_bytecode = True
 
 import edits
-from edit_crates import CRATES, ROOT, Listed
-from edit_texts import Edit, Unfit
+import plant_table
+import plant_trees
+from edit_crates import ROOT, Listed
+from edit_texts import Unfit
+from plant_files import NOTHING, PLANTS, all_plants, wrong_with
+from plant_trees import NotBuilt, built, copied, environment_of, loader, room, stand_beside, write
 
-PLANTS = "plants"
-NONE = "the prover came to no verdict"
-FAILED = re.compile(r"^test (\S+) \.\.\. FAILED", re.M)
+NO_VERDICT = "the prover came to no verdict"
+REFUSED = "the prover refuses it: it is an edit"
+# Seconds for a test of a crate, and for a check. A check waits so long for what it needs to see.
+TEST_TAKES, CHECK_TAKES, CHECK_WAITS = 75, 240, 60
+AT_ONCE = 4
+# What each catcher said.
+SAID = os.path.join(ROOT, "out", "plants")
+# What is made ahead of the checks of what is shipped beside the program.
+ARCHIVES = os.path.join(ROOT, "out", "lib")
+PAGE = "lib/wasm64-unknown-unknown/libymodem.a"
 
 
 class Plants(edits.Trial):
     """The plants of a crate, as the prover judges them."""
 
-    parts = (PLANTS,)
+    parts, are_proved = (PLANTS,), True
 
     def count(self, edit, why):
         """A plant that is still proved is what tests are asked of: told below."""
 
 
-def plants_of(name):
-    top = os.path.join(CRATES, name, PLANTS)
-    files = sorted(os.listdir(top)) if os.path.isdir(top) else []
-    return [Edit(os.path.join(top, it)) for it in files if it.endswith(".edit")]
-
-
-def catcher_of(plant):
-    found = re.findall(r"^by: (.+)$", plant.text, re.M)
-    return found[0].strip() if len(found) == 1 else ""
-
-
-def copied(to):
-    """The repository without what was made of it."""
-    left_out = shutil.ignore_patterns("out", ".git", "must-fail", "edits", PLANTS)
-    shutil.copytree(ROOT, to, ignore=left_out, symlinks=True)
-
-
-def ran(words, folder):
-    how = {"stdin": subprocess.DEVNULL, "stdout": subprocess.PIPE, "stderr": subprocess.STDOUT}
-    return subprocess.run(words, cwd=folder, text=True, errors="replace", check=False, **how)
-
-
-def fails(catcher, top):
-    """Whether this catcher fails in the copy, and what failed in its place."""
-    if catcher.startswith("tests/"):
-        file, _, check = catcher.partition(" ")
-        if ran(["make", "build"], top).returncode:
-            return False, "the program cannot be built"
-        said = ran([os.path.join(top, file), check], top).stdout
-        return bool(re.search(r"^FAILED +%s" % re.escape(check), said, re.M)), said[-200:]
-    crate, _, test = catcher.partition("::")
-    said = ran(["rt", "try", "--test"], os.path.join(top, "crates", crate)).stdout
-    failed = FAILED.findall(said)
-    if "test result:" not in said:
-        return False, "its tests cannot be tried: %s" % said.strip()[-200:]
-    return test in failed, "these fail: %s" % (", ".join(failed) or "none")
-
-
-def caught(name, plant):
-    """Why a plant is not caught by what it names, or no word where it is."""
-    catcher = catcher_of(plant)
-    if not catcher:
-        return "it has no one line 'by:'"
-    if catcher.startswith("nothing: "):
-        return ""
-    with tempfile.TemporaryDirectory(prefix="plants-") as room:
-        top = os.path.join(room, "top")
-        copied(top)
-        folder = os.path.join(top, "crates", name)
-        try:
-            texts = plant.applied({}, folder)
-        except Unfit as why:
-            return "cannot be applied: %s" % why
-        for path, text in texts.items():
-            with open(os.path.join(folder, path), "w", encoding="utf-8") as it:
-                it.write(text)
-        is_caught, what = fails(catcher, top)
-    return "" if is_caught else "%s does not fail: %s" % (catcher, what)
-
-
-def proved(names, listed):
-    """What the prover says against each plant: nothing, where the crate is still proved with it."""
-    lanes = len(os.sched_getaffinity(0))
-    told = {}
+def proved(plants, lanes):
+    """What the prover has against each plant: nothing, where its crate is still proved with it."""
+    listed, told = Listed(), {}
+    names = sorted({it.home for it in plants if it.is_of_a_crate})
     for trial in edits.tried(names, listed, False, lanes, Plants):
-        for plant in plants_of(trial.name):
+        for plant in (it for it in plants if it.home == trial.name):
             why = trial.settled.why(plant)
-            open_whys = {"still proved": "", "": "the prover refuses it: it is an edit", None: NONE}
-            told[plant.file] = open_whys.get(why, why)
+            told[plant] = {edits.PROVED: "", "": REFUSED, None: NO_VERDICT}.get(why, why)
     return told
 
 
-def main(words):
-    listed = Listed()
-    is_asked = "--tests" not in words
-    words = [it for it in words if it != "--tests"]
-    if any(it not in listed.lines for it in words):
+def status_of(words, folder, number, seconds, **more):
+    """How a command ends, and what it says; no status where it takes longer."""
+    how = {"stdin": subprocess.DEVNULL, "stdout": subprocess.PIPE, "stderr": subprocess.STDOUT}
+    try:
+        how["env"] = environment_of(number, **more)
+        ran = subprocess.run(words, cwd=folder, timeout=seconds, check=False, **how)
+    except subprocess.TimeoutExpired:
+        return None, "it took more than %d s" % seconds
+    return ran.returncode, ran.stdout.decode(errors="replace")
+
+
+class Tests:
+    """The tests of a crate, with plants."""
+
+    def __init__(self, crate, numbered, made):
+        self.top = copied(os.path.join(made, "top"))
+        stand_beside(numbered, self.top)
+        folder = os.path.join(self.top, "crates", crate)
+        self.program = built(folder, ["--test"], os.path.join(made, "tests"))
+
+    def fails(self, test, number):
+        """Whether a test fails with the plant of this number, and what it said."""
+        with tempfile.TemporaryDirectory(prefix="planted-") as here:
+            words = [*loader(), self.program, test]
+            status, said = status_of(words, here, number, TEST_TAKES)
+        return status != 0, said
+
+
+class Checks:
+    """The checks of tests/, over the program with plants, and over copies in which what is shipped
+    beside it has one."""
+
+    def __init__(self, _, numbered, made):
+        self.plants, self.top = dict(numbered), os.path.join(made, "top")
+        of_crates = [it for it in numbered if it[1].is_of_a_crate]
+        stand_beside(of_crates, copied(self.top))
+        folder = os.path.join(self.top, "crates", "ymodem")
+        os.makedirs(os.path.join(folder, "out"))
+        self.program = built(folder, ["--", "--version"], os.path.join(folder, "out", "ymodem"))
+        self.make_ready(self.top, {it.home for it in self.plants.values()})
+
+    def make_ready(self, top, homes):
+        """Makes of a copy what its checks ask for, where plants of these homes are tried there."""
+        if homes & {"include", "web"}:
+            if not os.path.isdir(ARCHIVES):
+                raise NotBuilt("the library is not built: make lib")
+            shutil.copytree(ARCHIVES, os.path.join(top, "out", "lib"))
+        if "web" in homes:
+            words = [os.path.join(top, "web", "build.py"), os.path.join(top, "out", PAGE)]
+            status, said = status_of([*words, os.path.join(top, "out", "web")], top, 0, 60)
+            if status:
+                raise NotBuilt(said[-300:])
+
+    def with_plant_beside(self, plant, number):
+        """A copy in which a plant of what is shipped beside the program is."""
+        top = copied(os.path.join(os.path.dirname(self.top), "beside-%d" % number))
+        for path, text in plant.applied({}, plant.top).items():
+            write(os.path.join(top, plant.home, path), text)
+        self.make_ready(top, {plant.home})
+        return top
+
+    def fails(self, by, number):
+        """Whether a check fails with the plant of this number, and what it said."""
+        file, _, check = by.partition(" ")
+        plant, top = self.plants.get(number), self.top
+        if plant and not plant.is_of_a_crate:
+            top, number = self.with_plant_beside(plant, number), 0
+        more = {"YMODEM": self.program, "LIMIT": str(CHECK_WAITS)}
+        words = [os.path.join(top, file), check]
+        status, said = status_of(words, top, number, CHECK_TAKES, **more)
+        if status is None or re.search(r"^FAILED +%s" % re.escape(check), said, re.M):
+            return True, said
+        if not re.search(r"^ok +%s" % re.escape(check), said, re.M):
+            raise NotBuilt("it is not made here: %s" % said.strip()[-300:])
+        return False, said
+
+
+def why_not(tried, plant, number, passes):
+    """Why a plant is not caught by what it names, or no word where it is."""
+    what = asked_of(plant)
+    try:
+        if not passes(what):
+            return "%s fails without it, too" % plant.by
+        has_failed, said = tried.fails(what, number)
+        write(os.path.join(SAID, plant.name), said)
+        return "" if has_failed else "%s does not fail" % plant.by
+    except (NotBuilt, Unfit) as why:
+        return str(why)
+
+
+def asked_of(plant):
+    """What is asked of those that have to catch a plant: a test of their own, or a whole check."""
+    who, what = plant.catcher
+    return plant.by if who.startswith("tests/") else what
+
+
+def judged(who, kind, plants, made):
+    """Tries plants that one crate of tests, or checks of tests/, have to catch. Gives each, and why
+    it is not caught."""
+    numbered = list(enumerate(plants, 1))
+    try:
+        tried = kind(who, numbered, made)
+    except (NotBuilt, Unfit) as why:
+        yield from ((it, "nothing can be tried with it: %s" % why) for it in plants)
+        return
+    with ThreadPoolExecutor(AT_ONCE) as pool:
+        begun = {it: pool.submit(tried.fails, it, 0) for it in sorted(set(map(asked_of, plants)))}
+
+        def passes(what):
+            return not begun[what].result()[0]
+
+        asked = [(it, pool.submit(why_not, tried, it, at, passes)) for at, it in numbered]
+        yield from ((it, why.result()) for it, why in asked)
+
+
+def groups(plants):
+    """Plants that are tried together, with who has to catch them, and how that is tried."""
+    found = {}
+    for plant in plants:
+        who, _ = plant.catcher
+        found.setdefault("tests/" if who.startswith("tests/") else who, []).append(plant)
+    for who, some in sorted(found.items()):
+        yield who, Checks if who == "tests/" else Tests, some
+
+
+def tell(plant, why):
+    print("%s: %s" % (plant.name, "FAILED  " + why if why else plant.by), flush=True)
+    return bool(why)
+
+
+def chosen(words):
+    """The plants that these words name; all of them where there is none."""
+    return [
+        it
+        for it in all_plants()
+        if not words or any(it.home == word or it.name.startswith(word) for word in words)
+    ]
+
+
+def options(words):
+    """What is asked, how many checks of the prover at a time, and the plants that are named."""
+    asks, lanes = {"--tests", "--prover"}, len(os.sched_getaffinity(0))
+    if "--jobs" in words[:-1]:
+        at = words.index("--jobs")
+        lanes, words = int(words[at + 1]), words[:at] + words[at + 2 :]
+    asked = asks - set(words) if len(asks & set(words)) != 1 else asks & set(words)
+    plants = chosen([it for it in words if it not in asks])
+    if not plants or any(it.startswith("-") for it in words if it not in asks):
         sys.exit(__doc__)
-    names = [it for it in words or listed.lines if plants_of(it)]
-    told = proved(names, listed) if is_asked else {}
-    passed = failed = 0
-    for name in names:
-        for plant in plants_of(name):
-            why = told.get(plant.file) or caught(name, plant)
-            passed, failed = passed + (not why), failed + bool(why)
-            what = "FAILED  " + why if why else catcher_of(plant)
-            print("%s/%s: %s" % (name, plant.name.removesuffix(".edit"), what), flush=True)
-    print("%d passed, %d failed" % (passed, failed))
+    return asked, lanes, plants
+
+
+def main(words):
+    if words == ["table"]:
+        return plant_table.write_all()
+    asked, lanes, plants = options(words)
+    told = {it: wrong_with(it) for it in plants}
+    if "--prover" in asked:
+        told.update(proved([it for it in plants if not told[it]], lanes))
+    failed = sum(tell(it, why) for it, why in told.items() if why)
+    left = [it for it in plants if not told[it]]
+    done = [it for it in left if it.by.startswith(NOTHING) or "--tests" not in asked]
+    failed += sum(tell(it, "") for it in done)
+    for who, kind, some in groups([it for it in left if it not in done]):
+        with room() as made:
+            failed += sum(tell(it, why) for it, why in judged(who, kind, some, made))
+    print("%d passed, %d failed" % (len(plants) - failed, failed))
     return 1 if failed else 0
 
 

@@ -1,6 +1,7 @@
 #!/usr/bin/env python3
 """Makes the library for C as one pair of files, OUT/ymodem.c and OUT/ymodem.h, for any C99
-compiler and any little-endian processor of 32 or 64 bits, of the proved archive for wasm64.
+compiler and any little-endian processor of 32 or 64 bits, of the proved archive for wasm64. Beside
+it comes OUT/ymodem_io.h, the calls that move a whole batch, as it stands in include/.
 
 The archive is linked into a module. Debian's wasm-opt (package binaryen) turns that into 32-bit
 WebAssembly, and wasm2c (package wabt) that into C. This script takes the functions out of it and
@@ -373,7 +374,8 @@ def main():
     with tempfile.TemporaryDirectory(prefix="ymodem-portable-") as top:
         text = portable(*(translated(archive, place, top) for place in PLACES))
     os.makedirs(out, exist_ok=True)
-    for name, put in (("ymodem.c", text), ("ymodem.h", read("include", "ymodem.h"))):
+    headers = {name: read("include", name) for name in ("ymodem.h", "ymodem_io.h")}
+    for name, put in {"ymodem.c": text, **headers}.items():
         with open(os.path.join(out, name), "w", encoding="utf-8") as it:
             it.write(put)
     print("%s/ymodem.c: %d lines, %d bytes" % (out, text.count("\n"), len(text)))

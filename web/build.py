@@ -1,6 +1,10 @@
 #!/usr/bin/env python3
 """Makes out/web from this folder and the library for 64-bit WebAssembly: the module ymodem.wasm, ymodem.js with its types, and the page.
 
+The module is for 32-bit WebAssembly, which every browser runs: Debian's wasm-opt (package binaryen)
+cuts each address of the linked one to 32 bits. It has the calls that the files of this folder make,
+and no others.
+
 ymodem.js is the files of this folder joined into one, and index.html has all of it inside, the module too, so that it works from a disk, where a page may
 load nothing.
 
@@ -10,21 +14,30 @@ usage: build.py ARCHIVE OUT
 import base64
 import gzip
 import hashlib
+import json
 import os
 import re
+import shutil
 import subprocess
 import sys
+import tempfile
 
 HERE = os.path.dirname(os.path.abspath(__file__))
 TARGET = "wasm64-unknown-unknown"
 # The deepest call takes some 3 KB.
 STACK = 65536
-LIBRARY = ("codes", "errors", "engine", "alarm", "line", "clearing", "log", "receiving", "sending", "websocket", "ymodem")
-PAGE = ("words", "terminal", "chart", "progress", "ports", "page")
+# What the linked module uses of WebAssembly.
+FEATURES = [
+    "--enable-" + it
+    for it in ("memory64", "bulk-memory", "sign-ext", "mutable-globals", "nontrapping-float-to-int")
+]
+LIBRARY = ("codes", "errors", "engine", "alarm", "line", "timed", "log", "receiving", "sending", "websocket", "ymodem")
+PAGE = ("words", "remembered", "terminal", "chart", "progress", "ports", "page")
 STYLES = ("controls", "line", "page")
 
 IMPORT = re.compile(r"^import [^;]*;\n+", re.M)
 EXPORT = re.compile(r"^export (?=(?:async function|function|class|const|let)\b)", re.M)
+CALLED = re.compile(r"\bcalls\.(ym_\w+)")
 NAMED = re.compile(r"^(?:async function|function|class|const|let) (\w+)", re.M)
 COMMENT = re.compile(r"^[ \t]*(?:/\*.*?\*/|//[^\n]*)[ \t]*\n", re.M | re.S)
 EDGES = re.compile(r"\n\s*")
@@ -82,15 +95,46 @@ def styled(names):
     return re.sub(r"\s*([{};:,])\s+", r"\1", EDGES.sub("\n", text)).strip() + "\n"
 
 
+def said(*words):
+    how = {"stdout": subprocess.PIPE, "stderr": subprocess.STDOUT, "text": True}
+    ran = subprocess.run(words, check=False, **how)
+    if ran.returncode != 0:
+        sys.exit("build.py: %s: %s" % (words[0], ran.stdout))
+    return ran.stdout.strip()
+
+
 def linked(archive, out):
-    kit = os.path.dirname(subprocess.run(["rt", "doc"], check=True, stdout=subprocess.PIPE, text=True).stdout.strip())
-    words = [os.path.join(kit, "bin", "rattle-link"), "--target", TARGET, "--toolchain", os.path.join(kit, "toolchain"), "--stack", str(STACK), "-o", out, archive]
-    subprocess.run(words, check=True, stderr=subprocess.DEVNULL)
-    with open(out, "rb") as it:
-        module = bare(it.read())
-    with open(out, "wb") as it:
-        it.write(module)
-    return module
+    """The module of 64-bit memory, with every call of the library."""
+    kit = os.path.dirname(said("rt", "doc"))
+    linker = os.path.join(kit, "bin", "rattle-link")
+    where = ["--target", TARGET, "--toolchain", os.path.join(kit, "toolchain")]
+    said(linker, *where, "--stack", str(STACK), "-o", out, archive)
+
+
+def lowered(module):
+    """The same for memory of 32 bits, and with what the files of this folder call alone."""
+    called = CALLED.findall("".join(read(it + ".js") for it in LIBRARY))
+    exports = ["memory", "__heap_base", *sorted(set(called))]
+    graph = [{"name": it, "export": it} for it in exports]
+    graph.append({"name": "the page", "reaches": exports, "root": True})
+    listed = module + ".json"
+    with open(listed, "w", encoding="utf-8") as it:
+        json.dump(graph, it)
+    said("wasm-metadce", *FEATURES, "--graph-file", listed, module, "-o", module)
+    said("wasm-opt", *FEATURES, "-Oz", "--memory64-lowering", "-Oz", module, "-o", module)
+
+
+def made(archive):
+    """The module as it is shipped."""
+    for tool in ("wasm-opt", "wasm-metadce"):
+        if not shutil.which(tool):
+            sys.exit("build.py: %s is missing: apt-get install binaryen" % tool)
+    with tempfile.TemporaryDirectory(prefix="ymodem-web-") as folder:
+        module = os.path.join(folder, "ymodem.wasm")
+        linked(archive, module)
+        lowered(module)
+        with open(module, "rb") as it:
+            return bare(it.read())
 
 
 def bare(module):
@@ -147,7 +191,9 @@ def module_text():
 def main():
     archive, out = sys.argv[1:]
     os.makedirs(out, exist_ok=True)
-    module = linked(archive, os.path.join(out, "ymodem.wasm"))
+    module = made(archive)
+    with open(os.path.join(out, "ymodem.wasm"), "wb") as it:
+        it.write(module)
     for name, text in (("ymodem.js", module_text()), ("ymodem.d.ts", read("ymodem.d.ts")), ("index.html", page(module))):
         with open(os.path.join(out, name), "w", encoding="utf-8") as it:
             it.write(text)

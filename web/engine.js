@@ -4,17 +4,26 @@ import { YmodemError } from "./errors.js";
 
 const PAGE = 65536;
 
-/** Whether this browser runs modules with 64-bit memory, as ymodem.wasm is one. */
+// A module that copies memory and extends a sign: the newest of what ymodem.wasm has.
+const PROBE = Uint8Array.of(
+  ...[0, 0x61, 0x73, 0x6d, 1, 0, 0, 0, 1, 4, 1, 0x60, 0, 0, 3, 2, 1, 0, 5, 3, 1, 0, 1],
+  ...[10, 15, 1, 13, 0, 0x41, 0, 0xc0, 0x41, 0, 0x41, 0, 0xfc, 10, 0, 0, 0x0b],
+);
+
+/** Whether this browser runs ymodem.wasm. */
 export function supported() {
-  const probe = Uint8Array.of(0, 0x61, 0x73, 0x6d, 1, 0, 0, 0, 5, 3, 1, 4, 1);
-  return typeof WebAssembly === "object" && WebAssembly.validate(probe);
+  const isThere = typeof WebAssembly === "object" && typeof BigInt64Array === "function";
+  return isThere && WebAssembly.validate(PROBE);
 }
 
 let compiled = null;
 
 /** Makes the module ready: from these bytes, this address, this answer of fetch, or ymodem.wasm beside this file. Calls by itself at the first transfer. */
 export function load(source) {
-  if (!supported()) return Promise.reject(new YmodemError("no-memory64", "this browser has no 64-bit memory for WebAssembly"));
+  if (!supported()) {
+    const fault = new YmodemError("no-webassembly", "this browser cannot run ymodem.wasm");
+    return Promise.reject(fault);
+  }
   if (source !== undefined || compiled === null) {
     compiled = compile(source ?? new URL("ymodem.wasm", import.meta.url));
     compiled.catch(() => (compiled = null));
@@ -50,7 +59,8 @@ export class Engine {
     const { memory } = this.calls;
     const at = this.#next;
     this.#next += rounded(size);
-    grow(memory, Math.ceil((this.#next - memory.buffer.byteLength) / PAGE));
+    const pages = Math.ceil((this.#next - memory.buffer.byteLength) / PAGE);
+    if (pages > 0) memory.grow(pages);
     this.bytes = new Uint8Array(memory.buffer);
     this.view = new DataView(memory.buffer);
     return at;
@@ -60,23 +70,13 @@ export class Engine {
     return this.view.getUint32(at, true);
   }
 
+  /** A number of 64 bits, as near as a Number comes. */
   long(at) {
-    return Number(this.view.getBigUint64(at, true));
+    return this.number(at) + this.number(at + 4) * 2 ** 32;
   }
 
   /** A copy, since a stream may keep what it is given. */
   copy(at, size) {
     return this.bytes.slice(at, at + size);
-  }
-}
-
-// Engines before the last form of the standard take a number here.
-function grow(memory, pages) {
-  if (pages <= 0) return;
-  try {
-    memory.grow(BigInt(pages));
-  } catch (fault) {
-    if (!(fault instanceof TypeError)) throw fault;
-    memory.grow(pages);
   }
 }

@@ -1,26 +1,23 @@
 /* What the line said, in words for a log or a chart. */
 
 import { FRONT, LAYOUT } from "./codes.js";
-import { DELIVERY } from "./line.js";
 
 const REPLIES = { 6: "ACK", 21: "NAK", 67: "C", 24: "CAN", 4: "EOT" };
 
 export class Log {
   #engine;
   #at;
-  #bytes;
   #tell;
 
   constructor(engine, tell) {
     this.#engine = engine;
     this.#at = engine.take(LAYOUT.ym_front.size);
-    this.#bytes = engine.take(DELIVERY);
     this.#tell = tell;
   }
 
-  /** A frame, or what came in its place. */
-  frame(isOurs, bytes) {
-    if (this.#tell) this.#tell({ isOurs, length: bytes.length, ...this.#front(bytes) });
+  /** A frame, or what came in its place: so many bytes of the engine's memory. */
+  frame(isOurs, at, length) {
+    if (this.#tell) this.#tell({ isOurs, length, ...this.#front(at, length) });
   }
 
   /** A reply, or what came in its place. */
@@ -35,10 +32,9 @@ export class Log {
     this.#tell?.({ isOurs: false, length: 0, kind: "quiet", text: "" });
   }
 
-  #front(bytes) {
+  #front(at, length) {
     const { calls, view } = this.#engine;
-    this.#engine.bytes.set(bytes.subarray(0, DELIVERY), this.#bytes);
-    calls.ym_frame_read(BigInt(this.#bytes), BigInt(Math.min(bytes.length, DELIVERY)), BigInt(this.#at));
+    calls.ym_frame_read(BigInt(at), BigInt(length), BigInt(this.#at));
     const kind = view.getUint32(this.#at + LAYOUT.ym_front.kind, true);
     const number = view.getUint32(this.#at + LAYOUT.ym_front.number, true);
     if (kind === FRONT.block) return { kind: "block", number, text: `block ${number}` };

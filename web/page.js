@@ -1,8 +1,9 @@
 /* The page: connects, shows the terminal, and runs transfers. What a transfer does is the module's affair. */
 
 import { Chart } from "./chart.js";
-import { openAddress, openSerial } from "./ports.js";
+import { knownPort, nameOf, openAddress, openSerial } from "./ports.js";
 import { Meter } from "./progress.js";
+import { remember, remembered } from "./remembered.js";
 import { Terminal } from "./terminal.js";
 import { count, failure, noLine, size } from "./words.js";
 import { load, receive, send, supported } from "./ymodem.js";
@@ -19,9 +20,14 @@ const C_IS_FRESH = 4000;
 
 const C = 0x43;
 const hasSerial = "serial" in navigator;
-const canRun = supported();
+const hasSocket = typeof WebSocket === "function";
+const canConnect = hasSerial || hasSocket;
+const canRun = supported() && typeof DecompressionStream === "function";
 
 let line = null;
+let isDialing = false;
+// The port of the last time, where it is there and may be opened.
+let known;
 let stop = null;
 let chosen = [];
 let urls = [];
@@ -70,15 +76,25 @@ function refresh() {
   at("way-hint").textContent = isBySerial() ? "If you are not sure of the speed: 115200 fits most boards." : "A bridge such as websockify, in front of ser2net or QEMU's serial port.";
   at("send-form").hidden = isReceiving();
   at("receive-form").hidden = !isReceiving();
+  for (const id of ["choose", "again", "dial"]) at(id).disabled = isDialing || !canConnect;
+  at("again").hidden = known === undefined;
+  at("choose").classList.toggle("primary", known === undefined);
+  if (known) at("again").textContent = `Connect to ${nameOf(known) || "the port of before"}`;
   for (const id of ["line-text", "line-send", "interrupt"]) at(id).disabled = line === null || isBusy;
   for (const it of document.querySelectorAll("[name=way2], #pick, #send-command, #receive-command, #disconnect")) it.disabled = isBusy;
   at("screen").classList.toggle("busy", isBusy);
   at("send").disabled = !canRun || !line || isBusy || chosen.length === 0;
   at("receive").disabled = !canRun || !line || isBusy;
   at("send").textContent = chosen.length === 0 ? "Send" : `Send ${count(chosen.length, "file")}`;
-  at("why").textContent = isBusy || !canRun ? "" : line ? (isReceiving() || chosen.length ? "" : "Choose a file first.") : "Connect first.";
+  at("why").textContent = isBusy || !canRun ? "" : lacking();
   at("transfer").hidden = !isBusy;
   at("files-card").hidden = isBusy;
+}
+
+/** What is to be done before a transfer. */
+function lacking() {
+  if (!line) return canConnect ? "Connect first." : "";
+  return isReceiving() || chosen.length ? "" : "Choose a file first.";
 }
 
 function showChosen() {
@@ -153,19 +169,47 @@ async function saveAll(files) {
 async function connect(event) {
   event.preventDefault();
   at("result").hidden = true;
+  const isAgain = event.submitter === at("again");
+  const speed = at("speed").valueAsNumber;
   const address = isBySerial() ? undefined : at("address").value.trim();
-  at("choose").disabled = at("dial").disabled = true;
+  isDialing = true;
+  refresh();
   try {
-    line = address === undefined ? await openSerial(at("speed").valueAsNumber) : await openAddress(address);
+    const serial = isAgain ? known : undefined;
+    line = await (isBySerial() ? openSerial(speed, serial) : openAddress(address));
   } catch (fault) {
     return show(false, noLine(fault, address));
   } finally {
-    at("choose").disabled = at("dial").disabled = false;
+    isDialing = false;
+    refresh();
   }
   terminal.attach(line);
+  keep(speed, address);
   refresh();
   say(`Connected: ${line.name}`);
   at("screen").focus();
+}
+
+/** Remembers how the device was reached. */
+function keep(speed, address) {
+  if (address !== undefined) return remember({ way: "socket", address });
+  known = line.serial;
+  remember({ way: "serial", speed, port: nameOf(line.serial) });
+}
+
+/** Takes up what was remembered. */
+function recall() {
+  const { way, speed, address } = remembered();
+  if (Number.isInteger(speed)) at("speed").value = speed;
+  if (typeof address === "string") at("address").value = address;
+  if (way === "socket") document.querySelector("[name=way][value=socket]").checked = true;
+}
+
+/** Looks whether the port of the last time is there. */
+async function look() {
+  const { port } = remembered();
+  known = typeof port === "string" ? await knownPort(port).catch(() => undefined) : undefined;
+  refresh();
 }
 
 async function disconnect() {
@@ -235,7 +279,8 @@ class Watch {
     const { meter } = this;
     chart.draw();
     at("bar").value = meter.share;
-    at("now-file").textContent = meter.file ? `${meter.file.name}` : "Waiting for the device…";
+    const name = meter.file ? meter.file.name : "Waiting for the device…";
+    at("now-file").textContent = at("now-file").title = name;
     at("now-percent").textContent = meter.file ? `${Math.floor(meter.share * 100)} %` : "";
     const done = meter.files > 0 ? ` · ${count(meter.files, "file")} done` : "";
     at("figures").textContent = meter.file ? meter.text() + done : "It has not answered yet.";
@@ -321,16 +366,29 @@ function receiveFiles(event) {
 
 function lacks() {
   const texts = [];
-  if (!canRun) texts.push("It cannot run this page's module, which needs 64-bit memory for WebAssembly. Chrome, Edge and Chromium have that from version 133 on, Firefox from 134 on.");
+  if (!canRun) {
+    texts.push(
+      "It cannot run this page's module, so no file can be sent or received here. " +
+        "Chrome, Edge and Chromium can from version 95 on, Firefox from 113, Safari from 16.4.",
+    );
+  }
   if (!hasSerial) {
     texts.push(
       isSecureContext
-        ? "It cannot reach serial ports (Web Serial). Chrome, Edge and Chromium on a computer can. By a network address this page works here too."
-        : "It does not let this page reach serial ports, because the page came by plain http. Open it by https, from 127.0.0.1, or from your disk.",
+        ? "It cannot reach serial ports (Web Serial). Chrome, Edge and Chromium on a computer can."
+        : "It does not let this page reach serial ports, because the page came by plain http. " +
+            "Open it by https, from 127.0.0.1, or from your disk.",
+    );
+    texts.push(
+      hasSocket
+        ? "By a network address this page works here too."
+        : "It cannot reach network addresses (WebSocket) either, so this page cannot connect " +
+            "to anything here. Open it in another browser.",
     );
     document.querySelector("[name=way][value=serial]").disabled = true;
     document.querySelector("[name=way][value=socket]").checked = true;
   }
+  document.querySelector("[name=way][value=socket]").disabled = !hasSocket;
   at("lacks").hidden = texts.length === 0;
   at("lacks-list").replaceChildren(
     ...texts.map((text) => {
@@ -358,8 +416,13 @@ function listenForDrops() {
 }
 
 function begin() {
+  recall();
   lacks();
   if (canRun) unpacked().then(load);
+  if (hasSerial) {
+    look();
+    for (const name of ["connect", "disconnect"]) navigator.serial.addEventListener?.(name, look);
+  }
   at("connect").addEventListener("submit", connect);
   at("disconnect").addEventListener("click", disconnect);
   at("send-form").addEventListener("submit", sendChosen);

@@ -28,12 +28,27 @@ function steady(serial) {
   return { readable: new ReadableStream({ pull, cancel: stop }, { highWaterMark: 0 }), stop };
 }
 
-/** Lets the user choose a serial port, and opens it. */
-export async function openSerial(speed) {
-  const serial = await navigator.serial.requestPort();
+const hex = (number) => number.toString(16).padStart(4, "0");
+
+/** What tells a port from others, and a person which it is; empty where it is no USB port. */
+export function nameOf(serial) {
+  const { usbVendorId, usbProductId } = serial.getInfo?.() ?? {};
+  return usbVendorId === undefined ? "" : `USB ${hex(usbVendorId)}:${hex(usbProductId)}`;
+}
+
+/** The port of this name, where the browser lets this page have it without being asked. */
+export async function knownPort(name) {
+  const ports = (await navigator.serial.getPorts?.()) ?? [];
+  return ports.find((it) => nameOf(it) === name);
+}
+
+/** Opens this serial port, or the one that the user chooses. */
+export async function openSerial(speed, known) {
+  const serial = known ?? (await navigator.serial.requestPort());
   await serial.open({ baudRate: speed, bufferSize: 65536 });
   const { readable, stop } = steady(serial);
   return {
+    serial,
     readable,
     get writable() {
       return serial.writable;

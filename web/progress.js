@@ -2,13 +2,17 @@
 
 import { count, duration, size } from "./words.js";
 
-// The rate is that of these last seconds.
+// The rate is that of the last seconds in which something went.
 const SPAN = 4;
+// Milliseconds: samples are so far apart, and a rate is known after so long.
+const APART = 100;
+const KNOWN_AFTER = 300;
+// Where nothing went for so many milliseconds, and for longer than lately, the line stands still.
+const STILL = 3000;
 
 export class Meter {
   #samples = [];
   #before = 0;
-  #at = null;
   #last = null;
 
   /** With the bytes of the whole batch, where they are known. */
@@ -21,8 +25,17 @@ export class Meter {
   take(progress) {
     if (this.#last && progress.file !== this.#last.file) this.#before += this.#last.bytes;
     this.#last = progress;
-    this.began ??= performance.now();
-    this.#at = { done: this.#before + progress.bytes, time: performance.now() };
+    const [done, time] = [this.#before + progress.bytes, performance.now()];
+    this.began ??= time;
+    if (this.#samples.length === 0 || done !== this.done) this.#sample({ done, time });
+  }
+
+  #sample(it) {
+    const samples = this.#samples;
+    const before = samples.at(-2);
+    if (before && it.time - before.time < APART) samples.pop();
+    samples.push(it);
+    while (samples.length > 2 && it.time - samples[1].time > SPAN * 1000) samples.shift();
   }
 
   get seconds() {
@@ -31,7 +44,7 @@ export class Meter {
 
   /** Bytes that went, and of how many. */
   get done() {
-    return this.#at?.done ?? 0;
+    return this.#samples.at(-1)?.done ?? 0;
   }
 
   get whole() {
@@ -42,21 +55,35 @@ export class Meter {
     return this.whole === 0 ? 0 : Math.min(1, this.done / this.whole);
   }
 
-  /** Bytes a second, of late. */
+  /** Milliseconds since something went. */
+  get #idle() {
+    return performance.now() - (this.#samples.at(-1)?.time ?? Infinity);
+  }
+
+  /** Bytes a second, when something went last; 0 where that is not known. */
   rate() {
-    if (!this.#at) return 0;
-    const now = performance.now();
-    this.#samples.push({ done: this.done, time: now });
-    while (this.#samples.length > 2 && now - this.#samples[1].time > SPAN * 1000) this.#samples.shift();
-    const first = this.#samples[0];
-    return now - first.time < 300 ? 0 : (this.done - first.done) / ((now - first.time) / 1000);
+    const [first, last] = [this.#samples[0], this.#samples.at(-1)];
+    if (!last || last.done === first.done) return 0;
+    const span = last.time - first.time;
+    if (span < KNOWN_AFTER && this.#idle < KNOWN_AFTER) return 0;
+    return (last.done - first.done) / (Math.max(span, 1) / 1000);
+  }
+
+  /** The seconds for which the line stands still, where it does: longer than it took lately from
+   *  one piece to the next. */
+  get #still() {
+    const [before, last] = this.#samples.slice(-2);
+    const usual = last ? 2 * (last.time - before.time) : 0;
+    return this.#idle > Math.max(STILL, usual) ? this.#idle / 1000 : 0;
   }
 
   /** The line below the bar. */
   text() {
     const rate = this.rate();
+    const still = this.#still;
     const parts = [`${size(this.done)} of ${size(this.whole)}`];
     if (rate > 0) parts.push(`${size(rate)}/s`, `${duration((this.whole - this.done) / rate)} left`);
+    if (still > 0) parts.push(`standing still for ${duration(still)}`);
     return parts.join(" · ");
   }
 

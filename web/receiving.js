@@ -1,10 +1,13 @@
 /* The receiving end over a line. */
 
-import { Clearing } from "./clearing.js";
-import { ASKED, FAULTS, LAYOUT, RECEIVED } from "./codes.js";
+import { ASKED, FAULTS, LAYOUT, RECEIVED, WAIT } from "./codes.js";
 import { MESSAGES, YmodemError } from "./errors.js";
-import { DELIVERY, QUIET, settle } from "./line.js";
+import { DELIVERY } from "./line.js";
 import { Log } from "./log.js";
+import { TimedLine } from "./timed.js";
+
+// A block 0 with a body of 128 bytes.
+const SHORT_FRAME = 133;
 
 /** Collects a file in memory; the browser may move parts of it to the disk. */
 class Collected {
@@ -46,18 +49,24 @@ export class Receiving {
   #answered = false;
   // The first question goes out after the shorter wait: somebody is watching.
   #hasAsked = false;
+  // The length and the check of the block 0 of the file under way.
+  #opening = "";
+  #isOtherFile = false;
 
   constructor(engine, line, options) {
     this.engine = engine;
     this.line = line;
-    this.port = new Clearing(line, "receiver");
+    this.port = new TimedLine(engine, line, true);
     this.options = options;
     this.receiver = engine.take(LAYOUT.ym_receiver.size);
     this.ask = engine.take(LAYOUT.ym_ask.size);
-    this.replyAt = engine.take(2);
-    this.piece = engine.take(DELIVERY);
+    this.reply = engine.take(2);
+    // the same as the calls take them
+    this.self = BigInt(this.receiver);
+    this.askAt = BigInt(this.ask);
+    this.replyAt = BigInt(this.reply);
     this.log = new Log(engine, options.onFrame);
-    engine.calls.ym_receiver_init(BigInt(this.receiver), 0);
+    engine.calls.ym_receiver_init(this.self, 0);
   }
 
   get state() {
@@ -82,33 +91,34 @@ export class Receiving {
   }
 
   #wants() {
-    return this.engine.calls.ym_receiver_wants(BigInt(this.receiver)) !== 0n;
+    return this.engine.calls.ym_receiver_wants(this.self) !== 0n;
   }
 
-  #feed(piece) {
-    const { calls, bytes } = this.engine;
-    bytes.set(piece, this.piece);
+  #feed(count) {
+    const { calls } = this.engine;
+    const { heard } = this.port;
     let fed = 0;
     let took;
     do {
-      took = Number(calls.ym_receiver_feed(BigInt(this.receiver), BigInt(this.piece + fed), BigInt(piece.length - fed)));
+      took = Number(calls.ym_receiver_feed(this.self, BigInt(heard + fed), BigInt(count - fed)));
       fed += took;
-    } while (took > 0 && fed < piece.length);
+    } while (took > 0 && fed < count);
   }
 
   #hear() {
-    this.engine.calls.ym_receiver_hear(BigInt(this.receiver), BigInt(this.ask));
+    this.engine.calls.ym_receiver_hear(this.self, this.askAt);
   }
 
   /** Reads one delivery: to the end of a frame, until the line is quiet, or 2048 bytes. What is left of the last piece is dropped. */
   async #deliver() {
     let came = 0;
     while (came < DELIVERY) {
-      const piece = await (came === 0 && this.#hasAsked ? this.port.reply(DELIVERY) : this.port.more(DELIVERY - came));
+      const wait = came === 0 && this.#hasAsked ? WAIT.first : WAIT.more;
+      const count = await this.port.read(wait, DELIVERY - came);
       this.#hasAsked = true;
-      if (piece === QUIET) break;
-      came += piece.length;
-      this.#feed(piece);
+      if (count === 0) break;
+      came += count;
+      this.#feed(count);
       if (this.#wants()) continue;
       this.#hear();
       if (!this.#asked("bad")) return;
@@ -120,17 +130,41 @@ export class Receiving {
     while (this.state === "running") {
       await this.#deliver();
       if (this.options.onFrame) this.#tell();
-      const done = await this.#act();
+      this.#open();
+      const done = !this.#isOtherFile && (await this.#act());
       await this.#answer(done);
-      if (this.line.isStopped && this.state === "host-failed") await settle(this.line);
+      if (this.line.isStopped && this.state === "host-failed") await this.line.settle();
     }
     if (this.state !== "finished") throw this.#failed();
   }
 
+  /** What came behind the transfer. */
+  get rest() {
+    return this.state === "cancelled" ? this.port.behind(false) : new Uint8Array();
+  }
+
   #tell() {
+    const length = this.#of("len");
+    if (length === 0) this.log.quiet();
+    else this.log.frame(false, this.receiver + LAYOUT.ym_receiver.held, length);
+  }
+
+  /** Where only block 0 can come again, one with other bytes is out of step: another file began. */
+  #open() {
+    if (this.#asked("kind") === ASKED.begin) this.#opening = this.#block0();
+    else if (this.#isOpening()) this.#isOtherFile = this.#block0() !== this.#opening;
+  }
+
+  #isOpening() {
+    if (this.#asked("bad") || !this.#of("in_file")) return false;
+    const isNew = this.engine.long(this.receiver + LAYOUT.ym_receiver.blocks) === 0;
+    return isNew && this.#of("len") >= SHORT_FRAME && this.#held()[1] === 0;
+  }
+
+  /** What tells a block 0 from another one: its length and its check. */
+  #block0() {
     const held = this.#held();
-    if (held.length === 0) this.log.quiet();
-    else this.log.frame(false, held);
+    return `${held.length} ${held.subarray(-2)}`;
   }
 
   /** Does what is asked, and answers whether it could. */
@@ -174,12 +208,12 @@ export class Receiving {
 
   async #answer(done) {
     const { calls } = this.engine;
-    const length = calls.ym_receiver_answer(BigInt(this.receiver), done ? 1 : 0, BigInt(this.replyAt), 2n);
-    const reply = this.engine.copy(this.replyAt, Number(length));
+    const count = calls.ym_receiver_answer(this.self, done ? 1 : 0, this.replyAt, 2n);
+    const length = Number(count);
     if (this.#of("in_file")) this.#progress(this.engine.long(this.receiver + LAYOUT.ym_receiver.taken));
-    if (reply.length === 0) return;
-    this.log.reply(true, reply);
-    await this.port.write(reply);
+    if (length === 0) return;
+    if (this.options.onFrame) this.log.reply(true, this.engine.copy(this.reply, length));
+    await this.port.write(this.reply, length);
   }
 
   #progress(bytes) {
@@ -187,7 +221,9 @@ export class Receiving {
   }
 
   #failed() {
-    const state = this.line.isStopped && this.state === "host-failed" ? "aborted" : this.state;
+    const why = this.#isOtherFile ? "out-of-step" : "aborted";
+    const isOurs = this.#isOtherFile || this.line.isStopped;
+    const state = isOurs && this.state === "host-failed" ? why : this.state;
     const fault = FAULTS[this.#of("fault")] ?? "";
     return new YmodemError(state, MESSAGES[state] ?? state, { fault, cause: this.cause, answered: this.#answered });
   }

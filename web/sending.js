@@ -1,13 +1,15 @@
 /* The sending end over a line. */
 
-import { CANCEL, Clearing } from "./clearing.js";
-import { FAULTS, FILL, LAYOUT, OUT, PLACE_END, SENT } from "./codes.js";
+import { CANCEL, FAULTS, FILL, LAYOUT, OUT, PLACE_END, SENT, WAIT } from "./codes.js";
 import { MESSAGES, YmodemError } from "./errors.js";
-import { DELIVERY, QUIET } from "./line.js";
+import { DELIVERY } from "./line.js";
 import { Log } from "./log.js";
+import { TimedLine } from "./timed.js";
 
 // Bytes of a file that are read at once.
 const WINDOW = 1 << 18;
+// Bytes of the line that are: replies are short.
+const PIECE = 64;
 
 /** A file of the batch: its bytes, by windows, of which the next is under way while one is sent. */
 export class Source {
@@ -60,17 +62,22 @@ export class Sending {
   constructor(engine, line, sources, options) {
     this.engine = engine;
     this.line = line;
-    this.port = new Clearing(line, "sender");
+    this.port = new TimedLine(engine, line, false);
     this.sources = sources;
     this.options = options;
     this.sender = engine.take(LAYOUT.ym_sender.size);
     this.fill = engine.take(LAYOUT.ym_fill.size);
     this.heard = engine.take(DELIVERY);
     this.body = engine.take(1024);
-    this.batch = [BigInt(engine.take(8 * sources.length + 8)), BigInt(sources.length)];
-    sources.forEach((source, at) => engine.view.setBigUint64(Number(this.batch[0]) + 8 * at, BigInt(source.blocks), true));
+    const blocks = engine.take(8 * sources.length + 8);
+    sources.forEach((source, at) => engine.view.setBigUint64(blocks + 8 * at, BigInt(source.blocks), true));
+    // the sender and its batch, as its calls take them
+    this.self = [BigInt(this.sender), BigInt(blocks), BigInt(sources.length)];
+    this.heardAt = BigInt(this.heard);
+    this.fillAt = BigInt(this.fill);
+    this.bodyAt = BigInt(this.body);
     this.log = new Log(engine, options.onFrame);
-    engine.calls.ym_sender_init(BigInt(this.sender), ...this.batch);
+    engine.calls.ym_sender_init(...this.self);
   }
 
   get state() {
@@ -82,17 +89,20 @@ export class Sending {
   }
 
   #isSettled(held) {
-    return this.engine.calls.ym_sender_settled(BigInt(this.sender), ...this.batch, BigInt(this.heard), BigInt(held)) !== 0;
+    return this.engine.calls.ym_sender_settled(...this.self, this.heardAt, BigInt(held)) !== 0;
   }
 
   /** Reads one delivery, and answers how many bytes it has. */
   async #deliver() {
+    const { port, engine } = this;
     let held = 0;
-    while (held < DELIVERY) {
-      const piece = await (held === 0 ? this.port.reply(DELIVERY) : this.port.more(DELIVERY - held));
-      if (piece === QUIET) break;
-      this.engine.bytes.set(piece, this.heard + held);
-      held += piece.length;
+    // a byte of the line may make two
+    while (held + 2 <= DELIVERY) {
+      const most = Math.min(PIECE, (DELIVERY - held) >> 1);
+      const count = await port.read(held === 0 ? WAIT.first : WAIT.more, most);
+      if (count === 0) break;
+      engine.bytes.copyWithin(this.heard + held, port.heard, port.heard + count);
+      held += count;
       if (this.#isSettled(held)) break;
     }
     return held;
@@ -109,6 +119,11 @@ export class Sending {
     if (this.state !== "finished") throw this.#failed();
   }
 
+  /** What came behind the transfer. */
+  get rest() {
+    return this.port.behind(this.state === "finished");
+  }
+
   #tell(held) {
     if (held > 0) this.#answered = true;
     if (!this.options.onFrame) return;
@@ -117,7 +132,7 @@ export class Sending {
   }
 
   async #hear(held) {
-    this.engine.calls.ym_sender_hear(BigInt(this.sender), ...this.batch, BigInt(this.heard), BigInt(held), BigInt(this.fill));
+    this.engine.calls.ym_sender_hear(...this.self, this.heardAt, BigInt(held), this.fillAt);
     this.#count();
     try {
       await this.#doFill();
@@ -136,7 +151,7 @@ export class Sending {
   }
 
   #fail() {
-    if (this.state === "running") this.engine.calls.ym_sender_failed(BigInt(this.sender), ...this.batch);
+    if (this.state === "running") this.engine.calls.ym_sender_failed(...this.self);
   }
 
   /** Counts the files that are done: those before the one at which the sender stands. */
@@ -155,8 +170,8 @@ export class Sending {
     this.engine.bytes.set(room, this.heard);
     const stamp = source.time === undefined ? 0 : source.mode === undefined ? 1 : 2;
     const fault = this.engine.calls.ym_sender_header(
-      BigInt(this.sender),
-      BigInt(this.heard),
+      this.self[0],
+      this.heardAt,
       BigInt(room.length),
       BigInt(source.length),
       stamp,
@@ -172,19 +187,19 @@ export class Sending {
     const { bytes, calls } = this.engine;
     bytes.fill(0x1a, this.body, this.body + size);
     bytes.set(await source.bytes(start, size), this.body);
-    calls.ym_sender_block(BigInt(this.sender), BigInt(this.body), BigInt(size));
+    calls.ym_sender_block(this.self[0], this.bodyAt, BigInt(size));
     this.#progress(start);
   }
 
   async #out() {
-    const out = this.engine.calls.ym_sender_out(BigInt(this.sender), ...this.batch);
+    const out = this.engine.calls.ym_sender_out(...this.self);
     if (out === OUT.frame) {
-      const frame = this.engine.copy(this.sender + LAYOUT.ym_sender.frame, this.#of("len"));
-      this.log.frame(true, frame);
-      await this.port.write(frame);
+      const [at, length] = [this.sender + LAYOUT.ym_sender.frame, this.#of("len")];
+      this.log.frame(true, at, length);
+      await this.port.write(at, length);
     } else if (out === OUT.cancel) {
       this.log.reply(true, CANCEL);
-      await this.port.write(CANCEL.slice());
+      await this.port.write(this.port.cancel, CANCEL.length);
     }
   }
 

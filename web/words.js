@@ -1,10 +1,14 @@
 /* What is said to a person: sizes, times, and what went wrong, with what helps. */
 
+const UNITS = ["MiB", "GiB", "TiB", "PiB", "EiB"];
+
 /** A number of bytes. */
 export function size(bytes) {
-  if (bytes < 1024) return `${bytes} B`;
+  if (bytes < 1024) return `${Math.round(bytes)} B`;
   if (bytes < 1024 * 1024) return `${(bytes / 1024).toFixed(bytes < 10240 ? 1 : 0)} KiB`;
-  return `${(bytes / 1024 / 1024).toFixed(bytes < 10 << 20 ? 2 : 1)} MiB`;
+  let [left, unit] = [bytes / 1024 / 1024, 0];
+  for (; left >= 1024 && unit + 1 < UNITS.length; unit++) left /= 1024;
+  return `${left.toFixed(left < 10 ? 2 : 1)} ${UNITS[unit]}`;
 }
 
 /** A number of seconds. */
@@ -12,7 +16,8 @@ export function duration(seconds) {
   const whole = Math.max(0, Math.round(seconds));
   if (whole < 60) return `${whole} s`;
   if (whole < 3600) return `${Math.floor(whole / 60)} min ${whole % 60} s`;
-  return `${Math.floor(whole / 3600)} h ${Math.floor((whole % 3600) / 60)} min`;
+  if (whole < 86400) return `${Math.floor(whole / 3600)} h ${Math.floor((whole % 3600) / 60)} min`;
+  return `${count(Math.floor(whole / 86400), "day")}`;
 }
 
 export const count = (number, what) => `${number.toLocaleString("en")} ${what}${number === 1 ? "" : "s"}`;

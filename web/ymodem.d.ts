@@ -58,8 +58,6 @@ export interface Options {
   signal?: AbortSignal;
   /** What the line said just before, where it belongs to the transfer: the C of a receiver that a terminal has shown. */
   heard?: Uint8Array;
-  /** Milliseconds: for the first byte of an answer, and for each further one. 3000 and 1000 for a receiver, 10000 and 1000 for a sender. */
-  waits?: { reply?: number; within?: number };
 }
 
 export interface ReceiveOptions extends Options {
@@ -84,9 +82,9 @@ export type Code =
   | "closed"
   | "device"
   | "host-failed"
-  | "no-memory64"
   | "no-module"
   | "no-reply"
+  | "no-webassembly"
   | "out-of-step"
   | "source-failed"
   | "too-many-errors"
@@ -110,7 +108,7 @@ export function receive(port: Port, options?: ReceiveOptions): Promise<Done>;
 /** Sends files, in order. */
 export function send(port: Port, files: Iterable<Item>, options?: Options): Promise<Done>;
 
-/** Whether this browser runs modules with 64-bit memory. */
+/** Whether this browser runs the module. */
 export function supported(): boolean;
 
 /** Makes the module ready; without this call, `ymodem.wasm` beside this file is loaded at the first transfer. */

@@ -1,7 +1,8 @@
 /* Sends and receives files by YMODEM over any pair of streams: a serial port of the browser, a WebSocket, or streams of your own.
 
-   What is heard, what is written and when a transfer has ended is decided in ymodem.wasm, whose functions are proved (docs/library.md). Here
-   stand only the streams, the waits, and the rule by which a line is let clear (class Clearing, as docs/ports.md states it). */
+   What is heard, what is written, how long is waited and when a transfer has ended is decided in
+   ymodem.wasm, whose functions are proved (docs/library.md). Here stand only the streams, the files
+   and the clock. */
 
 import { Engine, load, supported } from "./engine.js";
 import { MESSAGES, YmodemError } from "./errors.js";
@@ -15,7 +16,7 @@ const MOST_FILES = 65535;
 /** Takes files until the other end says that there are no more. */
 async function receive(port, options = {}) {
   const engine = await Engine.start();
-  const line = new Line(port, { reply: 3000, within: 1000, ...options.waits }, options.signal, options.heard);
+  const line = new Line(port, options);
   const receiving = new Receiving(engine, line, options);
   return finish(line, receiving);
 }
@@ -25,7 +26,7 @@ async function send(port, files, options = {}) {
   const sources = Array.from(files, (file) => new Source(file));
   if (sources.length > MOST_FILES) throw new YmodemError("too-many-files", MESSAGES["too-many-files"]);
   const engine = await Engine.start();
-  const line = new Line(port, { reply: 10000, within: 1000, ...options.waits }, options.signal, options.heard);
+  const line = new Line(port, options);
   const sending = new Sending(engine, line, sources, options);
   return finish(line, sending);
 }
@@ -39,7 +40,7 @@ async function finish(line, transfer) {
     fault = what instanceof YmodemError ? what : new YmodemError("device", String(what?.message ?? what), { cause: what });
     await transfer.abandon(fault);
   }
-  const rest = await line.release();
+  const rest = await line.release(transfer.rest);
   if (fault === null) return { files: transfer.files, rest };
   fault.files = transfer.files;
   fault.rest = rest;

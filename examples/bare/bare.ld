@@ -20,6 +20,8 @@ SECTIONS
         *(.bss .bss.* COMMON)
         . = ALIGN(16);
         bss_end = .;
+    } :data
+    .stack (NOLOAD) : {
         stack = .;
         . += 0x4000;
         stack_end = .;

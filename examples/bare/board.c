@@ -1,4 +1,5 @@
-/* The serial port (PL011) and the clock of QEMU's board `virt`, and the four functions of a C library that the library for C wants. */
+/* The serial port (PL011) and the clock of QEMU's board `virt`, 64-bit ARM, and the four functions
+   of a C library that the library for C wants. */
 #include "board.h"
 
 enum { DR = 0x00, FR = 0x18, IBRD = 0x24, FBRD = 0x28, LCR_H = 0x2c, CR = 0x30, IMSC = 0x38 };
@@ -9,7 +10,7 @@ static volatile uint32_t *uart(int offset) {
 }
 
 /* The port's clock has 24 MHz, and 24,000,000 / (16 * 115,200) is 13 and 1/64. */
-void uart_init(void) {
+void board_init(void) {
     *uart(CR) = 0;
     *uart(IMSC) = 0;
     *uart(IBRD) = 13;
@@ -37,39 +38,17 @@ static uint64_t ticks_a_second(void) {
     return many;
 }
 
-/* A byte that is there is taken before the time is looked at, and errors that the port tells beside it are the check's to find. */
-int byte_within(uint32_t milliseconds, uint8_t *byte) {
-    uint64_t began = ticks(), wait = ticks_a_second() * milliseconds / 1000;
-    while (*uart(FR) & NOTHING_CAME) {
-        if (ticks() - began > wait) return 0;
-    }
-    *byte = (uint8_t)*uart(DR);
-    return 1;
+/* Errors that the port tells beside a byte are the check's to find. */
+size_t uart_read(uint8_t *bytes, size_t most) {
+    size_t came = 0;
+    while (came < most && !(*uart(FR) & NOTHING_CAME)) bytes[came++] = (uint8_t)*uart(DR);
+    return came;
 }
 
-void print(const char *text) {
-    for (; *text; text++) uart_write((const uint8_t *)text, 1);
+uint64_t milliseconds(void) {
+    return ticks() / (ticks_a_second() / 1000);
 }
 
-void print_number(uint64_t number) {
-    char digits[21];
-    char *at = digits + sizeof digits - 1;
-    *at = 0;
-    do {
-        *--at = (char)('0' + number % 10);
-        number /= 10;
-    } while (number);
-    print(at);
-}
-
-void print_hex(uint64_t number, int digits) {
-    while (digits--) {
-        char digit[2] = { "0123456789abcdef"[number >> 4 * digits & 15], 0 };
-        print(digit);
-    }
-}
-
-/* The stack was painted when the program began. */
 size_t stack_used(void) {
     extern uint64_t stack[], stack_end[];
     uint64_t *at = stack;
@@ -91,7 +70,8 @@ void trap(uint64_t syndrome, uint64_t at, uint64_t address) {
     for (;;) __asm__ volatile("wfe");
 }
 
-/* A compiler may call these where no source does. It is told (-fno-builtin) not to make calls of them out of their own loops. */
+/* A compiler may call these where no source does. It is told (-fno-builtin) not to make calls of
+   them out of their own loops. */
 void *memcpy(void *to, const void *from, size_t len);
 void *memmove(void *to, const void *from, size_t len);
 void *memset(void *to, int value, size_t len);

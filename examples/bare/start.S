@@ -1,4 +1,4 @@
-/* Start-up on QEMU's board `virt`, 64-bit ARM, at EL1: what compiled code of the library needs, and then `load_and_go`. */
+/* Start-up on QEMU's board `virt`, 64-bit ARM, at EL1: what compiled code of the library needs, and then `main`. */
 
         .section .start, "ax"
         .global start
@@ -43,7 +43,7 @@ start:
         cmp     x0, x1
         b.lo    3b
         mov     sp, x1
-        bl      load_and_go
+        bl      main
 4:      wfe
         b       4b
 

@@ -1,13 +1,14 @@
-/* QEMU's board mps2-an385: a Cortex-M3 at 25 MHz, whose first serial port is a CMSDK UART. */
+/* QEMU's board mps2-an385: a Cortex-M3 at 25 MHz, with a CMSDK UART and a CMSDK timer. */
 #include "board.h"
 
 #define REGISTER(address) (*(volatile uint32_t *)(address))
 
 #define UART 0x40004000u
-#define SYSTICK 0xE000E010u
+#define TIMER 0x40000000u
 
 enum { CLOCK = 25000000 };
 enum { DATA = 0, STATE = 4, CONTROL = 8, DIVIDER = 16, FULL_OUT = 1, FULL_IN = 2 };
+enum { RUNS = 0, VALUE = 4, RELOAD = 8 };
 
 #define UNUSED_STACK 0xA5A5A5A5u
 
@@ -17,9 +18,8 @@ void stack_top(void);
 int main(void);
 void reset(void);
 
-static volatile uint32_t milliseconds;
-
-static void tick(void) { milliseconds++; }
+/* What the timer told last. */
+static uint32_t last;
 
 static void stop(void) {
     for (;;) {}
@@ -28,9 +28,12 @@ static void stop(void) {
 void board_init(void) {
     REGISTER(UART + DIVIDER) = CLOCK / 115200;
     REGISTER(UART + CONTROL) = 3;
-    REGISTER(SYSTICK + 4) = CLOCK / 1000 - 1;
-    REGISTER(SYSTICK + 8) = 0;
-    REGISTER(SYSTICK) = 7;
+    /* Drops what stands there. QEMU looks for bytes anew at this, and not when it is turned on. */
+    (void)REGISTER(UART + DATA);
+    REGISTER(TIMER + RELOAD) = 0xFFFFFFFFu;
+    REGISTER(TIMER + VALUE) = 0xFFFFFFFFu;
+    REGISTER(TIMER + RUNS) = 1;
+    last = 0xFFFFFFFFu;
 }
 
 void uart_write(const uint8_t *bytes, size_t len) {
@@ -40,35 +43,25 @@ void uart_write(const uint8_t *bytes, size_t len) {
     }
 }
 
-int byte_within(uint32_t wait, uint8_t *byte) {
-    uint32_t began = milliseconds;
-    while (!(REGISTER(UART + STATE) & FULL_IN)) {
-        if (milliseconds - began > wait) return 0;
+size_t uart_read(uint8_t *bytes, size_t most) {
+    size_t came = 0;
+    while (came < most && REGISTER(UART + STATE) & FULL_IN) {
+        bytes[came++] = (uint8_t)REGISTER(UART + DATA);
     }
-    *byte = (uint8_t)REGISTER(UART + DATA);
-    return 1;
+    return came;
 }
 
-void print(const char *text) {
-    for (; *text; text++) uart_write((const uint8_t *)text, 1);
-}
-
-void print_number(uint32_t number) {
-    char digits[11];
-    char *first = digits + 10;
-    *first = 0;
-    do {
-        *--first = (char)('0' + number % 10);
-        number /= 10;
-    } while (number);
-    print(first);
-}
-
-void print_hex(uint32_t number) {
-    for (int shift = 28; shift >= 0; shift -= 4) {
-        char digit[2] = { "0123456789abcdef"[number >> shift & 15], 0 };
-        print(digit);
-    }
+/* The timer counts down, and begins again after 171 seconds: it is looked at more often. Nothing
+   here takes an interrupt. */
+uint64_t milliseconds(void) {
+    static uint64_t passed;
+    static uint32_t rest;
+    uint32_t value = REGISTER(TIMER + VALUE);
+    rest += last - value;
+    last = value;
+    passed += rest / (CLOCK / 1000);
+    rest %= CLOCK / 1000;
+    return passed;
 }
 
 size_t stack_used(void) {
@@ -90,5 +83,5 @@ void reset(void) {
 typedef void (*vector)(void);
 extern const vector vectors[16];
 __attribute__((section(".vectors"), used)) const vector vectors[16] = {
-    stack_top, reset, stop, stop, stop, stop, stop, 0, 0, 0, 0, stop, stop, 0, stop, tick
+    stack_top, reset, stop, stop, stop, stop, stop, 0, 0, 0, 0, stop, stop, 0, stop, stop
 };

@@ -8,14 +8,14 @@ _ymodem() {
     esac
     [ "$COMP_CWORD" -gt 1 ] && command=${COMP_WORDS[1]}
     case $command in
-    '') words='play loop send receive sb rb help --help -h --version -V' ;;
+    '') words='sb rb send receive play loop help --help -h --version -V' ;;
     play) words='--help -h' ;;
     loop) words='--port -p --verbose --quiet --help -h' ;;
     send) words='--port -p --short --verbose --quiet --help -h' ;;
     receive) words='--port -p --single --eager --keep --no-sync --discard-parts --verbose --quiet --help -h' ;;
     sb) words='--line --short --verbose --quiet --help -h' ;;
     rb) words='--line --single --no-sync --discard-parts --verbose --quiet --help -h' ;;
-    help) words='play loop send receive sb rb help' ;;
+    help) words='sb rb send receive play loop help' ;;
     *) words= ;;
     esac
     local IFS=$'\n'

@@ -2,3 +2,4 @@
 
 mod files;
 mod growths;
+mod sizes;

@@ -6,7 +6,7 @@ use std::alloc::Global;
 use ym_file::{MemSource, Shape};
 use ym_header::Stamp;
 use ym_link::{EndFault, Receiver, SendFile, Sender, SourceFile, receive_over, send_over};
-use ym_port::{Role, TimedPort};
+use ym_port::{InStep, Role, TimedPort};
 
 /// How an engine returned.
 type Answer = Result<(), EndFault>;
@@ -53,7 +53,7 @@ fn send(port: &mut TimedPort<Recorded>, sender: &mut Sender) -> Answer {
     send_over(port, sender)
 }
 
-fn receive(port: &mut TimedPort<Recorded>, receiver: &mut Receiver) -> Answer {
+fn receive(port: &mut InStep<TimedPort<Recorded>>, receiver: &mut Receiver) -> Answer {
     receive_over(port, receiver)
 }
 
@@ -76,12 +76,13 @@ pub fn received(alloc: Global, head: &str, did: &str) -> Result<String, Unread> 
     } else {
         Receiver::new(alloc)
     };
-    let mut port = TimedPort::new(Recorded::new(alloc, did)?, Role::Receiver);
+    let port = TimedPort::new(Recorded::new(alloc, did)?, Role::Receiver);
+    let mut port = InStep::new(port);
     let answer = receive(&mut port, &mut receiver);
     let mut text = String::new(alloc);
     let (state, files) = (receiver.state(), receiver.files().len());
     write!(text, "  {answer:?} {state:?}, {files} kept")?;
-    push_line(&mut text, alloc, port.wire())?;
+    push_line(&mut text, alloc, port.port.wire())?;
     for file in receiver.files() {
         let bytes = hex::encode(alloc, file.bytes())?;
         writeln!(text, "  file {} {bytes}", file.name())?;

@@ -24,6 +24,7 @@ pub record Awaits (r : YmReceiver) (core : Receiver) (step : Step) : Type 0 wher
   pub stand : Keeps r.stand core
   pub next : Keeps r.next step.receiver
   pub reply : r.reply ≡ reply_code step.reply
+  pub room : r.len ≤ 1029
 
 abbrev pub IsStamped : YmAsk → Stamp → Type 0
 IsStamped ask Nothing = ask.stamp ≡ 0

@@ -201,16 +201,25 @@ fn hear_into(core: ReceiverCore, bytes: &[u8], next: &mut YmStand, ask: &mut YmA
     code_of_reply(step.reply)
 }
 
+/// The receiver that these numbers are: none where they are rubbish.
+fn holder(receiver: &YmReceiver) -> Option<ReceiverCore>
+    ensures kept { (core : Receiver) → Keeps receiver.now.stand core → receiver.now.len ≤ 1029 →
+        result ≡ Some core }
+    ensures rubbish { IsNoReceiver receiver.now → result ≡ None }
+{
+    if receiver.len > 1029 {
+        return None;
+    }
+    load(&receiver.stand)
+}
+
 /// The receiver that hears: rubbish counts as one that has ended.
 fn hearer(receiver: &YmReceiver) -> ReceiverCore
     ensures kept { (core : Receiver) (held : List ℕ) → Holds receiver.now core held →
         result ≡ core }
     ensures rubbish { IsNoReceiver receiver.now → result ≡ ended_receiver }
 {
-    if receiver.len > 1029 {
-        return ended();
-    }
-    match load(&receiver.stand) {
+    match holder(receiver) {
         Some(core) => core,
         None => ended(),
     }
@@ -253,10 +262,10 @@ fn step_of(receiver: &YmReceiver, done: u32, heard: Reply) -> (ReceiverCore, Rep
         heard ≡ step.reply →
         (result.0 ≡ (outcome done core step).receiver)
         × (result.1 ≡ (outcome done core step).reply) }
-    ensures rubbish { IsRubbish receiver.now.stand ⊎ IsRubbish receiver.now.next →
+    ensures rubbish { IsNoReceiver receiver.now ⊎ IsRubbish receiver.now.next →
         (result.0 ≡ ended_receiver) × (result.1 ≡ Reply.Silence) }
 {
-    let Some(core) = load(&receiver.stand) else {
+    let Some(core) = holder(receiver) else {
         return (ended(), Reply::Silence);
     };
     let Some(next) = load(&receiver.next) else {
@@ -284,7 +293,7 @@ pub extern "C" fn ym_receiver_answer(
     ensures room { result ≤ length reply.old }
     ensures unheard { ((known : Replied) → receiver.old.reply ≢ reply_code known) →
         (result ≡ 0) × (receiver.new ≡ receiver.old) × (reply.new ≡ reply.old) }
-    ensures rubbish { IsRubbish receiver.old.stand ⊎ IsRubbish receiver.old.next →
+    ensures rubbish { IsNoReceiver receiver.old ⊎ IsRubbish receiver.old.next →
         (known : Replied) → receiver.old.reply ≡ reply_code known →
         (result ≡ 0) × Holds receiver.new ended_receiver [] × (receiver.new.reply ≡ 0)
         × (reply.new ≡ reply.old) }

@@ -166,9 +166,9 @@ pub extern "C" fn ym_sender_hear(
     store(sender, step.standing);
     match step.fills {
         Some(Place::Header { .. }) => {
+            sender.len = 0;
             fill.kind = 1;
             fill.file = sender.file;
-            sender.len = 0;
         }
         Some(Place::Block { number, .. }) => {
             fill.kind = 2;
@@ -215,7 +215,7 @@ fn is_unfilled(kept: &YmSender, place: u32) -> bool
 
 /// Fills the header of a file: stamp 0 none, 1 the time, 2 the time and the mode. Answers 0, or the
 /// number of the header's first fault, 1 to 5, or 7 where no header is to be filled, and then does
-/// nothing.
+/// nothing. Numbers that are no sender of a batch stay such.
 #[unsafe(no_mangle)]
 pub extern "C" fn ym_sender_header(
     sender: &mut YmSender,
@@ -228,6 +228,8 @@ pub extern "C" fn ym_sender_header(
     ensures frame { result ≡ 0 →
         IsBlockFrame 0 (text (record { name = name.now; length = length; stamp = stamp_of stamp time mode })) (take sender.new.len sender.new.frame) }
     ensures stands { (s : Stood) → KeepsStanding sender.old s → KeepsStanding sender.new s }
+    ensures rubbish { (blocks : List ℕ) → IsNoSender blocks sender.old →
+        IsNoSender blocks sender.new }
     ensures refused { 0 < result → result ≢ NOT_NOW → IsRefusal name.now length result }
     ensures not_now { result ≡ NOT_NOW ↔ ¬ IsUnfilled sender.old 0 }
     ensures same { 0 < result → sender.new ≡ sender.old }
@@ -247,7 +249,7 @@ pub extern "C" fn ym_sender_header(
 
 /// Fills the data block that the sender stands at with this body, of 128 or 1024 bytes. Answers 0,
 /// or 1 where the body has another length, or 7 where no data block is to be filled, and then does
-/// nothing.
+/// nothing. Numbers that are no sender of a batch stay such.
 #[unsafe(no_mangle)]
 pub extern "C" fn ym_sender_block(sender: &mut YmSender, body: &[u8]) -> u32
     ensures valid { result ≡ 0 ↔ (IsUnfilled sender.old 1
@@ -258,6 +260,8 @@ pub extern "C" fn ym_sender_block(sender: &mut YmSender, body: &[u8]) -> u32
         IsBlockFrame (sender.old.number % 256) body.now (take sender.new.len sender.new.frame) }
     ensures room { sender.old.len ≤ 1029 → sender.new.len ≤ 1029 }
     ensures stands { (s : Stood) → KeepsStanding sender.old s → KeepsStanding sender.new s }
+    ensures rubbish { (blocks : List ℕ) → IsNoSender blocks sender.old →
+        IsNoSender blocks sender.new }
 {
     if !is_unfilled(sender, 1) {
         return NOT_NOW;

@@ -1,7 +1,8 @@
 //! The 16-bit check of a body, as its bytes come.
 //!
-//! C. Forsberg, XMODEM/YMODEM Protocol Reference (1988), "CRC Calculation". The check is defined by long division
-//! over bits. The code takes eight bytes at a time, as `fold` says, and what is left byte by byte, through a table.
+//! C. Forsberg, XMODEM/YMODEM Protocol Reference (1988), "CRC Calculation". The check is defined by
+//! long division over bits. The code takes eight bytes at a time, as `fold` says, and what is left
+//! byte by byte, through a table.
 
 ghost use Rattle.std.specs.Prelude.{◌≡◌, List, ℕ, [], ◌∷◌, ◌++◌};
 ghost use Rattle.ym_check.specs.Check.{check_of};
@@ -65,7 +66,8 @@ impl CheckState {
 
     /// Takes the next byte: the check of any bytes becomes that of these and the byte.
     pub fn add(&mut self, byte: u8)
-        ensures { (bytes : List ℕ) → self.old ≡ check_of bytes → self.new ≡ check_of (bytes ++ byte ∷ []) }
+        ensures { (bytes : List ℕ) → self.old ≡ check_of bytes →
+            self.new ≡ check_of (bytes ++ byte ∷ []) }
     {
         let high = (self.value >> 8) as u8;
         self.value = (self.value << 8) ^ word_at(high ^ byte);
@@ -73,7 +75,8 @@ impl CheckState {
 
     /// Takes the next bytes one by one.
     fn add_each(&mut self, more: &[u8])
-        ensures { (bytes : List ℕ) → self.old ≡ check_of bytes → self.new ≡ check_of (bytes ++ more.now) }
+        ensures { (bytes : List ℕ) → self.old ≡ check_of bytes →
+            self.new ≡ check_of (bytes ++ more.now) }
     {
         for byte in more {
             self.add(*byte);
@@ -82,7 +85,8 @@ impl CheckState {
 
     /// Takes the next bytes, in order.
     pub fn add_all(&mut self, more: &[u8])
-        ensures { (bytes : List ℕ) → self.old ≡ check_of bytes → self.new ≡ check_of (bytes ++ more.now) }
+        ensures { (bytes : List ℕ) → self.old ≡ check_of bytes →
+            self.new ≡ check_of (bytes ++ more.now) }
     {
         let (words, rest) = more.split_at(more.len() / 8 * 8);
         self.value = with_words(self.value, words);

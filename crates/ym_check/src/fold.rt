@@ -1,17 +1,20 @@
 //! The check of eight bytes at a time.
 //!
-//! Modulo x^16 + x^12 + x^5 + 1, x^256 is x^192 + x^80 + 1: eight bytes in front of thirty-two others are added to these in three
-//! places. So a message is folded from the front into its last thirty-two bytes, which have the same check, and these are folded into
-//! their last eight, four and two in the same way.
+//! Modulo x^16 + x^12 + x^5 + 1, x^256 is x^192 + x^80 + 1: eight bytes in front of thirty-two
+//! others are added to these in three places. So a message is folded from the front into its last
+//! thirty-two bytes, which have the same check, and these are folded into their last eight, four
+//! and two in the same way.
 
 ghost use Rattle.std.specs.Prelude.{◌≡◌, ◌%◌, List, ℕ, ◌++◌, length, replicate, false};
 ghost use Rattle.ym_check.specs.Check.{bits, body_bits, number_of, remainder, check_of};
 ghost use Rattle.ym_check.specs.Fold.{eight, window_bytes};
 
-/// Eight bytes folded down: with as many zeros behind them they have the check of the eight bytes of the result.
+/// Eight bytes folded down: with as many zeros behind them they have the check of the eight bytes
+/// of the result.
 ///
-/// They are added in three places, since x^64 is x^48 + x^20 + 1. What would stay in front of the eight bytes behind is added in
-/// the same way: the three sums of that, with what was there, are `above`.
+/// They are added in three places, since x^64 is x^48 + x^20 + 1. What would stay in front of the
+/// eight bytes behind is added in the same way: the three sums of that, with what was there, are
+/// `above`.
 fn folded_64(word: u64) -> u64
     ensures { remainder (bits 64 word ++ replicate 64 false) ≡ remainder (bits 64 result) }
 {
@@ -71,7 +74,8 @@ fn in_first_two(check: u16) -> u64
     u64::from((check >> 8) ^ (check << 8)) // high byte first
 }
 
-/// Thirty-two bytes, which have the check of all bytes so far: eight in each word, as they lie in memory.
+/// Thirty-two bytes, which have the check of all bytes so far: eight in each word, as they lie in
+/// memory.
 #[derive(Clone, Copy)]
 struct Window {
     first: u64,
@@ -83,10 +87,13 @@ struct Window {
 impl Window {
     /// Takes the next eight bytes.
     ///
-    /// The first eight go: they are added to those behind them in three places, since x^256 is x^192 + x^80 + 1. Eighty bits are a word
-    /// and two bytes, so in one of these places they lie across two words.
+    /// The first eight go: they are added to those behind them in three places, since x^256 is
+    /// x^192 + x^80 + 1. Eighty bits are a word and two bytes, so in one of these places they lie
+    /// across two words.
     fn moved(self, next: u64) -> Self
-        ensures { check_of (window_bytes self.first self.second self.third self.fourth ++ eight next) ≡ check_of (window_bytes result.first result.second result.third result.fourth) }
+        ensures { check_of
+            (window_bytes self.first self.second self.third self.fourth ++ eight next) ≡
+            check_of (window_bytes result.first result.second result.third result.fourth) }
     {
         let gone = self.first;
         Window {
@@ -107,10 +114,12 @@ impl Window {
     }
 }
 
-/// The check of some bytes and of these behind them, eight bytes at a time, where the check of the first ones is known.
+/// The check of some bytes and of these behind them, eight bytes at a time, where the check of the
+/// first ones is known.
 pub(crate) fn with_words(check: u16, bytes: &[u8]) -> u16
     requires { length bytes.now % 8 ≡ 0 }
-    ensures { (before : List ℕ) → check ≡ check_of before → result ≡ check_of (before ++ bytes.now) }
+    ensures { (before : List ℕ) → check ≡ check_of before →
+        result ≡ check_of (before ++ bytes.now) }
 {
     let count = bytes.len() / 8;
     if count == 0 {

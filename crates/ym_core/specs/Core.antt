@@ -15,7 +15,10 @@ LengthFits (InFile file) = (file.taken ≤ file.length) × (file.length ≤ MOST
 -- a block adds a byte, or is dropped and counted
 abbrev pub BlocksFit : Stage → ℕ → Type 0
 BlocksFit AwaitHeader retries = Unit {0}
-BlocksFit (InFile file) retries = (file.taken < file.length → file.blocks ≤ file.taken) × (file.blocks ≤ file.taken + retries + (if file.first_eot then GIVE_UP else 0)) × (file.first_eot ≡ true → file.length ≤ file.taken) × (file.taken ≤ 1024 * file.blocks)
+BlocksFit (InFile file) retries =
+    (file.taken < file.length → file.blocks ≤ file.taken) ×
+    (file.blocks ≤ file.taken + retries + (if file.first_eot then GIVE_UP else 0)) ×
+    (file.first_eot ≡ true → file.length ≤ file.taken) × (file.taken ≤ 1024 * file.blocks)
 
 -- a batch has no more files than one may have
 abbrev pub FilesFit : Stage → ℕ → Type 0

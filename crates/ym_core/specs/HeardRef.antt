@@ -1,4 +1,5 @@
--- What is heard with a block's body where it stands, as what owns it: contracts see their blocks alike.
+-- What is heard with a block's body where it stands, as what owns it: contracts see their blocks
+-- alike.
 use Rattle.ym_frame.specs.ItemRef.{owned_item}
 use Rattle.ym_core.specs.declared.delivery.Heard.{Heard}
 use Rattle.ym_core.specs.declared.delivery.Heard.TheVariants as heard

@@ -1,4 +1,5 @@
--- What an end hears of a delivery: the item whose frame is a prefix of the bytes, else that the delivery is bad.
+-- What an end hears of a delivery: the item whose frame is a prefix of the bytes, else that the
+-- delivery is bad.
 use Rattle.std.specs.Prelude.{ℕ, List, Result, Ok, Err}
 use Rattle.ym_frame.specs.Frame.{verdict_of}
 use Rattle.ym_frame.specs.declared.frame.Item.{Item}

@@ -1,5 +1,6 @@
--- The frames of a batch, in order, as places: of each file its block 0, its data blocks and its EOT, and behind the last file the end
--- block. A batch is given as the number of data blocks of each file. (XMODEM/YMODEM Protocol Reference, "YMODEM Batch File Transmission".)
+-- The frames of a batch, in order, as places: of each file its block 0, its data blocks and its
+-- EOT, and behind the last file the end block. A batch is given as the number of data blocks of
+-- each file. (XMODEM/YMODEM Protocol Reference, "YMODEM Batch File Transmission".)
 use Rattle.std.specs.Prelude.{ℕ, ◌+◌, ◌<◌, ◌≤◌, nat_lt, if◌then◌else◌, List, [], ◌∷◌, length, slice_index_or}
 use Rattle.ym_core.specs.declared.place.Place.{Place}
 use Rattle.ym_core.specs.declared.place.Place.TheVariants.{Header, Block, Eot, End}
@@ -21,7 +22,8 @@ first_of (count ∷ more) = Header 0
 
 abbrev pub next_of : List ℕ → Place → Place
 next_of counts (Header file) = if nat_lt 0 (count_at counts file) then Block file 1 else Eot file
-next_of counts (Block file k) = if nat_lt k (count_at counts file) then Block file (k + 1) else Eot file
+next_of counts (Block file k) =
+    if nat_lt k (count_at counts file) then Block file (k + 1) else Eot file
 next_of counts (Eot file) = if nat_lt (file + 1) (length counts) then Header (file + 1) else End
 next_of counts End = End
 

@@ -1,10 +1,11 @@
 -- The receiver's table: what it does at one delivery.
 --
--- From C. Forsberg, XMODEM/YMODEM Protocol Reference (1988), "Receive_Program_Considerations", "Graceful Abort" and
--- "YMODEM Batch File Transmission": a repeated block is acknowledged and dropped, any other wrong number is fatal and is
--- answered by CAN, two CAN cancel, block 0 is answered by ACK and C, EOT ends the data of a file, and an empty name ends
--- the batch. This profile chose the rest: the confirmed EOT, the EOT before the length is covered, data past the length,
--- the tenth delivery without progress, and what an ended receiver answers.
+-- From C. Forsberg, XMODEM/YMODEM Protocol Reference (1988), "Receive_Program_Considerations",
+-- "Graceful Abort" and "YMODEM Batch File Transmission": a repeated block is acknowledged and
+-- dropped, any other wrong number is fatal and is answered by CAN, two CAN cancel, block 0 is
+-- answered by ACK and C, EOT ends the data of a file, and an empty name ends the batch. This
+-- profile chose the rest: the confirmed EOT, the EOT before the length is covered, data past the
+-- length, the tenth delivery without progress, and what an ended receiver answers.
 use Rattle.std.specs.Prelude.{ℕ, ◌+◌, ◌-◌, ◌%◌, ◌==◌, nat_lt, List, length, slice_index, take, Bool, true, false, if◌then◌else◌, Result, Ok, Err, min}
 use Rattle.ym_frame.specs.declared.control.Reply.{Reply}
 use Rattle.ym_frame.specs.declared.control.Reply.TheVariants.{Silence, Start, Ack, AckStart, Nak, Cancel}
@@ -55,7 +56,11 @@ abbrev pub stays : Receiver → Reply → Step
 stays r reply =
     if nat_lt (r.retries + 1) GIVE_UP
     then record { receiver = record r { retries = r.retries + 1 }; reply = reply; call = No_call }
-    else record { receiver = record r { retries = r.retries + 1; state = state.TooManyErrors }; reply = Cancel; call = No_call }
+    else record {
+      receiver = record r { retries = r.retries + 1; state = state.TooManyErrors };
+      reply = Cancel;
+      call = No_call;
+    }
 
 -- the end
 abbrev pub ends : Receiver → RecvState → Reply → Step
@@ -92,13 +97,19 @@ awaiting_hears r zero heard.Bad = stays r Start
 abbrev pub next_block : Receiver → OpenFile → List ℕ → Step
 next_block r file body =
     if nat_lt file.taken file.length
-    then goes_on (record r { stage = InFile (record file { taken = file.taken + min (file.length - file.taken) (length body); blocks = file.blocks + 1 }) }) Ack (Adds (take (file.length - file.taken) body))
+    then goes_on (record r {
+      stage = InFile (record file {
+        taken = file.taken + min (file.length - file.taken) (length body);
+        blocks = file.blocks + 1;
+      });
+    }) Ack (Adds (take (file.length - file.taken) body))
     else stays (record r { stage = InFile (record file { blocks = file.blocks + 1 }) }) Ack
 
 abbrev pub block_heard : Receiver → OpenFile → ℕ → List ℕ → Step
 block_heard r file number body =
     if number == (file.blocks + 1) % 256 then next_block r file body
-    else (if number == file.blocks % 256 then (if file.blocks == 0 then stays r AckStart else stays r Ack)
+    else (if number == file.blocks % 256
+    then (if file.blocks == 0 then stays r AckStart else stays r Ack)
     else ends r state.OutOfStep Cancel)
 
 abbrev pub commits : Receiver → Step
@@ -106,7 +117,8 @@ commits r = goes_on (record r { stage = AwaitHeader; files = r.files + 1 }) AckS
 
 -- an EOT behind all bytes of the file, by whether a first one was accepted
 abbrev pub covered_eot : Receiver → Confirm → OpenFile → Bool → Step
-covered_eot r Twice file false = goes_on (record r { stage = InFile (record file { first_eot = true }) }) Nak No_call
+covered_eot r Twice file false =
+    goes_on (record r { stage = InFile (record file { first_eot = true }) }) Nak No_call
 covered_eot r Twice file true = commits r
 covered_eot r Once file first_eot = commits r
 
@@ -147,4 +159,5 @@ hears r zero h = hears_at r.state r zero h
 
 -- a new receiver
 abbrev pub new_receiver : Confirm → Receiver
-new_receiver confirm = record { confirm = confirm; stage = AwaitHeader; files = 0; retries = 0; state = state.Running }
+new_receiver confirm =
+    record { confirm = confirm; stage = AwaitHeader; files = 0; retries = 0; state = state.Running }

@@ -1,5 +1,5 @@
--- A sender of one file of two data blocks, computed: the file is number 0, and its frames are its block 0, blocks 1 and 2, its EOT, and
--- the end block.
+-- A sender of one file of two data blocks, computed: the file is number 0, and its frames are its
+-- block 0, blocks 1 and 2, its EOT, and the end block.
 use Rattle.std.specs.Prelude.{◌≡◌, ℕ, List, [], ◌∷◌, true, false, Some, refl}
 use Rattle.ym_core.specs.Reading.{controls_in}
 use Rattle.ym_core.specs.Standing.{step, hears, is_settled}
@@ -16,7 +16,8 @@ two_blocks = 2 ∷ []
 
 -- the sender at a place
 abbrev at : Place → Mode → Standing
-at place mode = record { place = place; mode = mode; retries = 0; state = Running; cancel_pending = false }
+at place mode =
+    record { place = place; mode = mode; retries = 0; state = Running; cancel_pending = false }
 
 -- what a delivery of these bytes does to it
 abbrev after : Place → Mode → List ℕ → Step
@@ -51,11 +52,16 @@ no_more_is_read : after (Block 0 1) Sent (0x06 ∷ 0x18 ∷ 0x18 ∷ []) ≡ sen
 no_more_is_read = refl
 
 -- behind an EOT it goes on, and no end takes back that the file is done
-done_and_cancelled : after (Eot 0) Sent (0x06 ∷ 0x18 ∷ 0x18 ∷ []) ≡ step (record (at End Waiting) { state = Cancelled })
+done_and_cancelled :
+    after (Eot 0) Sent (0x06 ∷ 0x18 ∷ 0x18 ∷ []) ≡
+    step (record (at End Waiting) { state = Cancelled })
 done_and_cancelled = refl
 
--- bytes that are no control byte are dropped first, so two CAN may stand apart; a NAK between them parts them
-apart : after (Eot 0) Waiting (0x18 ∷ 0x00 ∷ 0x18 ∷ []) ≡ step (record (at (Eot 0) Waiting) { state = Cancelled })
+-- bytes that are no control byte are dropped first, so two CAN may stand apart; a NAK between them
+-- parts them
+apart :
+    after (Eot 0) Waiting (0x18 ∷ 0x00 ∷ 0x18 ∷ []) ≡
+    step (record (at (Eot 0) Waiting) { state = Cancelled })
 apart = refl
 
 parted : after (Eot 0) Waiting (0x18 ∷ 0x15 ∷ 0x18 ∷ []) ≡ missed_at (Eot 0) Waiting
@@ -70,5 +76,6 @@ gives_up = refl
 open_at_ack : is_settled two_blocks (at (Header 0) Sent) (controls_in (0x06 ∷ [])) ≡ false
 open_at_ack = refl
 
-settled_at_start : is_settled two_blocks (at (Header 0) Sent) (controls_in (0x06 ∷ 0x43 ∷ [])) ≡ true
+settled_at_start :
+    is_settled two_blocks (at (Header 0) Sent) (controls_in (0x06 ∷ 0x43 ∷ [])) ≡ true
 settled_at_start = refl

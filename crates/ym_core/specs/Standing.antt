@@ -17,7 +17,14 @@ use Rattle.ym_core.specs.declared.state.SendState.TheVariants.{Running, Finished
 
 -- waiting at the first frame
 abbrev pub new_standing : List ℕ → Standing
-new_standing counts = record { place = first_of counts; mode = Waiting; retries = 0; state = Running; cancel_pending = false }
+new_standing counts =
+    record {
+      place = first_of counts;
+      mode = Waiting;
+      retries = 0;
+      state = Running;
+      cancel_pending = false;
+    }
 
 -- no frame is filled
 abbrev pub step : Standing → Step
@@ -48,9 +55,11 @@ read_through s place old new = step (moved s place new)
 abbrev pub after_reading : Standing → Place → Mode → Option Stop → Step
 after_reading s place mode None = read_through s place s.mode mode
 after_reading s place mode (Some Again) = missed s
-after_reading s place mode (Some Sends) = record { standing = moved s place mode; fills = Some place }
+after_reading s place mode (Some Sends) =
+    record { standing = moved s place mode; fills = Some place }
 after_reading s place mode (Some Finishes) = step (record s { state = Finished })
-after_reading s place mode (Some Cancels) = step (record s { place = place; mode = mode; state = Cancelled })
+after_reading s place mode (Some Cancels) =
+    step (record s { place = place; mode = mode; state = Cancelled })
 
 abbrev pub runs : List ℕ → Standing → List Control → Step
 runs counts s controls =
@@ -73,7 +82,8 @@ is_settled_in ended counts s controls = true
 abbrev pub is_settled : List ℕ → Standing → List Control → Bool
 is_settled counts s controls = is_settled_in s.state counts s controls
 
--- Only a data block is filled from a source. Where that fails, the place has moved and the sender has ended, with CAN CAN to go.
+-- Only a data block is filled from a source. Where that fails, the place has moved and the sender
+-- has ended, with CAN CAN to go.
 abbrev pub after_fill : Bool → Option Place → Standing → Standing
 after_fill true (Some (Block file k)) s = record s { state = SourceFailed; cancel_pending = true }
 after_fill failed fills s = s

@@ -23,7 +23,9 @@ ReadsAs body (Err fault) = IsFault length_limit body fault
 
 -- a running receiver that awaits a header reads the body of a block 0
 abbrev pub Means : table.Receiver → Heard → Result Zero HeaderFault → Type 0
-Means r h zero = (block : BlockParts) → r.state ≡ state.Running → r.stage ≡ AwaitHeader → h ≡ heard.Item (item.Block block) → block.number ≡ 0 → ReadsAs block.body zero
+Means r h zero =
+    (block : BlockParts) → r.state ≡ state.Running → r.stage ≡ AwaitHeader →
+    h ≡ heard.Item (item.Block block) → block.number ≡ 0 → ReadsAs block.body zero
 
 -- the table's call
 abbrev pub call_of : Ask → table.Call
@@ -47,7 +49,8 @@ abbrev pub FileMoves : Ask → Option (ℕ × ℕ) → Option (ℕ × ℕ) → T
 FileMoves Nothing old new = new ≡ old
 FileMoves (Begin header) old new = (old ≡ None) × (new ≡ Some (header.length, 0))
 FileMoves (Add bytes) old new =
-    (file : ℕ × ℕ) × (old ≡ Some file) × (0 < length bytes.now) × (length bytes.now ≤ file.0 - file.1) × (new ≡ Some (file.0, file.1 + length bytes.now))
+    (file : ℕ × ℕ) × (old ≡ Some file) × (0 < length bytes.now) ×
+    (length bytes.now ≤ file.0 - file.1) × (new ≡ Some (file.0, file.1 + length bytes.now))
 FileMoves Commit old new = (file : ℕ × ℕ) × (old ≡ Some file) × (file.0 ≤ file.1) × (new ≡ None)
 
 abbrev pub files_behind : Ask → ℕ → ℕ
@@ -60,4 +63,5 @@ pub record Moves (r : table.Receiver) (step : Step) : Type 0 where
 
 -- the step of the table
 abbrev pub Hears : table.Receiver → Heard → Step → Type 0
-Hears r h step = (zero : Result Zero HeaderFault) × Means r h zero × IsStep step (table.hears r zero h)
+Hears r h step =
+    (zero : Result Zero HeaderFault) × Means r h zero × IsStep step (table.hears r zero h)

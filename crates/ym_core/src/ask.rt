@@ -20,8 +20,8 @@ pub enum Ask<'a> {
 /// One step of a receiver, as its table has it.
 ///
 /// A host that has done what is asked keeps `core` and sends `reply`. One that could not keeps what
-/// `ReceiverCore::failed` makes of the receiver before the step, and sends `Reply::Cancel`. One that
-/// means to try again, as where it lacks memory, keeps the receiver before the step.
+/// `ReceiverCore::failed` makes of the receiver before the step, and sends `Reply::Cancel`. One
+/// that means to try again, as where it lacks memory, keeps the receiver before the step.
 #[derive(Drop)]
 pub struct Step<'a> {
     /// The receiver behind the step.

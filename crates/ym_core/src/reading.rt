@@ -88,7 +88,8 @@ fn read_control<B: Batch>(batch: &B, place: Place, mode: Mode, control: Control)
 #[inline(always)]
 pub fn read_delivery<B: Batch>(batch: &B, place: Place, mode: Mode, bytes: &[u8]) -> Reading
     requires { IsPlace (B.counts batch.now) place }
-    ensures reads { result ≡ table.reads (B.counts batch.now) place mode (table.controls_in bytes.now) }
+    ensures reads { result ≡
+        table.reads (B.counts batch.now) place mode (table.controls_in bytes.now) }
     ensures within { IsPlace (B.counts batch.now) result.place }
 {
     let mut read = Reading {

@@ -34,16 +34,38 @@ impl Model for ReceiverCore {
 
     ghost Value = { Receiver };
 
-    ghost view = { λ r. record { confirm = r.confirm; stage = r.stage; files = r.files; retries = r.retries; state = r.state } };
+    ghost view = { λ r.
+        record {
+          confirm = r.confirm;
+          stage = r.stage;
+          files = r.files;
+          retries = r.retries;
+          state = r.state;
+        } };
 
-    ghost inverse = { λ r. record { confirm = r.confirm; stage = r.stage; files = r.files; retries = r.retries; state = r.state } };
+    ghost inverse = { λ r.
+        record {
+          confirm = r.confirm;
+          stage = r.stage;
+          files = r.files;
+          retries = r.retries;
+          state = r.state;
+        } };
 
-    ghost invariant = { λ r. IsCore (record { confirm = r.confirm; stage = r.stage; files = r.files; retries = r.retries; state = r.state }) };
+    ghost invariant = { λ r.
+        IsCore (record {
+          confirm = r.confirm;
+          stage = r.stage;
+          files = r.files;
+          retries = r.retries;
+          state = r.state;
+        }) };
 }
 
 /// Whether what is known of a file fits, behind so many deliveries without progress.
 fn file_fits(file: OpenFile, retries: u8) -> bool
-    ensures { IsTrue result ↔ (LengthFits (Stage.InFile file) × BlocksFit (Stage.InFile file) retries) }
+    ensures { IsTrue result ↔
+        (LengthFits (Stage.InFile file) × BlocksFit (Stage.InFile file) retries) }
 {
     let OpenFile {
         length,

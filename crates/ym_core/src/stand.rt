@@ -26,7 +26,21 @@ impl Model for Stand {
 
     ghost Value = { Receiver };
 
-    ghost view = { λ r. record { confirm = r.confirm; stage = r.stage; files = r.files; retries = r.retries; state = r.state } };
+    ghost view = { λ r.
+        record {
+          confirm = r.confirm;
+          stage = r.stage;
+          files = r.files;
+          retries = r.retries;
+          state = r.state;
+        } };
 
-    ghost inverse = { λ r. record { confirm = r.confirm; stage = r.stage; files = r.files; retries = r.retries; state = r.state } };
+    ghost inverse = { λ r.
+        record {
+          confirm = r.confirm;
+          stage = r.stage;
+          files = r.files;
+          retries = r.retries;
+          state = r.state;
+        } };
 }

@@ -39,7 +39,14 @@ pub struct SendStep {
 impl Standing {
     /// Waiting at the first frame of a batch.
     pub fn new(first: Place) -> Standing
-        ensures { result ≡ record { place = first; mode = Mode.Waiting; retries = 0; state = SendState.Running; cancel_pending = false } }
+        ensures { result ≡
+            record {
+              place = first;
+              mode = Mode.Waiting;
+              retries = 0;
+              state = SendState.Running;
+              cancel_pending = false;
+            } }
     {
         Standing {
             place: first,
@@ -92,13 +99,15 @@ impl Standing {
         }
     }
 
-    /// After a delivery that a running sender has read, by `read_delivery` from its place and mode on: what `after` gives on its
-    /// bytes, without reading them again.
+    /// After a delivery that a running sender has read, by `read_delivery` from its place and mode
+    /// on: what `after` gives on its bytes, without reading them again.
     pub fn after_reading(self, read: Reading) -> SendStep
         requires { self.retries < GIVE_UP }
         ensures step { result ≡ table.after_reading self read.place read.mode read.stop }
-        ensures within { (counts : List ℕ) → IsPlace counts self.place → IsPlace counts read.place → IsPlace counts result.standing.place }
-        ensures retries { result.standing.state ≡ SendState.Running → result.standing.retries < GIVE_UP }
+        ensures within { (counts : List ℕ) → IsPlace counts self.place → IsPlace counts read.place →
+            IsPlace counts result.standing.place }
+        ensures retries { result.standing.state ≡ SendState.Running →
+            result.standing.retries < GIVE_UP }
     {
         let standing = match read.stop {
             Some(Stop::Sends) => {
@@ -132,14 +141,15 @@ impl Standing {
         }
     }
 
-    /// After a delivery of these bytes. Where a place is filled, the host sends its frame, and keeps
-    /// it to send it again; where it cannot make that frame, it keeps `source_failed`.
+    /// After a delivery of these bytes. Where a place is filled, the host sends its frame, and
+    /// keeps it to send it again; where it cannot make that frame, it keeps `source_failed`.
     pub fn after<B: Batch>(self, batch: &B, bytes: &[u8]) -> SendStep
         requires place { IsPlace (B.counts batch.now) self.place }
         requires retries { self.state ≡ SendState.Running → self.retries < GIVE_UP }
         ensures step { result ≡ table.hears (B.counts batch.now) self (controls_in bytes.now) }
         ensures within { IsPlace (B.counts batch.now) result.standing.place }
-        ensures runs { result.standing.state ≡ SendState.Running → result.standing.retries < GIVE_UP }
+        ensures runs { result.standing.state ≡ SendState.Running →
+            result.standing.retries < GIVE_UP }
     {
         if self.state == SendState::Running {
             self.after_reading(read_delivery(batch, self.place, self.mode, bytes))

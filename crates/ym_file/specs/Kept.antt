@@ -28,15 +28,28 @@ told_committed (Some t) = Some (record { open_bytes = []; files = t.files ++ t.o
 
 -- with a file opened
 abbrev pub begun : HeaderParts → Kept → Kept
-begun header kept = record { opened = Some header; taken = 0; headers = kept.headers; told = told_begun kept.told }
+begun header kept =
+    record { opened = Some header; taken = 0; headers = kept.headers; told = told_begun kept.told }
 
 -- with bytes behind those taken
 abbrev pub added : List ℕ → Kept → Kept
-added bytes kept = record { opened = kept.opened; taken = kept.taken + length bytes; headers = kept.headers; told = told_added bytes kept.told }
+added bytes kept =
+    record {
+      opened = kept.opened;
+      taken = kept.taken + length bytes;
+      headers = kept.headers;
+      told = told_added bytes kept.told;
+    }
 
 -- with the open file behind the committed ones
 abbrev pub committed : Kept → Kept
-committed kept = record { opened = None; taken = 0; headers = kept.headers ++ option_to_list kept.opened; told = told_committed kept.told }
+committed kept =
+    record {
+      opened = None;
+      taken = 0;
+      headers = kept.headers ++ option_to_list kept.opened;
+      told = told_committed kept.told;
+    }
 
 -- how many bytes are still missing
 abbrev pub room_of : Option HeaderParts → ℕ → ℕ

@@ -10,4 +10,5 @@ opened_of (Some taking) = Some (record { header = taking.header; bytes = taking.
 -- the collector takes as many bytes as the header says, and there is room for one more file
 abbrev pub IsReady : Option OpenFile → ℕ → ℕ → Type 0
 IsReady None count capacity = Unit {0}
-IsReady (Some taking) count capacity = (taking.collector.wanted ≡ taking.header.length) × (count < capacity)
+IsReady (Some taking) count capacity =
+    (taking.collector.wanted ≡ taking.header.length) × (count < capacity)

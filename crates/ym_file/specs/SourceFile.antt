@@ -7,7 +7,8 @@ use Rattle.ym_file.specs.Counts.{raised}
 use Rattle.ym_file.specs.declared.plan.Shape.{Shape}
 use Rattle.ym_file.specs.Plan.{count_of, piece_at, size_at}
 
--- the header, the source's bytes where they are known, how often the source failed, and how often it was asked to fill
+-- the header, the source's bytes where they are known, how often the source failed, and how often
+-- it was asked to fill
 pub record FileParts : Type 0 where
   pub header : HeaderParts
   pub bytes : Option (List ℕ)
@@ -23,7 +24,8 @@ pub record IsFile (file : FileParts) : Type 0 where
 abbrev pub blocks_of : Shape → FileParts → ℕ
 blocks_of shape file = count_of shape file.header.length
 
--- Data block k of a file, counted from 1. Where the source does not tell its bytes, the number and the size of the body are still known.
+-- Data block k of a file, counted from 1. Where the source does not tell its bytes, the number and
+-- the size of the body are still known.
 pub record IsBlockOf (shape : Shape) (file : FileParts) (k : ℕ) (block : BlockParts) : Type 0 where
   pub number : block.number ≡ k % 256
   pub size : length block.body ≡ size_at shape file.header.length k
@@ -37,7 +39,13 @@ filled file = record file { fills = raised file.fills }
 
 -- stands behind the last file, so that each number has a file
 abbrev pub no_file : FileParts
-no_file = record { header = record { name = []; length = 0; stamp = Nothing }; bytes = None; failures = 0; fills = 0 }
+no_file =
+    record {
+      header = record { name = []; length = 0; stamp = Nothing };
+      bytes = None;
+      failures = 0;
+      fills = 0;
+    }
 
 -- file number i, counted from 0
 abbrev pub file_at : List FileParts → ℕ → FileParts

@@ -1,12 +1,12 @@
 //! Data blocks of a file, from its bytes or from a source.
 
-ghost use Rattle.std.specs.Prelude.{◌≡◌, ◌⊎◌, ◌<◌, ◌≤◌, ◌+◌, ◌%◌, ◌^◌, List, ℕ, length as list_length, take, drop, OnOk, OnErr, IfOk, IfSome};
+ghost use Rattle.std.specs.Prelude.{◌≡◌, ◌⊎◌, ◌<◌, ◌≤◌, ◌+◌, ◌%◌, ◌^◌, List, ℕ, length as list_length, take, drop, OnOk, IfOk, IfSome};
 ghost use Rattle.ym_frame.specs.Seal.{IsBlockFrame};
 ghost use Rattle.ym_header.specs.declared.limits.TheConstants.{MOST_LENGTH};
 ghost use Rattle.ym_file.specs.Plan.{count_of, padded, piece_at, size_at};
-ghost use Rattle.ym_file.specs.Counts.{Rose, raised};
+ghost use Rattle.ym_file.specs.Filling.{AskedOnce};
 
-use crate::plan::{Shape, place_of};
+use crate::plan::{Place, Shape, place_of};
 use crate::source::{Source, SourceFault};
 use ym_frame::{Block, seal_block};
 
@@ -31,31 +31,29 @@ pub fn block_at(bytes: &[u8], shape: Shape, k: u64) -> Block
     block_of(k, body)
 }
 
-/// Block k, counted from 1, of the file that a source has: what [`block_at`] gives on its bytes. After a failure of the
-/// source there is no block.
+/// Block k, counted from 1, of the file that a source has: what [`block_at`] gives on its bytes.
+/// After a failure of the source there is no block.
 pub fn block_from<S: Source>(source: &mut S, shape: Shape, k: u64) -> Result<Block, SourceFault>
     requires small { S.size source.old ≤ MOST_LENGTH }
     requires from_one { 1 ≤ k }
     requires within { k ≤ count_of shape (S.size source.old) }
     ensures number { IfOk result (λ block. block.number ≡ k % 256) }
-    ensures size { IfOk result (λ block. list_length block.body ≡ size_at shape (S.size source.old) k) }
-    ensures body { IfOk result (λ block. IfSome (S.bytes source.old) (λ all. block.body ≡ piece_at shape all k)) }
-    ensures size_stays { S.size source.new ≡ S.size source.old }
-    ensures bytes_stay { S.bytes source.new ≡ S.bytes source.old }
-    ensures counted { S.fills source.new ≡ raised (S.fills source.old) }
-    ensures ok { OnOk result (S.failures source.new ≡ S.failures source.old) }
-    ensures failed { OnErr result (Rose (S.failures source.old) (S.failures source.new)) }
+    ensures size { IfOk result (λ block.
+        list_length block.body ≡ size_at shape (S.size source.old) k) }
+    ensures body { IfOk result (λ block.
+        IfSome (S.bytes source.old) (λ all. block.body ≡ piece_at shape all k)) }
+    ensures source { AskedOnce S.size S.bytes S.fills S.failures source.old result source.new }
 {
     let mut array = [0; 1024];
     let place = place_of(source.length(), shape, k);
     let body = &mut array[..place.size];
-    read_body(source, shape, k, body)?;
+    read_body(source, place, body)?;
     Ok(block_of(k, body))
 }
 
-/// Writes the frame of block k, counted from 1, of the file that a source has to the front of a buffer, and answers the
-/// frame's length, 133 or 1029. The source fills the body right where it stands in the frame. After a failure of the
-/// source nothing is said of the buffer's bytes.
+/// Writes the frame of block k, counted from 1, of the file that a source has to the front of a
+/// buffer, and answers the frame's length, 133 or 1029. The source fills the body right where it
+/// stands in the frame. After a failure of the source nothing is said of the buffer's bytes.
 pub fn frame_from<S: Source>(
     source: &mut S,
     shape: Shape,
@@ -67,65 +65,51 @@ pub fn frame_from<S: Source>(
     requires within { k ≤ count_of shape (S.size source.old) }
     ensures length { IfOk result (λ len. len ≡ size_at shape (S.size source.old) k + 5) }
     ensures buffer { list_length buffer.new ≡ 1029 }
-    ensures frame { IfOk result (λ len. (body : List ℕ) × (list_length body ≡ size_at shape (S.size source.old) k) × IsBlockFrame (k % 256) body (take len buffer.new)) }
-    ensures body { IfOk result (λ len. IfSome (S.bytes source.old) (λ all. IsBlockFrame (k % 256) (piece_at shape all k) (take len buffer.new))) }
-    ensures size_stays { S.size source.new ≡ S.size source.old }
-    ensures bytes_stay { S.bytes source.new ≡ S.bytes source.old }
-    ensures counted { S.fills source.new ≡ raised (S.fills source.old) }
-    ensures ok { OnOk result (S.failures source.new ≡ S.failures source.old) }
-    ensures failed { OnErr result (Rose (S.failures source.old) (S.failures source.new)) }
+    ensures frame { IfOk result (λ len.
+        (body : List ℕ) × (list_length body ≡ size_at shape (S.size source.old) k) ×
+        IsBlockFrame (k % 256) body (take len buffer.new)) }
+    ensures body { IfOk result (λ len.
+        IfSome (S.bytes source.old) (λ all.
+        IsBlockFrame (k % 256) (piece_at shape all k) (take len buffer.new))) }
+    ensures source { AskedOnce S.size S.bytes S.fills S.failures source.old result source.new }
 {
-    let length = place_of(source.length(), shape, k).size + 5;
-    write_frame(source, shape, k, &mut buffer[..length])?;
+    let place = place_of(source.length(), shape, k);
+    let length = place.size + 5;
+    write_frame(source, place, k, &mut buffer[..length])?;
     Ok(length)
 }
 
-/// Makes the frame of block k in a slice of the frame's length.
+/// Makes the frame of block k, whose bytes stand at this place, in a slice of the frame's length.
 fn write_frame<S: Source>(
     source: &mut S,
-    shape: Shape,
+    place: Place,
     k: u64,
     frame: &mut [u8],
 ) -> Result<(), SourceFault>
-    requires small { S.size source.old ≤ MOST_LENGTH }
-    requires from_one { 1 ≤ k }
-    requires within { k ≤ count_of shape (S.size source.old) }
-    requires size { list_length frame.old ≡ size_at shape (S.size source.old) k + 5 }
-    requires kind { (list_length frame.old ≡ 133) ⊎ (list_length frame.old ≡ 1029) }
-    ensures frame { OnOk result ((body : List ℕ) × (list_length body ≡ size_at shape (S.size source.old) k) × IsBlockFrame (k % 256) body frame.new) }
-    ensures body { OnOk result (IfSome (S.bytes source.old) (λ all. IsBlockFrame (k % 256) (piece_at shape all k) frame.new)) }
-    ensures size_stays { S.size source.new ≡ S.size source.old }
-    ensures bytes_stay { S.bytes source.new ≡ S.bytes source.old }
-    ensures counted { S.fills source.new ≡ raised (S.fills source.old) }
-    ensures ok { OnOk result (S.failures source.new ≡ S.failures source.old) }
-    ensures failed { OnErr result (Rose (S.failures source.old) (S.failures source.new)) }
+    requires there { place.start ≤ S.size source.old }
+    requires size { list_length frame.old ≡ place.size + 5 }
+    requires kind { (place.size ≡ 128) ⊎ (place.size ≡ 1024) }
+    ensures frame { OnOk result ((body : List ℕ) × (list_length body ≡ place.size) ×
+        IsBlockFrame (k % 256) body frame.new) }
+    ensures body { OnOk result (IfSome (S.bytes source.old) (λ all.
+        IsBlockFrame (k % 256) (padded place.size (take place.size (drop place.start all)))
+        frame.new)) }
+    ensures source { AskedOnce S.size S.bytes S.fills S.failures source.old result source.new }
 {
-    let size = frame.len() - 5;
-    read_body(source, shape, k, &mut frame[3..3 + size])?;
+    read_body(source, place, &mut frame[3..3 + place.size])?;
     seal_block((k % 256) as u8, frame);
     Ok(())
 }
 
-/// Fills the body of block k from a source.
-fn read_body<S: Source>(
-    source: &mut S,
-    shape: Shape,
-    k: u64,
-    body: &mut [u8],
-) -> Result<(), SourceFault>
-    requires small { S.size source.old ≤ MOST_LENGTH }
-    requires from_one { 1 ≤ k }
-    requires within { k ≤ count_of shape (S.size source.old) }
-    requires size { list_length body.old ≡ size_at shape (S.size source.old) k }
-    ensures body { OnOk result (IfSome (S.bytes source.old) (λ all. body.new ≡ piece_at shape all k)) }
-    ensures size_stays { S.size source.new ≡ S.size source.old }
-    ensures bytes_stay { S.bytes source.new ≡ S.bytes source.old }
-    ensures counted { S.fills source.new ≡ raised (S.fills source.old) }
-    ensures ok { OnOk result (S.failures source.new ≡ S.failures source.old) }
-    ensures failed { OnErr result (Rose (S.failures source.old) (S.failures source.new)) }
+/// Fills the body of the block at this place from a source.
+fn read_body<S: Source>(source: &mut S, place: Place, body: &mut [u8]) -> Result<(), SourceFault>
+    requires there { place.start ≤ S.size source.old }
+    requires size { list_length body.old ≡ place.size }
+    ensures body { OnOk result (IfSome (S.bytes source.old) (λ all.
+        body.new ≡ padded place.size (take place.size (drop place.start all)))) }
+    ensures source { AskedOnce S.size S.bytes S.fills S.failures source.old result source.new }
 {
     let length = source.length();
-    let place = place_of(length, shape, k);
     let filled = (place.size as u64).min(length - place.start) as usize;
     read_padded(source, place.start, body, filled)?;
     Ok(())
@@ -140,12 +124,9 @@ fn read_padded<S: Source>(
 ) -> Result<(), SourceFault>
     requires within { filled ≤ list_length body.old }
     requires there { start + filled ≤ S.size source.old }
-    ensures body { OnOk result (IfSome (S.bytes source.old) (λ all. body.new ≡ padded (list_length body.old) (take filled (drop start all)))) }
-    ensures size_stays { S.size source.new ≡ S.size source.old }
-    ensures bytes_stay { S.bytes source.new ≡ S.bytes source.old }
-    ensures counted { S.fills source.new ≡ raised (S.fills source.old) }
-    ensures ok { OnOk result (S.failures source.new ≡ S.failures source.old) }
-    ensures failed { OnErr result (Rose (S.failures source.old) (S.failures source.new)) }
+    ensures body { OnOk result (IfSome (S.bytes source.old) (λ all.
+        body.new ≡ padded (list_length body.old) (take filled (drop start all)))) }
+    ensures source { AskedOnce S.size S.bytes S.fills S.failures source.old result source.new }
 {
     source.fill(start, &mut body[..filled])?;
     pad(body, filled);

@@ -36,14 +36,19 @@ impl Model for MemSink {
 
     ghost Value = { MemSinkParts };
 
-    ghost view = { λ s. record { opened = opened_of s.taking; files = s.committed.items; tally = s.countdown } };
+    ghost view = { λ s.
+        record {
+          opened = opened_of s.taking;
+          files = s.committed.items;
+          tally = s.countdown;
+        } };
 
     ghost invariant = { λ s. IsReady s.taking (vec_len s.committed) (vec_capacity s.committed) };
 }
 
 impl MemSink {
-    /// A sink without files. Call number `failing` over `begin`, `add` and `commit`, counted from 1, fails and no other
-    /// does; 0 names none.
+    /// A sink without files. Call number `failing` over `begin`, `add` and `commit`, counted from
+    /// 1, fails and no other does; 0 names none.
     pub fn new(alloc: Global, failing: Option<u64>) -> Self
         ensures parts { result ≡ record { opened = None; files = []; tally = new_tally failing } }
         ensures new { IsNew (kept_of result) }
@@ -74,7 +79,8 @@ impl Sink for MemSink {
         ensures done { OnOk result (self.new ≡ after_begin header self.old) }
         ensures refused { OnErr result (self.new ≡ after_refusal self.old) }
         ensures fails { (result ≡ Err SinkFault.Failed) ↔ IsTrue (fails_next self.old.tally) }
-        ensures failed { result ≡ Err SinkFault.Failed → Rose self.old.tally.failures self.new.tally.failures }
+        ensures failed { result ≡ Err SinkFault.Failed →
+            Rose self.old.tally.failures self.new.tally.failures }
     {
         if self.countdown.fails() {
             return Err(SinkFault::Failed);
@@ -93,7 +99,8 @@ impl Sink for MemSink {
         ensures done { OnOk result (self.new ≡ after_add bytes.now self.old) }
         ensures refused { OnErr result (self.new ≡ after_refusal self.old) }
         ensures fails { (result ≡ Err SinkFault.Failed) ↔ IsTrue (fails_next self.old.tally) }
-        ensures failed { result ≡ Err SinkFault.Failed → Rose self.old.tally.failures self.new.tally.failures }
+        ensures failed { result ≡ Err SinkFault.Failed →
+            Rose self.old.tally.failures self.new.tally.failures }
     {
         if self.countdown.fails() {
             return Err(SinkFault::Failed);
@@ -113,7 +120,8 @@ impl Sink for MemSink {
         ensures refused { OnErr result (self.new ≡ after_refusal self.old) }
         ensures memory { result ≢ Err SinkFault.Memory }
         ensures fails { (result ≡ Err SinkFault.Failed) ↔ IsTrue (fails_next self.old.tally) }
-        ensures failed { result ≡ Err SinkFault.Failed → Rose self.old.tally.failures self.new.tally.failures }
+        ensures failed { result ≡ Err SinkFault.Failed →
+            Rose self.old.tally.failures self.new.tally.failures }
     {
         if self.countdown.fails() {
             return Err(SinkFault::Failed);

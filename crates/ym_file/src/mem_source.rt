@@ -24,7 +24,8 @@ impl Model for MemSource {
 }
 
 impl MemSource {
-    /// A file of these bytes. Fill number `failing`, counted from 1, fails and no other does; 0 names none.
+    /// A file of these bytes. Fill number `failing`, counted from 1, fails and no other does; 0
+    /// names none.
     pub fn new(bytes: Vec<u8>, failing: Option<u64>) -> Self
         ensures { result ≡ record { bytes = bytes.items; tally = new_tally failing; fills = 0 } }
     {
@@ -65,8 +66,14 @@ impl Source for MemSource {
 
     fn fill(&mut self, at: u64, into: &mut [u8]) -> Result<(), SourceFault>
         requires { at + list_length into.old ≤ list_length self.old.bytes }
-        ensures bytes { OnOk result (into.new ≡ take (list_length into.old) (drop at self.old.bytes)) }
-        ensures after { self.new ≡ record { bytes = self.old.bytes; tally = counted self.old.tally; fills = raised self.old.fills } }
+        ensures bytes { OnOk result (into.new ≡
+            take (list_length into.old) (drop at self.old.bytes)) }
+        ensures after { self.new ≡
+            record {
+              bytes = self.old.bytes;
+              tally = counted self.old.tally;
+              fills = raised self.old.fills;
+            } }
         ensures fails { IsErr result ↔ IsTrue (fails_next self.old.tally) }
         ensures failed { OnErr result (Rose self.old.tally.failures self.new.tally.failures) }
     {

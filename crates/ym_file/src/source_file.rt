@@ -33,23 +33,44 @@ impl<S: Source> Model for SourceFile<S> {
 
     ghost Value = { FileParts };
 
-    ghost view = { λ f. record { header = f.header; bytes = S.bytes f.source; failures = S.failures f.source; fills = S.fills f.source } };
+    ghost view = { λ f.
+        record {
+          header = f.header;
+          bytes = S.bytes f.source;
+          failures = S.failures f.source;
+          fills = S.fills f.source;
+        } };
 
-    ghost invariant = { λ f. (f.header.length ≡ S.size f.source) × IsFile (record { header = f.header; bytes = S.bytes f.source; failures = S.failures f.source; fills = S.fills f.source }) };
+    ghost invariant = { λ f.
+        (f.header.length ≡ S.size f.source) ×
+        IsFile (record {
+          header = f.header;
+          bytes = S.bytes f.source;
+          failures = S.failures f.source;
+          fills = S.fills f.source;
+        }) };
 }
 
 impl<S: Source + Drop> SourceFile<S> {
-    /// The file of this name with a source's bytes, or the first fault of its header: the length is the source's.
-    /// The source is dropped where it is refused.
+    /// The file of this name with a source's bytes, or the first fault of its header: the length is
+    /// the source's. The source is dropped where it is refused.
     pub fn from_source(
         alloc: Global,
         name: &str,
         source: S,
         stamp: Stamp,
     ) -> Result<SourceFile<S>, HeaderFault>
-        ensures ok { IfOk result (λ file. file ≡ record { header = record { name = name.now; length = S.size source; stamp = stamp }; bytes = S.bytes source; failures = S.failures source; fills = S.fills source }) }
+        ensures ok { IfOk result (λ file.
+            file ≡
+            record {
+              header = record { name = name.now; length = S.size source; stamp = stamp };
+              bytes = S.bytes source;
+              failures = S.failures source;
+              fills = S.fills source;
+            }) }
         ensures within { IfOk result IsFile }
-        ensures refused { IfErr result (λ fault. IsRefused length_limit name.now (S.size source) fault) }
+        ensures refused { IfErr result (λ fault.
+            IsRefused length_limit name.now (S.size source) fault) }
     {
         let header = Header::new(alloc, name, source.length(), stamp)?;
         Ok(SourceFile { header, source })
@@ -72,9 +93,9 @@ impl<S: Source> SourceFile<S> {
         block_count(self.header.length(), shape)
     }
 
-    /// Writes the frame of data block `k`, counted from 1, to the front of a buffer, and answers the frame's length: at most
-    /// 1029 bytes. The source fills the body right where it stands in the frame, in one call. After a failure of the source
-    /// nothing is said of the buffer's bytes.
+    /// Writes the frame of data block `k`, counted from 1, to the front of a buffer, and answers
+    /// the frame's length: at most 1029 bytes. The source fills the body right where it stands in
+    /// the frame, in one call. After a failure of the source nothing is said of the buffer's bytes.
     pub fn frame(
         &mut self,
         shape: Shape,
@@ -83,7 +104,9 @@ impl<S: Source> SourceFile<S> {
     ) -> Result<usize, SourceFault>
         requires from_one { 1 ≤ k }
         requires within { k ≤ blocks_of shape self.old }
-        ensures frame { IfOk result (λ len. (block : BlockParts) × IsBlockOf shape self.old k block × IsFrame (Item.Block block) (take len buffer.new)) }
+        ensures frame { IfOk result (λ len.
+            (block : BlockParts) × IsBlockOf shape self.old k block ×
+            IsFrame (Item.Block block) (take len buffer.new)) }
         ensures length { IfOk result (λ len. len ≤ 1029) }
         ensures buffer { list_length buffer.new ≡ 1029 }
         ensures ok { OnOk result (self.new ≡ filled self.old) }
@@ -98,17 +121,25 @@ impl<S: Source> SourceFile<S> {
 }
 
 impl SourceFile<MemSource> {
-    /// The file of this name with these bytes, or the first fault of its header. The bytes are dropped where it
-    /// is refused.
+    /// The file of this name with these bytes, or the first fault of its header. The bytes are
+    /// dropped where it is refused.
     pub fn new(
         alloc: Global,
         name: &str,
         bytes: Vec<u8>,
         stamp: Stamp,
     ) -> Result<SendFile, HeaderFault>
-        ensures ok { IfOk result (λ file. file ≡ record { header = record { name = name.now; length = list_length bytes.items; stamp = stamp }; bytes = Some bytes.items; failures = 0; fills = 0 }) }
+        ensures ok { IfOk result (λ file.
+            file ≡
+            record {
+              header = record { name = name.now; length = list_length bytes.items; stamp = stamp };
+              bytes = Some bytes.items;
+              failures = 0;
+              fills = 0;
+            }) }
         ensures within { IfOk result IsFile }
-        ensures refused { IfErr result (λ fault. IsRefused length_limit name.now (list_length bytes.items) fault) }
+        ensures refused { IfErr result (λ fault.
+            IsRefused length_limit name.now (list_length bytes.items) fault) }
     {
         SourceFile::from_source(alloc, name, MemSource::new(bytes, None), stamp)
     }

@@ -18,4 +18,5 @@ why_text SecondCan = codes "one CAN stands alone"
 why_text Cut = codes "the frame is cut short"
 
 abbrev pub broken_text : Broken → List ℕ
-broken_text broken = codes "at byte " ++ (decimal broken.place ++ (codes ": " ++ why_text broken.why))
+broken_text broken =
+    codes "at byte " ++ (decimal broken.place ++ (codes ": " ++ why_text broken.why))

@@ -9,8 +9,9 @@ use Rattle.ym_frame.specs.declared.frame.Why.TheVariants.{FirstByte, Complement,
 use Rattle.ym_frame.specs.declared.frame.Broken.{Broken}
 
 -- ---- What a frame is
--- C. Forsberg, XMODEM/YMODEM Protocol Reference (1988): "Message Block Level Protocol, CRC mode" and "XMODEM-1k 1024
--- Byte Block" for the two blocks, "Definitions" for EOT, "Graceful Abort" for the two CAN in a row.
+-- C. Forsberg, XMODEM/YMODEM Protocol Reference (1988): "Message Block Level Protocol, CRC mode"
+-- and "XMODEM-1k 1024 Byte Block" for the two blocks, "Definitions" for EOT, "Graceful Abort" for
+-- the two CAN in a row.
 
 -- each number is a byte
 abbrev pub IsBytes : List ℕ → Type 0
@@ -18,7 +19,9 @@ IsBytes bytes = (i : ℕ) → slice_index bytes i < 256
 
 -- a first byte, the number, its complement, the body, and the check's high and low byte
 abbrev pub block_frame : ℕ → BlockParts → List ℕ
-block_frame first b = first ∷ b.number ∷ (255 - b.number) ∷ (b.body ++ check_of b.body / 256 ∷ check_of b.body % 256 ∷ [])
+block_frame first b =
+    first ∷ b.number ∷ (255 - b.number) ∷
+    (b.body ++ check_of b.body / 256 ∷ check_of b.body % 256 ∷ [])
 
 -- 128 data bytes behind SOH
 abbrev pub IsShortFrame : BlockParts → List ℕ → Type 0
@@ -28,7 +31,8 @@ IsShortFrame b bytes = (length b.body ≡ 128) × (bytes ≡ block_frame 0x01 b)
 abbrev pub IsLongFrame : BlockParts → List ℕ → Type 0
 IsLongFrame b bytes = (length b.body ≡ 1024) × (bytes ≡ block_frame 0x02 b)
 
--- these bytes are the frame of this item: a short or a long block, the one byte EOT, or two bytes CAN
+-- these bytes are the frame of this item: a short or a long block, the one byte EOT, or two bytes
+-- CAN
 abbrev pub IsFrame : Item → List ℕ → Type 0
 IsFrame (Block b) bytes = IsShortFrame b bytes ⊎ IsLongFrame b bytes
 IsFrame Eot bytes = bytes ≡ 0x04 ∷ []
@@ -69,19 +73,26 @@ check_field size bytes = slice_index bytes (size + 3) * 256 + slice_index bytes 
 
 -- all of a block's frame is there, and its check is not that of its body
 abbrev pub check_differs : ℕ → List ℕ → Bool
-check_differs size bytes = nat_lt (size + 4) (length bytes) && not (check_of (body_of size bytes) == check_field size bytes)
+check_differs size bytes =
+    nat_lt (size + 4) (length bytes) &&
+    not (check_of (body_of size bytes) == check_field size bytes)
 
 -- the first line that applies
 unfoldable pub fault_of : List ℕ → Broken
 fault_of bytes =
-    if has_byte_where bytes 0 (λ b. not (b == 0x01 || b == 0x02 || b == 0x04 || b == 0x18)) then fault_at 0 FirstByte else
-    if has_first bytes 0x18 && has_byte_where bytes 1 (λ b. not (b == 0x18)) then fault_at 1 SecondCan else
-    if (has_first bytes 0x01 || has_first bytes 0x02) && has_byte_where bytes 2 (λ b. not (b == 255 - slice_index bytes 1)) then fault_at 2 Complement else
+    if has_byte_where bytes 0 (λ b. not (b == 0x01 || b == 0x02 || b == 0x04 || b == 0x18))
+    then fault_at 0 FirstByte else
+    if has_first bytes 0x18 && has_byte_where bytes 1 (λ b. not (b == 0x18))
+    then fault_at 1 SecondCan else
+    if (has_first bytes 0x01 || has_first bytes 0x02) &&
+    has_byte_where bytes 2 (λ b. not (b == 255 - slice_index bytes 1))
+    then fault_at 2 Complement else
     if has_first bytes 0x01 && check_differs 128 bytes then fault_at 131 Check else
     if has_first bytes 0x02 && check_differs 1024 bytes then fault_at 1027 Check else
     fault_at (length bytes) Cut
 
--- the item whose frame stands at the front with that frame's length, or where and why no prefix is a frame
+-- the item whose frame stands at the front with that frame's length, or where and why no prefix is
+-- a frame
 abbrev pub IsVerdict : List ℕ → Result (Item × ℕ) Broken → Type 0
 IsVerdict bytes (Ok found) = BeginsWith bytes found.0 found.1
 IsVerdict bytes (Err broken) = HasNoFrame bytes × (broken ≡ fault_of bytes)
@@ -90,7 +101,8 @@ IsVerdict bytes (Err broken) = HasNoFrame bytes × (broken ≡ fault_of bytes)
 
 abbrev pub block_verdict : ℕ → List ℕ → Result (Item × ℕ) Broken
 block_verdict size bytes =
-    if has_byte_where bytes 2 (λ b. not (b == 255 - slice_index bytes 1)) then Err (fault_at 2 Complement) else
+    if has_byte_where bytes 2 (λ b. not (b == 255 - slice_index bytes 1))
+    then Err (fault_at 2 Complement) else
     if nat_lt (length bytes) (size + 5) then Err (fault_at (length bytes) Cut) else
     if check_of (body_of size bytes) == check_field size bytes
     then Ok (Block (record { number = slice_index bytes 1; body = body_of size bytes }), size + 5)
@@ -99,7 +111,8 @@ block_verdict size bytes =
 -- the verdict of a CAN and these bytes behind it
 abbrev pub cancel_verdict : List ℕ → Result (Item × ℕ) Broken
 cancel_verdict [] = Err (fault_at 1 Cut)
-cancel_verdict (second ∷ more) = if second == 0x18 then Ok (Cancel, 2) else Err (fault_at 1 SecondCan)
+cancel_verdict (second ∷ more) =
+    if second == 0x18 then Ok (Cancel, 2) else Err (fault_at 1 SecondCan)
 
 -- the one verdict of these bytes, as `laws::one_verdict` says
 unfoldable pub verdict_of : List ℕ → Result (Item × ℕ) Broken

@@ -1,4 +1,5 @@
--- An item whose body stands where it was found, as the item that owns it: contracts see their blocks alike.
+-- An item whose body stands where it was found, as the item that owns it: contracts see their
+-- blocks alike.
 use Rattle.std.specs.Prelude.{ℕ, Result, Ok, Err}
 use Rattle.ym_frame.specs.declared.frame.Item.{Item}
 use Rattle.ym_frame.specs.declared.frame.Item.TheVariants as item

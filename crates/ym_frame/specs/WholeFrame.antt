@@ -16,7 +16,8 @@ length_in whole.Cancel = 2
 
 -- the item, by the bytes of the frame
 abbrev pub item_in : Whole → List ℕ → Item
-item_in (whole.Block size) frame = Block (record { number = slice_index frame 1; body = body_of (length_of size) frame })
+item_in (whole.Block size) frame =
+    Block (record { number = slice_index frame 1; body = body_of (length_of size) frame })
 item_in whole.Eot frame = Eot
 item_in whole.Cancel frame = Cancel
 

@@ -1,12 +1,12 @@
 //! What stands at the front of some bytes, without a copy: a block's body stays where it is.
 
-ghost use Rattle.std.specs.Prelude.{◌≡◌, ◌⊎◌, ◌↔◌, IsTrue, length as list_length};
-ghost use Rattle.ym_frame.specs.Frame.{verdict_of, IsOpen};
+ghost use Rattle.std.specs.Prelude.{◌≡◌, ◌⊎◌, length as list_length};
+ghost use Rattle.ym_frame.specs.Frame.{verdict_of};
 ghost use Rattle.ym_frame.specs.ItemRef.{owned_item, owned_verdict};
 ghost use Rattle.ym_frame.specs.WholeFrame.{item_in, IsThere};
 
 use crate::block::Block;
-use crate::frame::{Broken, Item, Whole, Why, whole_at};
+use crate::frame::{Broken, Item, Whole, whole_at};
 use std::marker::Model;
 
 /// A block's number, and its body where it stands. Contracts see it as `Block`.
@@ -81,7 +81,8 @@ impl<'a> ItemRef<'a> {
 }
 
 impl Whole {
-    /// The item of the whole frame that these bytes begin with, a block's body where it stands in them.
+    /// The item of the whole frame that these bytes begin with, a block's body where it stands in
+    /// them.
     pub fn item(self, frame: &[u8]) -> ItemRef<'_>
         requires { IsThere self frame.now }
         ensures { owned_item result ≡ item_in self frame.entry.now }
@@ -97,8 +98,8 @@ impl Whole {
     }
 }
 
-/// The item of the prefix of `bytes` that is a frame, and the length of that prefix: `decode` without
-/// a copy.
+/// The item of the prefix of `bytes` that is a frame, and the length of that prefix: `decode`
+/// without a copy.
 ///
 /// # Errors
 ///
@@ -108,14 +109,4 @@ pub fn verdict(bytes: &[u8]) -> Result<(ItemRef<'_>, usize), Broken>
 {
     let whole = whole_at(bytes)?;
     Ok((whole.item(bytes), whole.len()))
-}
-
-/// Whether these bytes may go on to a frame.
-pub fn may_go_on(bytes: &[u8]) -> bool
-    ensures { IsTrue result ↔ IsOpen (verdict_of bytes.now) }
-{
-    match verdict(bytes) {
-        Err(Broken { why: Why::Cut, .. }) => true,
-        _ => false,
-    }
 }

@@ -1,6 +1,7 @@
--- What a header says, and which headers there are. The fields are those of the reference (C. Forsberg, XMODEM/YMODEM Protocol
--- Reference, 1988), "YMODEM Batch File Transmission": "Pathname", "Length", "Modification Date" and "Mode". The limits on
--- them, and the order of the faults, are this profile's choice.
+-- What a header says, and which headers there are. The fields are those of the reference (C.
+-- Forsberg, XMODEM/YMODEM Protocol Reference, 1988), "YMODEM Batch File Transmission": "Pathname",
+-- "Length", "Modification Date" and "Mode". The limits on them, and the order of the faults, are
+-- this profile's choice.
 use Rattle.std.specs.Prelude.{◌≡◌, ◌≢◌, ◌<◌, ◌≤◌, ◌^◌, ℕ, List, [], length, codes, All, IsTrue}
 use Rattle.std.specs.Str.{is_utf8}
 use Rattle.ym_header.specs.declared.stamp.Stamp.{Stamp}
@@ -50,7 +51,8 @@ IsNameFault name NameLong = MOST_NAME_BYTES < length name
 IsNameFault name NameUnsafe = (0 < length name) × (length name ≤ MOST_NAME_BYTES) × ¬ IsSafe name
 IsNameFault name _ = ⊥
 
--- why there is no header of this name and length, the first that applies; want of memory where nothing else does
+-- why there is no header of this name and length, the first that applies; want of memory where
+-- nothing else does
 abbrev pub IsRefused : ℕ → List ℕ → ℕ → HeaderFault → Type 0
 IsRefused limit name len NameEmpty = name ≡ []
 IsRefused limit name len NameLong = IsNameFault name NameLong

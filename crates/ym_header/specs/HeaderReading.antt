@@ -1,5 +1,6 @@
--- Block 0 as read. An empty name ends the batch, as the reference says in "YMODEM Batch File Transmission". This profile
--- chose that a length is required, its limit, and the order of the faults.
+-- Block 0 as read. An empty name ends the batch, as the reference says in "YMODEM Batch File
+-- Transmission". This profile chose that a length is required, its limit, and the order of the
+-- faults.
 use Rattle.std.specs.Prelude.{◌≡◌, ◌<◌, ◌≤◌, ℕ, List, [], length, Result, Ok, Err}
 use Rattle.std.specs.Str.Parse.{digits_value}
 use Rattle.ym_header.specs.Header.{HeaderParts, IsName, IsNameFault}
@@ -37,10 +38,13 @@ abbrev pub IsFault : ℕ → List ℕ → HeaderFault → Type 0
 IsFault limit body NameLong = IsNameFault (name_in body) NameLong
 IsFault limit body NameUnsafe = IsNameFault (name_in body) NameUnsafe
 IsFault limit body NoLength = IsName (name_in body) × (length_in body ≡ [])
-IsFault limit body LengthLarge = IsName (name_in body) × (0 < length (length_in body)) × (limit < digits_value 10 (length_in body))
+IsFault limit body LengthLarge =
+    IsName (name_in body) × (0 < length (length_in body)) ×
+    (limit < digits_value 10 (length_in body))
 IsFault limit body _ = ⊥
 
--- what reading may answer: what the body stands for, or its fault; want of memory in place of a header
+-- what reading may answer: what the body stands for, or its fault; want of memory in place of a
+-- header
 abbrev pub IsAnswer : ℕ → List ℕ → Result Zero HeaderFault → Type 0
 IsAnswer limit body (Ok zero) = Reads limit body zero
 IsAnswer limit body (Err Memory) = (h : HeaderParts) × ReadsHeader limit body h
@@ -58,7 +62,9 @@ IsBorrowedAnswer limit body (Err fault) = IsFault limit body fault
 
 -- what the digits of a length alone may answer
 abbrev pub IsLengthAnswer : ℕ → List ℕ → Result ℕ HeaderFault → Type 0
-IsLengthAnswer limit digits (Ok n) = (0 < length digits) × (n ≡ digits_value 10 digits) × (n ≤ limit)
+IsLengthAnswer limit digits (Ok n) =
+    (0 < length digits) × (n ≡ digits_value 10 digits) × (n ≤ limit)
 IsLengthAnswer limit digits (Err NoLength) = digits ≡ []
-IsLengthAnswer limit digits (Err LengthLarge) = (0 < length digits) × (limit < digits_value 10 digits)
+IsLengthAnswer limit digits (Err LengthLarge) =
+    (0 < length digits) × (limit < digits_value 10 digits)
 IsLengthAnswer limit digits (Err _) = ⊥

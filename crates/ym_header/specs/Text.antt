@@ -1,5 +1,6 @@
--- Block 0 as written. The fields, their bases and the 00 that fills the block are the reference's ("YMODEM Batch File
--- Transmission"). This profile chose to write no leading zeros, no further fields, and the smaller block where it has room.
+-- Block 0 as written. The fields, their bases and the 00 that fills the block are the reference's
+-- ("YMODEM Batch File Transmission"). This profile chose to write no leading zeros, no further
+-- fields, and the smaller block where it has room.
 use Rattle.std.specs.Prelude.{ℕ, ◌-◌, List, [], ◌∷◌, ◌++◌, length, nat_lt, if◌then◌else◌, decimal, replicate, false}
 use Rattle.std.specs.Fmt.{digits}
 use Rattle.ym_header.specs.Header.{HeaderParts}

@@ -12,7 +12,8 @@ use std::marker::Model;
 /// A file's name, its length in bytes, and its stamp.
 ///
 /// The name has 1 to [`MOST_NAME_BYTES`](crate::MOST_NAME_BYTES) bytes, without control characters
-/// and slashes, and is neither `.` nor `..`; the length is at most [`MOST_LENGTH`](crate::MOST_LENGTH).
+/// and slashes, and is neither `.` nor `..`; the length is at most
+/// [`MOST_LENGTH`](crate::MOST_LENGTH).
 #[derive(Drop)]
 pub struct Header {
     name: String,

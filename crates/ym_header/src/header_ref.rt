@@ -8,8 +8,8 @@ use crate::stamp::Stamp;
 use std::alloc::{AllocError, Global};
 use std::marker::Model;
 
-/// A file's name, its length in bytes, and its stamp, the name standing where it was found or given.
-/// The limits are those of `Header`.
+/// A file's name, its length in bytes, and its stamp, the name standing where it was found or
+/// given. The limits are those of `Header`.
 #[derive(Drop)]
 pub struct HeaderRef<'a> {
     name: &'a str,

@@ -35,12 +35,12 @@ pub enum TtyFault {
 }
 
 /// A terminal that was set so that its reads end after a tick where nothing comes
-/// (`stty raw -echo min 0 time 1`): what reads it, what writes to it, and a clock. Nobody knows
-/// what it tells. Other readers and writers will do as well, such as pipes; a read of theirs that
-/// waits on waits as long as nothing comes, and none is made for a wait of a tenth of a second.
-/// Where bytes have been coming for ten of its end's first waits with no pause as long as a wait,
-/// and nothing was written, it counts as quiet once. A write waits as long as the other end holds it
-/// up.
+/// (`stty raw -echo clocal min 0 time 1`): what reads it, what writes to it, and a clock. Nobody
+/// knows what it tells. Other readers and writers will do as well, such as pipes; a read of theirs
+/// that waits on waits as long as nothing comes, and none is made for a wait of a tenth of a
+/// second. Where bytes have been coming for ten of its end's first waits with no pause as long as a
+/// wait, and nothing was written, it counts as quiet once. A write waits as long as the other end
+/// holds it up.
 #[derive(Drop)]
 pub struct TtyWire<R: Clock + Drop, I: Read + Drop, O: Write + Drop> {
     clock: R,

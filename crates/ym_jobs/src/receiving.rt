@@ -32,7 +32,7 @@ use ym_line::ReceiverLine;
 use ym_link::{Confirm, EndFault, Port, ReceiverInto, RecvState, receive_over};
 use ym_pair::laws::a_receiver_commits_what_it_heard;
 use ym_play::{Output, StreamFault};
-use ym_port::{Role, TimedPort};
+use ym_port::{InStep, Role, TimedPort};
 use ym_show::{Eager, Meter, ReceiveWatch, Receiving, Teller, Watched, WatchedPort, check_folder};
 use ym_text::{EndMessage, FileMessage, Lately, Reason};
 
@@ -207,7 +207,7 @@ where
         (page (O.contents out.new) (O.failures out.new)) }
 {
     let port = TimedPort::new(SocketWire::new(rt, stream, Role::Receiver), Role::Receiver);
-    let port = Eager::new(port, order.eager);
+    let port = Eager::new(InStep::new(port), order.eager);
     receive_on(rt, alloc, port, order, out, teller)
 }
 
@@ -254,9 +254,14 @@ where
     let watched = Watched { sink, watch };
     let receiver = ReceiverInto::with_sink(alloc, watched, order.confirm);
     let watch = watch_of(&shown, is_looked_at);
-    let mut port = WatchedPort { port, watch };
+    let mut port = WatchedPort {
+        port,
+        watch,
+        slowest: None,
+    };
     let (watched, state, answer) = receive_batch(&mut port, receiver, out);
     let words = port.port.words();
+    let slowest = port.slowest;
     drop(port);
     let why = watched.sink.first_fault();
     drop(watched);
@@ -265,7 +270,7 @@ where
         state,
         last,
         why,
-        lately,
+        lately: lately.on_line(slowest),
         words,
     };
     tell_outcome(teller, alloc, &answer, outcome, order.leftover);

@@ -262,12 +262,17 @@ pub(crate) fn send_on<P: ToldLine + Drop, S: Source, O: Output, C: Clock, E: Wri
     let is_looked_at = teller.is_loud;
     let shown = RefCell::new(Sending::new(Meter::new(alloc, rt, teller, QUIET_S)));
     let watch = watch_of(&shown, is_looked_at);
-    let mut port = WatchedPort { port, watch };
+    let mut port = WatchedPort {
+        port,
+        watch,
+        slowest: None,
+    };
     let ended = run_sender(&mut port, sender);
     let words = port.port.words();
+    let slowest = port.slowest;
     drop(port);
     // What is printed stands in lines of its own, also where both go to one terminal.
-    let lately = shown.into_inner().end();
+    let lately = shown.into_inner().end().on_line(slowest);
     let answer = tell_sender(ended, sender, out);
     let state = sender.state();
     let is_running = state == SendState::Running;

@@ -18,7 +18,7 @@ use ym_file::{Shape, Source};
 use ym_host::{OpenFault, TtyWire, open_tty};
 use ym_link::SenderFrom;
 use ym_play::Output;
-use ym_port::{Role, TimedPort};
+use ym_port::{InStep, Role, TimedPort};
 use ym_show::{Eager, Teller};
 use ym_text::{Reason, TtyMessage};
 
@@ -134,7 +134,8 @@ where
         (page (O.contents out.old) (O.failures out.old)) result
         (page (O.contents out.new) (O.failures out.new)) }
 {
-    let port = Eager::new(TimedPort::new(wire, Role::Receiver), order.eager);
+    let port = InStep::new(TimedPort::new(wire, Role::Receiver));
+    let port = Eager::new(port, order.eager);
     receive_on(rt, alloc, port, order, out, teller)
 }
 

@@ -6,8 +6,7 @@ ghost use Rattle.ym_jobs.specs.ToldLine.{connection_words, terminal_words};
 use std::io::{Read, Write};
 use std::time::Clock;
 use ym_host::{SocketWire, TtyFault, TtyWire};
-use ym_link::Port;
-use ym_port::TimedPort;
+use ym_port::{InStep, Learned, TimedPort};
 use ym_show::Eager;
 use ym_text::{EndMessage, Reason};
 
@@ -49,7 +48,7 @@ impl LineWords {
 }
 
 /// A port that says what its faults are told as.
-pub(crate) trait ToldLine: Port {
+pub(crate) trait ToldLine: Learned {
     fn words(&self) -> LineWords;
 }
 
@@ -66,6 +65,12 @@ impl<R: Clock + Drop, I: Read + Drop, O: Write + Drop> ToldLine for TimedPort<Tt
 }
 
 impl<P: ToldLine + Drop> ToldLine for Eager<P> {
+    fn words(&self) -> LineWords {
+        self.port.words()
+    }
+}
+
+impl<P: ToldLine + Drop> ToldLine for InStep<P> {
     fn words(&self) -> LineWords {
         self.port.words()
     }

@@ -5,8 +5,10 @@ use Rattle.std.proofs.lemmas.List.Elements.{All-map}
 use Rattle.ym_line.proofs.Names.{MOST_FILES, HeaderParts, IsHeader, length_limit, IsPieces, pieces_of, Shape, Place, IsBatch, AllTold, batch_of, file_of, told_pieces, FileParts, IsFile, AreNew, Pair, PairRefines}
 use Rattle.ym_file.specs.SourceFile.{counts_of}
 use Rattle.ym_machine.specs.Machine.{start}
+use Rattle.ym_machine.specs.declared.confirm.Confirm.{Confirm}
+use Rattle.ym_file.specs.Kept.{IsNew}
 use Rattle.ym_core.specs.Place.{first_of}
-use Rattle.ym_core.specs.Receiver.{new_receiver}
+use Rattle.ym_core.specs.Receiver.{Receiver, new_receiver}
 use Rattle.ym_core.specs.Standing.{new_standing}
 use Rattle.ym_core.specs.declared.place.Mode.TheVariants.{Waiting}
 use Rattle.ym_core.specs.declared.standing.Standing.{Standing}
@@ -51,3 +53,14 @@ pub new-refines : (pair : Pair) → AreNew pair →
 new-refines pair new made =
     let standing : pair.sender.standing ≡ new_standing (counts_of pair.sender.shape pair.sender.files) = new.sender ∙ sym (ap waiting_at (first-is pair.sender.shape pair.sender.files)) in
     rw (← standing, ← new.receiver) at made
+
+-- those that are made so are new
+pub made-new : (pair : Pair) (confirm : Confirm) → pair.sender.standing ≡ new_standing (counts_of pair.sender.shape pair.sender.files) →
+    length pair.sender.files ≤ MOST_FILES → AllTold pair.sender.files → pair.receiver.receiver ≡ new_receiver confirm → IsNew pair.receiver.kept → AreNew pair
+made-new pair confirm sender few tells receiver sink = record {
+  sender = sender ∙ ap waiting_at (first-is pair.sender.shape pair.sender.files);
+  tells = tells;
+  few = few;
+  receiver = receiver ∙ ap new_receiver (sym (ap (λ (r : Receiver). r.confirm) receiver));
+  sink = sink;
+}

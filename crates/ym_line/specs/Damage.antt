@@ -1,6 +1,7 @@
 -- Deliveries, and damage that shows.
 --
--- Which damage a line may do is this profile's choice: the check of a block shows it, and no reply gains a control byte by it.
+-- Which damage a line may do is this profile's choice: the check of a block shows it, and no reply
+-- gains a control byte by it.
 use Rattle.std.specs.Prelude.{◌≡◌, ℕ, ◌≤◌, List, [], length, Result, Ok, Err}
 use Rattle.ym_frame.specs.Control.{reply_bytes, controls, IsSubsequence}
 use Rattle.ym_frame.specs.Frame.{HasFrame}
@@ -36,7 +37,8 @@ abbrev pub IsHeardBad : Delivery → Type 0
 IsHeardBad (Damaged bytes) = heard_of bytes ≡ Bad
 IsHeardBad _ = Unit {0}
 
--- what is damaged on its way to the sender has some of the reply's control bytes, in order, and no other
+-- what is damaged on its way to the sender has some of the reply's control bytes, in order, and no
+-- other
 abbrev pub ShowsBack : Reply → Delivery → Type 0
 ShowsBack reply (Damaged bytes) = IsSubsequence (controls bytes) (controls (reply_bytes reply))
 ShowsBack reply _ = Unit {0}
@@ -46,7 +48,8 @@ abbrev pub IsShort : Delivery → Type 0
 IsShort (Damaged bytes) = length bytes ≤ DELIVERY_LIMIT
 IsShort _ = Unit {0}
 
--- The check of a delivery of round n: the damage has to show and to be short enough, and the first that fails is told.
+-- The check of a delivery of round n: the damage has to show and to be short enough, and the first
+-- that fails is told.
 abbrev pub IsChecked : ℕ → Type 0 → Type 0 → Result (Unit {0}) LineFault → Type 0
 IsChecked n shows short (Ok _) = shows × short
 IsChecked n shows short (Err (fault.NotDamage number)) = (number ≡ n) × ¬ shows

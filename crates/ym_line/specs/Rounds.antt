@@ -1,7 +1,8 @@
--- What a round does, and what many do: both ends take the steps of their tables, by what arrives, and the line tells what was
--- handed on.
+-- What a round does, and what many do: both ends take the steps of their tables, by what arrives,
+-- and the line tells what was handed on.
 --
--- Rounds and their faults are this profile's choice; what an end does with a delivery is in its own table.
+-- Rounds and their faults are this profile's choice; what an end does with a delivery is in its own
+-- table.
 use Rattle.std.specs.Prelude.{◌≡◌, ◌⊎◌, ℕ, ◌+◌, List, [], ◌∷◌, length, Option, unwrap_or, Result, Ok, Err}
 use Rattle.ym_frame.specs.Control.{reply_bytes}
 use Rattle.ym_frame.specs.declared.control.Reply.{Reply}
@@ -32,6 +33,16 @@ pub record Pair : Type 0 where
   pub told : Option (List Handed)
   pub failures : ℕ
 
+-- these ends and this carrier, by what it tells and how often it failed
+abbrev pub pair_of : {C : Type 0} → (C → Option (List Handed)) → (C → ℕ) →
+    SenderParts → ReceiverParts → C → Pair
+pair_of told failures sender receiver carrier = record {
+  sender = sender;
+  receiver = receiver;
+  told = told carrier;
+  failures = failures carrier;
+}
+
 -- with one delivery more handed on
 abbrev pub handed : Way → List ℕ → Pair → Pair
 handed way bytes pair = record pair { told = told_more way bytes pair.told }
@@ -48,12 +59,16 @@ pub record GoesThere (delivery : Delivery) (old : Pair) (reply : Reply) (new : P
   pub short : IsShort delivery
   pub bad : IsHeardBad delivery
   pub keeps : IsSender old.sender
-  pub hears : receiver.HearsGives old.receiver (heard_of (arrives delivery (sent_by old.sender))) (Ok reply) new.receiver
-  pub others : new ≡ record (handed There (arrives delivery (sent_by old.sender)) old) { receiver = new.receiver }
+  pub hears : receiver.HearsGives old.receiver (heard_of (arrives delivery (sent_by old.sender)))
+      (Ok reply) new.receiver
+  pub others : new ≡
+      record (handed There (arrives delivery (sent_by old.sender)) old) { receiver = new.receiver }
 
--- What a fault of a step of round n leaves where no end has heard: by the check that failed, the carry, or a growth.
+-- What a fault of a step of round n leaves where no end has heard: by the check that failed, the
+-- carry, or a growth.
 abbrev pub StopsHalf : ℕ → Type 0 → Type 0 → Pair → LineFault → Pair → Type 0
-StopsHalf n shows short old Carrier new = shows × short × Rose old.failures new.failures × (new ≡ record old { failures = new.failures })
+StopsHalf n shows short old Carrier new =
+    shows × short × Rose old.failures new.failures × (new ≡ record old { failures = new.failures })
 StopsHalf n shows short old Memory new = shows × short × (new ≡ old)
 StopsHalf n shows short old refused new = IsChecked n shows short (Err refused) × (new ≡ old)
 
@@ -61,7 +76,8 @@ StopsHalf n shows short old refused new = IsChecked n shows short (Err refused) 
 abbrev pub StopsThere : ℕ → Delivery → Pair → LineFault → Pair → Type 0
 StopsThere n delivery old fault new =
     StopsHalf n (ShowsThere delivery) (IsShort delivery) old fault new
-    ⊎ (fault ≡ Memory) × ShowsThere delivery × IsShort delivery × IsSender old.sender × (new ≡ handed There (arrives delivery (sent_by old.sender)) old)
+    ⊎ (fault ≡ Memory) × ShowsThere delivery × IsShort delivery × IsSender old.sender
+    × (new ≡ handed There (arrives delivery (sent_by old.sender)) old)
 
 abbrev pub ThereGives : ℕ → Delivery → Pair → Result Reply LineFault → Pair → Type 0
 ThereGives n delivery old (Ok reply) new = GoesThere delivery old reply new
@@ -74,17 +90,25 @@ pub record GoesBack (delivery : Delivery) (reply : Reply) (old new : Pair) : Typ
   pub shows : ShowsBack reply delivery
   pub short : IsShort delivery
   pub hears : sender.Hears old.sender (arrives delivery (reply_bytes reply)) new.sender
-  pub others : new ≡ record (handed Back (arrives delivery (reply_bytes reply)) old) { sender = new.sender }
+  pub others : new ≡
+      record (handed Back (arrives delivery (reply_bytes reply)) old) { sender = new.sender }
 
 abbrev pub BackGives : ℕ → Delivery → Reply → Pair → Result (Unit {0}) LineFault → Pair → Type 0
 BackGives n delivery reply old (Ok _) new = GoesBack delivery reply old new
-BackGives n delivery reply old (Err fault) new = StopsHalf n (ShowsBack reply delivery) (IsShort delivery) old fault new
+BackGives n delivery reply old (Err fault) new =
+    StopsHalf n (ShowsBack reply delivery) (IsShort delivery) old fault new
 
 -- ---- Rounds
 
--- what is seen of a round: what the sender had to send, the reply before loss and damage, and both given forms
+-- what is seen of a round: what the sender had to send, the reply before loss and damage, and both
+-- given forms
 abbrev pub seen_of : Round → SenderParts → Reply → Seen
-seen_of round parts reply = record { what = what_heard (heard_of (sent_by parts)); there = how_of round.there; reply = reply; back = how_of round.back }
+seen_of round parts reply = record {
+  what = what_heard (heard_of (sent_by parts));
+  there = how_of round.there;
+  reply = reply;
+  back = how_of round.back;
+}
 
 -- the two steps, one after the other
 pub record Goes (round : Round) (old : Pair) (seen : Seen) (new : Pair) : Type 0 where
@@ -97,7 +121,8 @@ pub record Goes (round : Round) (old : Pair) (seen : Seen) (new : Pair) : Type 0
 abbrev pub Stops : ℕ → Round → Pair → LineFault → Pair → Type 0
 Stops n round old fault new =
     StopsThere n round.there old fault new
-    ⊎ ((between : Pair) × (reply : Reply) × GoesThere round.there old reply between × StopsHalf n (ShowsBack reply round.back) (IsShort round.back) between fault new)
+    ⊎ ((between : Pair) × (reply : Reply) × GoesThere round.there old reply between
+    × StopsHalf n (ShowsBack reply round.back) (IsShort round.back) between fault new)
 
 abbrev pub RoundGives : ℕ → Round → Pair → Result Seen LineFault → Pair → Type 0
 RoundGives n round old (Ok seen) new = Goes round old seen new
@@ -108,16 +133,19 @@ RoundGives n round old (Err fault) new = Stops n round old fault new
 -- round after round, with what was seen of each
 abbrev pub GoOn : List Round → Pair → List Seen → Pair → Type 0
 GoOn [] old [] new = new ≡ old
-GoOn (round ∷ rounds) old (seen ∷ more) new = (between : Pair) × Goes round old seen between × GoOn rounds between more new
+GoOn (round ∷ rounds) old (seen ∷ more) new =
+    (between : Pair) × Goes round old seen between × GoOn rounds between more new
 GoOn _ old _ new = ⊥
 
--- round after round, of which the first is number n, up to one that met a fault, or for whose entry in the trace there was no memory
+-- round after round, of which the first is number n, up to one that met a fault, or for whose entry
+-- in the trace there was no memory
 abbrev pub StopsIn : ℕ → List Round → Pair → LineFault → Pair → Type 0
 StopsIn n [] old fault new = ⊥
 StopsIn n (round ∷ rounds) old fault new =
     ((fault ≡ Memory) × (new ≡ old))
     ⊎ (Stops n round old fault new
-    ⊎ ((seen : Seen) × (between : Pair) × Goes round old seen between × StopsIn (n + 1) rounds between fault new))
+    ⊎ ((seen : Seen) × (between : Pair) × Goes round old seen between
+    × StopsIn (n + 1) rounds between fault new))
 
 -- the trace of a run: its rounds, and both reports
 pub record IsTrace (rounds : List Round) (old : Pair) (trace : Trace) (new : Pair) : Type 0 where

@@ -16,19 +16,28 @@ use Rattle.ym_line.specs.TraceText.{round_line, sender_line, receiver_line}
 
 -- ---- Lines
 
-first_round : round_line 1 (record { what = Nothing; there = Whole; reply = Start; back = Whole }) ≡ codes "1 > - whole < C whole\n"
+first_round : round_line 1 (record { what = Nothing; there = Whole; reply = Start; back = Whole }) ≡
+    codes "1 > - whole < C whole\n"
 unfolding digits
 first_round = refl
 
-damaged_reply : round_line 2 (record { what = Block 0 128; there = Whole; reply = AckStart; back = Damaged }) ≡ codes "2 > block 0 128 whole < ACK C damaged\n"
+damaged_reply : round_line 2 (record {
+  what = Block 0 128;
+  there = Whole;
+  reply = AckStart;
+  back = Damaged;
+}) ≡
+    codes "2 > block 0 128 whole < ACK C damaged\n"
 unfolding digits
 damaged_reply = refl
 
-lost_eot : round_line 10 (record { what = Eot; there = Lost; reply = Nak; back = Lost }) ≡ codes "10 > eot lost < NAK lost\n"
+lost_eot : round_line 10 (record { what = Eot; there = Lost; reply = Nak; back = Lost }) ≡
+    codes "10 > eot lost < NAK lost\n"
 unfolding digits
 lost_eot = refl
 
-cancelled : round_line 13 (record { what = Can; there = Whole; reply = Silence; back = Whole }) ≡ codes "13 > can whole < - whole\n"
+cancelled : round_line 13 (record { what = Can; there = Whole; reply = Silence; back = Whole }) ≡
+    codes "13 > can whole < - whole\n"
 unfolding digits
 cancelled = refl
 
@@ -43,7 +52,12 @@ bad_header = refl
 -- ---- Rounds
 
 abbrev file : ℕ → FileParts
-file size = record { header = record { name = codes "a"; length = size; stamp = stamp.Nothing }; bytes = None; failures = 0; fills = 0 }
+file size = record {
+  header = record { name = codes "a"; length = size; stamp = stamp.Nothing };
+  bytes = None;
+  failures = 0;
+  fills = 0;
+}
 
 one_block : rounds_of Mixed Twice (file 128 ∷ []) ≡ 6
 one_block = refl

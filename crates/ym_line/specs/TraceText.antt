@@ -17,7 +17,8 @@ use Rattle.ym_line.specs.declared.trace.Trace.{Trace}
 
 abbrev pub what_text : What → List ℕ
 what_text what.Nothing = codes "-"
-what_text (what.Block number length) = codes "block " ++ (decimal number ++ (codes " " ++ decimal length))
+what_text (what.Block number length) =
+    codes "block " ++ (decimal number ++ (codes " " ++ decimal length))
 what_text what.Eot = codes "eot"
 what_text what.Can = codes "can"
 
@@ -61,8 +62,10 @@ recv_text recv.SinkFailed = codes "sink-failed"
 
 -- the line of round n
 abbrev pub round_line : ℕ → Seen → List ℕ
-round_line n seen = decimal n ++ (codes " > " ++ (what_text seen.what ++ (codes " " ++ (how_text seen.there
-    ++ (codes " < " ++ (reply_text seen.reply ++ (codes " " ++ (how_text seen.back ++ codes "\n"))))))))
+round_line n seen =
+    decimal n ++ (codes " > " ++ (what_text seen.what ++ (codes " " ++ (how_text seen.there ++
+    (codes " < " ++ (reply_text seen.reply ++ (codes " " ++ (how_text seen.back ++
+    codes "\n"))))))))
 
 -- the lines of rounds, of which the first has number n
 abbrev pub round_lines : ℕ → List Seen → List ℕ
@@ -74,7 +77,8 @@ abbrev pub sender_words : ℕ → SendState → List ℕ
 sender_words done state = codes "sender done " ++ (decimal done ++ (codes " " ++ send_text state))
 
 abbrev pub receiver_words : ℕ → RecvState → List ℕ
-receiver_words files state = codes "receiver files " ++ (decimal files ++ (codes " " ++ recv_text state))
+receiver_words files state =
+    codes "receiver files " ++ (decimal files ++ (codes " " ++ recv_text state))
 
 abbrev pub sender_line : ℕ → SendState → List ℕ
 sender_line done state = sender_words done state ++ codes "\n"
@@ -83,4 +87,6 @@ abbrev pub receiver_line : ℕ → RecvState → List ℕ
 receiver_line files state = receiver_words files state ++ codes "\n"
 
 abbrev pub trace_text : Trace → List ℕ
-trace_text trace = round_lines 1 trace.rounds.items ++ (sender_line trace.done trace.send ++ receiver_line trace.files trace.recv)
+trace_text trace =
+    round_lines 1 trace.rounds.items ++
+    (sender_line trace.done trace.send ++ receiver_line trace.files trace.recv)

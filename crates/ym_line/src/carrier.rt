@@ -42,12 +42,14 @@ pub trait Carrier {
     /// How often it answered `CarryFault::Device`.
     ghost failures: { Self → ℕ };
 
-    /// Hands bytes on. Success leaves in `into` exactly these bytes, and nothing of what it held before.
-    /// A carrier that refuses hands nothing on, and leaves in `into` what it may.
+    /// Hands bytes on. Success leaves in `into` exactly these bytes, and nothing of what it held
+    /// before. A carrier that refuses hands nothing on, and leaves in `into` what it may.
     fn carry(&mut self, way: Way, bytes: &[u8], into: &mut Vec<u8>) -> Result<(), CarryFault>
         ensures arrived { OnOk result (into.new.items ≡ bytes.now) }
         ensures told { OnOk result (told self.new ≡ told_more way bytes.now (told self.old)) }
         ensures refused { OnErr result (told self.new ≡ told self.old) }
-        ensures failed { result ≡ Err CarryFault.Device → Rose (failures self.old) (failures self.new) }
-        ensures not_failed { result ≢ Err CarryFault.Device → failures self.new ≡ failures self.old };
+        ensures failed { result ≡ Err CarryFault.Device →
+            Rose (failures self.old) (failures self.new) }
+        ensures not_failed { result ≢ Err CarryFault.Device →
+            failures self.new ≡ failures self.old };
 }

@@ -8,7 +8,8 @@ use crate::fault::LineFault;
 use ym_frame::{Reply, controls_within, has_frame};
 use ym_link::DELIVERY_LIMIT;
 
-/// Refuses a delivery of round `n` to the receiver whose damage does not show, or which is too long.
+/// Refuses a delivery of round `n` to the receiver whose damage does not show, or which is too
+/// long.
 pub(crate) fn check_there(delivery: &Delivery, n: usize) -> Result<(), LineFault>
     ensures checked { IsChecked n (ShowsThere delivery.now) (IsShort delivery.now) result }
     ensures bad { OnOk result (IsHeardBad delivery.now) }

@@ -9,7 +9,8 @@ pub enum Delivery {
     Whole,
     /// Nothing arrives.
     Lost,
-    /// These bytes arrive in their place: at most [`DELIVERY_LIMIT`](crate::DELIVERY_LIMIT), and the check shows the damage.
+    /// These bytes arrive in their place: at most [`DELIVERY_LIMIT`](crate::DELIVERY_LIMIT), and
+    /// the check shows the damage.
     Damaged(Bytes),
 }
 

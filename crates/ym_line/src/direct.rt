@@ -24,7 +24,11 @@ impl Model for Direct {
 
     ghost Value = { DirectParts };
 
-    ghost view = { λ d. record { handed = d.deliveries.items; tally = record { failing = d.failing; failures = d.failures } } };
+    ghost view = { λ d.
+        record {
+          handed = d.deliveries.items;
+          tally = record { failing = d.failing; failures = d.failures };
+        } };
 }
 
 impl Direct {
@@ -35,7 +39,8 @@ impl Direct {
         Direct::failing(alloc, 0)
     }
 
-    /// A carrier whose carry number `at`, counted from 1, answers `CarryFault::Device`, and no other does.
+    /// A carrier whose carry number `at`, counted from 1, answers `CarryFault::Device`, and no
+    /// other does.
     pub fn failing(alloc: Global, at: u64) -> Self
         ensures { result ≡ record { handed = []; tally = new_tally (Some at) } }
     {
@@ -57,7 +62,8 @@ impl Direct {
     /// Counts a carry. Whether it fails.
     fn fails(&mut self) -> bool
         ensures fails { result ≡ fails_next self.old.tally }
-        ensures after { self.new ≡ record { handed = self.old.handed; tally = counted self.old.tally } }
+        ensures after { self.new ≡
+            record { handed = self.old.handed; tally = counted self.old.tally } }
         ensures rose { IsTrue result → Rose self.old.tally.failures self.new.tally.failures }
     {
         let fails = self.failing == 1;
@@ -76,10 +82,16 @@ impl Carrier for Direct {
 
     fn carry(&mut self, way: Way, bytes: &[u8], into: &mut Vec<u8>) -> Result<(), CarryFault>
         ensures arrived { OnOk result (into.new.items ≡ bytes.now) }
-        ensures done { OnOk result (self.new ≡ record { handed = self.old.handed ++ handed_on way bytes.now ∷ []; tally = counted self.old.tally }) }
-        ensures refused { OnErr result (self.new ≡ record { handed = self.old.handed; tally = counted self.old.tally }) }
+        ensures done { OnOk result (self.new ≡
+            record {
+              handed = self.old.handed ++ handed_on way bytes.now ∷ [];
+              tally = counted self.old.tally;
+            }) }
+        ensures refused { OnErr result (self.new ≡
+            record { handed = self.old.handed; tally = counted self.old.tally }) }
         ensures fails { (result ≡ Err CarryFault.Device) ↔ IsTrue (fails_next self.old.tally) }
-        ensures failed { result ≡ Err CarryFault.Device → Rose self.old.tally.failures self.new.tally.failures }
+        ensures failed { result ≡ Err CarryFault.Device →
+            Rose self.old.tally.failures self.new.tally.failures }
     {
         if self.fails() {
             return Err(CarryFault::Device);

@@ -11,8 +11,8 @@ use thiserror::Error;
 /// Why a round was not finished. Rounds are counted from 1.
 #[derive(Clone, Copy, Debug, PartialEq, Eq, Error)]
 pub enum LineFault {
-    /// A delivery that is given as damaged could pass for one that is not: it begins with a frame, or brings a control byte that the reply does
-    /// not have.
+    /// A delivery that is given as damaged could pass for one that is not: it begins with a frame,
+    /// or brings a control byte that the reply does not have.
     #[error("round {0}: not damage")]
     NotDamage(usize),
     /// A damaged delivery has more bytes than [`DELIVERY_LIMIT`](crate::DELIVERY_LIMIT).

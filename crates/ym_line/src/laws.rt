@@ -11,12 +11,14 @@ ghost use Rattle.ym_machine.specs.Machine.{State, Invariant, KeepsReceiver, send
 ghost use Rattle.ym_machine.specs.ShortBursts.{IsFine};
 ghost use Rattle.ym_machine.specs.Run.{Turn, IsDamage, after_turn, after_turns, is_whole, lost};
 ghost use Rattle.ym_file.specs.Counts.{Rose};
+ghost use Rattle.ym_file.specs.Kept.{IsNew};
 ghost use Rattle.ym_file.specs.declared.plan.Shape.{Shape};
 ghost use Rattle.ym_core.specs.Reading.{controls_in};
-ghost use Rattle.ym_core.specs.Standing.{hears};
+ghost use Rattle.ym_core.specs.Receiver.{new_receiver};
+ghost use Rattle.ym_core.specs.Standing.{hears, new_standing};
 ghost use Rattle.ym_core.specs.declared.place.Place.{Place};
 ghost use Rattle.ym_core.specs.declared.state.SendState.TheVariants as SendState;
-ghost use Rattle.ym_file.specs.SourceFile.{FileParts, IsFile, file_at};
+ghost use Rattle.ym_file.specs.SourceFile.{FileParts, IsFile, counts_of, file_at};
 ghost use Rattle.ym_link.specs.ReceiverInto.{Tells};
 ghost use Rattle.ym_link.specs.Sender.{SenderParts, IsFilled, IsStep, counts};
 ghost use Rattle.ym_link.specs.SenderRefines.{Batch, SenderRefines, AllTold, batch_of};
@@ -42,15 +44,22 @@ use ym_machine::laws::{
     halves_keep_the_other_end, neither_end_gives_up, not_sooner, what_comes_back,
 };
 
-/// Rounds of two ends that refine a state of the machine of two counters are turns of that machine, whatever is lost or damaged in them: the
-/// ends refine the state that the turns lead to, and the trace reports it. Where a round meets a fault, those before it are turns, and the ends
-/// refine the state behind them, or behind the receiver step of that round. A delivery to the receiver alone is the receiver step of a turn.
+/// Rounds of two ends that refine a state of the machine of two counters are turns of that machine,
+/// whatever is lost or damaged in them: the ends refine the state that the turns lead to, and the
+/// trace reports it. Where a round meets a fault, those before it are turns, and the ends refine
+/// the state behind them, or behind the receiver step of that round. A delivery to the receiver
+/// alone is the receiver step of a turn.
 pub fn rounds_are_turns()
-    ensures go { (round : Round) (old new : Pair) (seen : Seen) → Goes round old seen new → TakesATurn round old seen new }
-    ensures go_on { (rounds : List Round) (old new : Pair) (trace : Trace) → IsTrace rounds old trace new → FollowsMachine rounds old trace new }
-    ensures stop { (n : ℕ) (rounds : List Round) (old new : Pair) (fault : LineFault) → StopsIn n rounds old fault new → StopsWithMachine n rounds old fault new }
-    ensures there { (delivery : Delivery) (old new : Pair) (reply : Reply) → GoesThere delivery old reply new →
-        (confirm : Confirm) (files : Batch) (st : State) → PairRefines confirm files st old → IsReceiverStep confirm files st delivery old reply new }
+    ensures go { (round : Round) (old new : Pair) (seen : Seen) →
+        Goes round old seen new → TakesATurn round old seen new }
+    ensures go_on { (rounds : List Round) (old new : Pair) (trace : Trace) →
+        IsTrace rounds old trace new → FollowsMachine rounds old trace new }
+    ensures stop { (n : ℕ) (rounds : List Round) (old new : Pair) (fault : LineFault) →
+        StopsIn n rounds old fault new → StopsWithMachine n rounds old fault new }
+    ensures there { (delivery : Delivery) (old new : Pair) (reply : Reply) →
+        GoesThere delivery old reply new →
+        (confirm : Confirm) (files : Batch) (st : State) →
+        PairRefines confirm files st old → IsReceiverStep confirm files st delivery old reply new }
 {
     frame_found();
     what_comes_back();
@@ -61,23 +70,31 @@ pub fn rounds_are_turns()
     a_standing_receiver_follows_the_machine();
 }
 
-/// Turns of a pair that refines a state of the machine lead to the state that it refines behind them, and their damage is that of a run of the machine. A
-/// round is whole where its turn is.
+/// Turns of a pair that refines a state of the machine lead to the state that it refines behind
+/// them, and their damage is that of a run of the machine. A round is whole where its turn is.
 pub fn turns_of_a_standing_pair()
-    ensures stand { (confirm : Confirm) (files : Batch) (st : State) (rounds : List Round) (turns : List Turn) (old new : Pair) (all : List Seen) →
-        AreTurns confirm files st rounds turns old all new → PairRefines confirm files st old → PairRefines confirm files (after_turns (frames_of files) confirm turns st) new }
-    ensures damage { (confirm : Confirm) (files : Batch) (st : State) (rounds : List Round) (turns : List Turn) (old new : Pair) (all : List Seen) →
-        AreTurns confirm files st rounds turns old all new → IsDamage (frames_of files) confirm turns st }
-    ensures whole { (round : Round) (sink_failed source_failed : Bool) → is_whole (turn_of round sink_failed source_failed) ≡ both_whole round }
+    ensures stand { (confirm : Confirm) (files : Batch) (st : State) (rounds : List Round)
+        (turns : List Turn) (old new : Pair) (all : List Seen) →
+        AreTurns confirm files st rounds turns old all new → PairRefines confirm files st old →
+        PairRefines confirm files (after_turns (frames_of files) confirm turns st) new }
+    ensures damage { (confirm : Confirm) (files : Batch) (st : State) (rounds : List Round)
+        (turns : List Turn) (old new : Pair) (all : List Seen) →
+        AreTurns confirm files st rounds turns old all new →
+        IsDamage (frames_of files) confirm turns st }
+    ensures whole { (round : Round) (sink_failed source_failed : Bool) →
+        is_whole (turn_of round sink_failed source_failed) ≡ both_whole round }
 {
     what_comes_back();
 }
 
-/// Where a pair refines a state of the machine, the committed files are the first ones of the batch, each with its header and its bytes, and what the sender reports is
-/// among them: in words of the machine's files, and of the sources that they were cut from.
+/// Where a pair refines a state of the machine, the committed files are the first ones of the
+/// batch, each with its header and its bytes, and what the sender reports is among them: in words
+/// of the machine's files, and of the sources that they were cut from.
 pub fn a_standing_pair_commits_the_first_files()
-    ensures first { (confirm : Confirm) (files : Batch) (st : State) (pair : Pair) → PairRefines confirm files st pair → CommitsFirst files st pair }
-    ensures prefix { (shape : Shape) (sources : List FileParts) (st : State) (pair : Pair) → All IsFile sources → AllTold sources →
+    ensures first { (confirm : Confirm) (files : Batch) (st : State) (pair : Pair) →
+        PairRefines confirm files st pair → CommitsFirst files st pair }
+    ensures prefix { (shape : Shape) (sources : List FileParts) (st : State) (pair : Pair) →
+        All IsFile sources → AllTold sources →
         CommitsFirst (batch_of shape sources) st pair → CommitsAPrefix sources pair }
 {
     one_pieces();
@@ -86,11 +103,12 @@ pub fn a_standing_pair_commits_the_first_files()
     a_sender_follows_the_machine();
 }
 
-/// New ends refine the start: a sender of a batch of at most 65,535 files whose sources tell their bytes, and a receiver into a sink that has no
-/// file.
+/// New ends refine the start: a sender of a batch of at most 65,535 files whose sources tell their
+/// bytes, and a receiver into a sink that has no file.
 pub fn new_ends_stand()
     ensures { (pair : Pair) → AreNew pair → All IsFile pair.sender.files →
-        PairRefines pair.receiver.receiver.confirm (batch_of pair.sender.shape pair.sender.files) start pair }
+        PairRefines pair.receiver.receiver.confirm (batch_of pair.sender.shape pair.sender.files)
+        start pair }
 {
     one_pieces();
     a_planned_file_is_sent();
@@ -99,11 +117,24 @@ pub fn new_ends_stand()
     a_standing_receiver_follows_the_machine();
 }
 
-/// Whatever is lost or damaged in a run of new ends, and also where it met a fault, the files committed are the first ones of the batch, each with
-/// its header and its bytes, and those that the sender reports are among them.
+/// Ends are new as [`SenderFrom::new`](ym_link::SenderFrom::new) and
+/// [`ReceiverInto::with_sink`](ym_link::ReceiverInto::with_sink) make them, where the sources tell
+/// their bytes.
+pub fn made_ends_are_new()
+    ensures { (pair : Pair) (confirm : Confirm) →
+        pair.sender.standing ≡ new_standing (counts_of pair.sender.shape pair.sender.files) →
+        length pair.sender.files ≤ MOST_FILES → AllTold pair.sender.files →
+        pair.receiver.receiver ≡ new_receiver confirm → IsNew pair.receiver.kept → AreNew pair }
+{}
+
+/// Whatever is lost or damaged in a run of new ends, and also where it met a fault, the files
+/// committed are the first ones of the batch, each with its header and its bytes, and those that
+/// the sender reports are among them.
 pub fn new_ends_commit_a_prefix()
-    ensures commits { (rounds : List Round) (old new : Pair) (result : Result Trace LineFault) → RunGives rounds old result new → AreNew old → CommitsAPrefix old.sender.files new }
-    ensures reports { (rounds : List Round) (old new : Pair) (trace : Trace) → IsTrace rounds old trace new → AreNew old → ReportsCommitted trace new }
+    ensures commits { (rounds : List Round) (old new : Pair) (result : Result Trace LineFault) →
+        RunGives rounds old result new → AreNew old → CommitsAPrefix old.sender.files new }
+    ensures reports { (rounds : List Round) (old new : Pair) (trace : Trace) →
+        IsTrace rounds old trace new → AreNew old → ReportsCommitted trace new }
 {
     rounds_are_turns();
     turns_of_a_standing_pair();
@@ -111,13 +142,16 @@ pub fn new_ends_commit_a_prefix()
     new_ends_stand();
 }
 
-/// Where damage comes in short bursts, and no failure count rose, a run of new ends goes on, finishes with as many whole rounds as the batch needs, and
-/// not sooner.
+/// Where damage comes in short bursts, and no failure count rose, a run of new ends goes on,
+/// finishes with as many whole rounds as the batch needs, and not sooner.
 pub fn short_bad_runs_complete()
-    ensures going { (rounds : List Round) (old new : Pair) (trace : Trace) → IsTrace rounds old trace new → BringsShortBadRuns rounds old new → AreGoing trace new }
-    ensures complete { (rounds : List Round) (old new : Pair) (trace : Trace) → IsTrace rounds old trace new → BringsShortBadRuns rounds old new →
+    ensures going { (rounds : List Round) (old new : Pair) (trace : Trace) →
+        IsTrace rounds old trace new → BringsShortBadRuns rounds old new → AreGoing trace new }
+    ensures complete { (rounds : List Round) (old new : Pair) (trace : Trace) →
+        IsTrace rounds old trace new → BringsShortBadRuns rounds old new →
         rounds_for old ≤ whole_rounds rounds → HaveFinished old.sender.files trace new }
-    ensures sooner { (rounds : List Round) (old new : Pair) (trace : Trace) → IsTrace rounds old trace new → AreNew old → NoneRose old new →
+    ensures sooner { (rounds : List Round) (old new : Pair) (trace : Trace) →
+        IsTrace rounds old trace new → AreNew old → NoneRose old new →
         AllWhole rounds → length rounds < rounds_for old → trace.send ≢ SendState.Finished }
 {
     one_pieces();
@@ -154,19 +188,28 @@ pub fn a_sender_alone_goes_on()
 
 /// Of a silent receiver no control comes back, whatever becomes of the delivery.
 pub fn nothing_comes_back_of_silence()
-    ensures { (delivery : Delivery) → ShowsBack Silence delivery → controls_in (arrives delivery (reply_bytes Silence)) ≡ [] }
+    ensures { (delivery : Delivery) →
+        ShowsBack Silence delivery → controls_in (arrives delivery (reply_bytes Silence)) ≡ [] }
 {
     what_comes_back();
 }
 
-/// What a sender's step leaves of its sources tells whether one failed (`filled`). Failure counts never fall, no file comes or goes, and where none rose from the
-/// first to the last, nothing failed on the way.
+/// What a sender's step leaves of its sources tells whether one failed (`filled`). Failure counts
+/// never fall, no file comes or goes, and where none rose from the first to the last, nothing
+/// failed on the way.
 pub fn failure_counts_tell()
-    ensures filled { (failed : Bool) (fills : Option Place) (old new : List FileParts) → IsFilled failed fills old new → IsSourceTruth failed old new }
-    ensures long { (failed : Bool) (old new : List FileParts) → IsSourceTruth failed old new → length new ≡ length old }
-    ensures grow { (failed : Bool) (old new : List FileParts) → IsSourceTruth failed old new → (i : ℕ) → (file_at old i).failures ≤ (file_at new i).failures }
-    ensures source { (failed : Bool) (old between new : List FileParts) → IsSourceTruth failed old between →
+    ensures filled { (failed : Bool) (fills : Option Place) (old new : List FileParts) →
+        IsFilled failed fills old new → IsSourceTruth failed old new }
+    ensures long { (failed : Bool) (old new : List FileParts) →
+        IsSourceTruth failed old new → length new ≡ length old }
+    ensures grow { (failed : Bool) (old new : List FileParts) →
+        IsSourceTruth failed old new → (i : ℕ) →
+        (file_at old i).failures ≤ (file_at new i).failures }
+    ensures source { (failed : Bool) (old between new : List FileParts) →
+        IsSourceTruth failed old between →
         ((i : ℕ) → (file_at between i).failures ≤ (file_at new i).failures) →
-        ((i : ℕ) → i < length old → ¬ Rose (file_at old i).failures (file_at new i).failures) → failed ≡ false }
-    ensures sink { (failed : Bool) (a b c : ℕ) → Tells failed a b → b ≤ c → ¬ Rose a c → failed ≡ false }
+        ((i : ℕ) → i < length old → ¬ Rose (file_at old i).failures (file_at new i).failures) →
+        failed ≡ false }
+    ensures sink { (failed : Bool) (a b c : ℕ) →
+        Tells failed a b → b ≤ c → ¬ Rose a c → failed ≡ false }
 {}

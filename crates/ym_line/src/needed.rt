@@ -17,8 +17,9 @@ fn others_of(confirm: Confirm) -> u128
     }
 }
 
-/// How many whole rounds bring a batch of at most 65,535 files across, where no round is lost or damaged: two, and for each file its data
-/// blocks and three more, or two more where the receiver takes the first EOT.
+/// How many whole rounds bring a batch of at most 65,535 files across, where no round is lost or
+/// damaged: two, and for each file its data blocks and three more, or two more where the receiver
+/// takes the first EOT.
 pub fn whole_rounds_needed<S: Source>(
     files: &[SourceFile<S>],
     shape: Shape,

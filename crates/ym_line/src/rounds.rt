@@ -9,7 +9,7 @@ ghost use Rattle.ym_line.specs.Carried.{told_more};
 ghost use Rattle.ym_line.specs.Completion.{AllWhole, AreGoing, BringsShortBadRuns, HaveFinished, NoneRose, rounds_for, whole_rounds};
 ghost use Rattle.ym_line.specs.Damage.{arrives};
 ghost use Rattle.ym_line.specs.Promise.{AreNew, CommitsAPrefix, ReportsCommitted};
-ghost use Rattle.ym_line.specs.Rounds.{Pair, sent_by, ThereGives, BackGives, RoundGives, RunGives};
+ghost use Rattle.ym_line.specs.Rounds.{Pair, pair_of, sent_by, ThereGives, BackGives, RoundGives, RunGives};
 ghost use Rattle.ym_line.specs.Turns.{FollowsMachine, StopsWithMachine, TakesATurn};
 
 use crate::carrier::{Carrier, CarryFault};
@@ -41,10 +41,13 @@ fn carry<C: Carrier>(
     arrived: &mut Vec<u8>,
 ) -> Result<(), CarryFault>
     ensures arrived { OnOk result (arrived.new.items ≡ arrives delivery.now sent.now) }
-    ensures told { OnOk result (C.told carrier.new ≡ told_more way (arrives delivery.now sent.now) (C.told carrier.old)) }
+    ensures told { OnOk result (C.told carrier.new ≡
+        told_more way (arrives delivery.now sent.now) (C.told carrier.old)) }
     ensures refused { OnErr result (C.told carrier.new ≡ C.told carrier.old) }
-    ensures failed { result ≡ Err CarryFault.Device → Rose (C.failures carrier.old) (C.failures carrier.new) }
-    ensures not_failed { result ≢ Err CarryFault.Device → C.failures carrier.new ≡ C.failures carrier.old }
+    ensures failed { result ≡ Err CarryFault.Device →
+        Rose (C.failures carrier.old) (C.failures carrier.new) }
+    ensures not_failed { result ≢ Err CarryFault.Device →
+        C.failures carrier.new ≡ C.failures carrier.old }
 {
     match delivery {
         Delivery::Whole => carrier.carry(way, sent, arrived),
@@ -62,8 +65,8 @@ fn go_there<S: Source, K: Sink, C: Carrier>(
     carrier: &mut C,
     arrived: &mut Vec<u8>,
 ) -> Result<Reply, LineFault>
-    ensures { let old : Pair = record { sender = sender.now; receiver = receiver.old; told = C.told carrier.old; failures = C.failures carrier.old } in
-        let new : Pair = record { sender = sender.now; receiver = receiver.new; told = C.told carrier.new; failures = C.failures carrier.new } in
+    ensures { let old : Pair = pair_of C.told C.failures sender.now receiver.old carrier.old in
+        let new : Pair = pair_of C.told C.failures sender.now receiver.new carrier.new in
         ThereGives n delivery.now old result new }
 {
     check_there(delivery, n)?;
@@ -81,8 +84,8 @@ fn go_back<S: Source, C: Carrier>(
     arrived: &mut Vec<u8>,
 ) -> Result<(), LineFault>
     ensures { (receiver : ReceiverParts) →
-        let old : Pair = record { sender = sender.old; receiver = receiver; told = C.told carrier.old; failures = C.failures carrier.old } in
-        let new : Pair = record { sender = sender.new; receiver = receiver; told = C.told carrier.new; failures = C.failures carrier.new } in
+        let old : Pair = pair_of C.told C.failures sender.old receiver carrier.old in
+        let new : Pair = pair_of C.told C.failures sender.new receiver carrier.new in
         BackGives n delivery.now reply old result new }
 {
     check_back(delivery, reply, n)?;
@@ -100,8 +103,8 @@ fn go_round<S: Source, K: Sink, C: Carrier>(
     carrier: &mut C,
     arrived: &mut Vec<u8>,
 ) -> Result<Seen, LineFault>
-    ensures { let old : Pair = record { sender = sender.old; receiver = receiver.old; told = C.told carrier.old; failures = C.failures carrier.old } in
-        let new : Pair = record { sender = sender.new; receiver = receiver.new; told = C.told carrier.new; failures = C.failures carrier.new } in
+    ensures { let old : Pair = pair_of C.told C.failures sender.old receiver.old carrier.old in
+        let new : Pair = pair_of C.told C.failures sender.new receiver.new carrier.new in
         RoundGives n round.now old result new }
 {
     frame_found();
@@ -124,8 +127,8 @@ fn go_all<S: Source, K: Sink, C: Carrier>(
     rounds: &[Round],
     carrier: &mut C,
 ) -> Result<Trace, LineFault>
-    ensures { let old : Pair = record { sender = sender.old; receiver = receiver.old; told = C.told carrier.old; failures = C.failures carrier.old } in
-        let new : Pair = record { sender = sender.new; receiver = receiver.new; told = C.told carrier.new; failures = C.failures carrier.new } in
+    ensures { let old : Pair = pair_of C.told C.failures sender.old receiver.old carrier.old in
+        let new : Pair = pair_of C.told C.failures sender.new receiver.new carrier.new in
         RunGives rounds.now old result new }
 {
     let mut seen = Vec::new(alloc);
@@ -143,11 +146,13 @@ fn go_all<S: Source, K: Sink, C: Carrier>(
     })
 }
 
-/// One round: the receiver hears what arrives of the sender's frame, and the sender what arrives of the reply. A damaged delivery is checked
-/// before it is carried. A fault leaves what the steps before it did, and no later step is taken. The round's number is 1.
+/// One round: the receiver hears what arrives of the sender's frame, and the sender what arrives of
+/// the reply. A damaged delivery is checked before it is carried. A fault leaves what the steps
+/// before it did, and no later step is taken. The round's number is 1.
 ///
-/// Where both ends refine a state of the machine of two counters, the round is a turn of that machine (`machine`), and a fault leaves them there,
-/// or behind the receiver step of that turn (`stopped`).
+/// Where both ends refine a state of the machine of two counters, the round is a turn of that
+/// machine (`machine`), and a fault leaves them there, or behind the receiver step of that turn
+/// (`stopped`).
 pub fn round<S: Source, K: Sink, C: Carrier>(
     alloc: Global,
     sender: &mut SenderFrom<S>,
@@ -155,8 +160,8 @@ pub fn round<S: Source, K: Sink, C: Carrier>(
     round: &Round,
     carrier: &mut C,
 ) -> Result<Seen, LineFault>
-    ensures { let old : Pair = record { sender = sender.old; receiver = receiver.old; told = C.told carrier.old; failures = C.failures carrier.old } in
-        let new : Pair = record { sender = sender.new; receiver = receiver.new; told = C.told carrier.new; failures = C.failures carrier.new } in
+    ensures { let old : Pair = pair_of C.told C.failures sender.old receiver.old carrier.old in
+        let new : Pair = pair_of C.told C.failures sender.new receiver.new carrier.new in
         record {
           gives : RoundGives 1 round.now old result new;
           machine : IfOk result (λ seen. TakesATurn round.now old seen new);
@@ -167,19 +172,26 @@ pub fn round<S: Source, K: Sink, C: Carrier>(
     go_round(1, sender, receiver, round, carrier, &mut Vec::new(alloc))
 }
 
-/// All rounds of a list, in order, also those after both ends have ended. A fault leaves what the rounds before it did, and what the steps
-/// before it did in its own round; rounds are numbered from 1.
+/// All rounds of a list, in order, also those after both ends have ended. A fault leaves what the
+/// rounds before it did, and what the steps before it did in its own round; rounds are numbered
+/// from 1.
 ///
 /// - What the two ends do is what their tables say, round after round (`gives`).
-/// - From any ends that refine a state of the machine of two counters, the rounds are turns of that machine, and the trace reports the state that
-///   they lead to (`machine`). Where a round meets a fault, those before it are turns, and of its own at most the receiver step was taken (`stopped`).
-/// - From new ends, whatever is lost or damaged and also where it met a fault, the files committed are the first ones of the batch, each exact, and
-///   what the sender reports is among them (`commits`, `reports`).
-/// - From new ends, where no failure count rose and no bad run is longer than `BURST` rounds, neither end gives up; with as many whole rounds as the
-///   batch needs, both finish; and with whole rounds alone, they do not finish sooner (`neither_gives_up`, `both_finish`, `not_sooner`).
+/// - From any ends that refine a state of the machine of two counters, the rounds are turns of that
+///   machine, and the trace reports the state that they lead to (`machine`). Where a round meets a
+///   fault, those before it are turns, and of its own at most the receiver step was taken
+///   (`stopped`).
+/// - From new ends, whatever is lost or damaged and also where it met a fault, the files committed
+///   are the first ones of the batch, each exact, and what the sender reports is among them
+///   (`commits`, `reports`).
+/// - From new ends, where no failure count rose and no bad run is longer than `BURST` rounds,
+///   neither end gives up; with as many whole rounds as the batch needs, both finish; and with
+///   whole rounds alone, they do not finish sooner (`neither_gives_up`, `both_finish`,
+///   `not_sooner`).
 ///
-/// All this rests on these premises: damage shows, and other damage is refused here by `NotDamage` and `TooLong`; the sources tell their bytes, and
-/// source, sink and carrier keep the contracts of their traits; and, outside this program, a delivery belongs to its round.
+/// All this rests on these premises: damage shows, and other damage is refused here by `NotDamage`
+/// and `TooLong`; the sources tell their bytes, and source, sink and carrier keep the contracts of
+/// their traits; and, outside this program, a delivery belongs to its round.
 pub fn run<S: Source, K: Sink, C: Carrier>(
     alloc: Global,
     sender: &mut SenderFrom<S>,
@@ -187,17 +199,22 @@ pub fn run<S: Source, K: Sink, C: Carrier>(
     rounds: &[Round],
     carrier: &mut C,
 ) -> Result<Trace, LineFault>
-    ensures { let old : Pair = record { sender = sender.old; receiver = receiver.old; told = C.told carrier.old; failures = C.failures carrier.old } in
-        let new : Pair = record { sender = sender.new; receiver = receiver.new; told = C.told carrier.new; failures = C.failures carrier.new } in
+    ensures { let old : Pair = pair_of C.told C.failures sender.old receiver.old carrier.old in
+        let new : Pair = pair_of C.told C.failures sender.new receiver.new carrier.new in
         record {
           gives : RunGives rounds.now old result new;
           machine : IfOk result (λ trace. FollowsMachine rounds.now old trace new);
           stopped : IfErr result (λ fault. StopsWithMachine 1 rounds.now old fault new);
           commits : AreNew old → CommitsAPrefix old.sender.files new;
           reports : AreNew old → IfOk result (λ trace. ReportsCommitted trace new);
-          neither_gives_up : BringsShortBadRuns rounds.now old new → IfOk result (λ trace. AreGoing trace new);
-          both_finish : BringsShortBadRuns rounds.now old new → rounds_for old ≤ whole_rounds rounds.now → IfOk result (λ trace. HaveFinished old.sender.files trace new);
-          not_sooner : AreNew old → NoneRose old new → AllWhole rounds.now → length rounds.now < rounds_for old → IfOk result (λ trace. trace.send ≢ SendState.Finished);
+          neither_gives_up : BringsShortBadRuns rounds.now old new →
+              IfOk result (λ trace. AreGoing trace new);
+          both_finish : BringsShortBadRuns rounds.now old new →
+              rounds_for old ≤ whole_rounds rounds.now →
+              IfOk result (λ trace. HaveFinished old.sender.files trace new);
+          not_sooner : AreNew old → NoneRose old new → AllWhole rounds.now →
+              length rounds.now < rounds_for old →
+              IfOk result (λ trace. trace.send ≢ SendState.Finished);
         } }
 {
     rounds_are_turns();

@@ -30,7 +30,8 @@ impl fmt::Display for ReplyWords {
 
 /// Puts the line of round `n` behind the text.
 fn push_round(text: &mut String, n: usize, seen: &Seen) -> Result<(), AllocError>
-    ensures { IfOk result (λ _. string_bytes text.new ≡ string_bytes text.old ++ round_line n seen.now) }
+    ensures { IfOk result (λ _.
+        string_bytes text.new ≡ string_bytes text.old ++ round_line n seen.now) }
 {
     let Seen {
         what,
@@ -44,7 +45,11 @@ fn push_round(text: &mut String, n: usize, seen: &Seen) -> Result<(), AllocError
 
 /// Puts the lines of both ends behind the text.
 fn push_ends(text: &mut String, trace: &Trace) -> Result<(), AllocError>
-    ensures { IfOk result (λ _. string_bytes text.new ≡ string_bytes text.old ++ (sender_line trace.now.done trace.now.send ++ receiver_line trace.now.files trace.now.recv)) }
+    ensures { IfOk result (λ _.
+        string_bytes text.new ≡
+        string_bytes text.old ++
+        (sender_line trace.now.done trace.now.send ++
+        receiver_line trace.now.files trace.now.recv)) }
 {
     let sender = SenderLine {
         done: trace.done,

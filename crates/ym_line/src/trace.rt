@@ -9,7 +9,7 @@ ghost use Rattle.ym_line.specs.What.{what_is, what_of};
 
 use crate::delivery::Delivery;
 use std::fmt;
-use ym_frame::Reply;
+use ym_frame::{CAN, EOT, Reply, SOH, STX};
 use ym_link::{RecvState, SendState};
 
 /// What a sender had to send.
@@ -32,13 +32,13 @@ impl What {
         ensures item { (item : Item) → IsFrame item frame.now → result ≡ what_is item }
     {
         match frame {
-            [0x04, ..] => What::Eot,
-            [0x18, ..] => What::Can,
-            [0x01, number, ..] => What::Block {
+            [EOT, ..] => What::Eot,
+            [CAN, ..] => What::Can,
+            [SOH, number, ..] => What::Block {
                 number: *number,
                 length: 128,
             },
-            [0x02, number, ..] => What::Block {
+            [STX, number, ..] => What::Block {
                 number: *number,
                 length: 1024,
             },
@@ -93,8 +93,8 @@ impl fmt::Display for How {
     }
 }
 
-/// What was seen of one round: what the sender had to send and what the receiver replied, as they were before loss and damage, and how both
-/// deliveries were given.
+/// What was seen of one round: what the sender had to send and what the receiver replied, as they
+/// were before loss and damage, and how both deliveries were given.
 #[derive(Clone, Copy, Debug, PartialEq, Eq)]
 pub struct Seen {
     /// What the sender had to send.

@@ -1,7 +1,9 @@
 -- One read of a line that is let clear.
-use Rattle.std.proofs.Common.{◌≡◌, ◌<◌, ◌≤◌, ◌-◌, ◌+◌, ℕ, zero, suc, true, false, List, Option, Result, Ok, refl, ◌∙◌, ap, arith}
-use Rattle.ym_link.proofs.Names.{Tape, read_gives, read_leaves, swept, Swept, is_over, Event, Role, PortFault, Held, Sweep, DELIVERY_LIMIT}
-use Rattle.ym_link.specs.Sweep.{behind, after_read, held_by}
+use Rattle.std.proofs.Common.{◌≡◌, ◌<◌, ◌≤◌, ◌-◌, ◌+◌, ℕ, zero, suc, true, false, List, [], ◌∷◌, ◌++◌, Option, Result, Ok, refl, sym, ◌∙◌, ap, arith, append_assoc}
+use Rattle.std.proofs.lemmas.List.{append-nil}
+use Rattle.std.proofs.lemmas.List.Elements.{All-nil, All-push}
+use Rattle.ym_link.proofs.Names.{Tape, read_gives, read_leaves, swept, Swept, is_over, Event, Role, PortFault, Held, Sweep, DELIVERY_LIMIT, Wait, Within}
+use Rattle.ym_link.specs.Sweep.{behind, after_read, held_by, AskedWithin}
 
 -- one read more
 pub swept-step : (reads less : ℕ) (role : Role) (s : Sweep) (events : List Event) → reads ≡ suc less → is_over s ≡ false
@@ -33,3 +35,15 @@ pub sweep-out : (t v u : Tape) (whole : Swept) (answer : Result Held PortFault) 
     → (answer ≡ whole.answer) × (u ≡ record t { coming = whole.rest })
 sweep-out t v u whole answer rest is wrote left =
     (rw is refl, rw is (left ∙ ap (λ (w : List ℕ). let x : Tape = record { coming = rest; written = w } in x) wrote))
+
+-- no read yet
+pub asked-none : (v : List Wait) → AskedWithin v v
+asked-none v = record { reads = []; short = All-nil (λ wait. wait ≡ Within); waits = sym (append-nil v) }
+
+-- one short read more
+pub asked-more : (v mid new : List Wait) → AskedWithin v mid → new ≡ mid ++ Within ∷ [] → AskedWithin v new
+asked-more v mid new before now = record {
+  reads = before.reads ++ Within ∷ [];
+  short = All-push (λ wait. wait ≡ Within) before.reads Within before.short refl;
+  waits = now ∙ (ap (λ (x : List Wait). x ++ Within ∷ []) before.waits ∙ append_assoc v before.reads (Within ∷ []));
+}

@@ -25,6 +25,9 @@ IsCall Commits = Unit {0}
 
 -- what comes of it
 abbrev pub CallGives : Ask → Kept → ℕ → Result Unit SinkFault → Kept → ℕ → Type 0
-CallGives ask old failures (Ok done) new after = (new ≡ called (call_of ask) old) × (after ≡ failures)
-CallGives ask old failures (Err Failed) new after = (new ≡ old) × Rose failures after × IsCall (call_of ask)
-CallGives ask old failures (Err Memory) new after = (new ≡ old) × (after ≡ failures) × Grows (call_of ask)
+CallGives ask old failures (Ok done) new after =
+    (new ≡ called (call_of ask) old) × (after ≡ failures)
+CallGives ask old failures (Err Failed) new after =
+    (new ≡ old) × Rose failures after × IsCall (call_of ask)
+CallGives ask old failures (Err Memory) new after =
+    (new ≡ old) × (after ≡ failures) × Grows (call_of ask)

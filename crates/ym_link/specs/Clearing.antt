@@ -35,14 +35,20 @@ cleared talk bytes events =
 
 -- and then the bytes are written
 abbrev pub said : List ℕ → Held → Talk → Talk
-said bytes held talk = record talk { exchange = wrote talk.role talk.exchange (front_of bytes); held = held }
+said bytes held talk = record talk {
+  exchange = wrote talk.role talk.exchange (front_of bytes);
+  held = held;
+}
 
--- What a write comes to: where the port fails while the line clears, nothing is written and nothing else changes.
+-- What a write comes to: where the port fails while the line clears, nothing is written and nothing
+-- else changes.
 abbrev pub Writes : Talk → List ℕ → Swept → Result Unit PortFault → Talk → Tape → Tape → Type 0
 Writes talk bytes swept result new t u = by swept.answer
   where
     by : Result Held PortFault → Type 0
-    by (Ok h) = (new ≡ said bytes h talk) × (u ≡ after_write (is_ok result) (record t { coming = swept.rest }) bytes)
+    by (Ok h) =
+        (new ≡ said bytes h talk) ×
+        (u ≡ after_write (is_ok result) (record t { coming = swept.rest }) bytes)
     by (Err e) = (new ≡ talk) × (result ≡ Err e) × (u ≡ record t { coming = swept.rest })
 
 -- ---- A read
@@ -62,7 +68,11 @@ abbrev pub gave : ℕ → Held → Talk → Talk
 gave count left talk = record talk { exchange = heard count talk.exchange; held = left }
 
 abbrev pub given : List ℕ → Held → Talk → List Event → Read
-given bytes left talk events = record { seen = Data bytes; talk = gave (length bytes) left talk; rest = events }
+given bytes left talk events = record {
+  seen = Data bytes;
+  talk = gave (length bytes) left talk;
+  rest = events;
+}
 
 -- one read of the port below, without a reply that is withdrawn
 abbrev pub once : ℕ → Talk → List Event → Read
@@ -72,11 +82,14 @@ once room talk events = record {
   rest = read_leaves room events;
 }
 
--- A read for a reply passes over what asks for the block 0 that was just written: so many reads, for a receiver that asks on lacks it.
+-- A read for a reply passes over what asks for the block 0 that was just written: so many reads,
+-- for a receiver that asks on lacks it.
 unfoldable pub fresh : ℕ → ℕ → Talk → List Event → Read
 fresh zero room talk events = once room talk events
 fresh (suc reads) room talk events =
-    if is_stale talk.role talk.exchange (brings talk.role room events) then fresh reads room talk (read_leaves room events) else once room talk events
+    if is_stale talk.role talk.exchange (brings talk.role room events)
+    then fresh reads room talk (read_leaves room events)
+    else once room talk events
 
 -- It is a short wait and the rest of it, so that the port knows whether an answer came at once.
 abbrev pub rest_of : Seen → ℕ → Read → Read
@@ -90,9 +103,16 @@ patient Reply room talk events = let r = fresh STALE_READS room talk events in r
 -- What is to be heard yet is heard first.
 abbrev pub read_in : Held → Wait → ℕ → Talk → List Event → Read
 read_in held.Nothing wait room talk events = patient wait room talk events
-read_in held.Closed wait room talk events = record { seen = End; talk = record talk { held = held.Nothing }; rest = events }
+read_in held.Closed wait room talk events = record {
+  seen = End;
+  talk = record talk { held = held.Nothing };
+  rest = events;
+}
 read_in held.Can wait room talk events = given (24 ∷ []) held.Nothing talk events
-read_in held.CanCan wait room talk events = if nat_lt 1 room then given (24 ∷ 24 ∷ []) held.Nothing talk events else given (24 ∷ []) held.Can talk events
+read_in held.CanCan wait room talk events =
+    if nat_lt 1 room
+    then given (24 ∷ 24 ∷ []) held.Nothing talk events
+    else given (24 ∷ []) held.Can talk events
 
 abbrev pub read_by : Wait → ℕ → Talk → List Event → Read
 read_by wait room talk events = read_in talk.held wait room talk events
@@ -120,13 +140,17 @@ event_of Silence = event.Quiet
 event_of End = event.Closed
 event_of Failed = event.Fault
 
--- What an end may come to hear of the events that come to the port, as it reads and writes: each read's result is an event; a write drops
--- what `cleared` drops; and where nothing more is written, all that is left passes.
+-- What an end may come to hear of the events that come to the port, as it reads and writes: each
+-- read's result is an event; a write drops what `cleared` drops; and where nothing more is written,
+-- all that is left passes.
 pub data Passes : Talk → List Event → List Event → Type 0 where
   left : (talk : Talk) (events : List Event) → Passes talk events (held_events talk.held ++ events)
-  reads : (talk : Talk) (events heard : List Event) (wait : Wait) (room : ℕ) → Passes (read_by wait room talk events).talk (read_by wait room talk events).rest heard
+  reads : (talk : Talk) (events heard : List Event) (wait : Wait) (room : ℕ)
+      → Passes (read_by wait room talk events).talk (read_by wait room talk events).rest heard
       → Passes talk events (event_of (read_by wait room talk events).seen ∷ heard)
-  writes : (talk : Talk) (events heard : List Event) (bytes : List ℕ) (h : Held) → (cleared talk bytes events).answer ≡ Ok h
+  writes : (talk : Talk) (events heard : List Event) (bytes : List ℕ) (h : Held)
+      → (cleared talk bytes events).answer ≡ Ok h
       → Passes (said bytes h talk) (cleared talk bytes events).rest heard → Passes talk events heard
-  fails : (talk : Talk) (events heard : List Event) (bytes : List ℕ) (e : PortFault) → (cleared talk bytes events).answer ≡ Err e
+  fails : (talk : Talk) (events heard : List Event) (bytes : List ℕ) (e : PortFault)
+      → (cleared talk bytes events).answer ≡ Err e
       → Passes talk (cleared talk bytes events).rest heard → Passes talk events heard

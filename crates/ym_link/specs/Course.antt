@@ -1,5 +1,5 @@
--- The course of a call, over any port: the deliveries that the end heard, one after another, and the waits that the port's reads were given
--- (this profile).
+-- The course of a call, over any port: the deliveries that the end heard, one after another, and
+-- the waits that the port's reads were given (this profile).
 use Rattle.std.specs.Prelude.{◌≡◌, ℕ, zero, suc, ◌+◌, ◌*◌, ◌<◌, ◌≤◌, List, [], ◌∷◌, ◌++◌, length, replicate, All, Ok}
 use Rattle.ym_frame.specs.Block.{BlockParts}
 use Rattle.ym_frame.specs.declared.control.Reply.{Reply as Answer}
@@ -19,7 +19,8 @@ use Rattle.ym_link.specs.declared.port.TheConstants.{DELIVERY_LIMIT}
 
 -- ---- The waits
 
--- of a delivery of so many reads: the longer one for its first bytes, and the shorter one for more of it
+-- of a delivery of so many reads: the longer one for its first bytes, and the shorter one for more
+-- of it
 abbrev pub waits_of : ℕ → List Wait
 waits_of zero = []
 waits_of (suc more) = Reply ∷ replicate more Within
@@ -51,12 +52,17 @@ pub record Asks (deliveries : ℕ) (old new : List Wait) : Type 0 where
 -- the deliveries that it hears while it runs, and how many of them bring progress
 pub data SenderHears : SenderParts → List (List ℕ) → ℕ → SenderParts → Type 0 where
   sender_none : (s : SenderParts) → SenderHears s [] 0 s
-  sender_more : (s : SenderParts) (deliveries : List (List ℕ)) (progress : ℕ) (between : SenderParts) (bytes : List ℕ) (new : SenderParts)
-      → SenderHears s deliveries progress between → IsSender between → between.standing.state ≡ sender.Running → length bytes ≤ DELIVERY_LIMIT → Hears between bytes new
+  sender_more : (s : SenderParts) (deliveries : List (List ℕ)) (progress : ℕ)
+      (between : SenderParts) (bytes : List ℕ) (new : SenderParts)
+      → SenderHears s deliveries progress between → IsSender between
+      → between.standing.state ≡ sender.Running → length bytes ≤ DELIVERY_LIMIT
+      → Hears between bytes new
       → SenderHears s (deliveries ++ bytes ∷ []) (progress + sender_progress_at new) new
 
--- at most ten for each step of progress and ten more; and there are at most two such steps for each frame from its place on
-pub record SenderCourse (old : SenderParts) (deliveries : List (List ℕ)) (new : SenderParts) : Type 0 where
+-- at most ten for each step of progress and ten more; and there are at most two such steps for each
+-- frame from its place on
+pub record SenderCourse (old : SenderParts) (deliveries : List (List ℕ))
+    (new : SenderParts) : Type 0 where
   pub progress : ℕ
   pub hears : SenderHears old deliveries progress new
   pub few : length deliveries ≤ GIVE_UP * (progress + 1)
@@ -71,13 +77,16 @@ IsLarge h = (block : BlockParts) → h ≡ heard.Item (item.Block block) → 128
 -- what it hears while it runs, delivery by delivery, and how many of them bring progress
 pub data ReceiverHears : ReceiverParts → List Heard → ℕ → ReceiverParts → Type 0 where
   receiver_none : (r : ReceiverParts) → ReceiverHears r [] 0 r
-  receiver_more : (r : ReceiverParts) (deliveries : List Heard) (progress : ℕ) (between : ReceiverParts) (h : Heard) (reply : Answer) (new : ReceiverParts)
-      → ReceiverHears r deliveries progress between → IsReceiver between → between.receiver.state ≡ receiver.Running → IsLarge h → HearsGives between h (Ok reply) new
+  receiver_more : (r : ReceiverParts) (deliveries : List Heard) (progress : ℕ)
+      (between : ReceiverParts) (h : Heard) (reply : Answer) (new : ReceiverParts)
+      → ReceiverHears r deliveries progress between → IsReceiver between
+      → between.receiver.state ≡ receiver.Running → IsLarge h → HearsGives between h (Ok reply) new
       → ReceiverHears r (deliveries ++ h ∷ []) (progress + progress_at new) new
 
--- at most ten for each step of progress and ten more; and those steps, with the ones that it has taken before, are among those of the files
--- whose headers it accepted
-pub record ReceiverCourse (old : ReceiverParts) (deliveries : List Heard) (new : ReceiverParts) : Type 0 where
+-- at most ten for each step of progress and ten more; and those steps, with the ones that it has
+-- taken before, are among those of the files whose headers it accepted
+pub record ReceiverCourse (old : ReceiverParts) (deliveries : List Heard)
+    (new : ReceiverParts) : Type 0 where
   pub progress : ℕ
   pub hears : ReceiverHears old deliveries progress new
   pub few : length deliveries ≤ GIVE_UP * (progress + 1)

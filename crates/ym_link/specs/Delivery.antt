@@ -1,7 +1,8 @@
 -- A delivery of a port: what is read until the end that reads it has enough (this profile).
 --
--- Each read's buffer has 2048 bytes less those that the delivery already has. The delivery ends by the test of the end that reads it,
--- when the line is quiet, or at 2048 bytes. Where the port is closed or fails, the unfinished delivery is dropped.
+-- Each read's buffer has 2048 bytes less those that the delivery already has. The delivery ends by
+-- the test of the end that reads it, when the line is quiet, or at 2048 bytes. Where the port is
+-- closed or fails, the unfinished delivery is dropped.
 use Rattle.std.specs.Prelude.{ℕ, ◌+◌, ◌-◌, Bool, nat_lt, nat_le, List, [], ◌∷◌, ◌++◌, length, take, drop, Result, Ok, Err, if◌then◌else◌}
 use Rattle.ym_link.specs.declared.event.Event.{Event}
 use Rattle.ym_link.specs.declared.event.Event.TheVariants as event
@@ -14,7 +15,8 @@ pub record Taken : Type 0 where
   pub delivery : Result (List ℕ) EndFault
   pub rest : List Event
 
--- The delivery at the front of the events, behind the bytes that it already has; `ends` is the test by which it ends.
+-- The delivery at the front of the events, behind the bytes that it already has; `ends` is the test
+-- by which it ends.
 unfoldable pub taken : (List ℕ → Bool) → List ℕ → List Event → Taken
 taken ends had [] = record { delivery = Err fault.Closed; rest = [] }
 taken ends had (event.Closed ∷ rest) = record { delivery = Err fault.Closed; rest = rest }
@@ -23,9 +25,13 @@ taken ends had (event.Quiet ∷ rest) = record { delivery = Ok had; rest = rest 
 taken ends had (event.Piece [] ∷ rest) = record { delivery = Ok had; rest = rest }
 taken ends had (event.Piece (b ∷ bs) ∷ rest) =
     if nat_lt (DELIVERY_LIMIT - length had) (length (b ∷ bs))
-    then record { delivery = Ok (had ++ take (DELIVERY_LIMIT - length had) (b ∷ bs)); rest = event.Piece (drop (DELIVERY_LIMIT - length had) (b ∷ bs)) ∷ rest }
+    then record {
+      delivery = Ok (had ++ take (DELIVERY_LIMIT - length had) (b ∷ bs));
+      rest = event.Piece (drop (DELIVERY_LIMIT - length had) (b ∷ bs)) ∷ rest;
+    }
     else (if ends (had ++ b ∷ bs) then record { delivery = Ok (had ++ b ∷ bs); rest = rest }
-    else (if nat_le DELIVERY_LIMIT (length (had ++ b ∷ bs)) then record { delivery = Ok (had ++ b ∷ bs); rest = rest }
+    else (if nat_le DELIVERY_LIMIT (length (had ++ b ∷ bs))
+    then record { delivery = Ok (had ++ b ∷ bs); rest = rest }
     else taken ends (had ++ b ∷ bs) rest))
 
 -- how many reads it takes, by the same cases

@@ -13,7 +13,8 @@ abbrev delivery : List Event → Taken
 delivery events = taken has_item [] events
 
 -- an EOT ends the delivery, and what stands behind it in the same read is dropped
-eot_and_more : delivery (Piece (0x04 ∷ 0x06 ∷ []) ∷ Quiet ∷ []) ≡ record { delivery = Ok (0x04 ∷ 0x06 ∷ []); rest = Quiet ∷ [] }
+eot_and_more : delivery (Piece (0x04 ∷ 0x06 ∷ []) ∷ Quiet ∷ []) ≡
+    record { delivery = Ok (0x04 ∷ 0x06 ∷ []); rest = Quiet ∷ [] }
 unfolding taken verdict_of
 eot_and_more = refl
 
@@ -22,7 +23,8 @@ unfolding verdict_of
 eot_is_heard = refl
 
 -- CAN CAN in two pieces is one delivery
-cancel_in_pieces : delivery (Piece (0x18 ∷ []) ∷ Piece (0x18 ∷ []) ∷ []) ≡ record { delivery = Ok (0x18 ∷ 0x18 ∷ []); rest = [] }
+cancel_in_pieces : delivery (Piece (0x18 ∷ []) ∷ Piece (0x18 ∷ []) ∷ []) ≡
+    record { delivery = Ok (0x18 ∷ 0x18 ∷ []); rest = [] }
 unfolding taken verdict_of
 cancel_in_pieces = refl
 

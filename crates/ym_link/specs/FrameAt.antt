@@ -12,13 +12,16 @@ use Rattle.ym_file.specs.SourceFile.{FileParts, IsBlockOf, file_at}
 
 -- the item of this place of the batch; block 0 and the end block have number 0
 abbrev pub IsItemAt : Shape → List FileParts → Place → Item → Type 0
-IsItemAt shape files (Header file) i = i ≡ item.Block (record { number = 0; body = text (file_at files file).header })
-IsItemAt shape files (Block file k) i = (block : BlockParts) × (i ≡ item.Block block) × IsBlockOf shape (file_at files file) k block
+IsItemAt shape files (Header file) i =
+    i ≡ item.Block (record { number = 0; body = text (file_at files file).header })
+IsItemAt shape files (Block file k) i =
+    (block : BlockParts) × (i ≡ item.Block block) × IsBlockOf shape (file_at files file) k block
 IsItemAt shape files (Eot file) i = i ≡ item.Eot
 IsItemAt shape files End i = i ≡ item.Block (record { number = 0; body = end_text })
 
 -- its frame
-pub record IsFrameAt (shape : Shape) (files : List FileParts) (place : Place) (bytes : List ℕ) : Type 0 where
+pub record IsFrameAt (shape : Shape) (files : List FileParts) (place : Place)
+    (bytes : List ℕ) : Type 0 where
   pub item : Item
   pub there : IsItemAt shape files place item
   pub frame : IsFrame item bytes

@@ -1,5 +1,5 @@
--- A line that answers each copy of what an end writes, late or not, in order; and what the end hears of it through a port that lets the
--- line clear (this profile).
+-- A line that answers each copy of what an end writes, late or not, in order; and what the end
+-- hears of it through a port that lets the line clear (this profile).
 use Rattle.std.specs.Prelude.{◌≡◌, ℕ, zero, suc, ◌<◌, ◌≤◌, false, List, [], ◌∷◌, ◌++◌, length, Result, Ok, Err}
 use Rattle.ym_link.specs.Clearing.{cleared, said, read_by}
 use Rattle.ym_link.specs.Exchange.{front_of, is_same, all_ask}
@@ -20,15 +20,19 @@ use Rattle.ym_link.specs.declared.port.TheConstants.{DELIVERY_LIMIT}
 
 -- ---- What comes late
 
--- The answers to the other copies: each soon behind the one before, to a sender also behind one quiet wait, of which there are so many at
--- most; and there is no CAN CAN among them.
+-- The answers to the other copies: each soon behind the one before, to a sender also behind one
+-- quiet wait, of which there are so many at most; and there is no CAN CAN among them.
 pub data AreLate (role : Role) : Heed → ℕ → List Event → Type 0 where
   none : (at : Heed) (waits : ℕ) → AreLate role at waits []
-  soon : (at : Heed) (waits : ℕ) (bytes : List ℕ) (more : List Event) → 0 < length bytes → length bytes ≤ DELIVERY_LIMIT
-      → is_cancel (heeds_all role at bytes) ≡ false → AreLate role (heeds_all role at bytes) waits more
+  soon : (at : Heed) (waits : ℕ) (bytes : List ℕ) (more : List Event)
+      → 0 < length bytes → length bytes ≤ DELIVERY_LIMIT
+      → is_cancel (heeds_all role at bytes) ≡ false
+      → AreLate role (heeds_all role at bytes) waits more
       → AreLate role at waits (event.Piece bytes ∷ more)
-  later : (at : Heed) (waits : ℕ) (bytes : List ℕ) (more : List Event) → role ≡ Sender → 0 < length bytes → length bytes ≤ DELIVERY_LIMIT
-      → is_cancel (heeds_all role heed.Open bytes) ≡ false → AreLate role (heeds_all role heed.Open bytes) waits more
+  later : (at : Heed) (waits : ℕ) (bytes : List ℕ) (more : List Event)
+      → role ≡ Sender → 0 < length bytes → length bytes ≤ DELIVERY_LIMIT
+      → is_cancel (heeds_all role heed.Open bytes) ≡ false
+      → AreLate role (heeds_all role heed.Open bytes) waits more
       → AreLate role at (suc waits) (event.Quiet ∷ event.Piece bytes ∷ more)
 
 abbrev pub quiets : ℕ → List Event
@@ -46,19 +50,27 @@ pub data Act : Type 0 where
   Reads : Act
 
 -- behind a write, which the port may fail while the line clears
-abbrev pub goes_on : (Talk → List Event → List Seen) → Talk → List ℕ → Result Held PortFault → List Event → List Seen
+abbrev pub goes_on : (Talk → List Event → List Seen) →
+    Talk → List ℕ → Result Held PortFault → List Event → List Seen
 goes_on on talk bytes (Ok h) rest = on (said bytes h talk) rest
 goes_on on talk bytes (Err e) rest = on talk rest
 
--- what its reads give, in order, each as long as one for a reply, and with room for a whole delivery
+-- what its reads give, in order, each as long as one for a reply, and with room for a whole
+-- delivery
 unfoldable pub gives : List Act → Talk → List Event → List Seen
 gives [] talk events = []
-gives (Writes bytes ∷ acts) talk events = goes_on (gives acts) talk bytes (cleared talk bytes events).answer (cleared talk bytes events).rest
-gives (Reads ∷ acts) talk events = (read_by Reply DELIVERY_LIMIT talk events).seen ∷ gives acts (read_by Reply DELIVERY_LIMIT talk events).talk (read_by Reply DELIVERY_LIMIT talk events).rest
+gives (Writes bytes ∷ acts) talk events =
+    goes_on (gives acts) talk bytes (cleared talk bytes events).answer
+    (cleared talk bytes events).rest
+gives (Reads ∷ acts) talk events =
+    (read_by Reply DELIVERY_LIMIT talk events).seen ∷
+    gives acts (read_by Reply DELIVERY_LIMIT talk events).talk
+    (read_by Reply DELIVERY_LIMIT talk events).rest
 
 -- ---- One call and its answers
 
--- What is written, how often the end waits in vain for an answer and writes it again, the answer that it then gets, and what comes late.
+-- What is written, how often the end waits in vain for an answer and writes it again, the answer
+-- that it then gets, and what comes late.
 pub record Call : Type 0 where
   pub written : List ℕ
   pub again : ℕ
@@ -82,9 +94,11 @@ waits (suc n) = event.Quiet ∷ event.Quiet ∷ waits n
 
 -- what comes: nothing so often, an answer, and what is late
 abbrev pub comes : Role → Call → List Event → List Event
-comes role call more = waits call.again ++ (event.Piece call.answer ∷ behind role call.again call.late more)
+comes role call more =
+    waits call.again ++ (event.Piece call.answer ∷ behind role call.again call.late more)
 
--- what is heard: nothing so often, and then the answer; that is, rounds whose reply is lost, and one whose reply is whole
+-- what is heard: nothing so often, and then the answer; that is, rounds whose reply is lost, and
+-- one whose reply is whole
 abbrev pub hears : ℕ → List ℕ → List Seen
 hears zero answer = Data answer ∷ []
 hears (suc again) answer = Silence ∷ hears again answer
@@ -110,10 +124,13 @@ all_comes role (call ∷ calls) more = comes role call (all_comes role calls mor
 -- a sender hears of an answer what is not withdrawn
 abbrev pub all_hears : Role → List Call → List Seen
 all_hears role [] = []
-all_hears role (call ∷ calls) = hears call.again (heeded_bytes role call.answer) ++ all_hears role calls
+all_hears role (call ∷ calls) =
+    hears call.again (heeded_bytes role call.answer) ++ all_hears role calls
 
 -- each call is one, and what a sender writes is not what it wrote before: the answer led on
 pub data AreCalls (role : Role) : List ℕ → List Call → Type 0 where
   none : (before : List ℕ) → AreCalls role before []
-  one : (before : List ℕ) (call : Call) (calls : List Call) → IsCall role call → (role ≡ Sender → is_same (front_of before) (front_of call.written) ≡ false)
+  one : (before : List ℕ) (call : Call) (calls : List Call)
+      → IsCall role call
+      → (role ≡ Sender → is_same (front_of before) (front_of call.written) ≡ false)
       → AreCalls role call.written calls → AreCalls role before (call ∷ calls)

@@ -1,4 +1,5 @@
--- What a delivery does to the place of a sender: it stays, or goes past a frame that was sent and acknowledged; and so it finishes behind the end block.
+-- What a delivery does to the place of a sender: it stays, or goes past a frame that was sent and
+-- acknowledged; and so it finishes behind the end block.
 --
 -- It follows from the sender's table, and is what the table is for.
 use Rattle.std.specs.Prelude.{◌≡◌, ◌⊎◌, ℕ, Bool, List, ◌∷◌, All}
@@ -29,7 +30,8 @@ SaysAck _ = ⊥
 
 -- the place stays, or it is the next one, behind an ACK of what was sent
 abbrev pub Moves : List ℕ → Place → Mode → List Control → Place → Type 0
-Moves counts place mode cs new = (new ≡ place) ⊎ ((mode ≡ Sent) × IsBefore place × SaysAck cs × (new ≡ next_of counts place))
+Moves counts place mode cs new =
+    (new ≡ place) ⊎ ((mode ≡ Sent) × IsBefore place × SaysAck cs × (new ≡ next_of counts place))
 
 -- a delivery at which a sender finishes
 pub record FinishesAt (s : Standing) (cs : List Control) (new : Place) : Type 0 where
@@ -41,16 +43,24 @@ pub record FinishesAt (s : Standing) (cs : List Control) (new : Place) : Type 0 
 -- ---- What the laws say
 
 abbrev pub GoesOnePlace : Type 0
-GoesOnePlace = (s : SenderParts) (cs : List Control) (failed : Bool) (new : SenderParts) → s.standing.state ≡ Running → IsStep s (hears (counts s) s.standing cs) failed new →
+GoesOnePlace =
+    (s : SenderParts) (cs : List Control) (failed : Bool) (new : SenderParts) →
+    s.standing.state ≡ Running → IsStep s (hears (counts s) s.standing cs) failed new →
     Moves (counts s) s.standing.place s.standing.mode cs new.standing.place
 
 abbrev pub FinishesLast : Type 0
-FinishesLast = (s : SenderParts) (cs : List Control) (failed : Bool) (new : SenderParts) → s.standing.state ≡ Running → IsStep s (hears (counts s) s.standing cs) failed new →
+FinishesLast =
+    (s : SenderParts) (cs : List Control) (failed : Bool) (new : SenderParts) →
+    s.standing.state ≡ Running → IsStep s (hears (counts s) s.standing cs) failed new →
     new.standing.state ≡ Finished → FinishesAt s.standing cs new.standing.place
 
 -- how many blocks each file has stays, and each file stays within its limits
 abbrev pub KeepsCounts : Type 0
-KeepsCounts = (s : SenderParts) (step : SendStep) (failed : Bool) (new : SenderParts) → IsStep s step failed new → counts new ≡ counts s
+KeepsCounts =
+    (s : SenderParts) (step : SendStep) (failed : Bool) (new : SenderParts) →
+    IsStep s step failed new → counts new ≡ counts s
 
 abbrev pub KeepsFiles : Type 0
-KeepsFiles = (s : SenderParts) (step : SendStep) (failed : Bool) (new : SenderParts) → IsStep s step failed new → All IsFile s.files → All IsFile new.files
+KeepsFiles =
+    (s : SenderParts) (step : SendStep) (failed : Bool) (new : SenderParts) →
+    IsStep s step failed new → All IsFile s.files → All IsFile new.files

@@ -51,18 +51,25 @@ pub record Outcome : Type 0 where
   pub tape : Tape
   pub answer : Result Unit EndFault
 
--- How a call may end, delivery by delivery: at each one the sink may fail or want memory, and at each reply the port may fail.
+-- How a call may end, delivery by delivery: at each one the sink may fail or want memory, and at
+-- each reply the port may fail.
 pub data Receives : ReceiverParts → Tape → Outcome → Type 0 where
   ended : (r : ReceiverParts) (t : Tape) → r.receiver.state ≢ state.Running
       → Receives r t (record { receiver = r; tape = t; answer = Ok tt })
-  unread : (r : ReceiverParts) (t : Tape) (f : EndFault) → IsReceiver r → r.receiver.state ≡ state.Running → heard_at t ≡ Err f
+  unread : (r : ReceiverParts) (t : Tape) (f : EndFault)
+      → IsReceiver r → r.receiver.state ≡ state.Running → heard_at t ≡ Err f
       → Receives r t (record { receiver = r; tape = behind t; answer = Err f })
-  unheard : (r : ReceiverParts) (t : Tape) (h : Heard) (e : AllocError) → IsReceiver r → r.receiver.state ≡ state.Running → heard_at t ≡ Ok h
+  unheard : (r : ReceiverParts) (t : Tape) (h : Heard) (e : AllocError)
+      → IsReceiver r → r.receiver.state ≡ state.Running → heard_at t ≡ Ok h
       → HearsGives r h (Err e) r
       → Receives r t (record { receiver = r; tape = behind t; answer = Err fault.Memory })
-  unwritten : (r : ReceiverParts) (t : Tape) (h : Heard) (reply : Reply) (new : ReceiverParts) → IsReceiver r → r.receiver.state ≡ state.Running → heard_at t ≡ Ok h
+  unwritten : (r : ReceiverParts) (t : Tape) (h : Heard) (reply : Reply) (new : ReceiverParts)
+      → IsReceiver r → r.receiver.state ≡ state.Running → heard_at t ≡ Ok h
       → HearsGives r h (Ok reply) new → reply ≢ Silence
       → Receives r t (record { receiver = new; tape = behind t; answer = Err fault.Device })
-  heard : (r : ReceiverParts) (t : Tape) (h : Heard) (reply : Reply) (new : ReceiverParts) (out : Outcome) → IsReceiver r → r.receiver.state ≡ state.Running → heard_at t ≡ Ok h
-      → HearsGives r h (Ok reply) new → Receives new (after_write true (behind t) (reply_bytes reply)) out
+  heard : (r : ReceiverParts) (t : Tape) (h : Heard) (reply : Reply) (new : ReceiverParts)
+      (out : Outcome)
+      → IsReceiver r → r.receiver.state ≡ state.Running → heard_at t ≡ Ok h
+      → HearsGives r h (Ok reply) new
+      → Receives new (after_write true (behind t) (reply_bytes reply)) out
       → Receives r t out

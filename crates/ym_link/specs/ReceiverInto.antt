@@ -29,7 +29,12 @@ pub record ReceiverParts : Type 0 where
 abbrev pub new_in_memory : Confirm → ReceiverParts
 new_in_memory confirm = record {
   receiver = new_receiver confirm;
-  kept = record { opened = None; taken = 0; headers = []; told = Some (record { open_bytes = []; files = [] }) };
+  kept = record {
+    opened = None;
+    taken = 0;
+    headers = [];
+    told = Some (record { open_bytes = []; files = [] });
+  };
   failures = 0;
 }
 
@@ -53,7 +58,8 @@ Tells true old new = Rose old new
 Tells false old new = new ≡ old
 
 -- a step was taken, with the truth whether the sink failed in it
-pub record Takes (old : ReceiverParts) (step : Step) (failed : Bool) (reply : Reply) (new : ReceiverParts) : Type 0 where
+pub record Takes (old : ReceiverParts) (step : Step) (failed : Bool) (reply : Reply)
+    (new : ReceiverParts) : Type 0 where
   pub truth : Tells failed old.failures new.failures
   pub no_call : step.call ≡ No_call → failed ≡ false
   pub reply_is : reply ≡ (outcome failed old.receiver step).reply
@@ -70,23 +76,31 @@ Grows Commits = ⊥
 -- want of memory is met by the sink, or by a header that is one too many, and nothing has changed
 abbrev pub StepGives : ReceiverParts → Step → Result Reply AllocError → ReceiverParts → Type 0
 StepGives old step (Ok reply) new = (failed : Bool) × Takes old step failed reply new
-StepGives old step (Err error) new = (new ≡ old) × (Grows step.call ⊎ (step.receiver.state ≡ state.TooManyFiles))
+StepGives old step (Err error) new =
+    (new ≡ old) × (Grows step.call ⊎ (step.receiver.state ≡ state.TooManyFiles))
 
 -- what hearing a delivery answers and leaves
 abbrev pub HearsGives : ReceiverParts → Heard → Result Reply AllocError → ReceiverParts → Type 0
-HearsGives old h result new = (zero : Result Zero HeaderFault) × Means old.receiver h zero × StepGives old (hears old.receiver zero h) result new
+HearsGives old h result new =
+    (zero : Result Zero HeaderFault) × Means old.receiver h zero ×
+    StepGives old (hears old.receiver zero h) result new
 
 -- ---- What always holds
 
--- the bytes that the sink took since the file was begun are no more than the header states, and no more than the blocks had
+-- the bytes that the sink took since the file was begun are no more than the header states, and no
+-- more than the blocks had
 abbrev pub IsWithin : Stage → Kept → Type 0
 IsWithin AwaitHeader kept = kept.opened ≡ None
-IsWithin (InFile file) kept = (header : HeaderParts) × (kept.opened ≡ Some header) × (kept.taken ≤ min header.length (1024 * file.blocks))
+IsWithin (InFile file) kept =
+    (header : HeaderParts) × (kept.opened ≡ Some header) ×
+    (kept.taken ≤ min header.length (1024 * file.blocks))
 
 -- the sink's file is the receiver's
 abbrev pub IsOpenFile : Stage → Kept → Type 0
 IsOpenFile AwaitHeader kept = kept.opened ≡ None
-IsOpenFile (InFile file) kept = (header : HeaderParts) × (kept.opened ≡ Some header) × (header.length ≡ file.length) × (kept.taken ≡ file.taken) × (file.taken ≤ file.length) × (file.length ≤ MOST_LENGTH)
+IsOpenFile (InFile file) kept =
+    (header : HeaderParts) × (kept.opened ≡ Some header) × (header.length ≡ file.length) ×
+    (kept.taken ≡ file.taken) × (file.taken ≤ file.length) × (file.length ≤ MOST_LENGTH)
 
 pub record IsReceiver (parts : ReceiverParts) : Type 0 where
   pub open_file : IsOpenFile parts.receiver.stage parts.kept

@@ -1,4 +1,5 @@
--- Where a receiver stands that has taken the first so many frames of a batch, and what it hears of a frame.
+-- Where a receiver stands that has taken the first so many frames of a batch, and what it hears of
+-- a frame.
 use Rattle.std.specs.Prelude.{ℕ, ◌+◌, ◌-◌, ◌≡◌, ◌≤◌, ◌<◌, ◌⊎◌, nat_le, suc, zero, List, [], ◌∷◌, length, map, take, Option, None, Some, Bool, if◌then◌else◌, All}
 use Rattle.ym_frame.specs.declared.control.Reply.{Reply}
 use Rattle.ym_frame.specs.declared.frame.Item.{Item}
@@ -89,10 +90,12 @@ abbrev pub open_bytes_of : Option (File HeaderParts × ℕ) → List ℕ
 open_bytes_of None = []
 open_bytes_of (Some open_file) = kept_after open_file.0 open_file.1
 
--- the files committed are the first ones of the batch, each with its header and, where they are told, its bytes
+-- the files committed are the first ones of the batch, each with its header and, where they are
+-- told, its bytes
 pub record KeepsFirst (files : List (File HeaderParts)) (n : ℕ) (kept : Kept) : Type 0 where
   pub headers : kept.headers ≡ map (λ (f : File HeaderParts). f.header) (files_within files n)
-  pub bytes : (told : Told) → kept.told ≡ Some told → told.files ≡ map bytes_of (files_within files n)
+  pub bytes : (told : Told) →
+      kept.told ≡ Some told → told.files ≡ map bytes_of (files_within files n)
 
 -- the open file is that of the batch, with the bytes of the pieces taken
 pub record KeepsOpen (open_file : Option (File HeaderParts × ℕ)) (kept : Kept) : Type 0 where
@@ -118,7 +121,8 @@ receiver_at confirm files st = record {
 }
 
 -- a receiver, with what its sink tells, refines a state of the machine
-pub record ReceiverRefines (confirm : Confirm) (files : List (File HeaderParts)) (st : State) (r : Receiver) (kept : Kept) : Type 0 where
+pub record ReceiverRefines (confirm : Confirm) (files : List (File HeaderParts)) (st : State)
+    (r : Receiver) (kept : Kept) : Type 0 where
   pub confirm_is : r.confirm ≡ confirm
   pub state_is : r.state ≡ state_of st.receiver
   pub files_is : r.files ≡ count_within files st.taken
@@ -127,7 +131,8 @@ pub record ReceiverRefines (confirm : Confirm) (files : List (File HeaderParts))
   pub keeps_open : st.receiver ≡ ReceiverEnd.Running → KeepsOpen (open_at files st.taken) kept
 
 -- it has gone where the machine goes, with its reply
-pub record Goes (confirm : Confirm) (files : List (File HeaderParts)) (answer : State × Reply) (reply : Reply) (new : ReceiverParts) : Type 0 where
+pub record Goes (confirm : Confirm) (files : List (File HeaderParts)) (answer : State × Reply)
+    (reply : Reply) (new : ReceiverParts) : Type 0 where
   pub reply_is : reply ≡ answer.1
   pub refines : ReceiverRefines confirm files answer.0 new.receiver new.kept
 
@@ -135,7 +140,10 @@ pub record Goes (confirm : Confirm) (files : List (File HeaderParts)) (answer : 
 abbrev pub heard_there : List (File HeaderParts) → Bool → State → Heard
 heard_there files whole st = heard_as (frames_of files) (machine.heard whole (said st))
 
--- a delivery takes it where the receiver step takes the machine, with the truth whether its sink failed
-abbrev pub Follows : Confirm → List (File HeaderParts) → Bool → State → ReceiverParts → Reply → ReceiverParts → Type 0
+-- a delivery takes it where the receiver step takes the machine, with the truth whether its sink
+-- failed
+abbrev pub Follows : Confirm → List (File HeaderParts) → Bool → State → ReceiverParts → Reply →
+    ReceiverParts → Type 0
 Follows confirm files whole st old reply new =
-    (failed : Bool) × Tells failed old.failures new.failures × Goes confirm files (receiver_step (frames_of files) confirm failed whole st) reply new
+    (failed : Bool) × Tells failed old.failures new.failures ×
+    Goes confirm files (receiver_step (frames_of files) confirm failed whole st) reply new

@@ -6,8 +6,9 @@ use Rattle.ym_link.specs.declared.event.Event.{Event}
 use Rattle.ym_link.specs.declared.event.Event.TheVariants as event
 use Rattle.ym_link.specs.declared.port.Wait.{Wait}
 
--- the events still to come, the bytes written, the waits that reads were given where there was memory to keep them, the count down to the write that is to fail with the calls that failed, and the
--- writes among them that found no memory
+-- the events still to come, the bytes written, the waits that reads were given where there was
+-- memory to keep all of them, the count down to the write that is to fail with the calls that
+-- failed, and how many of these found no memory
 pub record PortParts : Type 0 where
   pub coming : List Event
   pub written : List ℕ
@@ -16,7 +17,13 @@ pub record PortParts : Type 0 where
   pub refused : ℕ
 
 abbrev pub new_port : List Event → Option ℕ → PortParts
-new_port events failing_write = record { coming = events; written = []; waits = Some []; tally = new_tally failing_write; refused = 0 }
+new_port events failing_write = record {
+  coming = events;
+  written = [];
+  waits = Some [];
+  tally = new_tally failing_write;
+  refused = 0;
+}
 
 abbrev pub kept_waits : Bool → List Wait → Option (List Wait)
 kept_waits true waits = Some waits
@@ -26,7 +33,18 @@ kept_waits false waits = None
 abbrev pub after_read : Bool → ℕ → PortParts → PortParts
 after_read ok room p = record p {
   coming = read_leaves room p.coming;
-  tally = if ok then p.tally else record { failing = p.tally.failing; failures = raised p.tally.failures };
+  tally =
+      if ok
+      then p.tally
+      else record { failing = p.tally.failing; failures = raised p.tally.failures };
+}
+
+-- after a read that found no memory to keep its wait: none is kept any more, and nothing was read
+abbrev pub after_losing : PortParts → PortParts
+after_losing p = record p {
+  waits = None;
+  tally = record { failing = p.tally.failing; failures = raised p.tally.failures };
+  refused = raised p.refused;
 }
 
 -- after a write that was made
@@ -39,7 +57,10 @@ after_failing p = record p { tally = counted p.tally }
 
 -- after a write that found no memory
 abbrev pub after_refusing : PortParts → PortParts
-after_refusing p = record p { tally = record { failing = (counted p.tally).failing; failures = raised p.tally.failures }; refused = raised p.refused }
+after_refusing p = record p {
+  tally = record { failing = (counted p.tally).failing; failures = raised p.tally.failures };
+  refused = raised p.refused;
+}
 
 -- the first events are read, and of the next one the first bytes
 abbrev pub cut_event : ℕ → Event → Event

@@ -39,15 +39,19 @@ pub record Outcome : Type 0 where
   pub tape : Tape
   pub answer : Result Unit EndFault
 
--- How a call that began with a running sender may end, delivery by delivery: at each one the source may fail, and at each frame the
--- port may fail. A sender that has given up, or whose source failed, has CAN CAN to say.
+-- How a call that began with a running sender may end, delivery by delivery: at each one the source
+-- may fail, and at each frame the port may fail. A sender that has given up, or whose source
+-- failed, has CAN CAN to say.
 pub data Sends : SenderParts → Tape → Outcome → Type 0 where
   ended : (s : SenderParts) (t : Tape) → s.standing.state ≢ Running
       → Sends s t (record { sender = s; tape = said s t; answer = Ok tt })
   unwritten : (s : SenderParts) (t : Tape) → IsSender s → spoken s ≢ None
       → Sends s t (record { sender = s; tape = t; answer = Err fault.Device })
-  unread : (s : SenderParts) (t : Tape) (f : EndFault) → IsSender s → s.standing.state ≡ Running → (delivery_to s t).delivery ≡ Err f
+  unread : (s : SenderParts) (t : Tape) (f : EndFault)
+      → IsSender s → s.standing.state ≡ Running → (delivery_to s t).delivery ≡ Err f
       → Sends s t (record { sender = s; tape = behind s (said s t); answer = Err f })
-  heard : (s : SenderParts) (t : Tape) (bytes : List ℕ) (new : SenderParts) (out : Outcome) → IsSender s → s.standing.state ≡ Running
-      → (delivery_to s t).delivery ≡ Ok bytes → Hears s bytes new → Sends new (behind s (said s t)) out
+  heard : (s : SenderParts) (t : Tape) (bytes : List ℕ) (new : SenderParts) (out : Outcome)
+      → IsSender s → s.standing.state ≡ Running
+      → (delivery_to s t).delivery ≡ Ok bytes → Hears s bytes new
+      → Sends new (behind s (said s t)) out
       → Sends s t out

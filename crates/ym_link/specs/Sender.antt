@@ -30,8 +30,8 @@ pub record FailedAt (file : ℕ) (old new : List FileParts) : Type 0 where
   pub rose : Rose (file_at old file).failures failures
   pub after : new ≡ slice_set old file (record (filled (file_at old file)) { failures = failures })
 
--- What filling a place's frame, which failed or not, does to the files. Only a data block is filled from its source, and its source is
--- asked once.
+-- What filling a place's frame, which failed or not, does to the files. Only a data block is filled
+-- from its source, and its source is asked once.
 abbrev pub IsFilled : Bool → Option Place → List FileParts → List FileParts → Type 0
 IsFilled false (Some (Block file k)) old new = FilledAt file old new
 IsFilled true (Some (Block file k)) old new = FailedAt file old new
@@ -53,7 +53,8 @@ IsHeld None new old = new.frame ≡ old
 IsHeld (Some place) new old = IsFrameAt new.shape new.files place new.frame
 
 -- what a delivery does to a sender, where its source failed at it or not
-pub record IsStep (old : SenderParts) (taken : Step) (failed : Bool) (new : SenderParts) : Type 0 where
+pub record IsStep (old : SenderParts) (taken : Step) (failed : Bool)
+    (new : SenderParts) : Type 0 where
   pub files : IsFilled failed taken.fills old.files new.files
   pub standing : new.standing ≡ after_fill failed taken.fills taken.standing
   pub frame : failed ≡ false → IsHeld taken.fills new old.frame
@@ -61,7 +62,8 @@ pub record IsStep (old : SenderParts) (taken : Step) (failed : Bool) (new : Send
 
 -- a sender hears a delivery: its own source tells whether it failed
 abbrev pub Hears : SenderParts → List ℕ → SenderParts → Type 0
-Hears old bytes new = (failed : Bool) × IsStep old (hears (counts old) old.standing (controls_in bytes)) failed new
+Hears old bytes new =
+    (failed : Bool) × IsStep old (hears (counts old) old.standing (controls_in bytes)) failed new
 
 -- what a running sender reads in a delivery
 pub record IsReading (s : SenderParts) (bytes : List ℕ) (read : Reading) : Type 0 where
@@ -84,4 +86,5 @@ pub record IsSender (s : SenderParts) : Type 0 where
   pub files : All IsFile s.files
   pub place : IsPlace (counts s) s.standing.place
   pub retries : s.standing.state ≡ Running → s.standing.retries < GIVE_UP
-  pub frame : s.standing.state ≡ Running → s.standing.mode ≡ Sent → IsFrameAt s.shape s.files s.standing.place s.frame
+  pub frame : s.standing.state ≡ Running → s.standing.mode ≡ Sent →
+      IsFrameAt s.shape s.files s.standing.place s.frame

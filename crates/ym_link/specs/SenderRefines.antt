@@ -24,7 +24,8 @@ use Rattle.ym_core.specs.declared.state.SendState.TheVariants as state
 abbrev pub Batch : Type 0
 Batch = List (File HeaderParts)
 
--- a file with a source is this file of the machine; where the source tells no bytes, only the number of pieces is known
+-- a file with a source is this file of the machine; where the source tells no bytes, only the
+-- number of pieces is known
 pub record IsFileOf (shape : Shape) (source : FileParts) (file : File HeaderParts) : Type 0 where
   pub header : file.header ≡ source.header
   pub count : length file.pieces ≡ blocks_of shape source
@@ -36,7 +37,10 @@ told_pieces shape count (Some all) = pieces_of shape all
 
 -- the machine's file, with empty pieces where the source tells no bytes
 abbrev pub file_of : Shape → FileParts → File HeaderParts
-file_of shape source = record { header = source.header; pieces = told_pieces shape (blocks_of shape source) source.bytes }
+file_of shape source = record {
+  header = source.header;
+  pieces = told_pieces shape (blocks_of shape source) source.bytes;
+}
 
 abbrev pub batch_of : Shape → List FileParts → Batch
 batch_of shape sources = map (file_of shape) sources
@@ -48,7 +52,8 @@ abbrev pub counts_in : Batch → List ℕ
 counts_in [] = []
 counts_in (file ∷ files) = length file.pieces ∷ counts_in files
 
--- the place of F[n], where the first file of the list has number i; behind the list it is the end block's
+-- the place of F[n], where the first file of the list has number i; behind the list it is the end
+-- block's
 abbrev pub place_from : ℕ → Batch → ℕ → Place
 place_from i [] n = End
 place_from i (file ∷ files) zero = Header i
@@ -97,7 +102,8 @@ pub record SenderRefines (files : Batch) (st : State) (s : SenderParts) : Type 0
 -- the bytes of what the machine's sender has to say
 abbrev pub IsSaid : Batch → Speech → Option (List ℕ) → Type 0
 IsSaid files Nothing bytes = bytes ≡ None
-IsSaid files (FrameAt i) bytes = (frame : List ℕ) × (bytes ≡ Some frame) × IsFrame (item_of (frame_at (frames_of files) i)) frame
+IsSaid files (FrameAt i) bytes =
+    (frame : List ℕ) × (bytes ≡ Some frame) × IsFrame (item_of (frame_at (frames_of files) i)) frame
 IsSaid files CanCan bytes = bytes ≡ Some (0x18 ∷ 0x18 ∷ [])
 
 -- each source tells its bytes

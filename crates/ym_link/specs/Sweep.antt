@@ -1,5 +1,6 @@
--- A line that is let clear: what comes is dropped until the line has been quiet for long enough (this profile).
-use Rattle.std.specs.Prelude.{ℕ, ◌-◌, nat_eq, ◌||◌, zero, suc, Bool, true, false, List, [], ◌∷◌, Option, Some, None, Result, Ok, Err, if◌then◌else◌}
+-- A line that is let clear: what comes is dropped until the line has been quiet for long enough
+-- (this profile).
+use Rattle.std.specs.Prelude.{◌≡◌, ℕ, ◌-◌, nat_eq, ◌||◌, zero, suc, Bool, true, false, List, [], ◌∷◌, ◌++◌, All, Option, Some, None, Result, Ok, Err, if◌then◌else◌}
 use Rattle.ym_link.specs.Port.{Seen, Data, Silence, End, Failed, read_gives, read_leaves}
 use Rattle.ym_link.specs.declared.event.Event.{Event}
 use Rattle.ym_link.specs.declared.exchange.Role.{Role}
@@ -11,11 +12,13 @@ use Rattle.ym_link.specs.declared.sweep.Heed.{Heed}
 use Rattle.ym_link.specs.declared.sweep.Heed.TheVariants as heed
 use Rattle.ym_link.specs.declared.sweep.Sweep.{Sweep}
 use Rattle.ym_link.specs.declared.port.TheConstants.{DELIVERY_LIMIT}
+use Rattle.ym_link.specs.declared.port.Wait.{Wait}
+use Rattle.ym_link.specs.declared.port.Wait.TheVariants.{Within}
 
 -- ---- CAN CAN among what is dropped
 
--- What the next byte makes of it. To a sender CAN CAN is the end wherever it stands. A receiver knows it at the front of a delivery alone:
--- the data of a block may hold it.
+-- What the next byte makes of it. To a sender CAN CAN is the end wherever it stands. A receiver
+-- knows it at the front of a delivery alone: the data of a block may hold it.
 abbrev pub heeds : Role → Heed → Bool → Heed
 heeds role heed.CanCan is_can = heed.CanCan
 heeds role heed.Can is_can = if is_can then heed.CanCan else heed.Other
@@ -30,14 +33,16 @@ heeds_all role at (b ∷ bytes) = heeds_all role (heeds role at (nat_eq b 24)) b
 
 -- ---- How long it takes
 
--- How many waits in a row the line has to be quiet: for a receiver one, which ends a delivery too. For a sender two: longer than the one
--- for which a receiver lets the line clear before it answers, and shorter than the three after which it asks again.
+-- How many waits in a row the line has to be quiet: for a receiver one, which ends a delivery too.
+-- For a sender two: longer than the one for which a receiver lets the line clear before it answers,
+-- and shorter than the three after which it asks again.
 abbrev pub quiet_waits : Role → ℕ
 quiet_waits Sender = 2
 quiet_waits Receiver = 1
 
--- How many waits there are in all, where the line is never quiet for so long: an end writes a frame ten times at most, so nine answers may
--- be late, each of them behind a quiet wait that is too short.
+-- How many waits there are in all, where the line is never quiet for so long: an end writes a frame
+-- ten times at most, so nine answers may be late, each of them behind a quiet wait that is too
+-- short.
 abbrev pub most_waits : Role → ℕ
 most_waits Sender = 11
 most_waits Receiver = 1
@@ -52,7 +57,10 @@ new_sweep role is_quiet = record {
 
 -- some bytes were dropped: the line is not quiet
 abbrev pub dropped : Role → List ℕ → Sweep → Sweep
-dropped role bytes s = record s { quiet_left = quiet_waits role; heed = heeds_all role s.heed bytes }
+dropped role bytes s = record s {
+  quiet_left = quiet_waits role;
+  heed = heeds_all role s.heed bytes;
+}
 
 -- the line was quiet for one more wait
 abbrev pub waited : Sweep → Sweep
@@ -86,7 +94,8 @@ after_read role s End = Ok None
 after_read role s Failed = Err record {}
 
 -- and how it goes on
-abbrev pub behind : (Sweep → List Event → Swept) → Result (Option Sweep) PortFault → List Event → Swept
+abbrev pub behind : (Sweep → List Event → Swept) →
+    Result (Option Sweep) PortFault → List Event → Swept
 behind on (Ok (Some s)) rest = on s rest
 behind on (Ok None) rest = record { answer = Ok held.Closed; rest = rest }
 behind on (Err e) rest = record { answer = Err e; rest = rest }
@@ -96,4 +105,12 @@ unfoldable pub swept : ℕ → Role → Sweep → List Event → Swept
 swept zero role s events = record { answer = Ok (held_by s.heed); rest = events }
 swept (suc reads) role s events =
     if is_over s then record { answer = Ok (held_by s.heed); rest = events }
-    else behind (swept reads role) (after_read role s (read_gives DELIVERY_LIMIT events)) (read_leaves DELIVERY_LIMIT events)
+    else behind (swept reads role) (after_read role s (read_gives DELIVERY_LIMIT events))
+    (read_leaves DELIVERY_LIMIT events)
+
+-- behind the waits before stand those of the reads for which the line was let clear: each is the
+-- short one
+pub record AskedWithin (old new : List Wait) : Type 0 where
+  pub reads : List Wait
+  pub short : All (λ wait. wait ≡ Within) reads
+  pub waits : new ≡ old ++ reads

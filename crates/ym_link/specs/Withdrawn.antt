@@ -11,7 +11,8 @@ use Rattle.ym_link.specs.declared.sweep.Heed.TheVariants as heed
 abbrev pub is_answer : ℕ → Bool
 is_answer b = nat_eq b 6 || nat_eq b 21 || nat_eq b 67
 
--- How much of CAN CAN stands at the end of the control bytes. Bytes that are none do not count, as where a sender reads a reply.
+-- How much of CAN CAN stands at the end of the control bytes. Bytes that are none do not count, as
+-- where a sender reads a reply.
 abbrev pub one_can : Heed → Heed
 one_can heed.CanCan = heed.CanCan
 one_can heed.Can = heed.CanCan
@@ -28,8 +29,9 @@ abbrev pub cancels_all : Heed → List ℕ → Heed
 cancels_all at [] = at
 cancels_all at (b ∷ bytes) = cancels_all (cancels at b) bytes
 
--- What a sender hears of what one read brought: of bytes with CAN CAN among them CAN CAN alone, and of bytes whose last control byte is
--- CAN that CAN alone, for the second one may be under way. An ACK before it is no ACK.
+-- What a sender hears of what one read brought: of bytes with CAN CAN among them CAN CAN alone, and
+-- of bytes whose last control byte is CAN that CAN alone, for the second one may be under way. An
+-- ACK before it is no ACK.
 abbrev pub heard_by : Heed → List ℕ → List ℕ
 heard_by heed.CanCan bytes = 24 ∷ 24 ∷ []
 heard_by heed.Can bytes = 24 ∷ []

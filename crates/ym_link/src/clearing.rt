@@ -9,11 +9,13 @@ ghost use Rattle.ym_link.specs.declared.port.Wait.{Wait as Asked};
 
 use crate::exchange::{Exchange, Front, Role};
 use crate::port::{Got, Port, PortFault, Wait};
-use crate::sweep::{CAN, Held, Sweep, let_clear};
+use crate::sweep::{Held, Sweep, let_clear};
 use crate::withdrawn::read_heeding;
+use ym_frame::CAN;
 
-/// How many reads behind a new block 0 may bring C alone and be passed over. A receiver that was started long before its peer has asked
-/// no more often; one that asks on is heard, since it lacks block 0.
+/// How many reads behind a new block 0 may bring C alone and be passed over. A receiver that was
+/// started long before its peer has asked no more often; one that asks on is heard, since it lacks
+/// block 0.
 pub const STALE_READS: u32 = 10;
 
 /// What an end and its line have said of late.
@@ -44,7 +46,8 @@ impl Talk {
 fn clear_for<P: Port>(port: &mut P, talk: &Talk, clears: bool) -> Result<Held, PortFault>
     ensures told { (u : Tape) → P.tells port.new u → (t : Tape) × P.tells port.old t
         × ((bytes : List ℕ) → clears ≡ must_clear talk.now.role talk.now.exchange (front_of bytes)
-        → (result ≡ (table.cleared talk.now bytes t.coming).answer) × (u ≡ record t { coming = (table.cleared talk.now bytes t.coming).rest })) }
+        → (result ≡ (table.cleared talk.now bytes t.coming).answer)
+        × (u ≡ record t { coming = (table.cleared talk.now bytes t.coming).rest })) }
     ensures ok { OnOk result (P.failures port.new ≡ P.failures port.old) }
     ensures failed { OnErr result (Rose (P.failures port.old) (P.failures port.new)) }
 {
@@ -60,11 +63,13 @@ fn clear_for<P: Port>(port: &mut P, talk: &Talk, clears: bool) -> Result<Held, P
     }
 }
 
-/// A port that lets the line clear before a write, where more may be under way than the answer to it: before a sender goes on to another
-/// frame, where it has written the one before more than once; before a receiver answers a frame, where it has written more than once since
-/// the last one; and where noise filled a delivery. What then comes is dropped until the line has been quiet, for a receiver as long as
-/// within a delivery, for a sender twice as long; at most [`MOST_READS`] reads are made for it. CAN CAN and the end of the line are not
-/// dropped: they are heard at the next read. Where each write was answered, nothing is read and nothing waits.
+/// A port that lets the line clear before a write, where more may be under way than the answer to
+/// it: before a sender goes on to another frame, where it has written the one before more than
+/// once; before a receiver answers a frame, where it has written more than once since the last one;
+/// and where noise filled a delivery. What then comes is dropped until the line has been quiet, for
+/// a receiver as long as within a delivery, for a sender twice as long; at most [`MOST_READS`]
+/// reads are made for it. CAN CAN and the end of the line are not dropped: they are heard at the
+/// next read. Where each write was answered, nothing is read and nothing waits.
 ///
 /// [`MOST_READS`]: crate::MOST_READS
 #[derive(Drop)]
@@ -74,7 +79,8 @@ pub struct Clearing<P: Port + Drop> {
 }
 
 impl<P: Port + Drop> Clearing<P> {
-    ghost use Rattle.ym_link.specs.Clearing.{new_talk, AskedLast, IsRead, once, fresh, patient, read_by};
+    ghost use Rattle.ym_link.specs.Clearing.{new_talk, once, fresh, patient, read_by};
+    ghost use Rattle.ym_link.specs.Clearing.{AskedLast, IsRead};
     ghost use Rattle.ym_link.specs.declared.clearing.TheConstants.{STALE_READS};
 
     /// The port as this end has it.
@@ -98,8 +104,11 @@ impl<P: Port + Drop> Clearing<P> {
         requires { 0 < length buf.old }
         ensures count { (n : ℕ) → result ≡ Ok (Got.Bytes n) → (0 < n) × (n ≤ length buf.old) }
         ensures exact { (u : Tape) → P.tells self.new.port u → (t : Tape) × P.tells self.old.port t
-            × IsRead (once (length buf.old) self.old.talk t.coming) (seen_of result buf.new) self.new.talk t u }
-        ensures asked { (w : List Asked) → P.asked self.new.port w → (v : List Asked) × P.asked self.old.port v × (w ≡ v ++ wait ∷ []) }
+            × IsRead (once (length buf.old) self.old.talk t.coming) (seen_of result buf.new)
+            self.new.talk t u }
+        ensures asked { (w : List Asked) →
+            P.asked self.new.port w →
+            (v : List Asked) × P.asked self.old.port v × (w ≡ v ++ wait ∷ []) }
         ensures ok { OnOk result (P.failures self.new.port ≡ P.failures self.old.port) }
         ensures failed { OnErr result (Rose (P.failures self.old.port) (P.failures self.new.port)) }
     {
@@ -114,8 +123,11 @@ impl<P: Port + Drop> Clearing<P> {
         requires { 0 < length buf.old }
         ensures count { (n : ℕ) → result ≡ Ok (Got.Bytes n) → (0 < n) × (n ≤ length buf.old) }
         ensures exact { (u : Tape) → P.tells self.new.port u → (t : Tape) × P.tells self.old.port t
-            × IsRead (fresh STALE_READS (length buf.old) self.old.talk t.coming) (seen_of result buf.new) self.new.talk t u }
-        ensures asked { (w : List Asked) → P.asked self.new.port w → (v : List Asked) × P.asked self.old.port v × AskedLast Wait.Within v w }
+            × IsRead (fresh STALE_READS (length buf.old) self.old.talk t.coming)
+            (seen_of result buf.new) self.new.talk t u }
+        ensures asked { (w : List Asked) →
+            P.asked self.new.port w →
+            (v : List Asked) × P.asked self.old.port v × AskedLast Wait.Within v w }
         ensures ok { OnOk result (P.failures self.new.port ≡ P.failures self.old.port) }
         ensures failed { OnErr result (Rose (P.failures self.old.port) (P.failures self.new.port)) }
     {
@@ -135,8 +147,10 @@ impl<P: Port + Drop> Clearing<P> {
         requires { 0 < length buf.old }
         ensures count { (n : ℕ) → result ≡ Ok (Got.Bytes n) → (0 < n) × (n ≤ length buf.old) }
         ensures exact { (u : Tape) → P.tells self.new.port u → (t : Tape) × P.tells self.old.port t
-            × IsRead (patient wait (length buf.old) self.old.talk t.coming) (seen_of result buf.new) self.new.talk t u }
-        ensures quiet { result ≡ Ok Got.Quiet → (w : List Asked) → P.asked self.new.port w → (v : List Asked) × P.asked self.old.port v × AskedLast wait v w }
+            × IsRead (patient wait (length buf.old) self.old.talk t.coming) (seen_of result buf.new)
+            self.new.talk t u }
+        ensures quiet { result ≡ Ok Got.Quiet → (w : List Asked) → P.asked self.new.port w →
+            (v : List Asked) × P.asked self.old.port v × AskedLast wait v w }
         ensures ok { OnOk result (P.failures self.new.port ≡ P.failures self.old.port) }
         ensures failed { OnErr result (Rose (P.failures self.old.port) (P.failures self.new.port)) }
     {
@@ -156,8 +170,10 @@ impl<P: Port + Drop> Clearing<P> {
         requires { 0 < length buf.old }
         ensures count { (n : ℕ) → result ≡ Ok (Got.Bytes n) → (0 < n) × (n ≤ length buf.old) }
         ensures exact { (u : Tape) → P.tells self.new.port u → (t : Tape) × P.tells self.old.port t
-            × IsRead (read_by wait (length buf.old) self.old.talk t.coming) (seen_of result buf.new) self.new.talk t u }
-        ensures quiet { result ≡ Ok Got.Quiet → (w : List Asked) → P.asked self.new.port w → (v : List Asked) × P.asked self.old.port v × AskedLast wait v w }
+            × IsRead (read_by wait (length buf.old) self.old.talk t.coming) (seen_of result buf.new)
+            self.new.talk t u }
+        ensures quiet { result ≡ Ok Got.Quiet → (w : List Asked) → P.asked self.new.port w →
+            (v : List Asked) × P.asked self.old.port v × AskedLast wait v w }
         ensures ok { OnOk result (P.failures self.new.port ≡ P.failures self.old.port) }
         ensures failed { OnErr result (Rose (P.failures self.old.port) (P.failures self.new.port)) }
     {
@@ -196,7 +212,8 @@ impl<P: Port + Drop> Clearing<P> {
 impl<P: Port + Drop> Port for Clearing<P> {
     ghost use Rattle.ym_link.specs.Clearing.{AskedLast, Passes, IsRead, read_by, cleared, Writes};
 
-    ghost tells = { λ c u. (t : Tape) × P.tells c.port t × (u.written ≡ t.written) × Passes c.talk t.coming u.coming };
+    ghost tells = { λ c u.
+        (t : Tape) × P.tells c.port t × (u.written ≡ t.written) × Passes c.talk t.coming u.coming };
 
     ghost asked = { λ _ _. ⊥ };
 
@@ -207,12 +224,18 @@ impl<P: Port + Drop> Port for Clearing<P> {
         requires { 0 < length buf.old }
         ensures count { (n : ℕ) → result ≡ Ok (Got.Bytes n) → (0 < n) × (n ≤ length buf.old) }
         ensures exact { (u : Tape) → P.tells self.new.port u → (t : Tape) × P.tells self.old.port t
-            × IsRead (read_by wait (length buf.old) self.old.talk t.coming) (seen_of result buf.new) self.new.talk t u }
-        ensures told { (u : Tape) → ((t : Tape) × P.tells self.new.port t × (u.written ≡ t.written) × Passes self.new.talk t.coming u.coming)
-            → (x : Tape) × ((t : Tape) × P.tells self.old.port t × (x.written ≡ t.written) × Passes self.old.talk t.coming x.coming)
+            × IsRead (read_by wait (length buf.old) self.old.talk t.coming) (seen_of result buf.new)
+            self.new.talk t u }
+        ensures told { (u : Tape)
+            → ((t : Tape) × P.tells self.new.port t × (u.written ≡ t.written)
+            × Passes self.new.talk t.coming u.coming)
+            → (x : Tape)
+            × ((t : Tape) × P.tells self.old.port t × (x.written ≡ t.written)
+            × Passes self.old.talk t.coming x.coming)
             × (seen_of result buf.new ≡ read_gives (length buf.old) x.coming)
             × (u ≡ record x { coming = read_leaves (length buf.old) x.coming }) }
-        ensures quiet { result ≡ Ok Got.Quiet → (w : List Asked) → P.asked self.new.port w → (v : List Asked) × P.asked self.old.port v × AskedLast wait v w }
+        ensures quiet { result ≡ Ok Got.Quiet → (w : List Asked) → P.asked self.new.port w →
+            (v : List Asked) × P.asked self.old.port v × AskedLast wait v w }
         ensures ok { OnOk result (P.failures self.new.port ≡ P.failures self.old.port) }
         ensures failed { OnErr result (Rose (P.failures self.old.port) (P.failures self.new.port)) }
     {
@@ -222,9 +245,14 @@ impl<P: Port + Drop> Port for Clearing<P> {
     #[inline(always)]
     fn write(&mut self, bytes: &[u8]) -> Result<(), PortFault>
         ensures exact { (u : Tape) → P.tells self.new.port u → (t : Tape) × P.tells self.old.port t
-            × Writes self.old.talk bytes.now (cleared self.old.talk bytes.now t.coming) result self.new.talk t u }
-        ensures told { (u : Tape) → ((t : Tape) × P.tells self.new.port t × (u.written ≡ t.written) × Passes self.new.talk t.coming u.coming)
-            → (x : Tape) × ((t : Tape) × P.tells self.old.port t × (x.written ≡ t.written) × Passes self.old.talk t.coming x.coming)
+            × Writes self.old.talk bytes.now (cleared self.old.talk bytes.now t.coming) result
+            self.new.talk t u }
+        ensures told { (u : Tape)
+            → ((t : Tape) × P.tells self.new.port t × (u.written ≡ t.written)
+            × Passes self.new.talk t.coming u.coming)
+            → (x : Tape)
+            × ((t : Tape) × P.tells self.old.port t × (x.written ≡ t.written)
+            × Passes self.old.talk t.coming x.coming)
             × (u ≡ after_write (is_ok result) x bytes.now) }
         ensures ok { OnOk result (P.failures self.new.port ≡ P.failures self.old.port) }
         ensures failed { OnErr result (Rose (P.failures self.old.port) (P.failures self.new.port)) }

@@ -11,8 +11,8 @@ ghost use Rattle.ym_link.specs.declared.port.TheConstants.{DELIVERY_LIMIT};
 use crate::end_fault::EndFault;
 use crate::port::{DELIVERY_LIMIT, Got, Port, PortFault, Wait};
 
-/// One for whom deliveries are read: it says when it has enough, and what it has found then, so that its end need not read the bytes
-/// once more.
+/// One for whom deliveries are read: it says when it has enough, and what it has found then, so
+/// that its end need not read the bytes once more.
 pub(crate) trait Listener {
     ghost use Rattle.std.specs.Prelude.{List, ℕ, Bool, true, false, ◌≡◌, MatchOption};
 
@@ -31,11 +31,13 @@ pub(crate) trait Listener {
     /// What it finds, where these bytes end the delivery.
     fn found_in(&self, bytes: &[u8]) -> Option<Self::Found>
         requires { listens self.now }
-        ensures { MatchOption result (ends self.now bytes.now ≡ false) (λ found. (ends self.now bytes.now ≡ true) × finds self.now bytes.now found) };
+        ensures { MatchOption result (ends self.now bytes.now ≡ false) (λ found.
+            (ends self.now bytes.now ≡ true) × finds self.now bytes.now found) };
 }
 
-/// Reads one delivery to the front of the buffer, and answers its length, and what its listener found where it ended it. A delivery
-/// ends when its listener has enough, when the line is quiet, or at its greatest length. What is left of the last read is dropped.
+/// Reads one delivery to the front of the buffer, and answers its length, and what its listener
+/// found where it ended it. A delivery ends when its listener has enough, when the line is quiet,
+/// or at its greatest length. What is left of the last read is dropped.
 pub(crate) fn take_delivery<P: Port, L: Listener>(
     port: &mut P,
     listener: &L,
@@ -46,9 +48,13 @@ pub(crate) fn take_delivery<P: Port, L: Listener>(
     ensures told { (u : Tape) → P.tells port.new u → (t : Tape) × P.tells port.old t
         × (bytes_read result buf.new ≡ (taken (L.ends listener.now) [] t.coming).delivery)
         × (u ≡ record t { coming = (taken (L.ends listener.now) [] t.coming).rest }) }
-    ensures found { IfOk result (λ d. MatchOption d.1 ((d.0 ≡ 0) ⊎ (L.ends listener.now (take d.0 buf.new) ≡ false)) (λ f. L.finds listener.now (take d.0 buf.new) f)) }
-    ensures asked { (w : List Asked) → P.asked port.new w → (v : List Asked) × P.asked port.old v × ReadOnce v w }
-    ensures device { result ≡ Err EndFault.Device → Rose (P.failures port.old) (P.failures port.new) }
+    ensures found { IfOk result (λ d.
+        MatchOption d.1 ((d.0 ≡ 0) ⊎ (L.ends listener.now (take d.0 buf.new) ≡ false))
+        (λ f. L.finds listener.now (take d.0 buf.new) f)) }
+    ensures asked { (w : List Asked) →
+        P.asked port.new w → (v : List Asked) × P.asked port.old v × ReadOnce v w }
+    ensures device { result ≡ Err EndFault.Device →
+        Rose (P.failures port.old) (P.failures port.new) }
     ensures memory { result ≢ Err EndFault.Memory }
     ensures calm { result ≢ Err EndFault.Device → P.failures port.new ≡ P.failures port.old }
 {

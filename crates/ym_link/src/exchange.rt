@@ -1,4 +1,5 @@
-//! What an end has said and heard of late, and whether more answers may be under way than it waits for.
+//! What an end has said and heard of late, and whether more answers may be under way than it waits
+//! for.
 
 ghost use Rattle.std.specs.Prelude.{◌≡◌, ◌≤◌, ℕ, List, Ok, length};
 ghost use Rattle.ym_link.specs.Exchange as table;
@@ -15,7 +16,8 @@ pub enum Role {
     Receiver,
 }
 
-/// What tells one frame of a batch from the next one: how long it is, what it begins with, and its number.
+/// What tells one frame of a batch from the next one: how long it is, what it begins with, and its
+/// number.
 #[derive(Clone, Copy)]
 pub struct Front {
     /// How many bytes.
@@ -29,7 +31,8 @@ pub struct Front {
 /// What an end has said and heard of late.
 #[derive(Clone, Copy)]
 pub struct Exchange {
-    /// How many answers may be under way: one for each write whose answer did not come. Two stands for more.
+    /// How many answers may be under way: one for each write whose answer did not come. Two stands
+    /// for more.
     pub owed: u8,
     /// How many bytes came since the last write; [`DELIVERY_LIMIT`] stands for more.
     pub came: usize,
@@ -144,7 +147,9 @@ impl Exchange {
     /// Takes what a read got.
     #[inline(always)]
     pub fn take(&mut self, got: &Result<Got, PortFault>)
-        ensures { (buf : List ℕ) → ((n : ℕ) → got.now ≡ Ok (Got.Bytes n) → n ≤ length buf) → self.new ≡ table.after_seen (seen_of got.now buf) self.old }
+        ensures { (buf : List ℕ) →
+            ((n : ℕ) → got.now ≡ Ok (Got.Bytes n) → n ≤ length buf) →
+            self.new ≡ table.after_seen (seen_of got.now buf) self.old }
     {
         match got {
             Ok(Got::Bytes(count)) => self.hear(*count),
@@ -156,10 +161,12 @@ impl Exchange {
         }
     }
 
-    /// Whether what came was what this end waited for, as its next write shows: whether it is the last one again.
+    /// Whether what came was what this end waited for, as its next write shows: whether it is the
+    /// last one again.
     #[inline(always)]
     fn is_taken(self, role: Role, is_same: bool) -> bool
-        ensures { (next : Front) → is_same ≡ table.is_same self.last next → result ≡ table.is_taken role self next }
+        ensures { (next : Front) →
+            is_same ≡ table.is_same self.last next → result ≡ table.is_taken role self next }
     {
         match role {
             Role::Sender => 0 < self.came && !is_same,
@@ -195,14 +202,16 @@ impl Exchange {
     /// Whether the line has to clear before the next write, by whether it is the last one again.
     #[inline(always)]
     pub fn must_clear(self, role: Role, is_same: bool) -> bool
-        ensures { (next : Front) → is_same ≡ table.is_same self.last next → result ≡ table.must_clear role self next }
+        ensures { (next : Front) →
+            is_same ≡ table.is_same self.last next → result ≡ table.must_clear role self next }
     {
         // more may be coming of what filled a delivery
         let is_full = DELIVERY_LIMIT <= self.came && !self.is_quiet;
         is_full || (self.is_taken(role, is_same) && 1 < self.owed)
     }
 
-    /// Takes that this was written: whether it was the last one again, and whether the line had to clear before it, is known.
+    /// Takes that this was written: whether it was the last one again, and whether the line had to
+    /// clear before it, is known.
     #[inline(always)]
     pub fn wrote(&mut self, role: Role, next: Front, is_same: bool, clears: bool)
         requires same { is_same ≡ table.is_same self.old.last next }

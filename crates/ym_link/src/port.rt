@@ -34,12 +34,13 @@ pub struct PortFault;
 
 /// A line as one end has it: bytes are read from it and written to it.
 pub trait Port {
-    /// The tapes that it may turn out to have: what is still to come, and what was written so far. A port that knows both has exactly one;
-    /// one that passes on what another port brings may have several, as long as it is open what will be written; and of a device nobody
-    /// knows any.
+    /// The tapes that it may turn out to have: what is still to come, and what was written so far.
+    /// A port that knows both has exactly one; one that passes on what another port brings may have
+    /// several, as long as it is open what will be written; and of a device nobody knows any.
     ghost tells: { Self → Tape → Type 0 };
 
-    /// The waits that its reads were given so far, in order. A port that keeps them has exactly one such list, and any other one none.
+    /// The waits that its reads were given so far, in order. A port that keeps them has exactly one
+    /// such list, and any other one none.
     ghost asked: { Self → List Asked → Type 0 };
 
     /// How often a call failed. At its greatest value the count stays.
@@ -52,13 +53,16 @@ pub trait Port {
         ensures told { (u : Tape) → tells self.new u → (t : Tape) × tells self.old t
             × (seen_of result buf.new ≡ read_gives (length buf.old) t.coming)
             × (u ≡ record t { coming = read_leaves (length buf.old) t.coming }) }
-        ensures asked { (w : List Asked) → asked self.new w → (v : List Asked) × asked self.old v × (w ≡ v ++ wait ∷ []) }
+        ensures asked { (w : List Asked) →
+            asked self.new w → (v : List Asked) × asked self.old v × (w ≡ v ++ wait ∷ []) }
         ensures ok { OnOk result (failures self.new ≡ failures self.old) }
         ensures failed { OnErr result (Rose (failures self.old) (failures self.new)) };
 
     /// Writes all the bytes, or fails, and then none of them counts as written.
     fn write(&mut self, bytes: &[u8]) -> Result<(), PortFault>
-        ensures told { (u : Tape) → tells self.new u → (t : Tape) × tells self.old t × (u ≡ after_write (is_ok result) t bytes.now) }
+        ensures told { (u : Tape) →
+            tells self.new u →
+            (t : Tape) × tells self.old t × (u ≡ after_write (is_ok result) t bytes.now) }
         ensures asked { (w : List Asked) → asked self.new w → asked self.old w }
         ensures ok { OnOk result (failures self.new ≡ failures self.old) }
         ensures failed { OnErr result (Rose (failures self.old) (failures self.new)) };

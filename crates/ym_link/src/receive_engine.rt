@@ -44,7 +44,8 @@ impl Listener for Frames {
 
 /// What is heard of a delivery in which this was found. A block has 128 data bytes at least.
 fn heard_by(found: Option<Whole>, bytes: &[u8]) -> HeardRef<'_>
-    requires { MatchOption found ((length bytes.now ≡ 0) ⊎ (has_item bytes.now ≡ false)) (IsFound bytes.now) }
+    requires { MatchOption found ((length bytes.now ≡ 0) ⊎ (has_item bytes.now ≡ false))
+        (IsFound bytes.now) }
     ensures heard { owned_heard result ≡ heard_of bytes.entry.now }
     ensures large { IsLarge (heard_of bytes.entry.now) }
 {
@@ -56,9 +57,14 @@ fn heard_by(found: Option<Whole>, bytes: &[u8]) -> HeardRef<'_>
 
 /// Writes a reply, if there is one.
 fn write_reply<P: Port>(port: &mut P, reply: Reply) -> Result<(), EndFault>
-    ensures told { (u : Tape) → P.tells port.new u → (t : Tape) × P.tells port.old t × (u ≡ after_write (is_ok result) t (reply_bytes reply)) }
+    ensures told { (u : Tape) →
+        P.tells port.new u →
+        (t : Tape) × P.tells port.old t × (u ≡ after_write (is_ok result) t (reply_bytes reply)) }
     ensures asked { (w : List Asked) → P.asked port.new w → P.asked port.old w }
-    ensures device { (e : EndFault) → result ≡ Err e → (e ≡ EndFault.Device) × (reply ≢ Silence) × Rose (P.failures port.old) (P.failures port.new) }
+    ensures device { (e : EndFault) →
+        result ≡ Err e →
+        (e ≡ EndFault.Device) × (reply ≢ Silence) ×
+        Rose (P.failures port.old) (P.failures port.new) }
     ensures calm { is_ok result ≡ true → P.failures port.new ≡ P.failures port.old }
 {
     match reply {
@@ -70,21 +76,28 @@ fn write_reply<P: Port>(port: &mut P, reply: Reply) -> Result<(), EndFault>
     }
 }
 
-/// Runs a receiver over a port until it has ended: a delivery is read and heard, and the reply is written, if there is one. A
-/// receiver that has already ended is left as it is, and nothing is written. After `Memory` the receiver is as before the last
-/// delivery, and nothing was written for it.
+/// Runs a receiver over a port until it has ended: a delivery is read and heard, and the reply is
+/// written, if there is one. A receiver that has already ended is left as it is, and nothing is
+/// written. After `Memory` the receiver is as before the last delivery, and nothing was written for
+/// it.
 pub fn receive_over<P: Port, K: Sink>(
     port: &mut P,
     receiver: &mut ReceiverInto<K>,
 ) -> Result<(), EndFault>
     ensures told { (u : Tape) → P.tells port.new u →
-        (t : Tape) × P.tells port.old t × Receives receiver.old t (record { receiver = receiver.new; tape = u; answer = result }) }
-    ensures course { (deliveries : List HeardValue) × ReceiverCourse receiver.old deliveries receiver.new
-        × ((w : List Asked) → P.asked port.new w → (v : List Asked) × P.asked port.old v × (begun : ℕ) × (begun ≤ length deliveries + 1) × Asks begun v w) }
+        (t : Tape) × P.tells port.old t ×
+        Receives receiver.old t (record { receiver = receiver.new; tape = u; answer = result }) }
+    ensures course { (deliveries : List HeardValue)
+        × ReceiverCourse receiver.old deliveries receiver.new
+        × ((w : List Asked) → P.asked port.new w
+        → (v : List Asked) × P.asked port.old v × (begun : ℕ) × (begun ≤ length deliveries + 1)
+        × Asks begun v w) }
     ensures receiver { IsReceiver receiver.new }
-    ensures device { result ≡ Err EndFault.Device → Rose (P.failures port.old) (P.failures port.new) }
+    ensures device { result ≡ Err EndFault.Device →
+        Rose (P.failures port.old) (P.failures port.new) }
     ensures ended { is_ok result ≡ true → receiver.new.receiver.state ≢ state.Running }
-    ensures left { receiver.old.receiver.state ≢ state.Running → (result ≡ Ok tt) × (receiver.new ≡ receiver.old) × (port.new ≡ port.old) }
+    ensures left { receiver.old.receiver.state ≢ state.Running →
+        (result ≡ Ok tt) × (receiver.new ≡ receiver.old) × (port.new ≡ port.old) }
 {
     let mut buf = [0; DELIVERY_LIMIT];
     while receiver.is_running() {

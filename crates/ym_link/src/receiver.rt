@@ -27,15 +27,22 @@ impl<K: Sink> Model for ReceiverInto<K> {
 
     ghost Value = { ReceiverParts };
 
-    ghost view = { λ r. record { receiver = r.core; kept = K.kept r.sink; failures = K.failures r.sink } };
+    ghost view = { λ r.
+        record { receiver = r.core; kept = K.kept r.sink; failures = K.failures r.sink } };
 
-    ghost invariant = { λ r. IsReceiver (record { receiver = r.core; kept = K.kept r.sink; failures = K.failures r.sink }) };
+    ghost invariant = { λ r.
+        IsReceiver (record {
+          receiver = r.core;
+          kept = K.kept r.sink;
+          failures = K.failures r.sink;
+        }) };
 }
 
 /// Has the sink do what a step asks. After a fault it holds what it held before.
 fn call<K: Sink>(sink: &mut K, alloc: Global, ask: Ask<'_>) -> Result<(), SinkFault>
     requires { MayAsk (K.kept sink.old) ask }
-    ensures { CallGives ask.entry (K.kept sink.old) (K.failures sink.old) result (K.kept sink.new) (K.failures sink.new) }
+    ensures { CallGives ask.entry (K.kept sink.old) (K.failures sink.old) result (K.kept sink.new)
+        (K.failures sink.new) }
 {
     match ask {
         Ask::Nothing => Ok(()),
@@ -67,7 +74,12 @@ impl<K: Sink> ReceiverInto<K> {
     /// A receiver into a sink that has no file.
     pub fn with_sink(alloc: Global, sink: K, confirm: Confirm) -> ReceiverInto<K>
         requires { IsNew (K.kept sink) }
-        ensures { result ≡ record { receiver = new_receiver confirm; kept = K.kept sink; failures = K.failures sink } }
+        ensures { result ≡
+            record {
+              receiver = new_receiver confirm;
+              kept = K.kept sink;
+              failures = K.failures sink;
+            } }
     {
         ReceiverInto {
             sink,
@@ -109,8 +121,8 @@ impl<K: Sink> ReceiverInto<K> {
         &self.sink
     }
 
-    /// Hears one delivery and gives the reply to it. After want of memory nothing has changed, and the same delivery
-    /// may be heard again.
+    /// Hears one delivery and gives the reply to it. After want of memory nothing has changed, and
+    /// the same delivery may be heard again.
     pub fn hear(&mut self, heard: &Heard) -> Result<Reply, AllocError>
         ensures table { HearsGives self.old heard.now result self.new }
         ensures bounded { IsWithin self.new.receiver.stage self.new.kept }
@@ -170,7 +182,8 @@ impl ReceiverInto<MemSink> {
     /// The committed files, in order.
     pub fn files(&self) -> &[Received]
         ensures headers { map (λ (f : ReceivedParts). f.header) result.now ≡ self.now.kept.headers }
-        ensures bytes { Some (map (λ (f : ReceivedParts). f.bytes) result.now) ≡ option_map (λ (told : Told). told.files) self.now.kept.told }
+        ensures bytes { Some (map (λ (f : ReceivedParts). f.bytes) result.now) ≡
+            option_map (λ (told : Told). told.files) self.now.kept.told }
     {
         self.sink.files()
     }

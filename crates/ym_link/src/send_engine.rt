@@ -20,9 +20,13 @@ use ym_file::Source;
 #[inline(always)]
 fn write_frame<P: Port, S: Source>(port: &mut P, sender: &SenderFrom<S>) -> Result<(), EndFault>
     ensures told { (u : Tape) → P.tells port.new u →
-        (t : Tape) × P.tells port.old t × (u ≡ after_write (is_ok result) t (written_for (spoken sender.now))) }
+        (t : Tape) × P.tells port.old t ×
+        (u ≡ after_write (is_ok result) t (written_for (spoken sender.now))) }
     ensures asked { (w : List Asked) → P.asked port.new w → P.asked port.old w }
-    ensures device { (e : EndFault) → result ≡ Err e → (e ≡ EndFault.Device) × (spoken sender.now ≢ None) × Rose (P.failures port.old) (P.failures port.new) }
+    ensures device { (e : EndFault) →
+        result ≡ Err e →
+        (e ≡ EndFault.Device) × (spoken sender.now ≢ None) ×
+        Rose (P.failures port.old) (P.failures port.new) }
     ensures calm { is_ok result ≡ true → P.failures port.new ≡ P.failures port.old }
     ensures sender { IsSender sender.now }
 {
@@ -35,21 +39,27 @@ fn write_frame<P: Port, S: Source>(port: &mut P, sender: &SenderFrom<S>) -> Resu
     }
 }
 
-/// Runs a sender over a port until it has ended: its frame is written, if it has one, and a delivery is read and heard. A sender
-/// that gives up, or whose source fails, writes CAN CAN once. A sender that has already ended is left as it is, and nothing is
-/// written. After `Device` at a write the sender has already heard the delivery before it.
+/// Runs a sender over a port until it has ended: its frame is written, if it has one, and a
+/// delivery is read and heard. A sender that gives up, or whose source fails, writes CAN CAN once.
+/// A sender that has already ended is left as it is, and nothing is written. After `Device` at a
+/// write the sender has already heard the delivery before it.
 pub fn send_over<P: Port, S: Source>(
     port: &mut P,
     sender: &mut SenderFrom<S>,
 ) -> Result<(), EndFault>
     ensures told { sender.old.standing.state ≡ state.Running → (u : Tape) → P.tells port.new u →
-        (t : Tape) × P.tells port.old t × Sends sender.old t (record { sender = sender.new; tape = u; answer = result }) }
+        (t : Tape) × P.tells port.old t ×
+        Sends sender.old t (record { sender = sender.new; tape = u; answer = result }) }
     ensures course { (deliveries : List (List ℕ)) × SenderCourse sender.old deliveries sender.new
-        × ((w : List Asked) → P.asked port.new w → (v : List Asked) × P.asked port.old v × (begun : ℕ) × (begun ≤ length deliveries + 1) × Asks begun v w) }
-    ensures device { result ≡ Err EndFault.Device → Rose (P.failures port.old) (P.failures port.new) }
+        × ((w : List Asked) → P.asked port.new w
+        → (v : List Asked) × P.asked port.old v × (begun : ℕ) × (begun ≤ length deliveries + 1)
+        × Asks begun v w) }
+    ensures device { result ≡ Err EndFault.Device →
+        Rose (P.failures port.old) (P.failures port.new) }
     ensures memory { result ≢ Err EndFault.Memory }
     ensures ended { is_ok result ≡ true → sender.new.standing.state ≢ state.Running }
-    ensures left { sender.old.standing.state ≢ state.Running → (result ≡ Ok tt) × (sender.new ≡ sender.old) × (port.new ≡ port.old) }
+    ensures left { sender.old.standing.state ≢ state.Running →
+        (result ≡ Ok tt) × (sender.new ≡ sender.old) × (port.new ≡ port.old) }
 {
     if sender.state() != SendState::Running {
         return Ok(());

@@ -47,9 +47,22 @@ impl<S: Source> Model for SenderFrom<S> {
 
     ghost Value = { SenderParts };
 
-    ghost view = { λ s. record { standing = s.standing; shape = s.shape; files = s.batch.items; frame = take s.len s.buffer } };
+    ghost view = { λ s.
+        record {
+          standing = s.standing;
+          shape = s.shape;
+          files = s.batch.items;
+          frame = take s.len s.buffer;
+        } };
 
-    ghost invariant = { λ s. (s.len ≤ 1029) × IsSender (record { standing = s.standing; shape = s.shape; files = s.batch.items; frame = take s.len s.buffer }) };
+    ghost invariant = { λ s.
+        (s.len ≤ 1029) ×
+        IsSender (record {
+          standing = s.standing;
+          shape = s.shape;
+          files = s.batch.items;
+          frame = take s.len s.buffer;
+        }) };
 }
 
 /// Looks at each file, so that what a file keeps is known of all of them.
@@ -62,7 +75,8 @@ fn look_at<S: Source>(files: &[SourceFile<S>])
 }
 
 /// Copies the frame of an item to the front of a buffer, and answers the frame's length.
-// an item and its frame have the size of a block: what is called for data blocks is kept free of them
+// an item and its frame have the size of a block: what is called for data blocks is kept free of
+// them
 #[cold]
 #[inline(never)]
 fn copy_frame(item: &Item, buffer: &mut [u8; 1029]) -> usize
@@ -80,7 +94,8 @@ fn copy_frame(item: &Item, buffer: &mut [u8; 1029]) -> usize
 #[cold]
 #[inline(never)]
 fn copy_header(header: &Header, buffer: &mut [u8; 1029]) -> usize
-    ensures frame { IsFrame (FrameItem.Block (record { number = 0; body = text header.now })) (take result buffer.new) }
+    ensures frame { IsFrame (FrameItem.Block (record { number = 0; body = text header.now }))
+        (take result buffer.new) }
     ensures length { result ≤ 1029 }
     ensures buffer { length buffer.new ≡ 1029 }
 {
@@ -102,16 +117,18 @@ fn copy_eot(buffer: &mut [u8; 1029]) -> usize
 #[cold]
 #[inline(never)]
 fn copy_end(buffer: &mut [u8; 1029]) -> usize
-    ensures frame { IsFrame (FrameItem.Block (record { number = 0; body = end_text })) (take result buffer.new) }
+    ensures frame { IsFrame (FrameItem.Block (record { number = 0; body = end_text }))
+        (take result buffer.new) }
     ensures length { result ≤ 1029 }
     ensures buffer { length buffer.new ≡ 1029 }
 {
     copy_frame(&Item::Block(write_end()), buffer)
 }
 
-/// Writes the frame of a place to the front of a buffer, and answers the frame's length: at most 1029 bytes. The body of a
-/// data block goes from its source right to its place in the frame, and the source is asked for it once. After a failure of
-/// the source nothing is said of the buffer's bytes.
+/// Writes the frame of a place to the front of a buffer, and answers the frame's length: at most
+/// 1029 bytes. The body of a data block goes from its source right to its place in the frame, and
+/// the source is asked for it once. After a failure of the source nothing is said of the buffer's
+/// bytes.
 fn frame_at<S: Source>(
     files: &mut Vec<SourceFile<S>>,
     shape: Shape,
@@ -119,7 +136,8 @@ fn frame_at<S: Source>(
     buffer: &mut [u8; 1029],
 ) -> Result<usize, SourceFault>
     requires { IsPlace (counts_of shape files.old.items) place }
-    ensures frame { IfOk result (λ len. IsFrameAt shape files.new.items place (take len buffer.new)) }
+    ensures frame { IfOk result (λ len.
+        IsFrameAt shape files.new.items place (take len buffer.new)) }
     ensures length { IfOk result (λ len. len ≤ 1029) }
     ensures buffer { length buffer.new ≡ 1029 }
     ensures ok { OnOk result (IsFilled false (Some place) files.old.items files.new.items) }
@@ -143,7 +161,8 @@ impl<S: Source> SenderFrom<S> {
 
     /// A sender of a batch of at most 65,535 files, waiting at its first frame.
     pub fn new(batch: Vec<SourceFile<S>>, shape: Shape) -> Result<SenderFrom<S>, BatchFault<S>>
-        ensures standing { IfOk result (λ sender. sender.standing ≡ new_standing (counts_of shape batch.items)) }
+        ensures standing { IfOk result (λ sender.
+            sender.standing ≡ new_standing (counts_of shape batch.items)) }
         ensures shape { IfOk result (λ sender. sender.shape ≡ shape) }
         ensures files { IfOk result (λ sender. sender.files ≡ batch.items) }
         ensures valid { IsOk result ↔ (length batch.items ≤ MOST_FILES) }
@@ -170,8 +189,11 @@ impl<S: Source> SenderFrom<S> {
     /// What is to be sent now: while it runs, the frame of its place or nothing, and after it gave
     /// up or its source failed, CAN CAN until it hears a delivery.
     pub fn frame(&self) -> Option<&[u8]>
-        ensures spoken { MatchOption result (spoken self.now ≡ None) (λ bytes. spoken self.now ≡ Some bytes.now) }
-        ensures place { IfSome result (λ bytes. self.now.standing.state ≡ SendState.Running → IsFrameAt self.now.shape self.now.files self.now.standing.place bytes.now) }
+        ensures spoken { MatchOption result (spoken self.now ≡ None) (λ bytes.
+            spoken self.now ≡ Some bytes.now) }
+        ensures place { IfSome result (λ bytes.
+            self.now.standing.state ≡ SendState.Running →
+            IsFrameAt self.now.shape self.now.files self.now.standing.place bytes.now) }
         ensures sender { IsSender self.now }
     {
         let standing = self.standing;

@@ -1,20 +1,20 @@
 //! A line that is let clear: what comes is dropped until it has been quiet for long enough.
 
-ghost use Rattle.std.specs.Prelude.{◌≡◌, OnOk, OnErr};
+ghost use Rattle.std.specs.Prelude.{◌≡◌, ◌++◌, ◌∷◌, [], List, OnOk, OnErr};
 ghost use Rattle.ym_file.specs.Counts.{Rose};
 ghost use Rattle.ym_link.specs.Port.{Tape, read_gives, read_leaves};
 ghost use Rattle.ym_link.specs.Sweep as table;
 ghost use Rattle.ym_link.specs.declared.port.TheConstants.{DELIVERY_LIMIT};
+ghost use Rattle.ym_link.specs.declared.port.Wait.{Wait as Asked};
 ghost use Rattle.ym_link.specs.declared.sweep.TheConstants.{MOST_READS};
 
 use crate::exchange::Role;
 use crate::port::{DELIVERY_LIMIT, Got, Port, PortFault, Wait};
+use ym_frame::CAN;
 
-/// For how many reads a line is let clear at most. One that never falls quiet may hand on each byte in a read of its own.
+/// For how many reads a line is let clear at most. One that never falls quiet may hand on each byte
+/// in a read of its own.
 pub const MOST_READS: u32 = 65_536;
-
-/// The byte CAN.
-pub const CAN: u8 = 0x18;
 
 /// What was dropped and is to be heard yet.
 #[derive(Clone, Copy)]
@@ -63,8 +63,8 @@ fn quiet_waits(role: Role) -> u8
     }
 }
 
-/// How many quiet waits there are in all, where the line is never quiet for so long: an end writes a frame ten times at most, so nine
-/// answers may be late.
+/// How many quiet waits there are in all, where the line is never quiet for so long: an end writes
+/// a frame ten times at most, so nine answers may be late.
 fn most_waits(role: Role) -> u8
     ensures { result ≡ table.most_waits role }
 {
@@ -143,6 +143,8 @@ fn read_on<P: Port>(
     ensures told { (u : Tape) → P.tells port.new u → (t : Tape) × P.tells port.old t
         × (result ≡ table.after_read role sweep (read_gives DELIVERY_LIMIT t.coming))
         × (u ≡ record t { coming = read_leaves DELIVERY_LIMIT t.coming }) }
+    ensures asked { (w : List Asked) → P.asked port.new w →
+        (v : List Asked) × P.asked port.old v × (w ≡ v ++ Wait.Within ∷ []) }
     ensures ok { OnOk result (P.failures port.new ≡ P.failures port.old) }
     ensures failed { OnErr result (Rose (P.failures port.old) (P.failures port.new)) }
 {
@@ -170,6 +172,8 @@ pub fn let_clear<P: Port>(port: &mut P, role: Role, start: Sweep) -> Result<Held
     ensures told { (u : Tape) → P.tells port.new u → (t : Tape) × P.tells port.old t
         × (result ≡ (table.swept MOST_READS role start t.coming).answer)
         × (u ≡ record t { coming = (table.swept MOST_READS role start t.coming).rest }) }
+    ensures asked { (w : List Asked) → P.asked port.new w →
+        (v : List Asked) × P.asked port.old v × table.AskedWithin v w }
     ensures ok { OnOk result (P.failures port.new ≡ P.failures port.old) }
     ensures failed { OnErr result (Rose (P.failures port.old) (P.failures port.new)) }
 {

@@ -9,7 +9,8 @@ ghost use Rattle.ym_link.specs.declared.port.Wait.{Wait as Asked};
 
 use crate::exchange::Role;
 use crate::port::{Got, Port, PortFault, Wait};
-use crate::sweep::{CAN, Heed};
+use crate::sweep::Heed;
+use ym_frame::CAN;
 
 /// How much of CAN CAN stands at the end of the control bytes, after one more byte.
 fn after(heed: Heed, byte: u8) -> Heed
@@ -71,7 +72,8 @@ pub fn read_heeding<P: Port>(
     ensures told { (u : Tape) → P.tells port.new u → (t : Tape) × P.tells port.old t
         × (seen_of result buf.new ≡ table.brings role (length buf.old) t.coming)
         × (u ≡ record t { coming = read_leaves (length buf.old) t.coming }) }
-    ensures asked { (w : List Asked) → P.asked port.new w → (v : List Asked) × P.asked port.old v × (w ≡ v ++ wait ∷ []) }
+    ensures asked { (w : List Asked) →
+        P.asked port.new w → (v : List Asked) × P.asked port.old v × (w ≡ v ++ wait ∷ []) }
     ensures ok { OnOk result (P.failures port.new ≡ P.failures port.old) }
     ensures failed { OnErr result (Rose (P.failures port.old) (P.failures port.new)) }
 {

@@ -19,12 +19,17 @@ abbrev pub CallsForStart : {H : Type 0} → Frame H → Type 0
 CallsForStart (Piece number body) = ⊥
 CallsForStart _ = Unit {0}
 
--- the two counters and what belongs to them; all but the last two lines hold however the ends have stopped
-pub record CountersAgree {H : Type 0} (confirm : Confirm) (frames : List (Frame H)) (st : State) : Type 0 where
+-- the two counters and what belongs to them; all but the last two lines hold however the ends have
+-- stopped
+pub record CountersAgree {H : Type 0} (confirm : Confirm) (frames : List (Frame H)) (st : State) :
+    Type 0 where
   pub ahead : (st.taken ≡ st.acknowledged) ⊎ (st.taken ≡ st.acknowledged + 1)
   pub within : st.taken ≤ length frames
-  pub waiting : st.sent ≡ false → (st.taken ≡ st.acknowledged) × CallsForStart (frame_before frames st.acknowledged)
-  pub first_eot : st.first_eot ≡ true → (confirm ≡ Twice) × (st.sent ≡ true) × (st.taken ≡ st.acknowledged) × (frame_at frames st.taken ≡ Eot) × (st.taken < length frames)
+  pub waiting : st.sent ≡ false →
+      (st.taken ≡ st.acknowledged) × CallsForStart (frame_before frames st.acknowledged)
+  pub first_eot : st.first_eot ≡ true →
+      (confirm ≡ Twice) × (st.sent ≡ true) × (st.taken ≡ st.acknowledged) ×
+      (frame_at frames st.taken ≡ Eot) × (st.taken < length frames)
   pub sender_done : (st.acknowledged ≡ length frames) ↔ (st.sender ≡ SenderEnd.Finished)
   pub receiver_done : (st.taken ≡ length frames) ↔ (st.receiver ≡ ReceiverEnd.Finished)
   pub sender_retries : st.sender ≡ SenderEnd.Running → st.sender_retries < GIVE_UP
@@ -42,17 +47,20 @@ ReceiverBroke ReceiverEnd.TooManyErrors = Unit {0}
 ReceiverBroke ReceiverEnd.SinkFailed = Unit {0}
 ReceiverBroke _ = ⊥
 
--- The invariant: the counters agree, and CAN CAN is to go only of a sender that gave up or whose source failed. How the ends have stopped is
--- else left open: one may be cancelled while the other runs.
-pub record Invariant {H : Type 0} (confirm : Confirm) (frames : List (Frame H)) (st : State) : Type 0 where
+-- The invariant: the counters agree, and CAN CAN is to go only of a sender that gave up or whose
+-- source failed. How the ends have stopped is else left open: one may be cancelled while the other
+-- runs.
+pub record Invariant {H : Type 0} (confirm : Confirm) (frames : List (Frame H)) (st : State) :
+    Type 0 where
   pub counters : CountersAgree confirm frames st
   pub cancel_pending : st.cancel_pending ≡ true → SenderBroke st.sender
 
--- How ends that were new have stopped: an end gave up at its tenth delivery without progress, a source failed at a data block, and
--- an end is cancelled only where the other one broke.
+-- How ends that were new have stopped: an end gave up at its tenth delivery without progress, a
+-- source failed at a data block, and an end is cancelled only where the other one broke.
 pub record EndingsAgree {H : Type 0} (frames : List (Frame H)) (st : State) : Type 0 where
   pub no_reply : st.sender ≡ SenderEnd.NoReply → st.sender_retries ≡ GIVE_UP
-  pub source_failed : st.sender ≡ SenderEnd.SourceFailed → (st.sent ≡ true) × IsPiece (frame_at frames st.acknowledged)
+  pub source_failed : st.sender ≡ SenderEnd.SourceFailed →
+      (st.sent ≡ true) × IsPiece (frame_at frames st.acknowledged)
   pub sender_cancelled : st.sender ≡ SenderEnd.Cancelled → ReceiverBroke st.receiver
   pub too_many_errors : st.receiver ≡ ReceiverEnd.TooManyErrors → st.receiver_retries ≡ GIVE_UP
   pub receiver_cancelled : st.receiver ≡ ReceiverEnd.Cancelled → SenderBroke st.sender

@@ -5,7 +5,8 @@ use Rattle.ym_machine.specs.declared.confirm.Confirm.TheVariants.{Twice, Once}
 use Rattle.ym_machine.specs.Frames.{File, Frame, BlockZero, Piece, Eot, EndBlock}
 use Rattle.ym_machine.specs.State.{SenderEnd, ReceiverEnd, State, committed, reported}
 
--- how many whole rounds a file needs: one for block 0, one for each piece, and one for each EOT that is wanted
+-- how many whole rounds a file needs: one for block 0, one for each piece, and one for each EOT
+-- that is wanted
 abbrev pub needed_by : {H : Type 0} → Confirm → File H → ℕ
 needed_by Twice file = length file.pieces + 3
 needed_by Once file = length file.pieces + 2

@@ -48,7 +48,8 @@ pub data Speech : Type 0 where
   FrameAt : ℕ → Speech  -- the frame at this place of the list
   CanCan : Speech
 
--- the frame where it stands, once it has sent it; CAN CAN after it gave up or its source failed, once
+-- the frame where it stands, once it has sent it; CAN CAN after it gave up or its source failed,
+-- once
 abbrev pub said_by : SenderEnd → Bool → Bool → ℕ → Speech
 said_by SenderEnd.Running true cancel_pending place = FrameAt place
 said_by SenderEnd.NoReply sent true place = CanCan

@@ -1,4 +1,5 @@
--- What an end promises against any peer, in words of what it heard and wrote alone: there is no premise on who is at the other end (this profile).
+-- What an end promises against any peer, in words of what it heard and wrote alone: there is no
+-- premise on who is at the other end (this profile).
 use Rattle.std.specs.Prelude.{◌≡◌, ◌+◌, ◌-◌, ◌%◌, ◌⊎◌, ℕ, zero, suc, List, [], ◌∷◌, ◌++◌, length, map, All, Some}
 use Rattle.ym_frame.specs.declared.frame.Item.{Item}
 use Rattle.ym_frame.specs.declared.frame.Item.TheVariants.{Block, Eot}
@@ -23,14 +24,17 @@ use Rattle.ym_pair.specs.Logs.{Spoke}
 
 -- ---- A receiver
 
--- Some of the deliveries, in their order, were heard as these items, one for one; law `a_delivery_brings_its_frame` says that a delivery is heard as the
--- item whose frame it begins with.
+-- Some of the deliveries, in their order, were heard as these items, one for one; law
+-- `a_delivery_brings_its_frame` says that a delivery is heard as the item whose frame it begins
+-- with.
 abbrev pub AreAmong : List Item → List Heard → Type 0
 AreAmong [] all = Unit {0}
 AreAmong (item ∷ items) [] = ⊥
-AreAmong (item ∷ items) (h ∷ all) = ((h ≡ Heard_item item) × AreAmong items all) ⊎ AreAmong (item ∷ items) all
+AreAmong (item ∷ items) (h ∷ all) =
+    ((h ≡ Heard_item item) × AreAmong items all) ⊎ AreAmong (item ∷ items) all
 
--- a file as it was heard: its header, the body of the block 0 that was read as that header, and the bodies of its data blocks
+-- a file as it was heard: its header, the body of the block 0 that was read as that header, and the
+-- bodies of its data blocks
 pub record FileHeard : Type 0 where
   pub header : HeaderParts
   pub zero : List ℕ
@@ -70,8 +74,8 @@ pub record IsSpelled (file : FileHeard) : Type 0 where
   pub reads : Reads length_limit file.zero (File file.header)
   pub covered : length (bytes_heard file) ≡ file.header.length
 
--- What is committed was spelled by what was heard: file by file, in order, each with the header that its block 0 reads as and, where the sink tells them,
--- the bytes of its data blocks.
+-- What is committed was spelled by what was heard: file by file, in order, each with the header
+-- that its block 0 reads as and, where the sink tells them, the bytes of its data blocks.
 pub record CommitsTheHeard (confirm : Confirm) (heard : List Heard) (kept : Kept) : Type 0 where
   pub files : List FileHeard
   pub spelled : All IsSpelled files
@@ -81,13 +85,16 @@ pub record CommitsTheHeard (confirm : Confirm) (heard : List Heard) (kept : Kept
 
 -- ---- A sender
 
--- The frames of these places of a batch were acknowledged, in this order, whatever came between: for each there is a delivery of its own in which an ACK was
--- read while exactly that frame was what had been written last.
+-- The frames of these places of a batch were acknowledged, in this order, whatever came between:
+-- for each there is a delivery of its own in which an ACK was read while exactly that frame was
+-- what had been written last.
 abbrev pub AreAcknowledged : Shape → List FileParts → List Place → List Spoke → Type 0
 AreAcknowledged shape files [] all = Unit {0}
 AreAcknowledged shape files (place ∷ places) [] = ⊥
 AreAcknowledged shape files (place ∷ places) (one ∷ all) =
-    (IsFrameAt shape files place one.wrote × SaysAck (controls_in one.came) × AreAcknowledged shape files places all) ⊎ AreAcknowledged shape files (place ∷ places) all
+    (IsFrameAt shape files place one.wrote × SaysAck (controls_in one.came) ×
+    AreAcknowledged shape files places all) ⊎
+    AreAcknowledged shape files (place ∷ places) all
 
 -- the places of the first so many data blocks of a file
 abbrev pub block_places : ℕ → ℕ → List Place
@@ -110,6 +117,8 @@ batch_places counts = files_places counts (length counts) ++ place.End ∷ []
 -- of all frames before this place
 abbrev pub places_before : List ℕ → Place → List Place
 places_before counts (place.Header file) = files_places counts file
-places_before counts (place.Block file k) = files_places counts file ++ (place.Header file ∷ block_places file (k - 1))
-places_before counts (place.Eot file) = files_places counts file ++ (place.Header file ∷ block_places file (count_at counts file))
+places_before counts (place.Block file k) =
+    files_places counts file ++ (place.Header file ∷ block_places file (k - 1))
+places_before counts (place.Eot file) =
+    files_places counts file ++ (place.Header file ∷ block_places file (count_at counts file))
 places_before counts place.End = files_places counts (length counts)

@@ -1,7 +1,8 @@
 -- Two engines, one at each end of a line, whose deliveries pair up, and what is promised of them.
 --
--- Each engine folds its own end's table over the deliveries that its own port tells: `Sends` and `Receives` of ym_link. What the two have to do with one
--- another is said here, of what each wrote and what came to each alone. That deliveries pair up is a premise about the world.
+-- Each engine folds its own end's table over the deliveries that its own port tells: `Sends` and
+-- `Receives` of ym_link. What the two have to do with one another is said here, of what each wrote
+-- and what came to each alone. That deliveries pair up is a premise about the world.
 use Rattle.std.specs.Prelude.{◌≡◌, ◌⊎◌, ℕ, List, [], ◌∷◌, length, map, Some, None}
 use Rattle.ym_frame.specs.Control.{reply_bytes}
 use Rattle.ym_frame.specs.Frame.{IsBytes}
@@ -52,7 +53,8 @@ up_to_start [] = []
 up_to_start (Start ∷ more) = Start ∷ []
 up_to_start (other ∷ more) = other ∷ up_to_start more
 
--- What came to the sender is read as what arrives of this reply, however often the receiver asked for C; damage shows, and is short.
+-- What came to the sender is read as what arrives of this reply, however often the receiver asked
+-- for C; damage shows, and is short.
 pub record ArrivesBack (delivery : Delivery) (wrote : Reply) (came : List ℕ) : Type 0 where
   pub shows : ShowsBack wrote delivery
   pub short : IsShort delivery
@@ -60,16 +62,19 @@ pub record ArrivesBack (delivery : Delivery) (wrote : Reply) (came : List ℕ) :
 
 -- ---- Deliveries that pair up
 
--- The sender's engine has returned: to the receiver there comes what arrives of its last words, and what it replies is lost.
+-- The sender's engine has returned: to the receiver there comes what arrives of its last words, and
+-- what it replies is lost.
 abbrev pub ReceiverAlone : List ℕ → List Answered → List Round → Type 0
 ReceiverAlone last [] [] = Unit {0}
-ReceiverAlone last (a ∷ answered) (round ∷ rounds) = ArrivesThere round.there last a.heard × (round.back ≡ Lost) × ReceiverAlone last answered rounds
+ReceiverAlone last (a ∷ answered) (round ∷ rounds) =
+    ArrivesThere round.there last a.heard × (round.back ≡ Lost) × ReceiverAlone last answered rounds
 ReceiverAlone last _ _ = ⊥
 
 -- The receiver's engine has returned: what the sender writes is lost, and no reply comes.
 abbrev pub SenderAlone : List Spoke → List Round → Type 0
 SenderAlone [] [] = Unit {0}
-SenderAlone (s ∷ spoke) (round ∷ rounds) = (round.there ≡ Lost) × ArrivesBack round.back Silence s.came × SenderAlone spoke rounds
+SenderAlone (s ∷ spoke) (round ∷ rounds) =
+    (round.there ≡ Lost) × ArrivesBack round.back Silence s.came × SenderAlone spoke rounds
 SenderAlone _ _ = ⊥
 
 -- The sender waited in vain, and the receiver heard nothing meanwhile: a round whose deliveries are
@@ -94,9 +99,12 @@ PairUp (s ∷ spoke) last (a ∷ answered) (round ∷ rounds) =
     ⊎ (WaitsInVain round s.came × PairUp spoke last (a ∷ answered) rounds)
 
 -- so do those of two calls
-abbrev pub RunsPairUp : (s : SenderParts) (t : Tape) (out : sending.Outcome) → sending.Sends s t out →
-    (r : ReceiverParts) (u : Tape) (end : receiving.Outcome) → receiving.Receives r u end → List Round → Type 0
-RunsPairUp s t out sends r u end receives rounds = PairUp (spoke_in s t out sends) (last_words s t out sends) (answered_in r u end receives) rounds
+abbrev pub RunsPairUp : (s : SenderParts) (t : Tape) (out : sending.Outcome) →
+    sending.Sends s t out →
+    (r : ReceiverParts) (u : Tape) (end : receiving.Outcome) →
+    receiving.Receives r u end → List Round → Type 0
+RunsPairUp s t out sends r u end receives rounds =
+    PairUp (spoke_in s t out sends) (last_words s t out sends) (answered_in r u end receives) rounds
 
 -- ---- The same on any two ports
 
@@ -109,10 +117,13 @@ pub record AreCalls (s new : SenderParts) (r end : ReceiverParts) : Type 0 where
   pub steps : ℕ
   pub hears : ReceiverHears r heard steps end
 
--- Their deliveries pair up, where each end wrote what it had to say; what it had to say and could not write is lost.
-abbrev pub CallsPairUp : (s new : SenderParts) (r end : ReceiverParts) → AreCalls s new r end → List Round → Type 0
+-- Their deliveries pair up, where each end wrote what it had to say; what it had to say and could
+-- not write is lost.
+abbrev pub CallsPairUp : (s new : SenderParts) (r end : ReceiverParts) →
+    AreCalls s new r end → List Round → Type 0
 CallsPairUp s new r end calls rounds =
-    PairUp (spoke_along s calls.deliveries calls.progress new calls.speaks) (written_for (spoken new)) (answered_along r calls.heard calls.steps end calls.hears) rounds
+    PairUp (spoke_along s calls.deliveries calls.progress new calls.speaks)
+    (written_for (spoken new)) (answered_along r calls.heard calls.steps end calls.hears) rounds
 
 -- ---- What is promised of them
 
@@ -127,4 +138,6 @@ pub record HaveBothFinished (batch : List FileParts) (pair : Pair) : Type 0 wher
   pub done : done_at (length pair.sender.files) pair.sender.standing.place ≡ length batch
   pub files : pair.receiver.receiver.files ≡ length batch
   pub headers : pair.receiver.kept.headers ≡ map (λ (f : FileParts). f.header) batch
-  pub bytes : (told : Told) → pair.receiver.kept.told ≡ Some told → map (λ (bytes : List ℕ). Some bytes) told.files ≡ map (λ (f : FileParts). f.bytes) batch
+  pub bytes : (told : Told) →
+      pair.receiver.kept.told ≡ Some told →
+      map (λ (bytes : List ℕ). Some bytes) told.files ≡ map (λ (f : FileParts). f.bytes) batch

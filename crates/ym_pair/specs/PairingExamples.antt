@@ -19,7 +19,11 @@ use Rattle.ym_pair.specs.Logs.{Spoke, Answered}
 
 -- a file of five bytes in a block of eight; real blocks have 128 or 1024
 abbrev pub hello : FileHeard
-hello = record { header = record { name = codes "a"; length = 5; stamp = stamp.Nothing }; zero = codes "a"; bodies = codes "hello..." ∷ [] }
+hello = record {
+  header = record { name = codes "a"; length = 5; stamp = stamp.Nothing };
+  zero = codes "a";
+  bodies = codes "hello..." ∷ [];
+}
 
 abbrev pub opening : Heard
 opening = heard.Item (block 0 (codes "a"))
@@ -77,7 +81,8 @@ asked_again = answered ending AckStart ∷ answered heard.Bad Start ∷ []
 abbrev pub asked_again_rounds : List Round
 asked_again_rounds = round Whole Lost ∷ round Lost Whole ∷ []
 
--- the receiver asks three times before its peer is there, which then reads all that waits in the line
+-- the receiver asks three times before its peer is there, which then reads all that waits in the
+-- line
 abbrev pub asked_early : List Answered
 asked_early = answered heard.Bad Start ∷ answered heard.Bad Start ∷ answered heard.Bad Start ∷ []
 

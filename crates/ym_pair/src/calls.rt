@@ -1,4 +1,5 @@
-//! Calls of the engines, with what is known of them against any peer: nothing is supposed of who is at the other end, or of what the port brings.
+//! Calls of the engines, with what is known of them against any peer: nothing is supposed of who is
+//! at the other end, or of what the port brings.
 
 ghost use Rattle.std.specs.Prelude.{◌≡◌, ◌≤◌, ℕ, List, length, is_ok, true};
 ghost use Rattle.ym_file.specs.Kept.{IsNew};
@@ -27,58 +28,93 @@ use crate::laws::{
 use ym_file::{Sink, Source};
 use ym_link::{EndFault, Port, ReceiverInto, SenderFrom, receive_over, send_over};
 
-/// Receives over a port, as `receive_over` does. However it returns, and whatever the peer is, each file that a new receiver has committed was spelled by
-/// frames that it heard, in order.
+/// Receives over a port, as `receive_over` does. However it returns, and whatever the peer is, each
+/// file that a new receiver has committed was spelled by frames that it heard, in order.
 pub fn receive_from_any_peer<P: Port, K: Sink>(
     port: &mut P,
     receiver: &mut ReceiverInto<K>,
 ) -> Result<(), EndFault>
-    ensures heard { receiver.old.receiver ≡ new_receiver receiver.old.receiver.confirm → IsNew receiver.old.kept →
-        (deliveries : List Heard) × (progress : ℕ) × ReceiverHears receiver.old deliveries progress receiver.new
+    ensures heard { receiver.old.receiver ≡ new_receiver receiver.old.receiver.confirm →
+        IsNew receiver.old.kept →
+        (deliveries : List Heard) × (progress : ℕ)
+        × ReceiverHears receiver.old deliveries progress receiver.new
         × CommitsTheHeard receiver.old.receiver.confirm deliveries receiver.new.kept }
-    ensures told { receiver.old.receiver ≡ new_receiver receiver.old.receiver.confirm → IsNew receiver.old.kept → (u : Tape) → P.tells port.new u →
-        (t : Tape) × P.tells port.old t × (run : receiving.Receives receiver.old t (record { receiver = receiver.new; tape = u; answer = result }))
-        × CommitsTheHeard receiver.old.receiver.confirm (heard_in receiver.old t _ run) receiver.new.kept }
+    ensures told { receiver.old.receiver ≡ new_receiver receiver.old.receiver.confirm →
+        IsNew receiver.old.kept → (u : Tape) → P.tells port.new u →
+        (t : Tape) × P.tells port.old t
+        × (run : receiving.Receives receiver.old t (record {
+          receiver = receiver.new;
+          tape = u;
+          answer = result;
+        }))
+        × CommitsTheHeard receiver.old.receiver.confirm (heard_in receiver.old t _ run)
+        receiver.new.kept }
 {
     a_receiver_commits_what_it_heard();
     receive_over(port, receiver)
 }
 
-/// Sends over a port, as `send_over` does. However it returns, and whatever the peer is, each frame of each file that a new sender reports as done was
-/// acknowledged while it was what had been written last; and where it has finished, so was the end block behind them.
+/// Sends over a port, as `send_over` does. However it returns, and whatever the peer is, each frame
+/// of each file that a new sender reports as done was acknowledged while it was what had been
+/// written last; and where it has finished, so was the end block behind them.
 pub fn send_to_any_peer<P: Port, S: Source>(
     port: &mut P,
     sender: &mut SenderFrom<S>,
 ) -> Result<(), EndFault>
     ensures acknowledged { sender.old.standing ≡ new_standing (counts sender.old) →
-        (deliveries : List (List ℕ)) × (progress : ℕ) × (hears : SenderHears sender.old deliveries progress sender.new)
-        × AreAcknowledged sender.old.shape sender.old.files (files_places (counts sender.old) (done_at (length sender.old.files) sender.new.standing.place)) (spoke_along sender.old deliveries progress sender.new hears) }
-    ensures finished { sender.old.standing ≡ new_standing (counts sender.old) → sender.new.standing.state ≡ state.Finished →
-        (deliveries : List (List ℕ)) × (progress : ℕ) × (hears : SenderHears sender.old deliveries progress sender.new)
-        × AreAcknowledged sender.old.shape sender.old.files (batch_places (counts sender.old)) (spoke_along sender.old deliveries progress sender.new hears) }
-    ensures told { sender.old.standing ≡ new_standing (counts sender.old) → (u : Tape) → P.tells port.new u →
-        (t : Tape) × P.tells port.old t × (run : sending.Sends sender.old t (record { sender = sender.new; tape = u; answer = result }))
-        × AreAcknowledged sender.old.shape sender.old.files (files_places (counts sender.old) (done_at (length sender.old.files) sender.new.standing.place)) (spoke_in sender.old t _ run) }
+        (deliveries : List (List ℕ)) × (progress : ℕ)
+        × (hears : SenderHears sender.old deliveries progress sender.new)
+        × AreAcknowledged sender.old.shape sender.old.files
+        (files_places (counts sender.old)
+        (done_at (length sender.old.files) sender.new.standing.place))
+        (spoke_along sender.old deliveries progress sender.new hears) }
+    ensures finished { sender.old.standing ≡ new_standing (counts sender.old) →
+        sender.new.standing.state ≡ state.Finished →
+        (deliveries : List (List ℕ)) × (progress : ℕ)
+        × (hears : SenderHears sender.old deliveries progress sender.new)
+        × AreAcknowledged sender.old.shape sender.old.files (batch_places (counts sender.old))
+        (spoke_along sender.old deliveries progress sender.new hears) }
+    ensures told { sender.old.standing ≡ new_standing (counts sender.old) → (u : Tape) →
+        P.tells port.new u →
+        (t : Tape) × P.tells port.old t
+        × (run : sending.Sends sender.old t (record {
+          sender = sender.new;
+          tape = u;
+          answer = result;
+        }))
+        × AreAcknowledged sender.old.shape sender.old.files
+        (files_places (counts sender.old)
+        (done_at (length sender.old.files) sender.new.standing.place))
+        (spoke_in sender.old t _ run) }
 {
     a_sender_was_acknowledged();
     a_finished_sender_was_acknowledged();
     send_over(port, sender)
 }
 
-/// A call of each engine, each over a port of its own, as two processes make them at the two ends of one line. Where their deliveries pair up, new ends commit
-/// a prefix of the batch, however each call returns, and complete where both return well, no failure count rose and no bad run is longer than a burst.
+/// A call of each engine, each over a port of its own, as two processes make them at the two ends
+/// of one line. Where their deliveries pair up, new ends commit a prefix of the batch, however each
+/// call returns, and complete where both return well, no failure count rose and no bad run is
+/// longer than a burst.
 pub fn send_and_receive<P: Port, S: Source, Q: Port, K: Sink>(
     near: &mut P,
     sender: &mut SenderFrom<S>,
     far: &mut Q,
     receiver: &mut ReceiverInto<K>,
 ) -> (Result<(), EndFault>, Result<(), EndFault>)
-    ensures course { AreNew (ends sender.old receiver.old) → AreCalls sender.old sender.new receiver.old receiver.new }
-    ensures prefix { AreNew (ends sender.old receiver.old) → (calls : AreCalls sender.old sender.new receiver.old receiver.new) (rounds : List Round) →
-        CallsPairUp sender.old sender.new receiver.old receiver.new calls rounds → CommitsAPrefix sender.old.files (ends sender.new receiver.new) }
-    ensures complete { AreNew (ends sender.old receiver.old) → is_ok result.0 ≡ true → is_ok result.1 ≡ true → NoneRose (ends sender.old receiver.old) (ends sender.new receiver.new) →
+    ensures course { AreNew (ends sender.old receiver.old) →
+        AreCalls sender.old sender.new receiver.old receiver.new }
+    ensures prefix { AreNew (ends sender.old receiver.old) →
         (calls : AreCalls sender.old sender.new receiver.old receiver.new) (rounds : List Round) →
-        CallsPairUp sender.old sender.new receiver.old receiver.new calls rounds → longest_bad_run 0 rounds ≤ BURST → HaveBothFinished sender.old.files (ends sender.new receiver.new) }
+        CallsPairUp sender.old sender.new receiver.old receiver.new calls rounds →
+        CommitsAPrefix sender.old.files (ends sender.new receiver.new) }
+    ensures complete { AreNew (ends sender.old receiver.old) → is_ok result.0 ≡ true →
+        is_ok result.1 ≡ true →
+        NoneRose (ends sender.old receiver.old) (ends sender.new receiver.new) →
+        (calls : AreCalls sender.old sender.new receiver.old receiver.new) (rounds : List Round) →
+        CallsPairUp sender.old sender.new receiver.old receiver.new calls rounds →
+        longest_bad_run 0 rounds ≤ BURST →
+        HaveBothFinished sender.old.files (ends sender.new receiver.new) }
 {
     two_engines_commit_a_prefix();
     two_engines_complete();

@@ -1,4 +1,5 @@
-//! Two engines, one at each end of a line, and either of them against any peer: what their calls promise.
+//! Two engines, one at each end of a line, and either of them against any peer: what their calls
+//! promise.
 #![tactic(auto)]
 
 mod calls;

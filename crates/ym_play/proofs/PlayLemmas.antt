@@ -1,5 +1,16 @@
 -- From the run of a script to what is played.
-use Rattle.std.proofs.Common.{ℕ, List, Option, Result, Ok, Err, refl}
+use Rattle.std.proofs.Common.{◌≡◌, ◌≤◌, ℕ, List, [], None, Option, Result, Ok, Err, length, refl, sym, subst}
+use Rattle.std.specs.Prelude.{IfOk}
+use Rattle.ym_file.specs.Counts.{new_tally}
+use Rattle.ym_file.specs.Kept.{Kept, IsNew}
+use Rattle.ym_file.specs.MemSink.{kept_of}
+use Rattle.ym_file.specs.SourceFile.{FileParts, counts_of}
+use Rattle.ym_machine.specs.declared.confirm.Confirm.{Confirm}
+use Rattle.ym_machine.specs.declared.limits.TheConstants.{MOST_FILES}
+use Rattle.ym_core.specs.Receiver.{new_receiver}
+use Rattle.ym_core.specs.Standing.{new_standing}
+use Rattle.ym_link.specs.SenderRefines.{AllTold}
+use Rattle.ym_line.specs.Promise.{AreNew, CommitsAPrefix, ReportsCommitted}
 use Rattle.ym_line.specs.Rounds.{Pair, RunGives}
 use Rattle.ym_line.specs.declared.delivery.Handed.{Handed}
 use Rattle.ym_line.specs.declared.fault.LineFault.{LineFault}
@@ -7,9 +18,23 @@ use Rattle.ym_line.specs.declared.trace.Trace.{Trace}
 use Rattle.ym_play.specs.Script.{ScriptParts}
 use Rattle.ym_play.specs.Play.{IsNewPair, RunsAs}
 
+-- ends that are made so are new
+abbrev pub MadeAreNew : Type 0
+MadeAreNew = (pair : Pair) (confirm : Confirm) → pair.sender.standing ≡ new_standing (counts_of pair.sender.shape pair.sender.files)
+    → length pair.sender.files ≤ MOST_FILES → AllTold pair.sender.files → pair.receiver.receiver ≡ new_receiver confirm → IsNew pair.receiver.kept → AreNew pair
+
+no_file : (kept : Kept) → kept ≡ kept_of (record { opened = None; files = []; tally = new_tally None }) → IsNew kept
+no_file kept is = subst IsNew (sym is) (record { opened = refl; taken = refl; headers = refl; told = (refl, refl) })
+
+pub are-new : MadeAreNew → (script : ScriptParts) (told : Option (List Handed)) (failures : ℕ) (old : Pair) → IsNewPair script told failures old
+    → length script.batch ≤ MOST_FILES → AllTold script.batch → AreNew old
+are-new made script told failures old begins few known = made old script.confirm (rw (begins.shape, begins.files) begins.standing)
+    (rw begins.files few) (rw begins.files known) begins.receiver (no_file old.receiver.kept begins.kept)
+
 pub ran : (script : ScriptParts) (told : Option (List Handed)) (failures : ℕ) (old : Pair) (result : Result Trace LineFault) (new : Pair)
-    → IsNewPair script told failures old → RunGives script.rounds old result new → RunsAs script told failures result new.told new.failures
-ran script told failures old (Ok trace) new begins runs =
-    record { old = old; new = new; begins = begins; runs = runs; told_after = refl; failures_after = refl }
-ran script told failures old (Err fault) new begins stops =
-    record { old = old; new = new; begins = begins; stops = stops; told_after = refl; failures_after = refl }
+    → IsNewPair script told failures old → RunGives script.rounds old result new → CommitsAPrefix old.sender.files new → IfOk result (λ trace. ReportsCommitted trace new)
+    → RunsAs script told failures result new.told new.failures
+ran script told failures old (Ok trace) new begins runs commits reports =
+    record { old = old; new = new; begins = begins; runs = runs; commits = rw begins.files at commits; reports = reports; told_after = refl; failures_after = refl }
+ran script told failures old (Err fault) new begins stops commits reports =
+    record { old = old; new = new; begins = begins; stops = stops; commits = rw begins.files at commits; told_after = refl; failures_after = refl }

@@ -34,7 +34,8 @@ abbrev pub delivery_at : List ℕ → Option DeliveryWords
 delivery_at word =
     if bytes_eq word (codes "whole") then Some Whole
     else if bytes_eq word (codes "lost") then Some Lost
-    else if has_colon word && bytes_eq (before_colon word) (codes "hex") then Some (Damaged (behind_colon word))
+    else if has_colon word && bytes_eq (before_colon word) (codes "hex")
+    then Some (Damaged (behind_colon word))
     else None
 
 abbrev pub round_of : Option DeliveryWords → Option DeliveryWords → Option CommandWords

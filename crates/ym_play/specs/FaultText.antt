@@ -1,4 +1,5 @@
--- The lines that tell why a script is not played, without their ends. Their words are this profile's choice.
+-- The lines that tell why a script is not played, without their ends. Their words are this
+-- profile's choice.
 use Rattle.std.specs.Prelude.{ℕ, ◌++◌, ◌==◌, List, codes, decimal, if◌then◌else◌}
 use Rattle.ym_line.specs.declared.fault.LineFault.{LineFault}
 use Rattle.ym_line.specs.declared.fault.LineFault.TheVariants as round
@@ -20,7 +21,8 @@ why_text why.TooMany = codes "too many files"
 
 -- line 0 is the whole script
 abbrev pub place_text : ℕ → List ℕ
-place_text line = if line == 0 then codes "script: " else (codes "line " ++ (decimal line ++ codes ": "))
+place_text line =
+    if line == 0 then codes "script: " else (codes "line " ++ (decimal line ++ codes ": "))
 
 abbrev pub round_text : LineFault → List ℕ
 round_text (round.NotDamage n) = codes "round " ++ (decimal n ++ codes ": not damage")

@@ -1,4 +1,5 @@
--- What the bytes of a script stand for: a batch of files, how it is sent and received, and the rounds of the line.
+-- What the bytes of a script stand for: a batch of files, how it is sent and received, and the
+-- rounds of the line.
 use Rattle.std.specs.Prelude.{ℕ, ◌+◌, ◌==◌, ◌&&◌, not, nat_lt, nat_le, Bool, List, [], ◌∷◌, ◌++◌, length, Option, Some, None, Result, Ok, Err, codes, replicate, if◌then◌else◌}
 use Rattle.std.specs.List.{slice_split, list_all}
 use Rattle.std.specs.Str.{bytes_eq, is_utf8}
@@ -30,18 +31,29 @@ empty = record { batch = []; shape = shape.Mixed; confirm = confirm.Twice; round
 
 -- the second step, if the first gave a value
 infixl 10 ◌>>=◌
-abbrev pub ◌>>=◌ : {A B : Type 0} → Result A ScriptWhy → (A → Result B ScriptWhy) → Result B ScriptWhy
+abbrev pub ◌>>=◌ : {A B : Type 0} → Result A ScriptWhy → (A → Result B ScriptWhy) →
+    Result B ScriptWhy
 Ok x >>= f = f x
 Err why >>= f = Err why
 
--- some bytes of UTF-8, within the limit on a name, without control characters and slashes, and no name of a directory
+-- some bytes of UTF-8, within the limit on a name, without control characters and slashes, and no
+-- name of a directory
 abbrev pub is_name : List ℕ → Bool
-is_name name = nat_lt 0 (length name) && (nat_le (length name) MOST_NAME_BYTES && (is_utf8 name && (list_all (λ b. nat_le 0x20 b && not (b == 0x2f)) name
+is_name name =
+    nat_lt 0 (length name) &&
+    (nat_le (length name) MOST_NAME_BYTES &&
+    (is_utf8 name && (list_all (λ b. nat_le 0x20 b && not (b == 0x2f)) name
     && (not (bytes_eq name (codes ".")) && not (bytes_eq name (codes ".."))))))
 
 abbrev pub named_file : List ℕ → List ℕ → Stamp → Result FileParts ScriptWhy
 named_file name bytes stamp =
-    if is_name name then Ok (record { header = record { name = name; length = length bytes; stamp = stamp }; bytes = Some bytes; failures = 0; fills = 0 })
+    if is_name name
+    then Ok (record {
+      header = record { name = name; length = length bytes; stamp = stamp };
+      bytes = Some bytes;
+      failures = 0;
+      fills = 0;
+    })
     else Err why.Name
 
 -- the file of a name, bytes and a stamp as they are written
@@ -53,20 +65,29 @@ abbrev pub early : {A : Type 0} → ScriptParts → Result A ScriptWhy → Resul
 early s next = if length s.rounds == 0 then next else Err why.Late
 
 abbrev pub with_file : ScriptParts → FileParts → Result ScriptParts ScriptWhy
-with_file s file = if nat_lt (length s.batch) MOST_FILES then Ok (record s { batch = s.batch ++ file ∷ [] }) else Err why.TooMany
+with_file s file =
+    if nat_lt (length s.batch) MOST_FILES
+    then Ok (record s { batch = s.batch ++ file ∷ [] })
+    else Err why.TooMany
 
-abbrev pub with_written_file : ScriptParts → List ℕ → List ℕ → StampWords → Result ScriptParts ScriptWhy
+abbrev pub with_written_file : ScriptParts → List ℕ → List ℕ → StampWords →
+    Result ScriptParts ScriptWhy
 with_written_file s name bytes stamp = file_at name bytes stamp >>= (λ file. with_file s file)
 
 abbrev pub whole_round : Round
 whole_round = record { there = line.Whole; back = line.Whole }
 
 abbrev pub with_whole : ScriptParts → ℕ → Result ScriptParts ScriptWhy
-with_whole s count = if nat_le (length s.rounds + count) MOST_ROUNDS then Ok (record s { rounds = s.rounds ++ replicate count whole_round }) else Err why.Number
+with_whole s count =
+    if nat_le (length s.rounds + count) MOST_ROUNDS
+    then Ok (record s { rounds = s.rounds ++ replicate count whole_round })
+    else Err why.Number
 
 abbrev pub with_round : ScriptParts → DeliveryWords → DeliveryWords → Result ScriptParts ScriptWhy
 with_round s there back = if nat_lt (length s.rounds) MOST_ROUNDS
-    then (delivery_at there >>= (λ t. delivery_at back >>= (λ b. Ok (record s { rounds = s.rounds ++ record { there = t; back = b } ∷ [] }))))
+    then (delivery_at there >>= (λ t.
+    delivery_at back >>= (λ b.
+    Ok (record s { rounds = s.rounds ++ record { there = t; back = b } ∷ [] }))))
     else Err why.Number
 
 -- what one command makes of a script
@@ -91,14 +112,16 @@ numbered n (Ok x) = Ok x
 numbered n (Err why) = Err (n, why)
 
 infixl 10 ◌>>>◌
-abbrev pub ◌>>>◌ : {A B : Type 0} → Result A (ℕ × ScriptWhy) → (A → Result B (ℕ × ScriptWhy)) → Result B (ℕ × ScriptWhy)
+abbrev pub ◌>>>◌ : {A B : Type 0} →
+    Result A (ℕ × ScriptWhy) → (A → Result B (ℕ × ScriptWhy)) → Result B (ℕ × ScriptWhy)
 Ok x >>> f = f x
 Err fault >>> f = Err fault
 
 -- what lines make of a script, the first of them with this number, or the first fault
 unfoldable pub lines_read : ℕ → ScriptParts → List (List ℕ) → Result ScriptParts (ℕ × ScriptWhy)
 lines_read n s [] = Ok s
-lines_read n s (text ∷ others) = numbered n (line_read s text) >>> (λ t. lines_read (n + 1) t others)
+lines_read n s (text ∷ others) =
+    numbered n (line_read s text) >>> (λ t. lines_read (n + 1) t others)
 
 -- the parts between the line ends
 unfoldable pub lines_of : List ℕ → List (List ℕ)
@@ -107,5 +130,6 @@ lines_of text = slice_split (λ c. c == 10) text
 -- the script of some bytes, or its first fault with its line; line 0 is the whole
 abbrev pub script_of : List ℕ → Result ScriptParts (ℕ × ScriptWhy)
 script_of bytes =
-    if nat_le (length bytes) MOST_SCRIPT_BYTES then (if is_utf8 bytes then lines_read 1 empty (lines_of bytes) else Err (0, why.NotText))
+    if nat_le (length bytes) MOST_SCRIPT_BYTES
+    then (if is_utf8 bytes then lines_read 1 empty (lines_of bytes) else Err (0, why.NotText))
     else Err (0, why.Large)

@@ -32,12 +32,18 @@ abbrev pub fault_status : SessionFault → ℕ
 fault_status session.Device = 3
 fault_status (session.Play fault) = play_status fault
 
--- the text goes to out and nothing else anywhere; or nothing goes to out, and the status is that of the fault
-abbrev pub EndsAs : Result Played PlayFault → List ℕ → List ℕ → ℕ → Option (List ℕ) → Option (List ℕ) → Type 0
-EndsAs (Ok played) before wrong status out err = (status ≡ played.status) × (out ≡ Some (before ++ string_bytes played.text)) × (err ≡ Some wrong)
+-- the text goes to out and nothing else anywhere; or nothing goes to out, and the status is that of
+-- the fault
+abbrev pub EndsAs : Result Played PlayFault → List ℕ → List ℕ → ℕ → Option (List ℕ) →
+    Option (List ℕ) → Type 0
+EndsAs (Ok played) before wrong status out err =
+    (status ≡ played.status) × (out ≡ Some (before ++ string_bytes played.text)) ×
+    (err ≡ Some wrong)
 EndsAs (Err fault) before wrong status out err = (status ≡ play_status fault) × (out ≡ Some before)
 
 -- out held the bytes before, and err those of wrong
-abbrev pub SessionGives : List ℕ → List ℕ → List ℕ → Option (List Handed) → ℕ → ℕ → Option (List ℕ) → Option (List ℕ) → Option (List Handed) → ℕ → Type 0
+abbrev pub SessionGives : List ℕ → List ℕ → List ℕ → Option (List Handed) → ℕ → ℕ →
+    Option (List ℕ) → Option (List ℕ) → Option (List Handed) → ℕ → Type 0
 SessionGives text before wrong told failures status out err new_told new_failures =
-    (answer : Result Played PlayFault) × PlayGives text told failures answer new_told new_failures × EndsAs answer before wrong status out err
+    (answer : Result Played PlayFault) × PlayGives text told failures answer new_told new_failures ×
+    EndsAs answer before wrong status out err

@@ -21,7 +21,8 @@ is_numeral radix text = nat_lt 0 (length text) && list_all (λ c. is_digit c rad
 -- the number that digits alone write, from the least one to below a bound
 abbrev pub number_at : ScriptWhy → ℕ → ℕ → ℕ → List ℕ → Result ℕ ScriptWhy
 number_at why radix least bound text =
-    if is_numeral radix text && (nat_le least (digits_value radix text) && nat_lt (digits_value radix text) bound)
+    if is_numeral radix text &&
+    (nat_le least (digits_value radix text) && nat_lt (digits_value radix text) bound)
     then Ok (digits_value radix text) else Err why
 
 -- a number of rounds: from 1 to 65,535 in decimal digits

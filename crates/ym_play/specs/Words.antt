@@ -28,7 +28,9 @@ abbrev pub HasOneWord : List ℕ → Type 0
 HasOneWord text = words_of text ≡ text ∷ []
 
 abbrev pub HasMoreWords : List ℕ → Type 0
-HasMoreWords text = (first : List ℕ) × (second : List ℕ) × (others : List (List ℕ)) × (words_of text ≡ first ∷ second ∷ others)
+HasMoreWords text =
+    (first : List ℕ) × (second : List ℕ) × (others : List (List ℕ)) ×
+    (words_of text ≡ first ∷ second ∷ others)
 
 -- a word with a colon is cut at its first one
 abbrev pub is_colon : ℕ → Bool

@@ -48,7 +48,9 @@ pub(crate) enum Command<'a> {
 
 fn split_colon(word: &str) -> Option<(&str, &str)>
     ensures { MatchOption result (has_colon word.now ≡ false)
-        (λ parts. (has_colon word.now ≡ true) × (parts.0.now ≡ before_colon word.now) × (parts.1.now ≡ behind_colon word.now)) }
+        (λ parts.
+        (has_colon word.now ≡ true) × (parts.0.now ≡ before_colon word.now) ×
+        (parts.1.now ≡ behind_colon word.now)) }
 {
     word.split_once(':')
 }
@@ -92,7 +94,8 @@ fn rounds_of<'a>(rest: &'a str) -> Option<Command<'a>>
 
 /// The file of this name and these bytes, with the stamp that the words behind them write.
 fn stamped<'a>(name: &'a str, bytes: &'a str, rest: &'a str) -> Option<Command<'a>>
-    ensures { option_map command_in result ≡ stamped_at name.entry.now bytes.entry.now (words_of rest.entry.now) }
+    ensures { option_map command_in result ≡
+        stamped_at name.entry.now bytes.entry.now (words_of rest.entry.now) }
 {
     let stamp = match split_word(rest) {
         None => StampText::Time(rest),

@@ -17,8 +17,8 @@ pub enum ScriptWhy {
     Large,
     /// The script is not UTF-8. It is told of line 0.
     NotText,
-    /// Another first word, a wrong number of words, an empty word, or a delivery that is none of `whole`, `lost` and `hex:` with
-    /// what follows it.
+    /// Another first word, a wrong number of words, an empty word, or a delivery that is none of
+    /// `whole`, `lost` and `hex:` with what follows it.
     NotCommand,
     /// `short`, `single` or `file` behind a round.
     Late,
@@ -54,10 +54,12 @@ impl fmt::Display for ScriptWhy {
 
 impl Error for ScriptWhy {}
 
-/// Why a script is not played to its end. Its `Display` is the line that tells it, without the line's end.
+/// Why a script is not played to its end. Its `Display` is the line that tells it, without the
+/// line's end.
 #[derive(Clone, Copy, Debug, PartialEq, Eq)]
 pub enum PlayFault {
-    /// The script is refused: the first line with a fault, counted from 1, and that fault. Line 0 is the whole script.
+    /// The script is refused: the first line with a fault, counted from 1, and that fault. Line 0
+    /// is the whole script.
     Script {
         /// The line.
         line: u32,

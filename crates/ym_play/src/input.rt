@@ -24,11 +24,14 @@ const MOST: usize = MOST_SCRIPT_BYTES + 1;
 /// How many bytes a read asks for.
 const PIECE: usize = 8192;
 
-/// The reader's bytes, or the first of them that show a script to be too large. A read that fails is not tried again.
+/// The reader's bytes, or the first of them that show a script to be too large. A read that fails
+/// is not tried again.
 pub(crate) fn take_script<I: Input>(alloc: Global, input: &mut I) -> Result<Vec<u8>, InputFault>
     ensures taken { IfOk result (λ bytes. IsTaken (I.remaining input.old) bytes.items) }
-    ensures within { IsReadWithin (MOST_SCRIPT_BYTES + 1) (I.remaining input.old) (I.remaining input.new) }
-    ensures device { result ≡ Err InputFault.Device → Rose (I.failures input.old) (I.failures input.new) }
+    ensures within { IsReadWithin (MOST_SCRIPT_BYTES + 1) (I.remaining input.old)
+        (I.remaining input.new) }
+    ensures device { result ≡ Err InputFault.Device →
+        Rose (I.failures input.old) (I.failures input.new) }
     ensures calm { result ≢ Err InputFault.Device → I.failures input.new ≡ I.failures input.old }
 {
     let mut bytes = Vec::new(alloc);

@@ -1,4 +1,5 @@
-//! Scripts and sessions: a batch of files and the rounds that carry it, read from text and played on a line.
+//! Scripts and sessions: a batch of files and the rounds that carry it, read from text and played
+//! on a line.
 #![tactic(auto)]
 
 mod command;

@@ -9,6 +9,7 @@ ghost use Rattle.ym_play.specs.Play.{PlayGives, RunsAs, status_of};
 use crate::fault::PlayFault;
 use crate::script::{Script, read_script};
 use std::alloc::Global;
+use ym_line::laws::made_ends_are_new;
 use ym_line::{Carrier, LineFault, Trace, run, trace_text};
 use ym_link::{Confirm, Receiver, RecvState, SendState, Sender};
 
@@ -23,7 +24,12 @@ pub struct Played {
 
 /// A receiver without files, in memory.
 fn receiver_of(alloc: Global, confirm: Confirm) -> Receiver
-    ensures { result ≡ record { receiver = new_receiver confirm; kept = kept_of (record { opened = None; files = []; tally = new_tally None }); failures = 0 } }
+    ensures { result ≡
+        record {
+          receiver = new_receiver confirm;
+          kept = kept_of (record { opened = None; files = []; tally = new_tally None });
+          failures = 0;
+        } }
 {
     match confirm {
         Confirm::Twice => Receiver::new(alloc),
@@ -48,7 +54,8 @@ fn run_script<C: Carrier>(
     script: Script,
     carrier: &mut C,
 ) -> Result<Trace, LineFault>
-    ensures { RunsAs script (C.told carrier.old) (C.failures carrier.old) result (C.told carrier.new) (C.failures carrier.new) }
+    ensures { RunsAs script (C.told carrier.old) (C.failures carrier.old) result
+        (C.told carrier.new) (C.failures carrier.new) }
 {
     let Script {
         batch,
@@ -58,17 +65,19 @@ fn run_script<C: Carrier>(
     } = script;
     let mut sender = Sender::new(batch, shape).unwrap();
     let mut receiver = receiver_of(alloc, confirm);
+    made_ends_are_new();
     run(alloc, &mut sender, &mut receiver, &rounds, carrier)
 }
 
-/// Reads a script, and sends its batch to a new receiver in memory over its rounds, by this carrier. The whole script is read before the
-/// first round.
+/// Reads a script, and sends its batch to a new receiver in memory over its rounds, by this
+/// carrier. The whole script is read before the first round.
 pub fn play_script<C: Carrier>(
     alloc: Global,
     script: &[u8],
     carrier: &mut C,
 ) -> Result<Played, PlayFault>
-    ensures gives { PlayGives script.now (C.told carrier.old) (C.failures carrier.old) result (C.told carrier.new) (C.failures carrier.new) }
+    ensures gives { PlayGives script.now (C.told carrier.old) (C.failures carrier.old) result
+        (C.told carrier.new) (C.failures carrier.new) }
     ensures status { IfOk result (λ played. played.status ≤ 1) }
 {
     let script = read_script(alloc, script)?;

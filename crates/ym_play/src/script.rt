@@ -1,6 +1,6 @@
 //! A script, and how it is read from its bytes.
 
-ghost use Rattle.std.specs.Prelude.{◌≡◌, ◌≤◌, ◌+◌, ◌++◌, length, replicate, vec_len, OnOk, Ok};
+ghost use Rattle.std.specs.Prelude.{◌≡◌, ◌≤◌, ◌+◌, ◌++◌, length, replicate, vec_len, IsSome, IfOk, OnOk, Ok};
 ghost use Rattle.ym_play.specs.Command.{command_in, delivery_in, stamp_in};
 ghost use Rattle.ym_play.specs.PlayFault.{Gives, Reads};
 ghost use Rattle.ym_play.specs.Script.{empty, early, file_at, followed, line_read, lines_of, lines_read, script_of, whole_round, with_round, with_whole, with_written_file};
@@ -30,19 +30,30 @@ pub struct Script {
 impl Model for Script {
     ghost use Rattle.std.specs.Prelude.{◌≤◌, length};
     ghost use Rattle.ym_machine.specs.declared.limits.TheConstants.{MOST_FILES};
+    ghost use Rattle.ym_link.specs.SenderRefines.{AllTold};
     ghost use Rattle.ym_play.specs.Script.{ScriptParts};
     ghost use Rattle.ym_play.specs.declared.limits.TheConstants.{MOST_ROUNDS};
 
     ghost Value = { ScriptParts };
 
-    ghost view = { λ s. record { batch = s.batch.items; shape = s.shape; confirm = s.confirm; rounds = s.rounds.items } };
+    ghost view = { λ s.
+        record {
+          batch = s.batch.items;
+          shape = s.shape;
+          confirm = s.confirm;
+          rounds = s.rounds.items;
+        } };
 
-    ghost invariant = { λ s. (length s.batch.items ≤ MOST_FILES) × (length s.rounds.items ≤ MOST_ROUNDS) };
+    ghost invariant = { λ s.
+        (length s.batch.items ≤ MOST_FILES) × (length s.rounds.items ≤ MOST_ROUNDS) ×
+        AllTold s.batch.items };
 }
 
 /// The file that a name, bytes and a stamp write.
 fn file_of(alloc: Global, name: &str, bytes: &str, stamp: StampText) -> Result<SendFile, Refusal>
-    ensures { Gives (λ file. file) result (file_at name.now bytes.now (stamp_in stamp.entry)) }
+    ensures gives { Gives (λ file. file) result
+        (file_at name.now bytes.now (stamp_in stamp.entry)) }
+    ensures told { IfOk result (λ file. IsSome file.bytes) }
 {
     let bytes = bytes_of(alloc, bytes)?;
     let stamp = stamp_of(stamp)?;
@@ -64,7 +75,8 @@ fn push_whole_rounds(rounds: &mut Vec<Round>, count: u16) -> Result<(), AllocErr
 }
 
 impl Script {
-    /// No files and no rounds, long and short blocks, and a receiver that wants to hear an EOT twice.
+    /// No files and no rounds, long and short blocks, and a receiver that wants to hear an EOT
+    /// twice.
     fn new(alloc: Global) -> Script
         ensures { result ≡ empty }
     {
@@ -95,7 +107,8 @@ impl Script {
         bytes: &str,
         stamp: StampText,
     ) -> Result<(), Refusal>
-        ensures { Gives (λ _. self.new) result (with_written_file self.old name.now bytes.now (stamp_in stamp.entry)) }
+        ensures { Gives (λ _. self.new) result
+            (with_written_file self.old name.now bytes.now (stamp_in stamp.entry)) }
     {
         let file = file_of(alloc, name, bytes, stamp)?;
         if self.batch.len() >= MOST_FILES {
@@ -123,7 +136,8 @@ impl Script {
         there: DeliveryText,
         back: DeliveryText,
     ) -> Result<(), Refusal>
-        ensures { Gives (λ _. self.new) result (with_round self.old (delivery_in there.entry) (delivery_in back.entry)) }
+        ensures { Gives (λ _. self.new) result
+            (with_round self.old (delivery_in there.entry) (delivery_in back.entry)) }
     {
         if self.rounds.len() >= MOST_ROUNDS {
             return Err(Refusal::Why(ScriptWhy::Number));
@@ -188,7 +202,8 @@ fn read_lines(alloc: Global, text: &str) -> Result<Script, PlayFault>
     Ok(script)
 }
 
-/// The script that some bytes stand for, or its first fault: by line, and on one line in the order of `ScriptWhy`.
+/// The script that some bytes stand for, or its first fault: by line, and on one line in the order
+/// of `ScriptWhy`.
 pub fn read_script(alloc: Global, bytes: &[u8]) -> Result<Script, PlayFault>
     ensures { Reads result (script_of bytes.now) }
 {

@@ -81,10 +81,13 @@ fn play_input<I: Input, C: Carrier>(
     carrier: &mut C,
 ) -> Result<Played, SessionFault>
     // At any outputs, which it does not see.
-    ensures plays { (old new : Scene) → old.told ≡ C.told carrier.old → old.carries_failed ≡ C.failures carrier.old → old.reads_failed ≡ I.failures input.old
-        → new.told ≡ C.told carrier.new → new.carries_failed ≡ C.failures carrier.new → new.reads_failed ≡ I.failures input.new
+    ensures plays { (old new : Scene) → old.told ≡ C.told carrier.old
+        → old.carries_failed ≡ C.failures carrier.old → old.reads_failed ≡ I.failures input.old
+        → new.told ≡ C.told carrier.new → new.carries_failed ≡ C.failures carrier.new
+        → new.reads_failed ≡ I.failures input.new
         → ScriptGives (I.remaining input.old) old result new }
-    ensures within { IsReadWithin (MOST_SCRIPT_BYTES + 1) (I.remaining input.old) (I.remaining input.new) }
+    ensures within { IsReadWithin (MOST_SCRIPT_BYTES + 1) (I.remaining input.old)
+        (I.remaining input.new) }
     ensures status { IfOk result (λ played. played.status ≤ 1) }
 {
     let script = take_script(alloc, input)?;
@@ -94,9 +97,12 @@ fn play_input<I: Input, C: Carrier>(
     }
 }
 
-/// Writes the line that tells a fault. The answer is its status, or that of a failed device where the line could not be written.
+/// Writes the line that tells a fault. The answer is its status, or that of a failed device where
+/// the line could not be written.
 fn tell<E: Output>(err: &mut E, fault: SessionFault) -> u8
-    ensures { ((result ≡ fault_status fault) × Appends (E.contents err.old) (E.contents err.new) (session_line fault) × (E.failures err.new ≡ E.failures err.old))
+    ensures { ((result ≡ fault_status fault)
+        × Appends (E.contents err.old) (E.contents err.new) (session_line fault)
+        × (E.failures err.new ≡ E.failures err.old))
         ⊎ ((result ≡ 3) × Rose (E.failures err.old) (E.failures err.new)) }
 {
     match err.put_line(fault) {
@@ -105,9 +111,10 @@ fn tell<E: Output>(err: &mut E, fault: SessionFault) -> u8
     }
 }
 
-/// Plays the script that `input` holds, by this carrier. The text of its run goes to `out`; or where there is none, a line that tells why goes
-/// to `err`, and nothing to `out`. The answer is the status: 0 where both ends have finished, 1 where they have not, 2 where the script or one of its rounds is
-/// refused, and 3 where a read, a write or the carrier failed or memory ran out.
+/// Plays the script that `input` holds, by this carrier. The text of its run goes to `out`; or
+/// where there is none, a line that tells why goes to `err`, and nothing to `out`. The answer is
+/// the status: 0 where both ends have finished, 1 where they have not, 2 where the script or one of
+/// its rounds is refused, and 3 where a read, a write or the carrier failed or memory ran out.
 ///
 /// It takes at most 1,048,577 bytes of the script.
 pub fn session_over<I: Input, O: Output, E: Output, C: Carrier>(
@@ -156,7 +163,8 @@ pub fn session_over<I: Input, O: Output, E: Output, C: Carrier>(
           err_failed = E.failures err.new;
           carries_failed = C.failures carrier.new;
         }) }
-    ensures within { IsReadWithin (MOST_SCRIPT_BYTES + 1) (I.remaining input.old) (I.remaining input.new) }
+    ensures within { IsReadWithin (MOST_SCRIPT_BYTES + 1) (I.remaining input.old)
+        (I.remaining input.new) }
     ensures refused { result ≡ 2 → O.contents out.new ≡ O.contents out.old }
     ensures status { result ≤ 3 }
 {
@@ -170,7 +178,8 @@ pub fn session_over<I: Input, O: Output, E: Output, C: Carrier>(
     }
 }
 
-/// The same over a reader and writers of the standard library, which do not say how often they failed.
+/// The same over a reader and writers of the standard library, which do not say how often they
+/// failed.
 pub fn session<R: Read, W: Write, E: Write, C: Carrier>(
     alloc: Global,
     input: &mut R,
@@ -179,10 +188,13 @@ pub fn session<R: Read, W: Write, E: Write, C: Carrier>(
     carrier: &mut C,
 ) -> u8
     // Where no read and no write fails: a session that meets one has status 3.
-    ensures gives { (text before wrong : List ℕ) → R.remaining input.old ≡ Some text → W.contents out.old ≡ Some before
+    ensures gives { (text before wrong : List ℕ) → R.remaining input.old ≡ Some text
+        → W.contents out.old ≡ Some before
         → E.contents err.old ≡ Some wrong → result ≢ 3
-        → SessionGives text before wrong (C.told carrier.old) (C.failures carrier.old) result (W.contents out.new) (E.contents err.new) (C.told carrier.new) (C.failures carrier.new) }
-    ensures within { IsReadWithin (MOST_SCRIPT_BYTES + 1) (R.remaining input.old) (R.remaining input.new) }
+        → SessionGives text before wrong (C.told carrier.old) (C.failures carrier.old) result
+        (W.contents out.new) (E.contents err.new) (C.told carrier.new) (C.failures carrier.new) }
+    ensures within { IsReadWithin (MOST_SCRIPT_BYTES + 1) (R.remaining input.old)
+        (R.remaining input.new) }
     ensures refused { result ≡ 2 → W.contents out.new ≡ W.contents out.old }
     ensures status { result ≤ 3 }
 {

@@ -20,7 +20,8 @@ pub trait Input {
     /// How often a read failed: a number of 64 bits that stays at its greatest value.
     ghost failures: { Self → ℕ };
 
-    /// Reads some bytes to the front of `buf`, and answers how many: none only at the end, or where the buffer has no room.
+    /// Reads some bytes to the front of `buf`, and answers how many: none only at the end, or where
+    /// the buffer has no room.
     fn read_some(&mut self, buf: &mut [u8]) -> Result<usize, StreamFault>
         ensures count { IfOk result (λ n. n ≤ length buf.new) }
         ensures bytes { ReadConsumes (remaining self.old) (remaining self.new) result buf.new }
@@ -44,18 +45,21 @@ pub trait Output {
 
     /// The same of a text. It takes no memory.
     fn put_text<D: Display + Drop>(&mut self, text: D) -> Result<(), StreamFault>
-        ensures bytes { OnOk result (IfSome (D.output text) (Appends (contents self.old) (contents self.new))) }
+        ensures bytes { OnOk result
+            (IfSome (D.output text) (Appends (contents self.old) (contents self.new))) }
         ensures ok { OnOk result (failures self.new ≡ failures self.old) }
         ensures failed { OnErr result (Rose (failures self.old) (failures self.new)) };
 
     /// The same of a text and the end of its line.
     fn put_line<D: Display + Drop>(&mut self, text: D) -> Result<(), StreamFault>
-        ensures bytes { OnOk result (IfSome (with_newline (D.output text)) (Appends (contents self.old) (contents self.new))) }
+        ensures bytes { OnOk result (IfSome (with_newline (D.output text))
+            (Appends (contents self.old) (contents self.new))) }
         ensures ok { OnOk result (failures self.new ≡ failures self.old) }
         ensures failed { OnErr result (Rose (failures self.old) (failures self.new)) };
 }
 
-/// A reader of the standard library does not say how often it failed: its count is taken to stand at the greatest value.
+/// A reader of the standard library does not say how often it failed: its count is taken to stand
+/// at the greatest value.
 impl<R: Read> Input for R {
     ghost remaining = { λ r. R.remaining r };
 

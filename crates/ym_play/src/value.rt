@@ -17,7 +17,8 @@ use ym_line::Delivery;
 
 /// The number below 2^16 that decimal digits alone write.
 fn decimal_of(text: &str) -> Option<u16>
-    ensures { SomeIff result (IsNumeral 10 text.now × (digits_value 10 text.now < 2 ^ 16)) (digits_value 10 text.now) }
+    ensures { SomeIff result (IsNumeral 10 text.now × (digits_value 10 text.now < 2 ^ 16))
+        (digits_value 10 text.now) }
 {
     let bytes = text.as_bytes();
     if bytes.is_empty() || bytes[0] == b'+' {
@@ -28,7 +29,8 @@ fn decimal_of(text: &str) -> Option<u16>
 
 /// The number below 2^64 that octal digits alone write.
 fn octal_of(text: &str) -> Option<u64>
-    ensures { SomeIff result (IsNumeral 8 text.now × (digits_value 8 text.now < 2 ^ 64)) (digits_value 8 text.now) }
+    ensures { SomeIff result (IsNumeral 8 text.now × (digits_value 8 text.now < 2 ^ 64))
+        (digits_value 8 text.now) }
 {
     let bytes = text.as_bytes();
     if bytes.is_empty() || bytes[0] == b'+' {

@@ -1,5 +1,7 @@
 pub mod Dropping
+pub mod Gathering
 pub mod Hearing
+pub mod InStepPassing
 pub mod Moments
 pub mod Passing
 pub mod Reading

@@ -22,7 +22,6 @@ use Rattle.ym_port.specs.Wire.{Tape, moment_of, after_moment, after_read, after_
 use Rattle.ym_port.specs.declared.deed.Deed.{Deed}
 use Rattle.ym_port.specs.declared.deed.Deed.TheVariants.{Looked, Waited, Wrote}
 use Rattle.ym_port.specs.declared.line.Line.{Line}
-use Rattle.ym_timing.specs.Timing.{until}
 use Rattle.ym_timing.specs.Clears.{clear_at}
 use Rattle.ym_timing.specs.declared.clearing.Clearing.{Clearing}
 use Rattle.ym_timing.specs.declared.timing.Wait.{Wait}

@@ -1,3 +1,6 @@
+pub mod InStep
 pub mod Passing
 pub mod TimedPort
+pub mod Turn
+pub mod TurnExamples
 pub mod Wire

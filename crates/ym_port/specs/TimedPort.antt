@@ -21,6 +21,11 @@ use Rattle.ym_timing.specs.Times.{new_clock, told, waited, later}
 use Rattle.ym_timing.specs.Timing.{new_timing, is_last, until, vain_of, after_byte, after_vain}
 use Rattle.ym_timing.specs.Writing.{wrote}
 use Rattle.ym_timing.specs.declared.clearing.Clearing.{Clearing}
+use Rattle.ym_timing.specs.declared.ear.Echo.{Echo}
+use Rattle.ym_timing.specs.declared.ear.Echo.TheVariants.{Goes}
+use Rattle.ym_timing.specs.declared.pace.Pace.{Pace}
+use Rattle.ym_timing.specs.declared.pace.Trust.{Trust}
+use Rattle.ym_timing.specs.declared.pace.Trust.TheVariants.{Unknown, Doubtful, Sure}
 use Rattle.ym_timing.specs.declared.role.Role.{Role}
 use Rattle.ym_timing.specs.declared.role.Role.TheVariants.{Sender, Receiver}
 use Rattle.ym_timing.specs.declared.timing.Timing.{Timing}
@@ -36,6 +41,7 @@ new_line role = record {
   clock = new_clock;
   written = [];
   is_closed = false;
+  has_echo = false;
 }
 
 abbrev pub cancel : List ℕ
@@ -59,8 +65,36 @@ heard_in bytes l =
 abbrev pub hears_byte : ℕ → Line → Line
 hears_byte byte l = record l { timing = after_byte byte l.written l.clock.at l.timing }
 
+abbrev pub takes : List ℕ → Line → Line
+takes bytes l = record l { timing = after_bytes bytes l.written l.clock.at l.timing }
+
+abbrev pub goes : Echo → Bool
+goes (Goes place) = true
+goes _ = false
+
+-- three bytes of the block that was written last came back, or one of the reply
+abbrev pub comes_back_to : Role → Timing → Bool
+comes_back_to Sender t = goes t.ear.echo
+comes_back_to Receiver t = nat_lt 0 t.echoed
+
+abbrev pub comes_back : Timing → Bool
+comes_back t = comes_back_to t.role t
+
+abbrev pub heeds_echo : Line → Line
+heeds_echo l = record l { has_echo = l.has_echo || comes_back l.timing }
+
+-- an echo that came once is kept in mind
 abbrev pub hears : List ℕ → Line → Line
-hears bytes l = record l { timing = after_bytes bytes l.written l.clock.at l.timing }
+hears bytes l = heeds_echo (takes bytes l)
+
+-- how long the slowest answer of late took, where one was seen
+abbrev pub slowest_by : Trust → ℕ → Option ℕ
+slowest_by Unknown took = None
+slowest_by Doubtful took = Some took
+slowest_by Sure took = Some took
+
+abbrev pub slowest_of : Pace → Option ℕ
+slowest_of p = slowest_by p.trust p.slowest
 
 -- a wait is over
 abbrev pub vain_at : Wait → Line → Vain

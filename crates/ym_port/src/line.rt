@@ -8,7 +8,7 @@ ghost use Rattle.ym_timing.specs.declared.role.Role.{Role};
 ghost use Rattle.ym_port.specs.declared.line.TheConstants.{PIECE};
 
 use crate::written::Written;
-use ym_timing::{Clearing, Clock, Kind, Role, Say, Timing, Vain, Wait, cancels};
+use ym_timing::{Clearing, Clock, Echo, Kind, Role, Say, Timing, Vain, Wait, cancels};
 
 /// The byte ACK.
 pub const ACK: u8 = 0x06;
@@ -33,6 +33,8 @@ pub struct Line {
     pub written: Written,
     /// Whether the line was closed while it was let clear.
     pub is_closed: bool,
+    /// Whether what this end wrote came back to it.
+    pub has_echo: bool,
 }
 
 impl Line {
@@ -47,6 +49,7 @@ impl Line {
             clock: Clock::new(),
             written: Written::new(),
             is_closed: false,
+            has_echo: false,
         }
     }
 
@@ -84,7 +87,7 @@ impl Line {
     #[inline]
     fn reply(&mut self, came: &[u8], buf: &mut [u8]) -> usize
         requires room { 2 * length came.now ≤ length buf.old }
-        ensures line { self.new ≡ table.hears came.now self.old }
+        ensures line { self.new ≡ table.takes came.now self.old }
         ensures role { self.new.timing.role ≡ self.old.timing.role }
         ensures within { result ≤ 2 * length came.now }
         ensures sized { length buf.new ≡ length buf.old }
@@ -107,7 +110,7 @@ impl Line {
         requires piece { count ≤ PIECE }
         requires room { 2 * count ≤ length buf.old }
         requires sender { self.old.timing.role ≡ Role.Sender }
-        ensures line { self.new ≡ table.hears (take count buf.old) self.old }
+        ensures line { self.new ≡ table.takes (take count buf.old) self.old }
         ensures role { self.new.timing.role ≡ self.old.timing.role }
         ensures within { result ≤ length buf.old }
         ensures sized { length buf.new ≡ length buf.old }
@@ -128,7 +131,7 @@ impl Line {
     fn frame_in(&mut self, buf: &mut [u8], count: usize) -> usize
         requires room { count ≤ length buf.old }
         requires receiver { self.old.timing.role ≡ Role.Receiver }
-        ensures line { self.new ≡ table.hears (take count buf.old) self.old }
+        ensures line { self.new ≡ table.takes (take count buf.old) self.old }
         ensures role { self.new.timing.role ≡ self.old.timing.role }
         ensures within { result ≤ length buf.old }
         ensures sized { length buf.new ≡ length buf.old }
@@ -154,10 +157,31 @@ impl Line {
         ensures sized { length buf.new ≡ length buf.old }
         ensures heard { take result buf.new ≡ table.heard_in (take count buf.old) self.old }
     {
-        match self.timing.role {
+        let heard = match self.timing.role {
             Role::Sender => self.reply_in(buf, count),
             Role::Receiver => self.frame_in(buf, count),
+        };
+        self.heed_echo();
+        heard
+    }
+
+    /// Whether what was written last comes back: three bytes of a block, or one of a reply.
+    fn comes_back(&self) -> bool
+        ensures { result ≡ table.comes_back self.now.timing }
+    {
+        match (self.timing.role, self.timing.ear.echo) {
+            (Role::Sender, Echo::Goes(_)) => true,
+            (Role::Sender, _) => false,
+            (Role::Receiver, _) => 0 < self.timing.echoed,
         }
+    }
+
+    /// Keeps in mind that what was written comes back, where it does.
+    #[inline]
+    fn heed_echo(&mut self)
+        ensures { self.new ≡ table.heeds_echo self.old }
+    {
+        self.has_echo = self.has_echo || self.comes_back();
     }
 
     /// Takes that a read waited until then, where the clock tells this.

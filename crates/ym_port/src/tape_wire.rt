@@ -95,13 +95,15 @@ impl TapeWire {
 }
 
 impl Wire for TapeWire {
-    ghost use Rattle.std.specs.Prelude.{drop};
+    ghost use Rattle.std.specs.Prelude.{List, Some, drop};
+    ghost use Rattle.ym_link.specs.declared.port.Wait.{Wait as Asked};
 
-    ghost tells = { λ w t. (w.keeps_deeds ≡ true) × (t ≡ record {
-      moments = drop w.told w.moments.items;
-      coming = w.port.coming;
-      done = w.deeds.items;
-    }) };
+    ghost tells = { λ w t. ((v : List Asked) × (w.port.waits ≡ Some v))
+        × (w.keeps_deeds ≡ true) × (t ≡ record {
+          moments = drop w.told w.moments.items;
+          coming = w.port.coming;
+          done = w.deeds.items;
+        }) };
 
     ghost failures = { λ w. w.port.tally.failures };
 

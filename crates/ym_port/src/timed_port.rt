@@ -8,11 +8,12 @@ ghost use Rattle.ym_link.specs.declared.sweep.TheConstants.{MOST_READS};
 ghost use Rattle.ym_port.specs.TimedPort as table;
 ghost use Rattle.ym_port.specs.Wire.{Tape, moment_of, after_moment};
 
+use crate::learned::Learned;
 use crate::line::{ACK, CAN, CLEAR_PIECE, Line};
 use crate::wire::Wire;
 use ym_link::{Got, MOST_READS, Port, PortFault, Wait};
 use ym_timing as timing;
-use ym_timing::{Clearing, Role, Vain};
+use ym_timing::{Clearing, Role, Trust, Vain};
 
 /// Drops what one read brings, which waits until the line is clear.
 fn clear_once<W: Wire>(
@@ -429,5 +430,25 @@ impl<W: Wire + Drop> Port for TimedPort<W> {
         ensures failed { OnErr result (Rose (W.failures self.old.wire) (W.failures self.new.wire)) }
     {
         self.write_next(bytes)
+    }
+}
+
+impl<W: Wire + Drop> Learned for TimedPort<W> {
+    ghost use Rattle.ym_port.specs.TimedPort.{slowest_of};
+
+    ghost echoes = { λ p. p.line.has_echo };
+
+    ghost slowest_answer = { λ p. slowest_of p.line.timing.pace };
+
+    fn has_echo(&self) -> bool {
+        self.line.has_echo
+    }
+
+    fn slowest(&self) -> Option<u64> {
+        let pace = self.line.timing.pace;
+        match pace.trust {
+            Trust::Unknown => None,
+            Trust::Doubtful | Trust::Sure => Some(pace.slowest),
+        }
     }
 }

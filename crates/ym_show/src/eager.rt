@@ -6,6 +6,7 @@ ghost use Rattle.ym_link.specs.Port.{Tape, seen_of, read_gives, read_leaves, aft
 ghost use Rattle.ym_show.specs.Eager.{ahead};
 
 use ym_link::{Got, Port, PortFault, Wait};
+use ym_port::Learned;
 
 /// A port whose first read finds the line quiet at once, where that is wanted, so that a receiver asks for the first file without a wait. All that
 /// comes behind that is what the port below brings.
@@ -49,5 +50,19 @@ impl<P: Port + Drop> Port for Eager<P> {
 
     fn write(&mut self, bytes: &[u8]) -> Result<(), PortFault> {
         self.port.write(bytes)
+    }
+}
+
+impl<P: Learned + Drop> Learned for Eager<P> {
+    ghost echoes = { λ e. P.echoes e.port };
+
+    ghost slowest_answer = { λ e. P.slowest_answer e.port };
+
+    fn has_echo(&self) -> bool {
+        self.port.has_echo()
+    }
+
+    fn slowest(&self) -> Option<u64> {
+        self.port.slowest()
     }
 }

@@ -5,7 +5,8 @@ use std::alloc::Global;
 use std::io::Write;
 use std::time::{Clock, Duration, Instant};
 use ym_text::{
-    Awaited, Came, Lately, Progress, Took, Waiting, Whole, progress_line, rate_of, waiting_line,
+    Awaited, Came, EchoMessage, Lately, Progress, Took, Waiting, Whole, progress_line, rate_of,
+    waiting_line,
 };
 
 /// How long a rate is measured at least, in milliseconds.
@@ -54,6 +55,8 @@ pub struct Meter<'t, E: Write + Drop, C: Clock + Drop> {
     quiet: Quiet,
     /// After so many seconds without a byte its end gives up.
     limit: u64,
+    /// Whether it was told that the line echoes.
+    has_told_echo: bool,
 }
 
 /// The milliseconds from one time to a later one.
@@ -93,6 +96,7 @@ impl<'t, E: Write + Drop, C: Clock + Drop> Meter<'t, E, C> {
                 shown: None,
             },
             limit,
+            has_told_echo: false,
         }
     }
 
@@ -200,6 +204,14 @@ impl<'t, E: Write + Drop, C: Clock + Drop> Meter<'t, E, C> {
         self.quiet.shown = None;
     }
 
+    /// The line echoes. That is told once.
+    pub fn echo(&mut self, message: EchoMessage) {
+        if !self.has_told_echo {
+            self.has_told_echo = true;
+            self.teller.tell(message);
+        }
+    }
+
     /// Its end got on.
     pub fn get_on(&mut self) {
         self.quiet.came = Came::Nothing;
@@ -210,6 +222,7 @@ impl<'t, E: Write + Drop, C: Clock + Drop> Meter<'t, E, C> {
         Lately {
             came: self.quiet.came,
             seconds: self.millis_since(self.quiet.since) / 1000,
+            slow: None,
         }
     }
 

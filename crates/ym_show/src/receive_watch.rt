@@ -9,7 +9,7 @@ use std::io::Write;
 use std::time::Clock;
 use ym_header::Header;
 use ym_link::Wait;
-use ym_text::{Awaited, Lately};
+use ym_text::{Awaited, EchoMessage, Lately};
 
 /// What is shown of a receiver.
 #[derive(Drop)]
@@ -135,6 +135,16 @@ impl<'s, 't, E: Write + Drop, C: Clock + Drop> PortWatch for ReceiveWatch<'s, 't
     fn wrote(&mut self, _bytes: &[u8]) {
         if self.is_looked_at {
             self.reply();
+        }
+    }
+
+    #[cold]
+    fn echoed(&mut self) {
+        if !self.is_looked_at {
+            return;
+        }
+        if let Ok(mut shown) = self.shown.try_borrow_mut() {
+            shown.meter.echo(EchoMessage::ToReceiver);
         }
     }
 }

@@ -7,7 +7,7 @@ use std::io::Write;
 use std::time::Clock;
 use ym_header::{ZeroRef, read_borrowed};
 use ym_link::Wait;
-use ym_text::{Awaited, Lately};
+use ym_text::{Awaited, EchoMessage, Lately};
 
 /// The first bytes of frames.
 const SHORT: u8 = 0x01;
@@ -160,6 +160,16 @@ impl<'s, 't, E: Write + Drop, C: Clock + Drop> PortWatch for SendWatch<'s, 't, E
     fn wrote(&mut self, bytes: &[u8]) {
         if self.is_looked_at {
             self.frame(bytes);
+        }
+    }
+
+    #[cold]
+    fn echoed(&mut self) {
+        if !self.is_looked_at {
+            return;
+        }
+        if let Ok(mut shown) = self.shown.try_borrow_mut() {
+            shown.meter.echo(EchoMessage::ToSender);
         }
     }
 }

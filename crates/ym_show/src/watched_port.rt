@@ -3,6 +3,7 @@
 ghost use Rattle.std.specs.Prelude.{◌≡◌};
 
 use ym_link::{Got, Port, PortFault, Wait};
+use ym_port::Learned;
 
 /// Who watches a port. What it does changes nothing of the port.
 pub trait PortWatch {
@@ -14,18 +15,24 @@ pub trait PortWatch {
 
     /// These bytes were written.
     fn wrote(&mut self, bytes: &[u8]);
+
+    /// What was written came back.
+    fn echoed(&mut self);
 }
 
 /// A port, and who watches it. It brings and takes what the port does, and fails where that fails.
 #[derive(Drop)]
-pub struct WatchedPort<P: Port + Drop, V: PortWatch + Drop> {
+pub struct WatchedPort<P: Learned + Drop, V: PortWatch + Drop> {
     /// The port.
     pub port: P,
     /// Who watches it.
     pub watch: V,
+    /// How many milliseconds the slowest answer took at the last read, where one was seen. Behind a
+    /// write the port may know less: CAN CAN leads on from what it answers.
+    pub slowest: Option<u64>,
 }
 
-impl<P: Port + Drop, V: PortWatch + Drop> Port for WatchedPort<P, V> {
+impl<P: Learned + Drop, V: PortWatch + Drop> Port for WatchedPort<P, V> {
     ghost tells = { λ w t. P.tells w.port t };
 
     ghost asked = { λ w waits. P.asked w.port waits };
@@ -38,6 +45,10 @@ impl<P: Port + Drop, V: PortWatch + Drop> Port for WatchedPort<P, V> {
         if let Ok(Got::Bytes(count)) = got {
             self.watch.came(&buf[..count]);
         }
+        if self.port.has_echo() {
+            self.watch.echoed();
+        }
+        self.slowest = self.port.slowest();
         got
     }
 

@@ -1,6 +1,8 @@
 -- What came since an end last got on.
+use Rattle.std.specs.Prelude.{ℕ, ◌/◌, nat_lt, Option, Some, None, if◌then◌else◌}
 use Rattle.ym_text.specs.declared.came.Came.{Came}
 use Rattle.ym_text.specs.declared.came.Came.TheVariants as came
+use Rattle.ym_text.specs.declared.came.TheConstants.{SLOW_MS}
 
 -- after more that asks
 abbrev pub and_asks : Came → Came
@@ -11,3 +13,8 @@ and_asks before = before
 abbrev pub and_text : Came → Came
 and_text came.Other = came.Other
 and_text _ = came.Text
+
+-- an answer takes so many seconds, where that is more than usual peers wait
+abbrev pub slow_of : Option ℕ → Option ℕ
+slow_of (Some millis) = if nat_lt SLOW_MS millis then Some (millis / 1000) else None
+slow_of None = None

@@ -12,6 +12,8 @@ use Rattle.ym_text.specs.declared.came.Lately.{Lately}
 use Rattle.ym_text.specs.declared.reason.Reason.{Reason}
 use Rattle.ym_text.specs.declared.line_message.LineMessage.{LineMessage}
 use Rattle.ym_text.specs.declared.line_message.LineMessage.TheVariants as line
+use Rattle.ym_text.specs.declared.echo_message.EchoMessage.{EchoMessage}
+use Rattle.ym_text.specs.declared.echo_message.EchoMessage.TheVariants as echo
 use Rattle.ym_text.specs.declared.end_message.EndMessage.{EndMessage}
 use Rattle.ym_text.specs.declared.end_message.EndMessage.TheVariants as end
 use Rattle.std.specs.IoError.{error_kind}
@@ -63,8 +65,26 @@ came_text other came.Text seconds =
 came_text other came.Other seconds =
     codes "nothing whole came, ten times in a row: do both ends have the same speed?"
 
+abbrev pub slow_text : ℕ → List ℕ
+slow_text took =
+    codes "answers take longer than "
+    ++ (decimal took ++ codes " seconds: use a line that hands on sooner")
+
+-- where an answer takes longer than usual peers wait, and something came, that is the reason
+abbrev pub late_text : List ℕ → Came → Option ℕ → ℕ → List ℕ
+late_text other came.Nothing slow seconds = came_text other came.Nothing seconds
+late_text other came.Asks (Some took) seconds = slow_text took
+late_text other came.Text (Some took) seconds = slow_text took
+late_text other came.Other (Some took) seconds = slow_text took
+late_text other what None seconds = came_text other what seconds
+
 abbrev pub lately_text : List ℕ → Lately → List ℕ
-lately_text other lately = came_text other lately.came lately.seconds
+lately_text other lately = late_text other lately.came lately.slow lately.seconds
+
+-- to a sender a receiver should be there, and to a receiver a sender
+abbrev pub echo_text : EchoMessage → List ℕ
+echo_text echo.ToSender = codes "the line echoes what is sent: is a receiver running there?"
+echo_text echo.ToReceiver = codes "the line echoes what is sent: is a sender running there?"
 
 abbrev pub end_text : EndMessage → List ℕ
 end_text end.PeerCancelled = codes "the other end cancelled (CAN CAN)"
@@ -72,14 +92,15 @@ end_text end.PeerClosed = codes "the other end closed the connection"
 end_text end.LineFailed = codes "the connection failed"
 end_text end.LineHungUp = codes "the line hung up"
 end_text end.LineEndless =
-    codes "reads of the line do not end by themselves: set it by `stty raw -echo min 0 time 1`"
+    codes "reads of the line do not end by themselves: set it by "
+    ++ codes "`stty raw -echo clocal min 0 time 1`"
 end_text (end.LineRefused why) = codes "the line failed: " ++ reason_text why
 end_text (end.NoReply lately) = lately_text (codes "receiver") lately
 end_text (end.NoBlock lately) = lately_text (codes "sender") lately
 end_text end.SourceFailed =
     codes "a file could not be read, or has changed since it was looked at"
 end_text end.OutOfStep =
-    codes "a block came out of turn: the ends have lost each other, send again"
+    codes "a block came out of turn: the two ends are out of step, send again"
 end_text (end.BadHeader fault) = header_text fault
 end_text end.TooManyFiles = codes "more than 65535 files came: send the rest in another batch"
 

@@ -65,6 +65,9 @@ impl Came {
     }
 }
 
+/// After so many milliseconds without an answer usual peers ask again, or say theirs once more.
+pub const SLOW_MS: u64 = 10_000;
+
 /// What came since an end last got on, and for how many seconds nothing did.
 #[derive(Clone, Copy, Debug, PartialEq, Eq)]
 pub struct Lately {
@@ -72,4 +75,22 @@ pub struct Lately {
     pub came: Came,
     /// For how many seconds nothing came.
     pub seconds: u64,
+    /// How many seconds an answer takes on this line, where that is more than usual peers wait.
+    pub slow: Option<u64>,
+}
+
+impl Lately {
+    ghost use Rattle.ym_text.specs.Came.{slow_of};
+
+    /// The same on a line whose slowest answer of late took so many milliseconds, where one was
+    /// seen.
+    pub fn on_line(self, slowest: Option<u64>) -> Lately
+        ensures { result ≡ record self { slow = slow_of slowest } }
+    {
+        let slow = match slowest {
+            Some(millis) if SLOW_MS < millis => Some(millis / 1000),
+            _ => None,
+        };
+        Lately { slow, ..self }
+    }
 }

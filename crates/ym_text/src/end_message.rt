@@ -101,22 +101,24 @@ impl fmt::Display for HeaderWords {
 
 /// What came in place of what an end waited for, and what to look at then.
 #[derive(Clone, Copy)]
-struct LatelyWords {
+struct CameWords {
     /// What came.
-    lately: Lately,
+    came: Came,
+    /// For how many seconds nothing did.
+    seconds: u64,
     /// The other end.
     other: &'static str,
 }
 
-impl fmt::Display for LatelyWords {
-    ghost use Rattle.ym_text.specs.Messages.{lately_text};
+impl fmt::Display for CameWords {
+    ghost use Rattle.ym_text.specs.Messages.{came_text};
 
-    ghost output = { λ words. Some (lately_text words.other.now words.lately) };
+    ghost output = { λ words. Some (came_text words.other.now words.came words.seconds) };
 
     fn fmt<W: fmt::Write>(&self, f: &mut fmt::Formatter<W>) -> fmt::Result {
-        let seconds = self.lately.seconds;
+        let seconds = self.seconds;
         let other = self.other;
-        match self.lately.came {
+        match self.came {
             Came::Nothing => write!(
                 f,
                 "nothing came for {seconds} s: is the {other} running, at the same speed?"
@@ -137,6 +139,38 @@ impl fmt::Display for LatelyWords {
     }
 }
 
+/// The same, or that answers take too long.
+#[derive(Clone, Copy)]
+struct LatelyWords {
+    /// What came.
+    lately: Lately,
+    /// The other end.
+    other: &'static str,
+}
+
+impl fmt::Display for LatelyWords {
+    ghost use Rattle.ym_text.specs.Messages.{lately_text};
+
+    ghost output = { λ words. Some (lately_text words.other.now words.lately) };
+
+    fn fmt<W: fmt::Write>(&self, f: &mut fmt::Formatter<W>) -> fmt::Result {
+        match (self.lately.came, self.lately.slow) {
+            (Came::Asks | Came::Text | Came::Other, Some(took)) => write!(
+                f,
+                "answers take longer than {took} seconds: use a line that hands on sooner"
+            ),
+            _ => {
+                let words = CameWords {
+                    came: self.lately.came,
+                    seconds: self.lately.seconds,
+                    other: self.other,
+                };
+                write!(f, "{words}")
+            }
+        }
+    }
+}
+
 impl fmt::Display for EndMessage {
     ghost output = { λ message. Some (end_text message) };
 
@@ -148,7 +182,7 @@ impl fmt::Display for EndMessage {
             EndMessage::LineHungUp => write!(f, "the line hung up"),
             EndMessage::LineEndless => write!(
                 f,
-                "reads of the line do not end by themselves: set it by `stty raw -echo min 0 time 1`"
+                "reads of the line do not end by themselves: set it by `stty raw -echo clocal min 0 time 1`"
             ),
             EndMessage::LineRefused(why) => write!(f, "the line failed: {why}"),
             EndMessage::NoReply(lately) => {
@@ -167,7 +201,7 @@ impl fmt::Display for EndMessage {
             ),
             EndMessage::OutOfStep => write!(
                 f,
-                "a block came out of turn: the ends have lost each other, send again"
+                "a block came out of turn: the two ends are out of step, send again"
             ),
             EndMessage::BadHeader(fault) => {
                 let words = HeaderWords(fault);

@@ -4,6 +4,7 @@
 
 mod came;
 mod cells;
+mod echo_message;
 mod end_message;
 mod file_message;
 mod line_message;
@@ -16,6 +17,7 @@ mod waiting;
 
 pub use came::{Came, Lately};
 pub use cells::progress_line;
+pub use echo_message::EchoMessage;
 pub use end_message::EndMessage;
 pub use file_message::FileMessage;
 pub use line_message::LineMessage;

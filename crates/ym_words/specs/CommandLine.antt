@@ -2,36 +2,46 @@
 -- text, `--line` one that may be left out, DIR one positional, FILE the last positional with one or
 -- more values, and all else flags.
 use Rattle.std.specs.Prelude.{true, Some, codes}
-use Rattle.clap.specs.Words.{App, Rule, new_app, new_rule, with_rule, with_subcommand}
+use Rattle.clap.specs.Words.{App, Rule, Text, new_app, new_rule, with_rule, with_subcommand}
 use Rattle.clap.specs.Lexer.{usize_max}
 use Rattle.clap.specs.declared.builder.ArgAction.TheVariants.{Set, SetTrue, Append}
 
 abbrev pub port_rule : Rule
-port_rule = record (new_rule (codes "port")) { short = Some 112; long = Some (codes "port"); value_names = 1; required = true; action = Some Set }
+port_rule = record (new_rule (codes "port")) {
+  short = Some 112;
+  long = Some (codes "port");
+  value_names = 1;
+  required = true;
+  action = Some Set;
+}
+
+-- a flag of this name, behind two dashes
+abbrev pub flag : Text → Text → Rule
+flag id long = record (new_rule id) { long = Some long; action = Some SetTrue }
 
 abbrev pub short_rule : Rule
-short_rule = record (new_rule (codes "short")) { long = Some (codes "short"); action = Some SetTrue }
+short_rule = flag (codes "short") (codes "short")
 
 abbrev pub single_rule : Rule
-single_rule = record (new_rule (codes "single")) { long = Some (codes "single"); action = Some SetTrue }
+single_rule = flag (codes "single") (codes "single")
 
 abbrev pub no_sync_rule : Rule
-no_sync_rule = record (new_rule (codes "no_sync")) { long = Some (codes "no-sync"); action = Some SetTrue }
+no_sync_rule = flag (codes "no_sync") (codes "no-sync")
 
 abbrev pub discard_parts_rule : Rule
-discard_parts_rule = record (new_rule (codes "discard_parts")) { long = Some (codes "discard-parts"); action = Some SetTrue }
+discard_parts_rule = flag (codes "discard_parts") (codes "discard-parts")
 
 abbrev pub eager_rule : Rule
-eager_rule = record (new_rule (codes "eager")) { long = Some (codes "eager"); action = Some SetTrue }
+eager_rule = flag (codes "eager") (codes "eager")
 
 abbrev pub keep_rule : Rule
-keep_rule = record (new_rule (codes "keep")) { long = Some (codes "keep"); action = Some SetTrue }
+keep_rule = flag (codes "keep") (codes "keep")
 
 abbrev pub verbose_rule : Rule
-verbose_rule = record (new_rule (codes "verbose")) { long = Some (codes "verbose"); action = Some SetTrue }
+verbose_rule = flag (codes "verbose") (codes "verbose")
 
 abbrev pub quiet_rule : Rule
-quiet_rule = record (new_rule (codes "quiet")) { long = Some (codes "quiet"); action = Some SetTrue }
+quiet_rule = flag (codes "quiet") (codes "quiet")
 
 abbrev pub files_rule : Rule
 files_rule = record (new_rule (codes "files")) {
@@ -60,7 +70,8 @@ abbrev pub with_telling : App → App
 with_telling app = with_rule (with_rule app verbose_rule) quiet_rule
 
 abbrev pub bare_app : App
-bare_app = let app = new_app (codes "ymodem") in record app { top = record app.top { has_version = true } }
+bare_app =
+    let app = new_app (codes "ymodem") in record app { top = record app.top { has_version = true } }
 
 abbrev pub play_app : App
 play_app = new_app (codes "play")
@@ -69,7 +80,9 @@ abbrev pub loop_app : App
 loop_app = with_telling (with_rule (new_app (codes "loop")) port_rule)
 
 abbrev pub send_app : App
-send_app = with_telling (with_rule (with_rule (with_rule (new_app (codes "send")) port_rule) short_rule) files_rule)
+send_app =
+    with_telling (with_rule (with_rule (with_rule (new_app (codes "send")) port_rule) short_rule)
+    files_rule)
 
 -- what the words of `receive` say of the line
 abbrev pub line_app : App
@@ -81,7 +94,9 @@ asking_app = with_rule (with_rule line_app eager_rule) keep_rule
 
 -- and what they say of the folder
 abbrev pub receive_app : App
-receive_app = with_telling (with_rule (with_rule (with_rule asking_app no_sync_rule) discard_parts_rule) dir_rule)
+receive_app =
+    with_telling (with_rule (with_rule (with_rule asking_app no_sync_rule) discard_parts_rule)
+    dir_rule)
 
 -- the same over a serial line
 abbrev pub sb_app : App
@@ -97,9 +112,9 @@ rb_app =
     with_telling (with_rule (with_rule (with_rule rb_line_app no_sync_rule) discard_parts_rule)
     folder_rule)
 
--- the whole command
+-- the whole command, serial lines first
 unfoldable pub the_app : App
 the_app =
     with_subcommand (with_subcommand (with_subcommand (with_subcommand (with_subcommand
-    (with_subcommand bare_app play_app.top) loop_app.top) send_app.top) receive_app.top)
-    sb_app.top) rb_app.top
+    (with_subcommand bare_app sb_app.top) rb_app.top) send_app.top) receive_app.top)
+    play_app.top) loop_app.top

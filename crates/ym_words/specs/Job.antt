@@ -44,7 +44,8 @@ receive_flags_of rows = record {
 }
 
 abbrev pub tell_flags_of : List Row → TellFlags
-tell_flags_of rows = record { verbose = flag_of (codes "verbose") rows; quiet = flag_of (codes "quiet") rows }
+tell_flags_of rows =
+    record { verbose = flag_of (codes "verbose") rows; quiet = flag_of (codes "quiet") rows }
 
 abbrev pub loop_of : Option ℕ → TellFlags → Option Asked
 loop_of None tell = None
@@ -88,8 +89,10 @@ asked_for name rows =
     else (if bytes_eq name (codes "sb") then send_line_of rows
     else (if bytes_eq name (codes "rb") then Some (receive_line_of rows)
     else (if bytes_eq name (codes "loop") then loop_of port tell
-    else (if bytes_eq name (codes "send") then send_of port (flag_of (codes "short") rows) (all_of (codes "files") rows) tell
-    else (if bytes_eq name (codes "receive") then receive_of port (receive_flags_of rows) (first_of (codes "dir") rows) tell
+    else (if bytes_eq name (codes "send")
+    then send_of port (flag_of (codes "short") rows) (all_of (codes "files") rows) tell
+    else (if bytes_eq name (codes "receive")
+    then receive_of port (receive_flags_of rows) (first_of (codes "dir") rows) tell
     else None)))))
 
 abbrev pub asked : Option (Text × List Row) → Option Asked
@@ -112,7 +115,8 @@ FaultSays (fault.Words e) job taken = taken ≡ false
 FaultSays fault.Value job taken = job ≡ None
 FaultSays fault.Memory job taken = Unit {0}
 
--- the kind of clap's error is among those of the rule's first fault; and there is none where the words are clap's, but for a value
+-- the kind of clap's error is among those of the rule's first fault; and there is none where the
+-- words are clap's, but for a value
 abbrev pub IsKind : JobFault → Kinds → Type 0
 IsKind (fault.Words e) kinds = IsAmong (kind_of e) kinds
 IsKind fault.Value kinds = kinds ≡ []

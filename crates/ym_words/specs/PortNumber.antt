@@ -16,5 +16,6 @@ IsPort text None = (all_ascii_digits text ≡ true) → (1 ≤ read_on 0 text) �
 -- the same as a function
 abbrev pub port_value : Option Text → Option ℕ
 port_value None = None
-port_value (Some text) = if all_ascii_digits text && (nat_le 1 (read_on 0 text) && nat_le (read_on 0 text) 65535)
+port_value (Some text) =
+    if all_ascii_digits text && (nat_le 1 (read_on 0 text) && nat_le (read_on 0 text) 65535)
     then Some (read_on 0 text) else None

@@ -2,7 +2,10 @@
 
 ghost use Rattle.std.specs.Prelude.{◌≡◌, IfOk, false};
 ghost use Rattle.clap.specs.Words.{app_of, rule_of};
-ghost use Rattle.ym_words.specs.CommandLine.{port_rule, short_rule, single_rule, eager_rule, keep_rule, no_sync_rule, discard_parts_rule, verbose_rule, quiet_rule, files_rule, dir_rule, line_rule, folder_rule, with_telling};
+ghost use Rattle.ym_words.specs.CommandLine.{port_rule, short_rule, single_rule, eager_rule};
+ghost use Rattle.ym_words.specs.CommandLine.{keep_rule, no_sync_rule, discard_parts_rule};
+ghost use Rattle.ym_words.specs.CommandLine.{verbose_rule, quiet_rule, files_rule, dir_rule};
+ghost use Rattle.ym_words.specs.CommandLine.{line_rule, folder_rule, with_telling};
 ghost use Rattle.clap.specs.declared.builder.command.Command.TheViews.{out-Command};
 
 use clap::{Arg, ArgAction, Command};
@@ -57,7 +60,7 @@ pub(crate) fn discard_parts_arg<'a>(alloc: Global) -> Arg<'a>
 {
     Arg::new(alloc, "discard_parts")
         .long("discard-parts")
-        .help("Removes a NAME.part that an earlier run left, when NAME comes")
+        .help("Removes a NAME.part that was left, when NAME comes")
         .action(ArgAction::SetTrue)
 }
 
@@ -77,7 +80,7 @@ pub(crate) fn keep_arg<'a>(alloc: Global) -> Arg<'a>
 {
     Arg::new(alloc, "keep")
         .long("keep")
-        .help("Takes one connection after another, each a session of its own, until it is ended")
+        .help("Takes one connection after another, until it is ended")
         .action(ArgAction::SetTrue)
 }
 
@@ -89,7 +92,7 @@ pub(crate) fn line_arg<'a>(alloc: Global) -> Arg<'a>
     Arg::new(alloc, "line")
         .long("line")
         .value_name("DEVICE")
-        .help("The terminal that is the line (else standard input and output)")
+        .help("The terminal of the line (else standard input and output)")
         .action(ArgAction::Set)
 }
 
@@ -110,7 +113,7 @@ fn verbose_arg<'a>(alloc: Global) -> Arg<'a>
 {
     Arg::new(alloc, "verbose")
         .long("verbose")
-        .help("Tells on standard error what it does, also where that is no terminal")
+        .help("Tells what it does, also if standard error is no terminal")
         .action(ArgAction::SetTrue)
 }
 

@@ -1,6 +1,7 @@
 //! What the words of the command line ask for.
 
-ghost use Rattle.std.specs.Prelude.{◌≡◌, [], IfOk, IfErr, Some, None, true, map, codes, string_bytes};
+ghost use Rattle.std.specs.Prelude.{◌≡◌, [], IfOk, IfErr, Some, None, true, map, codes};
+ghost use Rattle.std.specs.Prelude.{string_bytes};
 ghost use Rattle.clap.specs.Words.{takes, fault_of, subcommand_of, rows_of, found_of, first_of};
 ghost use Rattle.ym_words.specs.CommandLine.{the_app};
 ghost use Rattle.ym_words.specs.PortNumber.{port_value};
@@ -194,8 +195,10 @@ fn receive_line_in<'a>(matches: &ArgMatches<'a>) -> Job<'a>
 
 /// The job of a subcommand's matches.
 fn job_for<'a>(alloc: Global, name: &str, matches: &ArgMatches<'a>) -> Result<Job<'a>, JobFault>
-    ensures ok { IfOk result (λ job. asked_for name.now (rows_of (found_of matches.now)) ≡ Some (asked_of job)) }
-    ensures err { IfErr result (λ e. FaultSays e (asked_for name.now (rows_of (found_of matches.now))) true) }
+    ensures ok { IfOk result (λ job.
+        asked_for name.now (rows_of (found_of matches.now)) ≡ Some (asked_of job)) }
+    ensures err { IfErr result (λ e.
+        FaultSays e (asked_for name.now (rows_of (found_of matches.now))) true) }
 {
     let port = port_in(matches);
     if name == "play" {
@@ -244,8 +247,11 @@ fn job_for<'a>(alloc: Global, name: &str, matches: &ArgMatches<'a>) -> Result<Jo
 
 /// What the words ask for. The first word is the program's name, and no further word means `play`.
 pub fn job_of<'a>(alloc: Global, words: &'a [String]) -> Result<Job<'a>, JobFault>
-    ensures ok { IfOk result (λ job. asked (subcommand_of the_app (map string_bytes words.now)) ≡ Some (asked_of job)) }
-    ensures err { IfErr result (λ e. FaultSays e (asked (subcommand_of the_app (map string_bytes words.now))) (takes the_app (map string_bytes words.now))) }
+    ensures ok { IfOk result (λ job.
+        asked (subcommand_of the_app (map string_bytes words.now)) ≡ Some (asked_of job)) }
+    ensures err { IfErr result (λ e.
+        FaultSays e (asked (subcommand_of the_app (map string_bytes words.now)))
+        (takes the_app (map string_bytes words.now))) }
     // By the rule that says how the words are wrong, if they are.
     ensures took { IfOk result (λ _. fault_of the_app (map string_bytes words.now) ≡ []) }
     ensures kinds { IfErr result (λ e. IsKind e (fault_of the_app (map string_bytes words.now))) }

@@ -3,6 +3,7 @@
 
 mod args;
 mod command;
+mod help;
 mod job;
 mod line_commands;
 mod port;

@@ -9,37 +9,9 @@ use crate::args::{
     discard_parts_arg, files_arg, folder_arg, line_arg, no_sync_arg, short_arg, single_arg,
     with_telling_args,
 };
+use crate::help::{RB_ABOUT, RB_HELP, SB_ABOUT, SB_HELP};
 use clap::Command;
 use std::alloc::{AllocError, Global};
-
-const SB_ABOUT: &str = "Sends files over a serial line, in order";
-
-const SB_HELP: &str =
-    "The line is DEVICE, or else standard input and output. `ymodem-tty` sets the line and runs
-this; by hand, set it so before:
-
-  stty -F /dev/ttyUSB0 115200 raw -echo clocal min 0 time 1
-
-Files, waits, what is printed and the exit status are as those of `send`. It prints to standard
-output where DEVICE is given, and to standard error where standard output is the line.
-
-Example:
-  ymodem sb --line /dev/ttyUSB0 firmware.bin";
-
-const RB_ABOUT: &str = "Receives files over a serial line into a folder";
-
-const RB_HELP: &str =
-    "The line is DEVICE, or else standard input and output. `ymodem-tty` sets the line and runs
-this; by hand, set it so before:
-
-  stty -F /dev/ttyUSB0 115200 raw -echo clocal min 0 time 1
-
-It asks for the first file at once. Files, waits, what is printed and the exit status are as those
-of `receive`. It prints to standard output where DEVICE is given, and to standard error where
-standard output is the line.
-
-Example:
-  ymodem rb --line /dev/ttyUSB0 downloads";
 
 pub(crate) fn sb_command<'a>(alloc: Global) -> Result<Command<'a>, AllocError>
     ensures shape { IfOk result (λ c. app_of c ≡ sb_app) }

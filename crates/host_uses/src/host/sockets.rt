@@ -67,7 +67,7 @@ fn a_line_reads_what_is_there(rt: HostRuntime) -> Result<(), Fail> {
     let mut buf = [0; 8];
     write(&mut near, b"abcdefghij")?;
     let there = [
-        gets(&mut wire, 3000, &mut buf, Got::Bytes(8)),
+        gets(&mut wire, 100, &mut buf, Got::Bytes(8)),
         same(&buf, b"abcdefgh"),
         gets(&mut wire, 100, &mut buf, Got::Bytes(2)),
         buf.starts_with(b"ij"),

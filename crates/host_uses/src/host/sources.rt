@@ -2,6 +2,7 @@
 
 use super::folders::{counted, folder, same};
 use std::fs::{File, OpenFile};
+use std::os::unix::fs::FileExt;
 use std::path::PathBuf;
 use std::test::Fail;
 use std::{fs, io};
@@ -98,6 +99,39 @@ fn a_source_fills_a_large_buffer(rt: HostRuntime) -> Result<(), Fail> {
     ];
     fs::remove_dir_all(&rt, &dir)?;
     assert!(rt; same(&seen, &[true; 2]), "{seen:?}");
+    Ok(())
+}
+
+/// What stands behind places at which a number of 21, 31 or 32 bits turns over.
+const MARKS: [(u64, [u8; 3]); 3] = [
+    (0x0020_0005, [1, 2, 3]),
+    (0x8000_0005, [4, 5, 6]),
+    (0x1_0000_0005, [7, 8, 9]),
+];
+
+/// A file with holes and these marks.
+fn marked_file(rt: &HostRuntime, dir: &PathBuf) -> Result<PathBuf, Fail> {
+    let path = dir.join(rt.alloc(), "marks")?;
+    let file = File::create_new(rt, &path)?;
+    file.set_len(0x1_0002_0000)?;
+    for (at, bytes) in &MARKS {
+        file.write_all_at(bytes, *at)?;
+    }
+    Ok(path)
+}
+
+#[test]
+fn a_source_reads_far_into_a_file(rt: HostRuntime) -> Result<(), Fail> {
+    let dir = folder(&rt, "far")?;
+    let path = marked_file(&rt, &dir)?;
+    let mut source = FileSource::new(&rt, rt.alloc(), path.as_str())?;
+    let mut are_there = true;
+    for (at, bytes) in &MARKS {
+        let mut found = [0; 3];
+        are_there = are_there && fills(&mut source, *at, &mut found) && same(&found, bytes);
+    }
+    fs::remove_dir_all(&rt, &dir)?;
+    assert!(rt; are_there);
     Ok(())
 }
 

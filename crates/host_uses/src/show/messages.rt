@@ -8,13 +8,14 @@ use ym_header::HeaderFault;
 use ym_link::{RecvState, SendState};
 use ym_show::{Look, Teller};
 use ym_text::{
-    Awaited, Came, EndMessage, FileMessage, Lately, LineMessage, Reason, Shown, Waiting,
-    waiting_line,
+    Awaited, Came, EchoMessage, EndMessage, FileMessage, Lately, LineMessage, Reason, Shown,
+    TtyMessage, Waiting, waiting_line,
 };
 
 const SILENT: Lately = Lately {
     came: Came::Nothing,
     seconds: 30,
+    slow: None,
 };
 
 #[test]
@@ -62,11 +63,107 @@ fn of_files(rt: HostRuntime) -> Result<(), Fail> {
             FileMessage::CannotStore("a", Reason::Full),
             "cannot store 'a': no space left on device",
         ),
+        (
+            FileMessage::CannotSend("a/", HeaderFault::NameEmpty),
+            "cannot send 'a/': the name is empty",
+        ),
+        (
+            FileMessage::CannotStoreIn("a", Reason::NoFolder),
+            "cannot store in 'a': not a directory",
+        ),
+        (
+            FileMessage::PartIsInUse("a", "a.part"),
+            "cannot store 'a': 'a.part' is in use by another program, or is no part",
+        ),
+        (
+            FileMessage::PartIsGone("a", "a.part"),
+            "cannot store 'a': 'a.part' was changed by another program",
+        ),
     ] {
         assert!(rt; shows(&rt, &message, want)?, "{want}");
     }
     let error = io::Error::from(ErrorKind::NotFound);
     assert!(rt; same(&Reason::of(&error), &Reason::Absent));
+    Ok(())
+}
+
+#[test]
+fn of_terminals(rt: HostRuntime) -> Result<(), Fail> {
+    for (message, want) in [
+        (TtyMessage::Opened("/dev/a"), "the line is '/dev/a'"),
+        (
+            TtyMessage::Absent("/dev/a"),
+            "cannot open '/dev/a': no such device",
+        ),
+        (
+            TtyMessage::Denied("/dev/a"),
+            "cannot open '/dev/a': permission denied; members of the group dialout may open it",
+        ),
+        (
+            TtyMessage::Busy("/dev/a"),
+            "cannot open '/dev/a': another program has it open",
+        ),
+        (
+            TtyMessage::NoTerminal("/dev/a"),
+            "cannot open '/dev/a': it is no terminal",
+        ),
+        (
+            TtyMessage::Failed("/dev/a", Reason::Number(5)),
+            "cannot open '/dev/a': error 5 of the system",
+        ),
+    ] {
+        assert!(rt; shows(&rt, &message, want)?, "{want}");
+    }
+    Ok(())
+}
+
+/// A name that would clear the screen, and turn the text behind it.
+const ODD: &str = "a\u{1b}[2J\u{202e}b";
+
+/// Names and paths are made safe in each message.
+#[test]
+fn odd_names_in_messages(rt: HostRuntime) -> Result<(), Fail> {
+    for (message, want) in [
+        (
+            FileMessage::CannotOpen(ODD, Reason::Absent),
+            "cannot open 'a\\u{1b}[2J\\u{202e}b': no such file or directory",
+        ),
+        (
+            FileMessage::CannotSend(ODD, HeaderFault::NameLong),
+            "cannot send 'a\\u{1b}[2J\\u{202e}b': the name has more than 255 bytes",
+        ),
+        (
+            FileMessage::CannotStoreIn(ODD, Reason::Denied),
+            "cannot store in 'a\\u{1b}[2J\\u{202e}b': permission denied",
+        ),
+        (
+            FileMessage::IsThere(ODD),
+            "cannot store 'a\\u{1b}[2J\\u{202e}b': it is there already; move it away first",
+        ),
+        (
+            FileMessage::PartIsGone(ODD, ODD),
+            "cannot store 'a\\u{1b}[2J\\u{202e}b': \
+                'a\\u{1b}[2J\\u{202e}b' was changed by another program",
+        ),
+        (
+            FileMessage::CannotStore(ODD, Reason::Full),
+            "cannot store 'a\\u{1b}[2J\\u{202e}b': no space left on device",
+        ),
+    ] {
+        assert!(rt; shows(&rt, &message, want)?, "{want}");
+    }
+    for (message, want) in [
+        (
+            TtyMessage::Opened(ODD),
+            "the line is 'a\\u{1b}[2J\\u{202e}b'",
+        ),
+        (
+            TtyMessage::Busy(ODD),
+            "cannot open 'a\\u{1b}[2J\\u{202e}b': another program has it open",
+        ),
+    ] {
+        assert!(rt; shows(&rt, &message, want)?, "{want}");
+    }
     Ok(())
 }
 
@@ -86,6 +183,10 @@ fn of_ends(rt: HostRuntime) -> Result<(), Fail> {
             "nothing came for 30 s: is the sender running, at the same speed?",
         ),
         (
+            EndMessage::of_receiver(RecvState::OutOfStep, SILENT),
+            "a block came out of turn: the two ends are out of step, send again",
+        ),
+        (
             EndMessage::of_receiver(RecvState::BadHeader(HeaderFault::NoLength), SILENT),
             "the sender gave a file no length: let it send by YMODEM, and not by XMODEM",
         ),
@@ -100,13 +201,54 @@ fn of_ends(rt: HostRuntime) -> Result<(), Fail> {
     Ok(())
 }
 
+#[test]
+fn of_lines(rt: HostRuntime) -> Result<(), Fail> {
+    for (message, want) in [
+        (
+            EchoMessage::ToSender,
+            "the line echoes what is sent: is a receiver running there?",
+        ),
+        (
+            EchoMessage::ToReceiver,
+            "the line echoes what is sent: is a sender running there?",
+        ),
+    ] {
+        assert!(rt; shows(&rt, &message, want)?, "{want}");
+    }
+    Ok(())
+}
+
+#[test]
+fn of_slow_lines(rt: HostRuntime) -> Result<(), Fail> {
+    let asked = Lately {
+        came: Came::Asks,
+        ..SILENT
+    };
+    for (lately, slowest, want) in [
+        (asked, Some(16_400), "answers take longer than 16 seconds"),
+        (asked, Some(10_000), "nothing came but C, ten times"),
+        (asked, None, "nothing came but C, ten times"),
+        (SILENT, Some(16_400), "nothing came for 30 s"),
+    ] {
+        let message = EndMessage::of_sender(SendState::NoReply, lately.on_line(slowest));
+        let message = message.ok_or("nothing is told")?;
+        let told = format!(in rt.alloc(); "{message}")?;
+        assert!(rt; told.as_str().starts_with(want), "{told}");
+    }
+    Ok(())
+}
+
 /// What a receiver tells that heard these bytes in ten deliveries, and no block.
 fn told_of(rt: &HostRuntime, pieces: &[&[u8]]) -> Result<String, Fail> {
     let mut came = Came::Nothing;
     for piece in pieces {
         came = came.with(piece);
     }
-    let lately = Lately { came, seconds: 3 };
+    let lately = Lately {
+        came,
+        seconds: 3,
+        slow: None,
+    };
     let message = EndMessage::of_receiver(RecvState::TooManyErrors, lately);
     let message = message.ok_or("nothing is told")?;
     Ok(format!(in rt.alloc(); "{message}")?)

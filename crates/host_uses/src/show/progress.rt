@@ -1,9 +1,11 @@
 //! How far a file is.
 
 use super::{same, shows};
+use std::io;
+use std::io::Write;
 use std::test::Fail;
 use ym_show::{Look, Teller};
-use ym_text::{Progress, Took, Whole, progress_line};
+use ym_text::{Progress, ShownOut, Took, Whole, progress_line};
 
 const HALF: Progress = Progress {
     done: 14500,
@@ -99,6 +101,99 @@ fn whole_files(rt: HostRuntime) -> Result<(), Fail> {
             },
         };
         assert!(rt; shows(&rt, &whole, want)?, "{want}");
+    }
+    Ok(())
+}
+
+/// A name that would clear the screen is made safe, of a file that is under way and of a whole one.
+#[test]
+fn odd_names(rt: HostRuntime) -> Result<(), Fail> {
+    let line = progress_line(rt.alloc(), "a\u{1b}[2J", HALF, 30)?;
+    assert!(rt;
+        same(&line.as_str(), &"a\\u{1b}[2J: 50%, 1100 B/s"),
+        "{line}"
+    );
+    let whole = Whole {
+        name: "a\u{1b}[2J",
+        took: Took {
+            length: 1,
+            millis: 0,
+            repeats: 0,
+        },
+    };
+    let want = "a\\u{1b}[2J: 1 bytes in 0.0 s, 1 B/s";
+    assert!(rt; shows(&rt, &whole, want)?);
+    Ok(())
+}
+
+/// A writer that knows how much of what was written has been handed on.
+#[derive(Drop)]
+struct Pending {
+    written: Vec<u8>,
+    handed_on: usize,
+}
+
+impl Write for Pending {
+    fn write(&mut self, buf: &[u8]) -> io::Result<usize> {
+        self.written.extend_from_slice(buf)?;
+        Ok(buf.len())
+    }
+
+    fn flush(&mut self) -> io::Result<()> {
+        self.handed_on = self.written.len();
+        Ok(())
+    }
+}
+
+impl Pending {
+    fn new(rt: &HostRuntime) -> Pending {
+        Pending {
+            written: Vec::new(rt.alloc()),
+            handed_on: 0,
+        }
+    }
+
+    /// Whether something was written, and all of it was handed on.
+    fn is_there(&self) -> bool {
+        0 < self.handed_on && self.handed_on == self.written.len()
+    }
+}
+
+/// What is told or shown is there at once, and so is what a shown line gives way to.
+#[test]
+fn nothing_waits_to_be_told(rt: HostRuntime) {
+    for at_err in [false, true] {
+        let look = Look {
+            at_err,
+            columns: 80,
+            is_exact: true,
+        };
+        let mut teller = Teller::new(Pending::new(&rt), look);
+        teller.heed(true, false);
+        teller.tell("connected");
+        let told = teller.err.is_there();
+        teller.show("half");
+        let shown = teller.err.is_there();
+        teller.end();
+        let ended = teller.err.is_there();
+        assert!(rt; told && shown && ended, "{told} {shown} {ended}");
+    }
+}
+
+/// What is printed goes to a terminal with escapes and to others as it is, and is there at once.
+#[test]
+fn what_is_printed(rt: HostRuntime) -> Result<(), Fail> {
+    for (is_terminal, want) in [
+        (true, b"file a\\u{1b}[2J 5\nend\n".as_slice()),
+        (false, b"file a\x1b[2J 5\nend\n"),
+    ] {
+        let mut to = Pending::new(&rt);
+        let mut out = ShownOut::new(rt.alloc(), &mut to, is_terminal);
+        out.write_all(b"file a\x1b[2J 5\nend\n")?;
+        out.flush()?;
+        drop(out);
+        assert!(rt; same(&to.written.as_slice(), &want));
+        assert!(rt; to.is_there());
     }
     Ok(())
 }

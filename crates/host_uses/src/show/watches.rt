@@ -90,6 +90,90 @@ fn a_receiver(rt: HostRuntime) -> Result<(), Fail> {
     Ok(())
 }
 
+/// What a sender tells of two files, of which it wrote the second block so many times more: of the
+/// first file once.
+fn told_of_sender(rt: &HostRuntime, repeats: u32) -> Result<Vec<u8>, Fail> {
+    let mut teller = teller(rt);
+    let header = Header::new(rt.alloc(), "a.txt", 130, Stamp::Nothing)?;
+    let meter = Meter::new(rt.alloc(), rt, &mut teller, 100);
+    let shown = RefCell::new(Sending::new(meter));
+    let mut watch = SendWatch {
+        shown: &shown,
+        is_looked_at: true,
+    };
+    let first = encode(&Item::Block(Block::new(1, &[7; 128])?));
+    let second = encode(&Item::Block(Block::new(2, &[7; 128])?));
+    for count in [1, repeats] {
+        watch.wrote(encode(&Item::Block(write(&header))).as_bytes());
+        watch.wrote(first.as_bytes());
+        for _ in 0..count {
+            watch.wrote(second.as_bytes());
+        }
+        watch.wrote(second.as_bytes());
+        watch.wrote(encode(&Item::Eot).as_bytes());
+    }
+    watch.wrote(encode(&Item::Block(write_end())).as_bytes());
+    drop(watch);
+    drop(shown);
+    Ok(teller.err)
+}
+
+/// What a receiver tells of two files, of which so many blocks came damaged: of the first file one.
+/// It confirms an EOT once or twice.
+fn told_of_receiver(rt: &HostRuntime, repeats: u32, is_single: bool) -> Result<Vec<u8>, Fail> {
+    let mut teller = teller(rt);
+    let header = Header::new(rt.alloc(), "a.txt", 130, Stamp::Nothing)?;
+    let meter = Meter::new(rt.alloc(), rt, &mut teller, 30);
+    let besides = if is_single { 1 } else { 2 };
+    let shown = RefCell::new(Receiving::new(rt.alloc(), meter, besides));
+    let mut watch = ReceiveWatch {
+        shown: &shown,
+        is_looked_at: true,
+    };
+    for count in [1, repeats] {
+        watch.begins(&header);
+        watch.wrote(b"\x06C");
+        watch.added(128);
+        for _ in 0..count {
+            watch.wrote(b"\x15");
+        }
+        watch.wrote(b"\x06");
+        watch.added(2);
+        watch.wrote(b"\x06");
+        if !is_single {
+            watch.wrote(b"\x15");
+        }
+        watch.committed();
+        watch.wrote(b"\x06C");
+    }
+    drop(watch);
+    drop(shown);
+    Ok(teller.err)
+}
+
+/// Each repeat is counted, and nothing else.
+#[test]
+fn repeats(rt: HostRuntime) -> Result<(), Fail> {
+    for (repeats, want) in [
+        (0, b"B/s\n".as_slice()),
+        (1, b"B/s, 1 repeated\n"),
+        (2, b"B/s, 2 repeated\n"),
+        (3, b"B/s, 3 repeated\n"),
+        (9, b"B/s, 9 repeated\n"),
+    ] {
+        let told = [
+            told_of_sender(&rt, repeats)?,
+            told_of_receiver(&rt, repeats, false)?,
+            told_of_receiver(&rt, repeats, true)?,
+        ];
+        assert!(rt;
+            told.iter().all(|it| it.as_slice().ends_with(want)),
+            "{repeats}"
+        );
+    }
+    Ok(())
+}
+
 /// Whom a sender waits for is told at once where a terminal is.
 #[test]
 fn a_wait(rt: HostRuntime) {

@@ -98,6 +98,45 @@ impl Write for Short {
     }
 }
 
+/// A writer that knows how much of what was written has been handed on.
+#[derive(Drop)]
+struct Pending {
+    written: Vec<u8>,
+    handed_on: usize,
+}
+
+impl Write for Pending {
+    fn write(&mut self, buf: &[u8]) -> io::Result<usize> {
+        self.written.extend_from_slice(buf)?;
+        Ok(buf.len())
+    }
+
+    fn flush(&mut self) -> io::Result<()> {
+        self.handed_on = self.written.len();
+        Ok(())
+    }
+}
+
+/// Whether all that these bytes, this text and this line come to is handed on, each at once.
+fn is_handed_on(out: &mut Pending) -> [bool; 3] {
+    let put = out.put(b"bytes").is_ok() && out.handed_on == 5;
+    let text = out.put_text("text").is_ok() && out.handed_on == 9;
+    let line = out.put_line("line").is_ok() && out.handed_on == 14;
+    [put, text, line]
+}
+
+#[test]
+fn what_is_put_is_handed_on(rt: HostRuntime) -> Result<(), Fail> {
+    let mut out = Pending {
+        written: Vec::new(rt.alloc()),
+        handed_on: 0,
+    };
+    let seen = is_handed_on(&mut out);
+    assert!(rt; same(&seen, &[true; 3]), "{seen:?}");
+    assert!(rt; same(&out.written.as_slice(), &b"bytestextline\n".as_slice()));
+    Ok(())
+}
+
 #[test]
 fn one_byte_at_a_time(rt: HostRuntime) -> Result<(), Fail> {
     let alloc = rt.alloc();

@@ -110,7 +110,8 @@ impl ReceiverCore {
         requires running { self.state ≡ RecvState.Running }
         requires awaiting { self.stage ≡ Stage.AwaitHeader }
         requires sized { (list_length body.now ≡ 128) ⊎ (list_length body.now ≡ 1024) }
-        ensures step { (zero : Result Zero HeaderFault) × ReadsAs body.entry.now zero × IsStep result (table.zero_heard self zero) }
+        ensures step { (zero : Result Zero HeaderFault) × ReadsAs body.entry.now zero ×
+            IsStep result (table.zero_heard self zero) }
         ensures moves { Moves self result }
     {
         match read_borrowed(body) {
@@ -173,7 +174,8 @@ impl ReceiverCore {
     fn hear_block<'a>(self, file: OpenFile, block: &BlockRef<'a>) -> Step<'a>
         requires running { self.state ≡ RecvState.Running }
         requires in_file { self.stage ≡ Stage.InFile file }
-        ensures step { IsStep result (table.block_heard self file block.entry.now.number block.entry.now.body) }
+        ensures step { IsStep result (table.block_heard self file block.entry.now.number
+            block.entry.now.body) }
         ensures moves { Moves self result }
     {
         // that the count of blocks is small always holds, which is known once a field was read
@@ -230,7 +232,10 @@ impl ReceiverCore {
         requires running { self.state ≡ RecvState.Running }
         requires in_file { self.stage ≡ Stage.InFile file }
         requires covered { file.length ≤ file.taken }
-        ensures step { IsStep result (table.stays (record self { stage = Stage.InFile (record file { blocks = file.blocks + 1 }) }) Reply.Ack) }
+        ensures step { IsStep result (table.stays
+            (record self {
+              stage = Stage.InFile (record file { blocks = file.blocks + 1 });
+            }) Reply.Ack) }
         ensures moves { Moves self result }
     {
         let blocks = file.blocks + 1;
@@ -259,7 +264,8 @@ impl ReceiverCore {
         }
     }
 
-    /// An EOT: before all bytes of the file have come, the first one behind them, or the one that commits.
+    /// An EOT: before all bytes of the file have come, the first one behind them, or the one that
+    /// commits.
     fn hear_eot<'a>(self, file: OpenFile) -> Step<'a>
         requires running { self.state ≡ RecvState.Running }
         requires in_file { self.stage ≡ Stage.InFile file }

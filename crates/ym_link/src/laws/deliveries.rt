@@ -14,28 +14,37 @@ ghost use Rattle.ym_link.specs.ReceiveOver as receiving;
 ghost use Rattle.ym_machine.specs.declared.limits.TheConstants.{GIVE_UP};
 ghost use Rattle.ym_link.specs.declared.port.TheConstants.{DELIVERY_LIMIT};
 
-/// A delivery has at most 2048 bytes and takes at most 2048 reads, whatever comes and whatever test it ends by.
+/// A delivery has at most 2048 bytes and takes at most 2048 reads, whatever comes and whatever test
+/// it ends by.
 pub fn a_delivery_is_short()
-    ensures bytes { (ends : List ℕ → Bool) (events : List Event) (bytes : List ℕ) → (taken ends [] events).delivery ≡ Ok bytes → length bytes ≤ DELIVERY_LIMIT }
-    ensures reads { (ends : List ℕ → Bool) (events : List Event) → reads_in ends [] events ≤ DELIVERY_LIMIT }
+    ensures bytes { (ends : List ℕ → Bool) (events : List Event) (bytes : List ℕ) →
+        (taken ends [] events).delivery ≡ Ok bytes → length bytes ≤ DELIVERY_LIMIT }
+    ensures reads { (ends : List ℕ → Bool) (events : List Event) →
+        reads_in ends [] events ≤ DELIVERY_LIMIT }
 {}
 
-/// A sender over a port hears at most ten deliveries for each step of progress, and ten more; and there are at most
-/// two such steps for each frame from its place on, of which a new sender has the whole batch's.
+/// A sender over a port hears at most ten deliveries for each step of progress, and ten more; and
+/// there are at most two such steps for each frame from its place on, of which a new sender has the
+/// whole batch's.
 pub fn a_sender_hears_few_deliveries()
-    ensures deliveries { (s : SenderParts) (t : Tape) (out : sending.Outcome) (run : sending.Sends s t out) →
+    ensures deliveries { (s : SenderParts) (t : Tape) (out : sending.Outcome)
+        (run : sending.Sends s t out) →
         sender_hears s t out run ≤ GIVE_UP * (sender_progress s t out run + 1) }
-    ensures progress { (s : SenderParts) (t : Tape) (out : sending.Outcome) (run : sending.Sends s t out) →
+    ensures progress { (s : SenderParts) (t : Tape) (out : sending.Outcome)
+        (run : sending.Sends s t out) →
         sender_progress s t out run ≤ 2 * frames_from (counts s) s.standing.place }
     ensures batch { (blocks : List ℕ) → frames_from blocks (first_of blocks) ≡ frames_in blocks }
 {}
 
-/// A receiver over a port hears at most ten deliveries for each step of progress, and ten more; and those steps, with
-/// the ones that it has taken before, are among those of the files whose headers it accepted.
+/// A receiver over a port hears at most ten deliveries for each step of progress, and ten more; and
+/// those steps, with the ones that it has taken before, are among those of the files whose headers
+/// it accepted.
 pub fn a_receiver_hears_few_deliveries()
-    ensures deliveries { (r : ReceiverParts) (t : Tape) (out : receiving.Outcome) (run : receiving.Receives r t out) →
+    ensures deliveries { (r : ReceiverParts) (t : Tape) (out : receiving.Outcome)
+        (run : receiving.Receives r t out) →
         receiver_hears r t out run ≤ GIVE_UP * (receiver_progress r t out run + 1) }
-    ensures progress { (r : ReceiverParts) (t : Tape) (out : receiving.Outcome) (run : receiving.Receives r t out) →
+    ensures progress { (r : ReceiverParts) (t : Tape) (out : receiving.Outcome)
+        (run : receiving.Receives r t out) →
         receiver_progress r t out run + steps_at r ≤ steps_at out.receiver }
     ensures accepted { (r : ReceiverParts) → IsReceiver r → steps_at r ≤ steps_of (accepted r) }
 {}

@@ -25,12 +25,14 @@ use ym_header::laws::{one_meaning, written_is_read};
 use ym_machine::Batch;
 use ym_machine::laws::{files_within_a_batch, places_of_a_batch};
 
-/// A body stands for one thing: the body that is written for a header for that header, and the body that ends a batch
-/// for the end.
+/// A body stands for one thing: the body that is written for a header for that header, and the body
+/// that ends a batch for the end.
 pub fn a_block_zero_means_one_thing()
     ensures some { (body : List ℕ) → (zero : Result Zero HeaderFault) × ReadsAs body zero }
-    ensures one { (body : List ℕ) (x y : Result Zero HeaderFault) → ReadsAs body x → ReadsAs body y → x ≡ y }
-    ensures header { (h : HeaderParts) → IsHeader length_limit h → ReadsAs (text h) (Ok (zero_is.File h)) }
+    ensures one { (body : List ℕ) (x y : Result Zero HeaderFault) →
+        ReadsAs body x → ReadsAs body y → x ≡ y }
+    ensures header { (h : HeaderParts) →
+        IsHeader length_limit h → ReadsAs (text h) (Ok (zero_is.File h)) }
     ensures end { ReadsAs end_text (Ok zero_is.End) }
 {
     one_meaning();
@@ -40,7 +42,8 @@ pub fn a_block_zero_means_one_thing()
 /// The step of the table is one, whatever a receiver and a delivery are.
 pub fn a_delivery_has_one_step()
     ensures some { (r : Receiver) (h : Heard) → (zero : Result Zero HeaderFault) × Means r h zero }
-    ensures one { (r : Receiver) (h : Heard) (x y : Result Zero HeaderFault) → Means r h x → Means r h y → hears r x h ≡ hears r y h }
+    ensures one { (r : Receiver) (h : Heard) (x y : Result Zero HeaderFault) →
+        Means r h x → Means r h y → hears r x h ≡ hears r y h }
 {
     a_block_zero_means_one_thing();
 }
@@ -54,26 +57,34 @@ impl Batch for Headers {
     ghost Header = { HeaderParts };
 }
 
-/// A receiver that refines a state of the machine goes, with each delivery, where the machine's receiver step goes, and
-/// gives its reply; and a new one refines the start.
+/// A receiver that refines a state of the machine goes, with each delivery, where the machine's
+/// receiver step goes, and gives its reply; and a new one refines the start.
 pub fn a_standing_receiver_follows_the_machine()
-    ensures start { (confirm : Confirm) (files : List (File HeaderParts)) (kept : Kept) → IsNew kept → ReceiverRefines confirm files start (new_receiver confirm) kept }
-    ensures follows { (confirm : Confirm) (files : List (File HeaderParts)) (whole : Bool) (st : State) (old : ReceiverParts) (reply : Reply) (new : ReceiverParts) →
-        IsBatch files → Invariant confirm (frames_of files) st → ReceiverRefines confirm files st old.receiver old.kept →
-        HearsGives old (heard_there files whole st) (Ok reply) new → Follows confirm files whole st old reply new }
+    ensures start { (confirm : Confirm) (files : List (File HeaderParts)) (kept : Kept) →
+        IsNew kept → ReceiverRefines confirm files start (new_receiver confirm) kept }
+    ensures follows { (confirm : Confirm) (files : List (File HeaderParts)) (whole : Bool)
+        (st : State) (old : ReceiverParts) (reply : Reply) (new : ReceiverParts) →
+        IsBatch files → Invariant confirm (frames_of files) st →
+        ReceiverRefines confirm files st old.receiver old.kept →
+        HearsGives old (heard_there files whole st) (Ok reply) new →
+        Follows confirm files whole st old reply new }
 {
     a_block_zero_means_one_thing();
     places_of_a_batch::<Headers>();
     files_within_a_batch::<Headers>();
 }
 
-/// A file that is cut by a plan is covered by its last piece, and by none before it; and what is kept of its pieces is
-/// its bytes.
+/// A file that is cut by a plan is covered by its last piece, and by none before it; and what is
+/// kept of its pieces is its bytes.
 pub fn a_planned_file_is_sent()
-    ensures sent { (shape : Shape) (header : HeaderParts) (bytes : List ℕ) (pieces : List (List ℕ)) →
-        IsHeader length_limit header → header.length ≡ length bytes → IsPieces shape bytes pieces → IsSent (record { header = header; pieces = pieces }) }
-    ensures bytes { (shape : Shape) (header : HeaderParts) (bytes : List ℕ) (pieces : List (List ℕ)) →
-        IsHeader length_limit header → header.length ≡ length bytes → IsPieces shape bytes pieces → bytes_of (record { header = header; pieces = pieces }) ≡ bytes }
+    ensures sent { (shape : Shape) (header : HeaderParts) (bytes : List ℕ)
+        (pieces : List (List ℕ)) →
+        IsHeader length_limit header → header.length ≡ length bytes → IsPieces shape bytes pieces →
+        IsSent (record { header = header; pieces = pieces }) }
+    ensures bytes { (shape : Shape) (header : HeaderParts) (bytes : List ℕ)
+        (pieces : List (List ℕ)) →
+        IsHeader length_limit header → header.length ≡ length bytes → IsPieces shape bytes pieces →
+        bytes_of (record { header = header; pieces = pieces }) ≡ bytes }
 {
     covered_by_the_last_piece();
     pieces_give_the_file();

@@ -25,20 +25,24 @@ use ym_machine::laws::what_comes_back;
 
 /// A delivery is settled exactly where no further bytes can change what a sender does with it.
 pub fn a_settled_delivery_stays()
-    ensures { (counts : List ℕ) (old : Standing) (bytes : List ℕ) → is_settled counts old (controls_in bytes) ≡ true ↔
-        ((more : List ℕ) → hears counts old (controls_in (bytes ++ more)) ≡ hears counts old (controls_in bytes)) }
+    ensures { (counts : List ℕ) (old : Standing) (bytes : List ℕ) →
+        is_settled counts old (controls_in bytes) ≡ true ↔
+        ((more : List ℕ) →
+        hears counts old (controls_in (bytes ++ more)) ≡ hears counts old (controls_in bytes)) }
 {}
 
 /// A sender that goes on has a new place or mode, and then counts from 0, or has the same and
 /// counts one more delivery without progress.
 pub fn progress_is_a_change()
-    ensures { (counts : List ℕ) (old : Standing) (bytes : List ℕ) → (hears counts old (controls_in bytes)).standing.state ≡ Running →
+    ensures { (counts : List ℕ) (old : Standing) (bytes : List ℕ) →
+        (hears counts old (controls_in bytes)).standing.state ≡ Running →
         let new = (hears counts old (controls_in bytes)).standing in
-        ((new.retries ≡ 0) × ¬ IsSame old new) ⊎ ((new.retries ≡ old.retries + 1) × IsSame old new) }
+        ((new.retries ≡ 0) × ¬ IsSame old new) ⊎
+        ((new.retries ≡ old.retries + 1) × IsSame old new) }
 {}
 
-/// A delivery leaves a sender that runs at its place, or takes it to the next one, behind an ACK of what it has sent; and it finishes at the end block alone,
-/// behind an ACK of that.
+/// A delivery leaves a sender that runs at its place, or takes it to the next one, behind an ACK of
+/// what it has sent; and it finishes at the end block alone, behind an ACK of that.
 pub fn a_delivery_goes_one_place()
     ensures goes { GoesOnePlace }
     ensures finishes { FinishesLast }
@@ -54,27 +58,40 @@ pub fn a_step_keeps_the_batch()
 /// damaged.
 pub fn what_came_back_is_of_the_reply()
     ensures whole { (reply : Reply) → controls_in (reply_bytes reply) ≡ reply_controls reply }
-    ensures damaged { (reply : Reply) (bytes : List ℕ) → IsSubsequence (control_bytes bytes) (reply_bytes reply) →
+    ensures damaged { (reply : Reply) (bytes : List ℕ) →
+        IsSubsequence (control_bytes bytes) (reply_bytes reply) →
         is_within (controls_in bytes) (reply_controls reply) ≡ true }
-    ensures remnants { (reply : Reply) (came : List Control) → is_within came (reply_controls reply) ≡ true → IsRemnant came }
+    ensures remnants { (reply : Reply) (came : List Control) →
+        is_within came (reply_controls reply) ≡ true → IsRemnant came }
 {
     what_comes_back();
 }
 
 /// A new sender refines the start. A sender that refines a state of the machine refines, after a
-/// delivery, the one that the machine's sender step leads to, with the truth whether its source failed; it
-/// says what the machine's sender says, where its sources tell their bytes; and it has done the
-/// files that the machine's sender reports.
+/// delivery, the one that the machine's sender step leads to, with the truth whether its source
+/// failed; it says what the machine's sender says, where its sources tell their bytes; and it has
+/// done the files that the machine's sender reports.
 pub fn a_sender_follows_the_machine()
-    ensures starts { (shape : Shape) (sources : List FileParts) (files : Batch) (frame : List ℕ) → AllZip (IsFileOf shape) sources files →
-        SenderRefines files start (record { standing = new_standing (counts_of shape sources); shape = shape; files = sources; frame = frame }) }
-    ensures batch { (shape : Shape) (sources : List FileParts) → All IsFile sources → AllZip (IsFileOf shape) sources (batch_of shape sources) }
-    ensures follows { (files : Batch) (st : State) (old new : SenderParts) (bytes : List ℕ) (failed : Bool) →
-        SenderRefines files st old → IsRemnant (controls_in bytes) → IsStep old (hears (counts old) old.standing (controls_in bytes)) failed new →
+    ensures starts { (shape : Shape) (sources : List FileParts) (files : Batch) (frame : List ℕ) →
+        AllZip (IsFileOf shape) sources files →
+        SenderRefines files start (record {
+          standing = new_standing (counts_of shape sources);
+          shape = shape;
+          files = sources;
+          frame = frame;
+        }) }
+    ensures batch { (shape : Shape) (sources : List FileParts) →
+        All IsFile sources → AllZip (IsFileOf shape) sources (batch_of shape sources) }
+    ensures follows { (files : Batch) (st : State) (old new : SenderParts) (bytes : List ℕ)
+        (failed : Bool) →
+        SenderRefines files st old → IsRemnant (controls_in bytes) →
+        IsStep old (hears (counts old) old.standing (controls_in bytes)) failed new →
         SenderRefines files (sender_step (frames_of files) failed (controls_in bytes) st) new }
-    ensures says { (files : Batch) (st : State) (sender : SenderParts) → SenderRefines files st sender → IsSender sender → AllTold sender.files →
+    ensures says { (files : Batch) (st : State) (sender : SenderParts) →
+        SenderRefines files st sender → IsSender sender → AllTold sender.files →
         IsSaid files (said st) (spoken sender) }
-    ensures done { (files : Batch) (st : State) (sender : SenderParts) → SenderRefines files st sender →
+    ensures done { (files : Batch) (st : State) (sender : SenderParts) →
+        SenderRefines files st sender →
         done_at (length sender.files) sender.standing.place ≡ count_within files st.acknowledged }
 {
     one_pieces();

@@ -25,15 +25,20 @@ pub fn a_file_is_spelled_once()
     ensures bytes { bytes_heard hello ≡ codes "hello" }
 {}
 
-/// An EOT is acknowledged by an ACK behind it, also where its first reply was lost; and not by a C, or by an ACK behind something else.
+/// An EOT is acknowledged by an ACK behind it, also where its first reply was lost; and not by a C,
+/// or by an ACK behind something else.
 pub fn an_ack_is_of_the_frame_before_it()
-    ensures later { (shape : Shape) (files : List FileParts) → AreAcknowledged shape files (Eot 0 ∷ []) eot_again }
-    ensures start { (shape : Shape) (files : List FileParts) → AreAcknowledged shape files (Eot 0 ∷ []) eot_and_start → ⊥ }
-    ensures other { (shape : Shape) (files : List FileParts) → AreAcknowledged shape files (Eot 0 ∷ []) another_frame → ⊥ }
+    ensures later { (shape : Shape) (files : List FileParts) →
+        AreAcknowledged shape files (Eot 0 ∷ []) eot_again }
+    ensures start { (shape : Shape) (files : List FileParts) →
+        AreAcknowledged shape files (Eot 0 ∷ []) eot_and_start → ⊥ }
+    ensures other { (shape : Shape) (files : List FileParts) →
+        AreAcknowledged shape files (Eot 0 ∷ []) another_frame → ⊥ }
 {}
 
-/// Deliveries pair up where a reply is lost and the receiver asks again, where it asks before its peer is there, and where a sender that gave up has left
-/// CAN CAN; and not where the receiver hears a block that was not written.
+/// Deliveries pair up where a reply is lost and the receiver asks again, where it asks before its
+/// peer is there, and where a sender that gave up has left CAN CAN; and not where the receiver
+/// hears a block that was not written.
 pub fn lost_and_early_replies_pair_up()
     ensures again { PairUp (spoke eot (67 ∷ []) ∷ []) [] asked_again asked_again_rounds }
     ensures bad_run { longest_bad_run 0 asked_again_rounds ≡ 2 }

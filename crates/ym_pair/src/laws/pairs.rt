@@ -26,13 +26,20 @@ use ym_machine::laws::{
     committed_is_reported_or_one_more, files_within_a_batch, short_bursts_are_survived,
 };
 
-/// Where the deliveries of two engines pair up, over any two ports, whether or not they tell their events, and however each call returns, the files that the receiver has committed are the first
-/// ones of the batch, each with its name, length, stamp and bytes, and the sender reports no more of them.
+/// Where the deliveries of two engines pair up, over any two ports, whether or not they tell their
+/// events, and however each call returns, the files that the receiver has committed are the first
+/// ones of the batch, each with its name, length, stamp and bytes, and the sender reports no more
+/// of them.
 pub fn two_engines_commit_a_prefix()
-    ensures told { (s : SenderParts) (t : Tape) (out : sending.Outcome) (sends : sending.Sends s t out) (r : ReceiverParts) (u : Tape) (end : receiving.Outcome) (receives : receiving.Receives r u end) (rounds : List Round) →
-        AreNew (ends s r) → RunsPairUp s t out sends r u end receives rounds → CommitsAPrefix s.files (ends out.sender end.receiver) }
-    ensures course { (s new : SenderParts) (r end : ReceiverParts) (calls : AreCalls s new r end) (rounds : List Round) →
-        AreNew (ends s r) → IsSender new → CallsPairUp s new r end calls rounds → CommitsAPrefix s.files (ends new end) }
+    ensures told { (s : SenderParts) (t : Tape) (out : sending.Outcome)
+        (sends : sending.Sends s t out) (r : ReceiverParts) (u : Tape) (end : receiving.Outcome)
+        (receives : receiving.Receives r u end) (rounds : List Round) →
+        AreNew (ends s r) → RunsPairUp s t out sends r u end receives rounds →
+        CommitsAPrefix s.files (ends out.sender end.receiver) }
+    ensures course { (s new : SenderParts) (r end : ReceiverParts) (calls : AreCalls s new r end)
+        (rounds : List Round) →
+        AreNew (ends s r) → IsSender new → CallsPairUp s new r end calls rounds →
+        CommitsAPrefix s.files (ends new end) }
 {
     one_verdict();
     a_delivery_goes_one_place();
@@ -46,15 +53,23 @@ pub fn two_engines_commit_a_prefix()
     nothing_comes_back_of_silence();
 }
 
-/// Where moreover both calls return well, no failure count rose, and no bad run of the rounds is longer than a burst, of four today, both ends have finished,
-/// and the whole batch is committed and reported.
+/// Where moreover both calls return well, no failure count rose, and no bad run of the rounds is
+/// longer than a burst, of four today, both ends have finished, and the whole batch is committed
+/// and reported.
 pub fn two_engines_complete()
-    ensures told { (s : SenderParts) (t : Tape) (out : sending.Outcome) (sends : sending.Sends s t out) (r : ReceiverParts) (u : Tape) (end : receiving.Outcome) (receives : receiving.Receives r u end) (rounds : List Round) →
-        AreNew (ends s r) → RunsPairUp s t out sends r u end receives rounds → out.answer ≡ Ok tt → end.answer ≡ Ok tt →
-        NoneRose (ends s r) (ends out.sender end.receiver) → longest_bad_run 0 rounds ≤ BURST → HaveBothFinished s.files (ends out.sender end.receiver) }
-    ensures course { (s new : SenderParts) (r end : ReceiverParts) (calls : AreCalls s new r end) (rounds : List Round) →
-        AreNew (ends s r) → IsSender new → CallsPairUp s new r end calls rounds → new.standing.state ≢ sender_is.Running → end.receiver.state ≢ receiver_is.Running →
-        NoneRose (ends s r) (ends new end) → longest_bad_run 0 rounds ≤ BURST → HaveBothFinished s.files (ends new end) }
+    ensures told { (s : SenderParts) (t : Tape) (out : sending.Outcome)
+        (sends : sending.Sends s t out) (r : ReceiverParts) (u : Tape) (end : receiving.Outcome)
+        (receives : receiving.Receives r u end) (rounds : List Round) →
+        AreNew (ends s r) → RunsPairUp s t out sends r u end receives rounds → out.answer ≡ Ok tt →
+        end.answer ≡ Ok tt →
+        NoneRose (ends s r) (ends out.sender end.receiver) → longest_bad_run 0 rounds ≤ BURST →
+        HaveBothFinished s.files (ends out.sender end.receiver) }
+    ensures course { (s new : SenderParts) (r end : ReceiverParts) (calls : AreCalls s new r end)
+        (rounds : List Round) →
+        AreNew (ends s r) → IsSender new → CallsPairUp s new r end calls rounds →
+        new.standing.state ≢ sender_is.Running → end.receiver.state ≢ receiver_is.Running →
+        NoneRose (ends s r) (ends new end) → longest_bad_run 0 rounds ≤ BURST →
+        HaveBothFinished s.files (ends new end) }
 {
     one_verdict();
     a_delivery_goes_one_place();

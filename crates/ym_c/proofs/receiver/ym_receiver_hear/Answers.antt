@@ -8,7 +8,7 @@ returns-clause-hears c core held h =
     let is : c.hearer-core.result ≡ core = c.hearer-core.ensures.kept core held h in
     let bytes : c.delivery-bytes.result.now ≡ held = c.delivery-bytes.ensures h.room ∙ h.bytes in
     let here = rw (is, bytes) at c.hear_into-receiver.ensures.heard in
-    (here.0, here.1, record { stand = h.stand; next = here.2; reply = here.3 }, record { stand = h.stand; room = h.room; bytes = h.bytes }, here.4, placed c.a_body_stands_behind_three_bytes.ensures core here.0 held ask here.1 c.hear_into-receiver.ensures.at here.4, here.5)
+    (here.0, here.1, record { stand = h.stand; next = here.2; reply = here.3; room = h.room }, record { stand = h.stand; room = h.room; bytes = h.bytes }, here.4, placed c.a_body_stands_behind_three_bytes.ensures core here.0 held ask here.1 c.hear_into-receiver.ensures.at here.4, here.5)
 
 pub returns-clause-rubbish : goal.returns-clause-rubbish
 returns-clause-rubbish c rubbish =

@@ -3,7 +3,7 @@ use Rattle.std.proofs.Common.{◌≡◌, ◌-◌, ◌+◌, arith, true, false, N
 use Rattle.ym_link.proofs.Names.{Tape, MOST_READS}
 use Rattle.ym_link.specs.Sweep as table
 use Rattle.ym_link.specs.declared.sweep.Held.TheVariants as held
-use Rattle.ym_link.proofs.Sweeping.{swept-over, swept-out, swept-read, sweep-out}
+use Rattle.ym_link.proofs.Sweeping.{swept-over, swept-out, swept-read, sweep-out, asked-none, asked-more}
 use Rattle.ym_link.proofs.sweep.let_clear.Goals as goal
 
 pub returns-then-is_over-clause-told : goal.returns-then-is_over-clause-told
@@ -35,6 +35,21 @@ returns-in-None-clause-told g c u e =
     (swept-read MOST_READS c.loop-done._done c.args.role c.loop-done.sweep got.0.coming (Ok None) _ c.loop-done-test.true on (sym none ∙ got.2) inv.3) inv.2 got.3 in
     (inv.0, inv.1, out.0, out.1)
 
+pub loop-done-init : goal.loop-done-init
+loop-done-init g c = record { told = search rules; asked = λ w e. (w, e, asked-none w); calm = search rules }
+
+pub returns-in_err-next-clause-asked : goal.returns-in_err-next-clause-asked
+returns-in_err-next-clause-asked g c w e =
+    let got = c.read_on.ensures.asked w e in
+    let inv = c.loop-done.invariant.asked got.0 got.1 in
+    (inv.0, inv.1, asked-more inv.0 got.0 w inv.2 got.2)
+
+pub returns-in-None-clause-asked : goal.returns-in-None-clause-asked
+returns-in-None-clause-asked g c w e =
+    let got = c.read_on.ensures.asked w e in
+    let inv = c.loop-done.invariant.asked got.0 got.1 in
+    (inv.0, inv.1, asked-more inv.0 got.0 w inv.2 got.2)
+
 pub loop-done-preserved : goal.loop-done-preserved
 loop-done-preserved g c = record {
   told = λ u e.
@@ -48,6 +63,10 @@ loop-done-preserved g c = record {
         swept-read MOST_READS c.loop-done._done c.args.role c.loop-done.sweep got.0.coming (Ok (Some c.in-Some.next)) _ c.loop-done-test.true on (sym some ∙ got.2) inv.3
             ∙ ap (λ (x : Tape). table.swept (MOST_READS - (c.loop-done._done + 1)) c.args.role c.in-Some.next x.coming) (sym got.3),
       );
+  asked = λ w e.
+      let got = c.read_on.ensures.asked w e in
+      let inv = c.loop-done.invariant.asked got.0 got.1 in
+      (inv.0, inv.1, asked-more inv.0 got.0 w inv.2 got.2);
   calm = search rules;
 }
 

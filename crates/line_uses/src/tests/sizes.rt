@@ -1,0 +1,71 @@
+//! Sizes at which nothing gives up: want of memory is told only where a growth was refused.
+
+use std::alloc::{AllocError, Global};
+use std::test::Fail;
+use ym_file::{Collector, Shape};
+use ym_frame::{Block, Item, Reply};
+use ym_header::{Header, Stamp, write};
+use ym_line::{Delivery, Direct, Round, run};
+use ym_link::{Heard, Receiver, SendFile, Sender};
+
+/// So many rounds in which nothing arrives.
+fn lost_rounds(alloc: Global, count: u32) -> Result<Vec<Round>, AllocError> {
+    let mut rounds = Vec::new(alloc);
+    for _ in 0..count {
+        rounds.push(Round {
+            there: Delivery::Lost,
+            back: Delivery::Lost,
+        })?;
+    }
+    Ok(rounds)
+}
+
+/// How many of these rounds are seen, and how many deliveries are handed on in them.
+fn counts(alloc: Global, rounds: &[Round]) -> Result<(usize, usize), Fail> {
+    let batch: Vec<SendFile> = Vec::new(alloc);
+    let mut sender = Sender::new(batch, Shape::Mixed).map_err(|_| "batch")?;
+    let mut receiver = Receiver::new(alloc);
+    let mut line = Direct::new(alloc);
+    let trace = run(alloc, &mut sender, &mut receiver, rounds, &mut line)?;
+    Ok((trace.rounds.len(), line.handed().len()))
+}
+
+#[test]
+fn a_run_of_60_001_rounds(rt: HostRuntime) -> Result<(), Fail> {
+    let rounds = lost_rounds(rt.alloc(), 60_001)?;
+    assert!(rt; counts(rt.alloc(), rounds.as_slice())? == (60_001, 120_002));
+    Ok(())
+}
+
+/// How many bytes a collector has of a file of this length, of which so many blocks came.
+fn collected(alloc: Global, length: u64, blocks: u32) -> Result<usize, AllocError> {
+    let mut collector = Collector::new(alloc, length);
+    for _ in 0..blocks {
+        collector.add(&[b'A'; 1024])?;
+    }
+    Ok(collector.bytes().len())
+}
+
+#[test]
+fn a_collector_of_3_000_000_bytes(rt: HostRuntime) -> Result<(), Fail> {
+    assert!(rt; collected(rt.alloc(), 3_000_000, 2930)? == 3_000_000);
+    Ok(())
+}
+
+/// Whether a receiver takes the block 0 of a file of this length, and its first block.
+fn takes_a_block(alloc: Global, length: u64) -> Result<bool, Fail> {
+    let header = Header::new(alloc, "a", length, Stamp::Nothing)?;
+    let mut receiver = Receiver::new(alloc);
+    let first = receiver.hear(&Heard::Item(Item::Block(write(&header))))?;
+    let next = receiver.hear(&Heard::Item(Item::Block(Block::new(1, &[7; 1024])?)))?;
+    Ok((first, next) == (Reply::AckStart, Reply::Ack))
+}
+
+/// Memory is taken for what comes, and never for a length that block 0 states.
+#[test]
+fn a_stated_length_takes_no_memory(rt: HostRuntime) -> Result<(), Fail> {
+    for length in [1 << 40, 9_223_372_036_854_775_807] {
+        assert!(rt; takes_a_block(rt.alloc(), length)?, "{length}");
+    }
+    Ok(())
+}

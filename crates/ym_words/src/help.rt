@@ -1,0 +1,127 @@
+//! What the help of each command says. No line of it is wider than a terminal of 80 columns: the
+//! ends of lines stand in the texts, since clap breaks none.
+
+pub(crate) const ABOUT: &str =
+    "Sends and receives files by YMODEM over serial lines and connections";
+
+pub(crate) const TOP_HELP: &str =
+    "`ymodem-tty` sets a serial line, runs `sb` or `rb` on it, and sets it back.
+A file goes to a board with U-Boot by three commands. Type the first and the
+last at the prompt of the board, and the second here, while no other program
+has the line:
+
+  loady
+  ymodem-tty --device /dev/ttyUSB0 --speed 115200 send firmware.bin
+  crc32 $loadaddr $filesize
+
+From a board, and from within a terminal program, where C-a C-s sends:
+
+  ymodem-tty --device /dev/ttyUSB0 --speed 115200 receive
+  picocom -b 115200 --send-cmd \"ymodem-tty send\" /dev/ttyUSB0
+
+Without a command, `play` is meant.
+
+Exit status:
+  0  both ends finished (sb, rb, send, receive: its own end)
+  1  ended or left otherwise
+  2  words, script, name, length or number of files refused; or help asked for
+  3  device, closed connection, or want of memory
+
+Example of a session that is played:
+  printf 'file a.txt 48656C6C6F\\nok 6\\n' | ymodem";
+
+pub(crate) const SB_ABOUT: &str = "Sends files over a serial line, in order";
+
+pub(crate) const SB_HELP: &str =
+    "The line is DEVICE, or else standard input and output. `ymodem-tty` sets the
+line and runs this; by hand, set it so before:
+
+  stty -F /dev/ttyUSB0 115200 raw -echo clocal min 0 time 1
+
+Files, waits, what is printed and the exit status are as those of `send`. It
+prints to standard output where DEVICE is given, and to standard error where
+standard output is the line.
+
+Examples:
+  ymodem-tty --device /dev/ttyUSB0 --speed 115200 send firmware.bin
+  ymodem sb --line /dev/ttyUSB0 firmware.bin";
+
+pub(crate) const RB_ABOUT: &str = "Receives files over a serial line into a folder";
+
+pub(crate) const RB_HELP: &str =
+    "The line is DEVICE, or else standard input and output. `ymodem-tty` sets the
+line and runs this; by hand, set it so before:
+
+  stty -F /dev/ttyUSB0 115200 raw -echo clocal min 0 time 1
+
+It asks for the first file at once. Files, waits, what is printed and the exit
+status are as those of `receive`. It prints to standard output where DEVICE is
+given, and to standard error where standard output is the line.
+
+Examples:
+  ymodem-tty --device /dev/ttyUSB0 --speed 115200 receive
+  ymodem rb --line /dev/ttyUSB0";
+
+pub(crate) const SEND_ABOUT: &str = "Connects to 127.0.0.1 and sends files, in order";
+
+pub(crate) const SEND_HELP: &str =
+    "Each file is sent under the last part of its path, without time and mode, in
+blocks of 1024 bytes while as many remain and then of 128. Where nobody listens
+yet it tries again for 2 seconds. It waits 10 seconds for each reply, and gives
+up after 10 without progress.
+
+It prints `sender done D STATE`, where D files were acknowledged, and STATE is
+`finished` or what else it ended by.
+
+Exit status: 0 where all files were acknowledged, 1 where not, 2 where words, a
+name, a length or the number of files are refused, 3 at a device fault, a closed
+connection or want of memory.
+
+Example:
+  ymodem send --port 4000 firmware.bin settings.txt";
+
+pub(crate) const RECEIVE_ABOUT: &str =
+    "Waits for one connection on 127.0.0.1, and receives into a folder";
+
+pub(crate) const RECEIVE_HELP: &str =
+    "A file NAME is written as NAME.part and renamed when it is whole. Nothing that
+is there is overwritten. It acknowledges a file when the disk has it. A
+NAME.part that is there, as a receiver leaves it that is killed, refuses NAME.
+It asks for the first file 3 seconds after somebody has connected. It waits 3
+seconds for each block, and gives up after 10 without progress.
+
+It prints `file NAME LENGTH TIME MODE` for each file, as block 0 stated them,
+and `receiver files M STATE`. TIME, in seconds since 1970, and MODE are in
+octal, as in block 0, or `-` where it stated none.
+
+Exit status: 0 where the batch was received whole, 1 where not, 2 where the
+words are refused, 3 at a device fault, a closed connection or want of memory.
+
+Example:
+  ymodem receive --port 4000 .";
+
+pub(crate) const PLAY_ABOUT: &str = "Plays the session of a script, and prints what was seen";
+
+pub(crate) const PLAY_HELP: &str = "It reads the script from standard input. Lines of a script:
+  short                      short blocks alone
+  single                     the receiver acknowledges the first EOT
+  file NAME HEX|- [TIME [MODE]]   a file, with its time and mode in octal
+  ok N                       N whole rounds
+  round T B                  one round: each way whole, lost, or hex:DIGITS
+
+Exit status: 0 where both ends finished, 1 where not, 2 where the script is
+refused, 3 at a device fault or want of memory.
+
+Example:
+  printf 'file a.txt 48656C6C6F\\nok 6\\n' | ymodem play";
+
+pub(crate) const LOOP_ABOUT: &str = "Plays the session of a script over a connection to itself";
+
+pub(crate) const LOOP_HELP: &str =
+    "It reads the script from standard input, and prints what `play` prints.
+
+Exit status: 0 where both ends finished, 1 where not, 2 where the words or the
+script are refused, 3 at a device fault or want of memory.
+
+Example:
+  printf 'file a.txt 48656C6C6F\\nok 6\\n' | ymodem loop --port 4000";

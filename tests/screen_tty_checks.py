@@ -1,0 +1,247 @@
+"""What a person sees on terminals of 40, 80 and 200 columns: of `ymodem-tty` on a serial line, which
+is a pseudo terminal, of what is refused, and of the help."""
+
+import contextlib
+import os
+import re
+import socket
+import threading
+
+from cable import plug
+from frames import CANCEL
+from program import LIMIT, PROGRAM, ROOT, folders, free_port, stored, wants_stored, write_files
+from screen import screen
+from screen_checks import WIDTHS, gives, is_progress, packed, takes, told
+from serial_checks import peer
+from skipping import needs
+from telling import DATA, FILE, wants
+from terminal import joined
+from words_checks import said_of
+
+SCRIPT = os.path.join(ROOT, "share", "ymodem-tty")
+STOPPED = "ymodem-tty: interrupted, and the other end was told"
+NAME = FILE[0][0]
+
+
+@contextlib.contextmanager
+def on_line(columns, folder, *words):
+    """`ymodem-tty` on a screen, in a folder, and the other end of its line."""
+    with plug() as it, contextlib.ExitStack() as later:
+        line = (SCRIPT, "--device", it.path, *words)
+        script = ("sh", "-c", 'cd "$1" && shift && exec "$@"', "sh", folder, *line)
+        yield it, later.enter_context(screen(columns, *script, YMODEM=PROGRAM))
+
+
+@contextlib.contextmanager
+def other_end(it, play):
+    """One who plays the other end, as if it were a connection."""
+    mine, theirs = socket.socketpair()
+    mine.settimeout(LIMIT)
+    joined(it.inner, theirs.fileno())
+    joined(theirs.fileno(), it.inner)
+
+    def plays():
+        # it is broken off where that is tried
+        with contextlib.suppress(ConnectionError, AssertionError):
+            play(mine)
+
+    thread = threading.Thread(target=plays, daemon=True)
+    thread.start()
+    with mine, theirs:
+        yield mine
+        thread.join(LIMIT)
+
+
+class Patient:
+    """The other end of a line, where one that would cancel waits instead until the line is gone."""
+
+    def __init__(self, end):
+        self.end = end
+
+    def recv(self, count):
+        return self.end.recv(count)
+
+    def sendall(self, data):
+        if data != CANCEL:
+            return self.end.sendall(data)
+        while self.end.recv(64):
+            pass
+
+
+def shows(columns, *lines):
+    """Lines as they stand on the screen, which has no spaces at the end of a line."""
+    return [it.rstrip() for it in told(columns, *lines)]
+
+
+def is_at(lines):
+    return any(is_progress(it) for it in lines)
+
+
+def transfers(columns, sends):
+    """A file to `rb` and from `sb` of lrzsz: each line of it."""
+
+    def check():
+        words, other = (("send", NAME), ["rb"]) if sends else (("receive",), ["sb", NAME])
+        needs(other[0])
+        with folders() as (here, there):
+            write_files(here, FILE)
+            near, away = (here, there) if sends else (there, here)
+            with on_line(columns, near, "--speed", "57600", *words) as (it, shown):
+                shown.sees(lambda lines: any("waiting for" in it for it in lines))
+                with peer(other, away, it.inner):
+                    lines = shown.ended()
+            wants_stored(there, FILE)
+        first = packed("the line is '%s'" % it.path)
+        wants("the first lines", packed("".join(lines)).startswith(first), True)
+        end = r"first\.bin: 5120 bytes in \d+\.\d s, \d+ k?B/s"
+        end += r"sender done 1 finished" if sends else r"file first\.bin 5120 [0-7]+ 100[0-7]+"
+        end += "" if sends else "receiver files 1 finished"
+        end += re.escape("[ended 0]")
+        end = end.replace("\\ ", "").replace(" ", "") + "$"
+        if not re.search(end, packed("".join(lines))):
+            raise AssertionError("it does not end so: %r" % lines)
+
+    return check
+
+
+def interrupted(columns, sends):
+    """Ctrl-C in the middle of a file: the line of how far it was ends, and it says what is left."""
+
+    def check():
+        words = ("send", NAME) if sends else ("receive", "got")
+        play = takes(4) if sends else gives(FILE, 3)
+
+        def waits(end):
+            play(Patient(end))
+
+        with folders() as (here, _):
+            os.mkdir(os.path.join(here, "got"))
+            write_files(here, FILE)
+            with on_line(columns, here, *words) as (it, shown), other_end(it, waits) as end:
+                shown.sees(is_at)
+                shown.type("C-c")
+                lines = shown.ended()
+                end.shutdown(socket.SHUT_RDWR)
+            left = stored(os.path.join(here, "got"))
+        wants("what is there", list(left), [] if sends else [NAME + ".part"])
+        part = "ymodem-tty: 'got/first.bin.part' is left of a file: "
+        part += "remove it, or receive again with --discard-parts"
+        end = shows(columns, STOPPED, *([] if sends else [part]), "[ended 130]")
+        wants("the end", lines[-len(end) :], end)
+        at = lines[-len(end) - 1]
+        wants("whether the line before tells how far it was", is_progress(at) is not None, True)
+
+    return check
+
+
+def cancelled(columns):
+    """The other end cancels, on a line."""
+
+    def check():
+        with folders() as (here, _), on_line(columns, here, "receive") as (it, shown):
+            with other_end(it, lambda end: end.recv(1) and end.sendall(CANCEL)):
+                lines = shown.ended()
+        end = ("receiver files 0 cancelled", "the other end cancelled (CAN CAN)", "[ended 1]")
+        wants("the end", lines[-len(end) :], shows(columns, *end))
+
+    return check
+
+
+def refused(columns):
+    """What `ymodem-tty` says of words that it does not know: why, and its usage."""
+
+    def check():
+        with screen(columns, SCRIPT, "receive", "--frob") as it:
+            lines = it.ended()
+        said = "ymodem-tty: '--frob' is none of its options: "
+        wants("why", packed("".join(lines)).startswith(packed(said)), True)
+        usage = [
+            "Usage: ymodem-tty [LINE] send [OPTIONS] FILE..",
+            "       ymodem-tty [LINE] receive [OPTIONS] [DIR]",
+        ]
+        wants("its usage", packed("".join(usage)) in packed("".join(lines)), True)
+        wants("its status", lines[-1], "[ended 2]")
+
+    return check
+
+
+def in_use(columns):
+    """The port is in use."""
+
+    def check():
+        with socket.create_server(("127.0.0.1", 0)) as listener, folders() as (_, there):
+            port = listener.getsockname()[1]
+            with screen(columns, PROGRAM, "receive", "-p", port, there) as it:
+                text = "port %d is in use by another program: choose another one" % port
+                wants("it told", it.ended(), told(columns, text, "fault: device", "[ended 3]"))
+
+    return check
+
+
+def no_port(columns):
+    def check():
+        with screen(columns, PROGRAM, "send", "--port", "abc", "file") as it:
+            text = "--port takes a number from 1 to 65535, in digits"
+            wants("what it told", it.ended(), told(columns, text, "fault: port", "[ended 2]"))
+
+    return check
+
+
+def tells(columns, play, text):
+    """What a receiver tells of a peer that plays so."""
+
+    def check():
+        with folders() as (_, there), screen(
+            columns, PROGRAM, "receive", "-p", port := free_port(), "--eager", there
+        ) as it:
+            it.sees(lambda lines: "listening on" in lines[0])
+            with socket.create_connection(("127.0.0.1", port), timeout=LIMIT) as end:
+                play(end)
+                it.sees(lambda lines: re.search(text, packed("".join(lines))))
+
+    return check
+
+
+def prompt(end):
+    """A shell that shows what it gets, and a line more."""
+    with contextlib.suppress(ConnectionError):
+        while got := end.recv(64):
+            end.sendall(got + b"\r\n-sh: C: not found\r\n# ")
+
+
+def help_of(columns, *command):
+    """Each line of the help stands on the screen, in as many lines as it needs there."""
+
+    def check():
+        with screen(columns, PROGRAM, *command, "--help") as it:
+            it.ended()
+            lines = it.all_lines()
+        text = said_of(*command).rstrip("\n").split("\n")
+        wanted = [part.rstrip() for it in text for part in told(columns, it) or [""]]
+        wants("the help", lines, [*wanted, "[ended 2]"])
+
+    return check
+
+
+PROMPT = re.escape(packed("what comes is no YMODEM: is a shell or a boot loader's prompt"))
+COUNTS = r"waitingforthesender,[1-9]\d*sof30"
+COMMANDS = ((), *((it,) for it in ("sb", "rb", "send", "receive", "play", "loop")))
+
+CHECKS = [
+    *(("a screen of %d: ymodem-tty to rb" % it, transfers(it, True)) for it in WIDTHS),
+    *(("a screen of %d: ymodem-tty from sb" % it, transfers(it, False)) for it in WIDTHS),
+    *(("a screen of %d: ymodem-tty send is stopped" % it, interrupted(it, True)) for it in WIDTHS),
+    *(("a screen of %d: a part is left" % it, interrupted(it, False)) for it in WIDTHS[:-1]),
+    ("a part that is left is told by its path", interrupted(WIDTHS[-1], False)),
+    *(("a screen of %d: cancelled on a line" % it, cancelled(it)) for it in WIDTHS),
+    *(("a screen of %d: ymodem-tty refuses words" % it, refused(it)) for it in WIDTHS),
+    *(("a screen of %d: a port in use" % it, in_use(it)) for it in WIDTHS),
+    *(("a screen of %d: no port" % it, no_port(it)) for it in WIDTHS),
+    *(("a screen of %d: it counts" % it, tells(it, lambda _: None, COUNTS)) for it in WIDTHS),
+    *(("a screen of %d: a prompt" % it, tells(it, prompt, PROMPT)) for it in WIDTHS),
+    *(
+        ("a screen of %d: the help of %s" % (it, " ".join(words) or "ymodem"), help_of(it, *words))
+        for words in COMMANDS
+        for it in WIDTHS
+    ),
+]

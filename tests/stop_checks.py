@@ -1,0 +1,229 @@
+"""`ymodem-tty` that is stopped: by Ctrl-C at its terminal, by a signal, by a terminal that is gone.
+
+Each time the line gets its settings back, the other end sees three CAN and ends soon, the status is
+that of the signal, and the folder has whole files and at most one part.
+"""
+
+import contextlib
+import os
+import random
+import signal
+import time
+
+from cable import cable, plug, set_for_ticks, settings
+from claims import claim_of_receive, claim_of_send, wants_true
+from frames import END, EOT, START, frames_of
+from hang_up_checks import End
+from in_call import WRITE, waits_in
+from program import LIMIT, PROGRAM, Ending, folders, stored, wants_same, write_files
+from serial_checks import ends_with, peer, started
+from skipping import needs
+from terminal import UnderTerminal
+from tty_script import CANCEL, ENVIRONMENT, SCRIPT, is_running, left_of, piped, runs, wants_status
+from tty_script import FILES as FEW
+from waits import wait_until
+
+CHANCE = random.Random(23)
+FILES = [("one", CHANCE.randbytes(3000)), ("none", b""), ("two", CHANCE.randbytes(6000))]
+# Seconds in which an end that was cancelled has ended, also on a busy machine. Where CAN CAN is
+# lost, lrzsz's `rb` takes 50 or more.
+SOON = 40
+
+
+def places(eots):
+    """Moments, as the bytes that the sender's end has sent by then: before the first one, within
+    each frame and behind it. Each EOT goes out so many times. The last one is behind all."""
+    found, at = [0], 0
+    for frame in frames_of(FILES):
+        for _ in range(eots if frame[0] == EOT else 1):
+            at += len(frame)
+            found += [at - len(frame) // 2, at]
+    return sorted(set(found))
+
+
+def moments(job, is_lrzsz):
+    """Those of a job with this other end. lrzsz's rb takes the first EOT, and drops what comes
+    within the second behind it: so there none is tried."""
+    if job == "receive" or not is_lrzsz:
+        return places(2)
+    found, at = places(1), 0
+    for frame in frames_of(FILES):
+        at += len(frame)
+        if frame[0] == EOT:
+            found.remove(at)
+    return found
+
+
+class Stop:
+    """How somebody stops `ymodem-tty`, which runs at a terminal of its own."""
+
+    def __init__(self, name, number, do):
+        self.name, self.number, self.do = name, number, do
+
+
+STOPS = {
+    "Ctrl-C": Stop("Ctrl-C", signal.SIGINT, lambda shown: shown.type(b"\x03")),
+    "SIGTERM": Stop("SIGTERM", signal.SIGTERM, lambda shown: shown.child.send_signal(signal.SIGTERM)),
+    "hang-up": Stop("a terminal that is gone", signal.SIGHUP, lambda shown: shown.hang_up()),
+}
+
+
+class Ends:
+    """Both ends of the cable: the plug of `ymodem-tty`, that of the other end, and what each way
+    carried, as the job has it."""
+
+    def __init__(self, job, it):
+        both = (it.near, it.far) if job == "send" else (it.far, it.near)
+        self.ours, self.other = both
+        self.written = it.there if job == "send" else it.back
+
+
+@contextlib.contextmanager
+def other_end(job, is_lrzsz, plug, folder, paths):
+    """Who sends or receives at the other end, on its terminal."""
+    if is_lrzsz:
+        with peer(["rb"] if job == "send" else ["sb", *paths], folder, plug.outer) as child:
+            yield child
+    else:
+        set_for_ticks(plug.path)
+        words = ["rb", "--line", plug.path] if job == "send" else ["sb", "--line", plug.path, *paths]
+        with started([PROGRAM, *words], folder) as child:
+            yield child
+
+
+def wants_ended(job, child, is_lrzsz, has_all, folder):
+    """The other end has ended, soon, and what it reports is so. It was cancelled, but where it had
+    got all that there is."""
+    began = time.monotonic()
+    if is_lrzsz:
+        if (child.wait(LIMIT) == 0) != has_all:
+            raise AssertionError("the other end ended with status %d" % child.returncode)
+    else:
+        status, word = (0, "finished") if has_all else (1, "cancelled")
+        out, err = ends_with(child, status)
+        if not out.endswith(" %s\n" % word):
+            raise AssertionError("the other end told %r" % out)
+        told = Ending(("other",), status, out, err, 0)
+        claim = claim_of_receive(told, FILES) if job == "send" else claim_of_send(told)
+        wants_true(FILES, whole(folder), [claim])
+    if time.monotonic() - began > SOON:
+        raise AssertionError("the other end took %.0f s" % (time.monotonic() - began))
+
+
+def whole(folder):
+    """The files that are there, but for one part at most."""
+    kept = stored(folder)
+    parts = [name for name in kept if name.endswith(".part")]
+    if len(parts) > 1:
+        raise AssertionError("it left %r" % parts)
+    return {name: data for name, data in kept.items() if name not in parts}
+
+
+def wants_front(files, kept):
+    """What is kept is a front of the batch, each file whole."""
+    wants_same(kept, dict(files[: len(kept)]))
+
+
+def stopped(job, stop, moment, is_lrzsz):
+    """Stopped when the sender's end has sent so much, at that very moment."""
+
+    def check():
+        needs(*(["rb", "sb"] if is_lrzsz else []))
+        with folders() as (here, there), cable(hold_at=moment) as it, contextlib.ExitStack() as later:
+            paths, ends = write_files(here, FILES), Ends(job, it)
+            before = settings(ends.ours.path)
+            words = ["send", *paths] if job == "send" else ["receive", "--no-sync", there]
+            shown = UnderTerminal([SCRIPT, "--device", ends.ours.path, *words], env=ENVIRONMENT)
+            later.callback(shown.stop)
+            wait_until(lambda: is_running(shown.child.pid), "a transfer began")
+            other = other_end(job, is_lrzsz, ends.other, there if job == "send" else here, paths)
+            other = later.enter_context(other)
+            wait_until(it.is_held.is_set, "the sender has sent %d bytes" % moment)
+            stop.do(shown)
+            wait_until(lambda: not runs(shown.child.pid), "the program was stopped")
+            it.go_on.set()
+            wants_same({"status": shown.ended()}, {"status": -stop.number})
+            wait_until(lambda: bytes(ends.written).endswith(CANCEL), "the other end was told")
+            wants_same({"settings": settings(ends.ours.path)}, {"settings": before})
+            wants_same({"left": left_of(shown.child.pid)}, {"left": []})
+            # a sender that has written a part of the end block has written all of it
+            begins = moments(job, is_lrzsz)[-1] - len(END)
+            has_all = job == "send" and moment > begins
+            wants_ended(job, other, is_lrzsz, has_all, there)
+            if job == "receive" or not is_lrzsz:
+                wants_front(FILES, whole(there))
+
+    return check
+
+
+def interrupted(words, by):
+    """Over pipes: the other end is told, and nothing is left behind."""
+
+    def check():
+        with folders() as (here, _):
+            write_files(here, FEW)
+            with piped([SCRIPT, *words], here) as script:
+                wait_until(lambda: is_running(script.pid), "a transfer began")
+                script.send_signal(by)
+                wants_status("ymodem-tty", script, -by)
+                if not script.stdout.read().endswith(CANCEL):
+                    raise AssertionError("the other end was not told")
+                if left_of(script.pid):
+                    raise AssertionError("left behind: %r" % left_of(script.pid))
+
+    return check
+
+
+XOFF = b"\x13"
+
+
+def held_up():
+    """The other end holds the line up for ever: a write waits, and Ctrl-C ends it all the same."""
+    with folders() as (here, _), plug() as it, contextlib.ExitStack() as later:
+        paths, before = write_files(here, FILES), settings(it.path)
+        words = [SCRIPT, "--device", it.path, "--flow", "soft", "send", *paths]
+        shown = UnderTerminal(words, env=ENVIRONMENT)
+        later.callback(shown.stop)
+        wait_until(lambda: is_running(shown.child.pid), "a transfer began")
+        os.write(it.inner, XOFF + bytes((START,)))
+        waits_in(runs(shown.child.pid)[0], WRITE, it.path)
+        shown.type(b"\x03")
+        wants_same({"status": shown.ended()}, {"status": -signal.SIGINT})
+        End(it).wants(CANCEL)
+        wants_same({"settings": settings(it.path)}, {"settings": before})
+
+
+def line_is_gone():
+    """The line of `ymodem-tty` hangs up: the status is that of the program, which says why."""
+    with folders() as (here, _), plug() as it, os.fdopen(os.dup(it.outer)):
+        # as long as that copy is there, no other terminal gets this path
+        paths = write_files(here, FILES)
+        with piped([SCRIPT, "--device", it.path, "send", "--verbose", *paths], here) as script:
+            wait_until(lambda: is_running(script.pid), "a transfer began")
+            it.pull()
+            said = wants_status("ymodem-tty", script, 3)
+            if "the line hung up\nfault: closed\n" not in said:
+                raise AssertionError("it said %r" % said)
+
+
+def checks():
+    made = [
+        ("ymodem-tty send, interrupted", interrupted(["send", "one.bin"], signal.SIGINT)),
+        ("ymodem-tty receive, ended", interrupted(["receive"], signal.SIGTERM)),
+        ("ymodem-tty receive, whose terminal is gone", interrupted(["receive"], signal.SIGHUP)),
+        ("ymodem-tty send, held up by the other end, and Ctrl-C", held_up),
+        ("ymodem-tty send, whose line is gone", line_is_gone),
+    ]
+    for name, count in (("Ctrl-C", 20), ("SIGTERM", 6), ("hang-up", 6)):
+        for number in range(count):
+            for job, other in (("send", "rb"), ("receive", "sb")):
+                is_lrzsz = number % 2 == 1
+                *before, _ = moments(job, is_lrzsz)
+                moment = before[number * len(before) // count]
+                told = (job, name, moment, other if is_lrzsz else "ymodem " + other)
+                check = stopped(job, STOPS[name], moment, is_lrzsz)
+                made.append(("ymodem-tty %s, %s at byte %d, with %s" % told, check))
+    return made
+
+
+CHECKS = checks()
