@@ -67,14 +67,16 @@ def receiving(columns, peer, **environment):
                 thread.join(LIMIT)
 
 
-def takes(count):
-    """A receiver that takes so many frames, each a while after the one before, and then cancels."""
+def takes(count, seen):
+    """A receiver that takes so many frames, each a while after the one before, and cancels once all
+    was seen that is to be seen."""
 
     def peer(end):
         end.sendall(bytes((START,)))
         for at, _ in enumerate(frames_at(end)):
             time.sleep(PACE)
             if at == count:
+                seen.wait(LIMIT)
                 end.sendall(CANCEL)
                 return
             end.sendall(ACK_START if at == 0 else ACK_START[:1])
@@ -82,8 +84,9 @@ def takes(count):
     return peer
 
 
-def gives(files, count):
-    """A sender that gives so many frames, each a while after the one before, and then cancels."""
+def gives(files, count, seen):
+    """A sender that gives so many frames, each a while after the one before, and cancels once all was
+    seen that is to be seen."""
 
     def peer(end):
         read(end, START)
@@ -97,6 +100,7 @@ def gives(files, count):
             if frame[0] == EOT or frame[1:3] == FIRST:
                 read(end, START)
         time.sleep(PACE)
+        seen.wait(LIMIT)
         end.sendall(CANCEL)
 
     return peer
@@ -128,8 +132,10 @@ def fits(columns, name):
     is printed behind it stands alone."""
 
     def check():
-        with sending(columns, takes(4), [(name, DATA)], **width_told(columns)) as it:
+        seen = threading.Event()
+        with sending(columns, takes(4, seen), [(name, DATA)], **width_told(columns)) as it:
             line = progress_in(it.sees(lambda lines: any(" left" in it for it in lines)))
+            seen.set()
             more = "" if columns == 40 else r"\d+ of 5120 bytes, "
             if not re.search(r": \d+%, " + more + r"\d+ k?B/s, \d+:\d\d left$", line):
                 raise AssertionError("the line is %r" % line)
@@ -147,8 +153,10 @@ def is_cut(columns):
     """Where nothing tells how wide the terminal is, a progress line stands in one line, too."""
 
     def check():
-        with sending(columns, takes(4), [(LONG, DATA)]) as it:
+        seen = threading.Event()
+        with sending(columns, takes(4, seen), [(LONG, DATA)]) as it:
             progress_in(it.sees(lambda lines: any(is_progress(it) for it in lines)))
+            seen.set()
             lines = it.ended()
             wants("its lines", lines[1:], told(columns, *CANCELLED))
 
@@ -165,9 +173,10 @@ def stands_alone(columns):
     far it was."""
 
     def check():
-        files = [("first.bin", DATA), (LONG, DATA)]
-        with receiving(columns, gives(files, 11)) as it:
+        files, seen = [("first.bin", DATA), (LONG, DATA)], threading.Event()
+        with receiving(columns, gives(files, 11, seen)) as it:
             it.sees(lambda lines: any(is_progress(it) and it.startswith("a name") for it in lines))
+            seen.set()
             lines = it.ended()
             printed = ("file first.bin 5120 - -", "receiver files 1 cancelled")
             end = told(columns, *printed, *CANCELLED[1:])
@@ -187,21 +196,30 @@ def waits_for(columns, text):
             end.recv(1)
 
         with sending(columns, peer, FILE, **width_told(columns)) as it:
-            for seconds in (0, 10):
-                wanted = "%s%d s of 100" % (text, seconds)
-                lines = it.sees(lambda lines, wanted=wanted: wanted in lines)
-                wants("its last line", lines[-1], wanted)
+            counts_up(it, re.escape(text) + r"(\d+) s of 100", (0, 10))
             it.stop()
 
     return check
 
 
+def counts_up(screen, pattern, seconds):
+    """The last line of a screen counts seconds: so many, or on a machine that stood still for a while
+    a later number of the same row."""
+    step = seconds[1] - seconds[0]
+
+    def counted(lines):
+        found = re.fullmatch(pattern, lines[-1])
+        return int(found[1]) if found else -1
+
+    for at in seconds:
+        told_then = counted(screen.sees(lambda lines, at=at: counted(lines) >= at))
+        wants("whether it counts by %d" % step, told_then % step, 0)
+
+
 def counts():
-    """It counts for how long nothing has come, and ends with what to look at."""
+    """It counts for how long nothing has come."""
     with receiving(80, lambda end: end.recv(64)) as it:
-        for seconds in (3, 6, 9):
-            wanted = "waiting for the sender, %d s of 30" % seconds
-            it.sees(lambda lines, wanted=wanted: wanted in lines)
+        counts_up(it, r"waiting for the sender, (\d+) s of 30", (3, 6, 9))
         it.stop()
 
 

@@ -109,7 +109,10 @@ def interrupted(columns, sends):
 
     def check():
         words = ("send", NAME) if sends else ("receive", "got")
-        play = takes(4) if sends else gives(FILE, 3)
+        # who cancels is patient already
+        seen = threading.Event()
+        seen.set()
+        play = takes(4, seen) if sends else gives(FILE, 3, seen)
 
         def waits(end):
             play(Patient(end))
