@@ -4,9 +4,11 @@
 
 The relay is a process of its own, which copies what it reads. Beside each stands a plain stop and
 wait of the same bytes through the same relay (bench/stopwait.c), with no file and no protocol: what
-the terminals and the connections take by themselves. All four are run in turns, and each figure is
-the median of its turns, in seconds, from the moment at which both ends run to the end of both. The
-receivers ask at once, and leave the file to the system. Figures, not promises.
+the terminals and the connections take by themselves. And the terminals are also tried as a program
+has to use them that knows connections alone: `send` and `receive`, each with a `socat` that carries
+its connection to its terminal. All five are run in turns, and each figure is the median of its
+turns, in seconds, from the moment at which both ends run to the end of both. The receivers ask at
+once, and leave the file to the system. Figures, not promises.
 
 usage: bench/terminals.py [PROGRAM] [TURNS]
 """
@@ -138,6 +140,27 @@ def called(port):
         time.sleep(0.01)
 
 
+def over_carried_connections(path, folder):
+    """`send` and `receive`, whose connections two `socat` carry to the terminals."""
+    with terminals() as ends, socket.socket() as held, socket.socket() as other:
+        for it in (held, other):
+            it.setsockopt(socket.SOL_SOCKET, socket.SO_REUSEADDR, 1)
+            it.bind(("127.0.0.1", 0))
+        near, far = ("file:%s,raw,echo=0" % os.ttyname(end) for end in ends)
+        to_send, to_receive = (it.getsockname()[1] for it in (held, other))
+        calls = "TCP:127.0.0.1:%d,nodelay,retry=100,interval=0.02" % to_receive
+        listens = "TCP-L:%d,bind=127.0.0.1,reuseaddr,nodelay" % to_send
+        began = time.monotonic()
+        receive = started([PROGRAM, "receive", "--eager", "--no-sync", "--port", str(to_receive), folder])
+        carriers = [started(["socat", listens, near]), started(["socat", calls, far])]
+        ended([receive, started([PROGRAM, "send", "--port", str(to_send), path])])
+        took = time.monotonic() - began
+        for it in carriers:
+            it.kill()
+            it.wait()
+        return took
+
+
 def plain(stopwait, near, far):
     """The stop and wait between these descriptors."""
     began = time.monotonic()
@@ -165,7 +188,12 @@ def started(words, **how):
 def turn(path, folder, stopwait):
     """The seconds of each, by name."""
     took = {}
-    for name, run in (("terminals", over_terminals), ("connections", over_connections)):
+    ways = {
+        "terminals": over_terminals,
+        "terminals, by socat": over_carried_connections,
+        "connections": over_connections,
+    }
+    for name, run in ways.items():
         took[name] = run(path, folder)
         stored = os.path.join(folder, NAME)
         with open(path, "rb") as one, open(stored, "rb") as other:
@@ -194,6 +222,8 @@ def main():
     for kind in ("", "plain, "):
         ratio = median[kind + "terminals"] / median[kind + "connections"]
         print("%sterminals to connections: %.2f" % (kind, ratio))
+    ratio = median["terminals"] / median["terminals, by socat"]
+    print("terminals to terminals by socat: %.2f" % ratio)
 
 
 main()

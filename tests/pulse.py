@@ -13,7 +13,7 @@ BEAT = 0.02
 TOLERATED = 0.25
 
 # How often a check is made on a machine that does not keep time.
-TRIES = 4
+TRIES = 3
 
 
 class Pulse(threading.Thread):
@@ -44,19 +44,3 @@ class Pulse(threading.Thread):
 def beating():
     """The pulse of this process, from its first use on."""
     return Pulse()
-
-
-def in_time(check):
-    """The check, made again where it failed while this machine did not keep time: that shows
-    nothing."""
-
-    def made():
-        for left in reversed(range(TRIES)):
-            began, pulse = time.monotonic(), beating()
-            try:
-                return check()
-            except AssertionError:
-                if not left or not pulse.was_late(began):
-                    raise
-
-    return made

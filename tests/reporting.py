@@ -7,23 +7,33 @@ import time
 from concurrent.futures import ThreadPoolExecutor
 
 from program import ROOT
+from pulse import TRIES, beating
 from skipping import Skipped
 
 # Where the counts of each program's last run are kept, for `counts.py`.
 COUNTS = os.path.join(ROOT, "out", "counts")
 
 
-def outcome(check):
-    """What became of a check, why, and the seconds that it took."""
-    began = time.monotonic()
-    came, why = "ok", ""
+def tried(check):
+    """What became of a check, and why."""
     try:
         check()
     except Skipped as fault:
-        came, why = "skipped", str(fault)
+        return "skipped", str(fault)
     except Exception as fault:  # a fault of a check is a failed check
-        came, why = "FAILED", str(fault) if isinstance(fault, AssertionError) else repr(fault)
-    return came, why, time.monotonic() - began
+        return "FAILED", str(fault) if isinstance(fault, AssertionError) else repr(fault)
+    return "ok", ""
+
+
+def outcome(check):
+    """What became of a check, why, the seconds that it took, and whether it was made again. A check
+    is that failed while this machine did not keep time: it shows nothing then."""
+    for left in reversed(range(TRIES)):
+        began = time.monotonic()
+        came, why = tried(check)
+        if came != "FAILED" or not beating().was_late(began):
+            break
+    return came, why, time.monotonic() - began, left + 1 < TRIES
 
 
 def chosen(checks, words):
@@ -46,9 +56,12 @@ class Report:
     def __init__(self):
         self.counts = {"ok": 0, "FAILED": 0, "skipped": 0}
         self.skipped = []
+        self.again = 0
+        beating()
 
-    def tell(self, name, came, why, seconds):
+    def tell(self, name, came, why, seconds, is_again=False):
         self.counts[came] += 1
+        self.again += is_again
         if came == "skipped":
             self.skipped.append("%s: %s" % (name, why))
         print("%-7s  %s (%.1f s)%s" % (came, name, seconds, why and ": " + why), flush=True)
@@ -61,6 +74,9 @@ class Report:
 
     def end(self):
         """Prints the last line, and gives the status."""
+        if self.again:
+            text = "made again: %d checks, since this machine was up to %.1f s late with what was due"
+            print(text % (self.again, beating().worst))
         last = "%d passed, %d failed, %d skipped" % tuple(self.counts[it] for it in ("ok", "FAILED", "skipped"))
         self.keep(last)
         print(last)

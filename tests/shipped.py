@@ -39,7 +39,6 @@ import tty_checks
 import user_checks
 import words_checks
 from program import PROGRAM
-from pulse import in_time
 from reporting import Report, chosen, missing
 
 # These wait for lines most of the time.
@@ -75,8 +74,7 @@ def main(words):
     if missing(PROGRAM):
         return 1
     told = Report()
-    lines = [(name, in_time(check)) for name, check in checks_of(LINES)]
-    told.make(chosen(lines, words), LINES_AT_ONCE)
+    told.make(chosen(checks_of(LINES), words), LINES_AT_ONCE)
     told.make(chosen(checks_of(BOOKS), words), AT_ONCE)
     return told.end()
 

@@ -16,8 +16,6 @@ The program is the one that the environment variable YMODEM names, else crates/y
 
 import os
 import sys
-import time
-from concurrent.futures import ThreadPoolExecutor
 
 sys.dont_write_bytecode = True
 sys.path.insert(0, os.path.dirname(os.path.abspath(__file__)))
@@ -36,8 +34,7 @@ import stall_checks
 import storage_checks
 import tape_checks
 import transfer_checks
-from program import PROGRAM, Skipped
-from pulse import Pulse
+from program import PROGRAM
 from reporting import Report, chosen, missing
 from storing import steadily
 
@@ -46,37 +43,6 @@ TIMED = (transfer_checks, peer_checks, late_checks, stall_checks, line_checks)
 TIMED_AT_ONCE = 500
 OTHERS = (large_checks, kill_checks, refused_call_checks, power_cut_checks, storage_checks, small_disk_checks, socket_checks, tape_checks)
 OTHERS_AT_ONCE = 60
-
-# How often a check is made on a machine that does not keep time.
-TRIES = 4
-
-
-def outcome(check, pulse):
-    """How a check came out, why, the seconds that it took, and whether it was made again, as a check is that failed while this machine did not keep time: it
-    shows nothing then."""
-    for made in range(TRIES):
-        began = time.monotonic()
-        try:
-            check()
-            came, why = "ok", ""
-        except Skipped as fault:
-            came, why = "skipped", str(fault)
-        except Exception as fault:  # a fault of a check is a failed check
-            came, why = "FAILED", str(fault) if isinstance(fault, AssertionError) else repr(fault)
-        if came != "FAILED" or not pulse.was_late(began):
-            break
-    return came, why, time.monotonic() - began, made > 0
-
-
-def make(named, pool, pulse, report):
-    """Makes these checks, and tells each of them. Gives how many were made again."""
-    begun = [(name, pool.submit(outcome, check, pulse)) for name, check in named]
-    again = 0
-    for name, future in begun:
-        came, why, seconds, is_again = future.result()
-        again += is_again
-        report.tell(name, came, why, seconds)
-    return again
 
 
 def checks_of(books):
@@ -104,12 +70,9 @@ def main(words):
         return 1
     *both, notes = wanted(words)
     named = [word for word in words if not word.startswith("--")]
-    report, pulse, again = Report(), Pulse(), 0
+    report = Report()
     for checks, at_once in zip(both, (TIMED_AT_ONCE, OTHERS_AT_ONCE)):
-        with ThreadPoolExecutor(at_once) as pool:
-            again += make(chosen(checks, named), pool, pulse, report)
-    if again:
-        notes.append("made again: %d checks, since this machine was up to %.1f s late with what was due" % (again, pulse.worst))
+        report.make(chosen(checks, named), at_once)
     for note in notes:
         print(note)
     return report.end()
