@@ -41,6 +41,8 @@ TESTS_OF_LIBRARY = {"library", "bare", "web", "uboot", "boards", "portable"}
 WASM = os.path.join(OUT, "lib", "wasm64-unknown-unknown", "libymodem.a")
 # It comes last, and tells what was skipped in the others.
 LAST = "counts"
+# What has time until the program is proved leaves the processors to the gate, whose longest row of crates is what all wait for.
+LATER = ["nice", "-n", "5"]
 
 # The lines that are passed on as they come, and the one of a crate that is proved, by which time its program is built.
 TOLD = re.compile(r"rt: \w+(: its tests are)? (proved|NOT PROVED)|rt: \w+ is kept|rt: \w+: trying its must-fail edits")
@@ -171,7 +173,7 @@ def packages():
 
 
 def memory():
-    return shown("tests/memory.py", [os.path.join(ROOT, "tests", "memory.py")])
+    return shown("tests/memory.py", [*LATER, os.path.join(ROOT, "tests", "memory.py")])
 
 
 def library_and_page(installed):
@@ -179,7 +181,7 @@ def library_and_page(installed):
     with tempfile.TemporaryDirectory(prefix="ymodem-lib-") as top:
         copy = os.path.join(top, "tree")
         shutil.copytree(ROOT, copy, ignore=shutil.ignore_patterns("out", ".git", "must-fail", "edits", "plants", "__pycache__"))
-        if shown("the library for C", ["make", "--no-print-directory", "lib"], copy):
+        if shown("the library for C", [*LATER, "make", "--no-print-directory", "lib"], copy):
             return 1
         brought(copy, "lib")
         installed.thread.join()
@@ -205,7 +207,7 @@ def page(copy):
     """Makes the page, in a copy of the tree."""
     if cannot_make("the page is", "web", "wasm-opt"):
         return 0
-    if shown("the page", ["make", "--no-print-directory", "web"], copy):
+    if shown("the page", [*LATER, "make", "--no-print-directory", "web"], copy):
         return 1
     brought(copy, "web")
     return 0
