@@ -1,0 +1,31 @@
+-- The sentence of each verdict: what went wrong, and what to try.
+use Rattle.std.specs.Prelude.{ℕ, List, codes}
+use Rattle.ym_explain.specs.declared.verdict.Verdict.{Verdict}
+use Rattle.ym_explain.specs.declared.verdict.Verdict.TheVariants.{Whole, Zmodem, Echo, SevenBits, Noise, Xmodem, NobodyAsked, NobodyAnswered, EatenBytes, SenderCancelled, ReceiverCancelled, CutLength, TooManyErrors, ReplyAhead, Stopped}
+
+abbrev pub verdict_text : Verdict → List ℕ
+verdict_text Whole = codes "the session is whole: nothing went wrong"
+verdict_text Zmodem = codes "an end speaks ZMODEM: start it with sb or rb in place of sz or rz"
+verdict_text Echo =
+    codes "what the sender wrote came back: start the receiver at the other end first"
+verdict_text SevenBits =
+    codes "only seven bits of each byte came: set the line to eight bits and no parity"
+verdict_text Noise = codes "bytes came and no frame: set both ends to the same speed"
+verdict_text Xmodem =
+    codes "the sender names no file, as XMODEM does: start it as a sender of YMODEM"
+verdict_text NobodyAsked =
+    codes "no receiver asked for a file: start one, and see that its line is connected"
+verdict_text NobodyAnswered = codes "the receiver asked and no frame came: start the sender"
+verdict_text EatenBytes =
+    codes "frames came short, with no 11 and 13 or no 1A: turn flow control off"
+verdict_text SenderCancelled = codes "the sender cancelled: see what it says"
+verdict_text ReceiverCancelled =
+    codes "the receiver cancelled: see what it says, and whether it can write the file"
+verdict_text CutLength =
+    codes "a file ended before its stated length: see whether it changed while it was sent"
+verdict_text TooManyErrors =
+    codes "ten frames in a row were refused: try a lower speed or a better line"
+verdict_text ReplyAhead =
+    codes "the receiver acknowledged what was not sent yet: start both ends again"
+verdict_text Stopped =
+    codes "the session stopped before its end: see whether the line was cut or an end was closed"

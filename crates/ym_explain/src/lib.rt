@@ -1,0 +1,17 @@
+//! What passed on a line, told: which frame stands where, what each frame was to its session, and
+//! what went wrong. It reads no file and prints nothing.
+#![tactic(auto)]
+
+mod answered;
+mod passed;
+mod sent;
+mod signs;
+mod told;
+mod verdict;
+
+pub use answered::{AnswerLine, tell_answer};
+pub use passed::{Passed, damage_len, front_of};
+pub use sent::{SentLine, SentTold, tell_sent};
+pub use signs::{REFUSALS, Sign, Signs};
+pub use told::{FrameKind, SendPlace, Told, tell};
+pub use verdict::{Verdict, verdict_of};

@@ -1,0 +1,215 @@
+//! What was seen of a session so far.
+
+ghost use Rattle.std.specs.Prelude.{◌≡◌};
+ghost use Rattle.ym_explain.specs.Noting.{noted, nothing_seen, with_byte, with_block, with_answer, with_ack, with_nak};
+
+use crate::told::{FrameKind, SendPlace};
+use ym_frame::Control;
+
+/// So many refusals in a row, and the receiver took nothing.
+pub const REFUSALS: u8 = 10;
+
+/// What passed, as far as a verdict asks for it.
+#[derive(Clone, Copy, Debug, PartialEq, Eq)]
+pub enum Sign {
+    /// The sender wrote a byte.
+    Byte(u8),
+    /// The sender wrote the whole frame of a block.
+    Block {
+        /// Where it stood before.
+        place: SendPlace,
+        /// What the block is there.
+        kind: FrameKind,
+    },
+    /// The sender wrote EOT.
+    Eot,
+    /// The sender cancelled.
+    SenderCancel,
+    /// A frame of the sender is damaged.
+    Damage {
+        /// Whether the next block begins before its end.
+        short: bool,
+    },
+    /// The sender wrote a byte with which no frame begins.
+    Junk,
+    /// A file ended before its length.
+    CutLength,
+    /// An end greeted as ZMODEM does.
+    Zmodem,
+    /// The whole frame of a block came from the receiver.
+    Echo,
+    /// The receiver answered; a CAN that stands alone is no answer.
+    Answer(Control),
+    /// The receiver cancelled.
+    ReceiverCancel,
+}
+
+/// What was seen of a session.
+#[derive(Clone, Copy, Debug, PartialEq, Eq)]
+pub struct Signs {
+    /// The receiver asked by C.
+    pub asked: bool,
+    /// A block came whole.
+    pub framed: bool,
+    /// A frame came damaged.
+    pub damaged: bool,
+    /// A frame came with fewer bytes than it has.
+    pub short: bool,
+    /// A byte came with which no frame begins.
+    pub junk: bool,
+    /// A byte of 80 or more came.
+    pub high: bool,
+    /// 11 or 13 came.
+    pub flow: bool,
+    /// 1A came.
+    pub sub: bool,
+    /// A block came before any block 0.
+    pub unnamed: bool,
+    /// A file ended before its length.
+    pub cut_length: bool,
+    /// An end greeted as ZMODEM does.
+    pub zmodem: bool,
+    /// A block came from the receiver.
+    pub echoed: bool,
+    /// A frame is out, with no answer to it yet.
+    pub out: bool,
+    /// The block that ends the batch came.
+    pub over: bool,
+    /// That block was acknowledged.
+    pub finished: bool,
+    /// The receiver acknowledged where no frame was out.
+    pub ahead: bool,
+    /// The refusals in a row, at most ten.
+    pub refusals: u8,
+    /// Ten refusals came in a row.
+    pub gave_up: bool,
+    /// The sender cancelled.
+    pub sender_cancelled: bool,
+    /// The receiver cancelled.
+    pub receiver_cancelled: bool,
+}
+
+impl Signs {
+    /// Nothing was seen.
+    pub fn new() -> Signs
+        ensures { result ≡ nothing_seen }
+    {
+        Signs {
+            asked: false,
+            framed: false,
+            damaged: false,
+            short: false,
+            junk: false,
+            high: false,
+            flow: false,
+            sub: false,
+            unnamed: false,
+            cut_length: false,
+            zmodem: false,
+            echoed: false,
+            out: false,
+            over: false,
+            finished: false,
+            ahead: false,
+            refusals: 0,
+            gave_up: false,
+            sender_cancelled: false,
+            receiver_cancelled: false,
+        }
+    }
+
+    /// What was seen, with this event behind it.
+    pub fn note(self, event: Sign) -> Signs
+        ensures { result ≡ noted self event }
+    {
+        let mut seen = self;
+        match event {
+            Sign::Byte(byte) => return self.note_byte(byte),
+            Sign::Block { place, kind } => return self.note_block(place, kind),
+            Sign::Answer(control) => return self.note_answer(control),
+            Sign::Eot => seen.out = true,
+            Sign::SenderCancel => seen.sender_cancelled = true,
+            Sign::Damage { short } => {
+                seen.damaged = true;
+                seen.short = self.short || short;
+                seen.out = true;
+            }
+            Sign::Junk => seen.junk = true,
+            Sign::CutLength => seen.cut_length = true,
+            Sign::Zmodem => seen.zmodem = true,
+            Sign::Echo => seen.echoed = true,
+            Sign::ReceiverCancel => seen.receiver_cancelled = true,
+        }
+        seen
+    }
+
+    /// The same behind a byte of the sender.
+    fn note_byte(self, byte: u8) -> Signs
+        ensures { result ≡ with_byte self byte }
+    {
+        let mut seen = self;
+        seen.high = self.high || byte >= 0x80;
+        seen.flow = self.flow || byte == 0x11 || byte == 0x13;
+        seen.sub = self.sub || byte == 0x1a;
+        seen
+    }
+
+    /// The same behind a whole block.
+    fn note_block(self, place: SendPlace, kind: FrameKind) -> Signs
+        ensures { result ≡ with_block self place kind }
+    {
+        let mut seen = self;
+        seen.framed = true;
+        seen.out = true;
+        match (place, kind) {
+            (SendPlace::Before, FrameKind::OutOfTurn) => seen.unnamed = true,
+            (_, FrameKind::End) => seen.over = true,
+            _ => {}
+        }
+        seen
+    }
+
+    /// The same behind an answer.
+    fn note_answer(self, control: Control) -> Signs
+        ensures { result ≡ with_answer self control }
+    {
+        let mut seen = self;
+        match control {
+            Control::Start => seen.asked = true,
+            Control::Ack => return self.note_ack(),
+            Control::Nak => return self.note_nak(),
+            Control::Can => {}
+        }
+        seen
+    }
+
+    /// The same behind an ACK.
+    fn note_ack(self) -> Signs
+        ensures { result ≡ with_ack self }
+    {
+        let mut seen = self;
+        seen.refusals = 0;
+        if self.out {
+            seen.out = false;
+            seen.finished = self.finished || self.over;
+        } else {
+            seen.ahead = true;
+        }
+        seen
+    }
+
+    /// The same behind a NAK.
+    fn note_nak(self) -> Signs
+        ensures { result ≡ with_nak self }
+    {
+        let mut seen = self;
+        seen.out = false;
+        if self.refusals < REFUSALS - 1 {
+            seen.refusals = self.refusals + 1;
+        } else {
+            seen.refusals = REFUSALS;
+            seen.gave_up = true;
+        }
+        seen
+    }
+}
