@@ -2,7 +2,7 @@
 
 ghost use Rattle.std.specs.Prelude.{◌≡◌, ◌<◌, length};
 ghost use Rattle.ym_frame.specs.WholeFrame.{length_in};
-ghost use Rattle.ym_explain.specs.Sent.{IsToldSent, IsToldDamage, damage_limit};
+ghost use Rattle.ym_explain.specs.SentFront.{IsToldSent, IsToldDamage, damage_limit};
 
 use crate::passed::{Passed, damage_len, front_of};
 use crate::told::{FrameKind, SendPlace, tell};

@@ -1,0 +1,68 @@
+-- A session of one file with one data block, and four that went wrong, computed.
+use Rattle.std.specs.Prelude.{◌≡◌, ℕ, List, [], ◌∷◌, false, refl}
+use Rattle.ym_frame.specs.declared.control.Control.TheVariants.{Ack, Nak, Start}
+use Rattle.ym_frame.specs.declared.frame.Item.{Item}
+use Rattle.ym_frame.specs.declared.frame.Item.TheVariants as item
+use Rattle.ym_explain.specs.Answered.{byte_line}
+use Rattle.ym_explain.specs.Evidence.{first_shown, order}
+use Rattle.ym_explain.specs.Noting.{nothing_seen, seen_of}
+use Rattle.ym_explain.specs.Telling.{tells, told_of}
+use Rattle.ym_explain.specs.declared.answered.AnswerLine.TheVariants as line
+use Rattle.ym_explain.specs.declared.signs.Sign.{Sign}
+use Rattle.ym_explain.specs.declared.signs.Sign.TheVariants as sign
+use Rattle.ym_explain.specs.declared.told.FrameKind.TheVariants as kind
+use Rattle.ym_explain.specs.declared.told.SendPlace.TheVariants as place
+use Rattle.ym_explain.specs.declared.verdict.Verdict.{Verdict}
+use Rattle.ym_explain.specs.declared.verdict.Verdict.TheVariants as verdict
+
+abbrev block : ℕ → ℕ → Item
+block number first = item.Block (record { number = number; body = first ∷ [] })
+
+-- a block 0 with a name begins a file, and without one ends the batch
+name : told_of place.Before (block 0 0x61) ≡ tells kind.Name place.Named
+name = refl
+
+end : told_of place.Ended (block 0 0) ≡ tells kind.End place.Over
+end = refl
+
+-- behind block 255 comes block 0, which is no name there
+wraps : told_of (place.Data 255) (block 0 0x61) ≡ tells kind.Data (place.Data 0)
+wraps = refl
+
+again : told_of (place.Data 7) (block 7 0x61) ≡ tells kind.Copy (place.Data 7)
+again = refl
+
+lost : told_of (place.Data 7) (block 9 0x61) ≡ tells kind.OutOfTurn (place.Data 9)
+lost = refl
+
+ack : byte_line 0x06 ≡ line.Answer Ack
+ack = refl
+
+-- the verdict of what passed
+abbrev verdict_on : List Sign → Verdict
+verdict_on signs = first_shown (seen_of nothing_seen signs) order
+
+whole :
+    verdict_on (sign.Answer Start ∷ sign.Block place.Before kind.Name ∷ sign.Answer Ack ∷
+    sign.Answer Start ∷ sign.Block place.Named kind.Data ∷ sign.Answer Ack ∷
+    sign.Eot ∷ sign.Answer Nak ∷ sign.Eot ∷ sign.Answer Ack ∷ sign.Answer Start ∷
+    sign.Block place.Ended kind.End ∷ sign.Answer Ack ∷ []) ≡ verdict.Whole
+whole = refl
+
+nothing : verdict_on [] ≡ verdict.NobodyAsked
+nothing = refl
+
+only_asked : verdict_on (sign.Answer Start ∷ sign.Answer Start ∷ []) ≡ verdict.NobodyAnswered
+only_asked = refl
+
+-- 01 00 7F, of which the last has lost its highest bit
+seven_bits :
+    verdict_on (sign.Answer Start ∷ sign.Byte 0x01 ∷ sign.Byte 0x00 ∷ sign.Byte 0x7f ∷
+    sign.Damage false ∷ []) ≡ verdict.SevenBits
+seven_bits = refl
+
+-- the name was acknowledged twice
+ahead :
+    verdict_on (sign.Answer Start ∷ sign.Block place.Before kind.Name ∷ sign.Answer Ack ∷
+    sign.Answer Ack ∷ []) ≡ verdict.ReplyAhead
+ahead = refl
