@@ -10,7 +10,7 @@ shows Whole seen = seen.finished && not seen.cut_length
 shows Zmodem seen = seen.zmodem
 shows Echo seen = seen.echoed
 shows SevenBits seen = seen.damaged && not seen.high
-shows Noise seen = seen.junk && not seen.framed && not seen.damaged
+shows Noise seen = seen.junk && seen.high && not seen.framed && not seen.damaged
 shows Xmodem seen = seen.unnamed
 shows NobodyAsked seen = not seen.asked
 shows NobodyAnswered seen = not seen.framed && not seen.damaged
@@ -22,11 +22,11 @@ shows TooManyErrors seen = seen.gave_up
 shows ReplyAhead seen = seen.ahead
 shows Stopped seen = true
 
--- where both ends spoke
+-- where both ends spoke: an end that cancels most often has one of the first two as its reason
 abbrev pub last_order : List Verdict
 last_order =
-    SenderCancelled ∷ ReceiverCancelled ∷ CutLength ∷
-    TooManyErrors ∷ ReplyAhead ∷ Stopped ∷ []
+    CutLength ∷ TooManyErrors ∷ SenderCancelled ∷
+    ReceiverCancelled ∷ ReplyAhead ∷ Stopped ∷ []
 
 -- where the line itself is not known to be the reason
 abbrev pub late_order : List Verdict

@@ -4,5 +4,6 @@ pub mod ExplainExamples
 pub mod FrontOf
 pub mod Noting
 pub mod SentFront
+pub mod SignOf
 pub mod Telling
 pub mod VerdictText

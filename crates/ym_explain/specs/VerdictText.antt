@@ -10,7 +10,7 @@ verdict_text Echo =
     codes "what the sender wrote came back: start the receiver at the other end first"
 verdict_text SevenBits =
     codes "only seven bits of each byte came: set the line to eight bits and no parity"
-verdict_text Noise = codes "bytes came and no frame: set both ends to the same speed"
+verdict_text Noise = codes "bytes came, no text and no frame: set both ends to the same speed"
 verdict_text Xmodem =
     codes "the sender names no file, as XMODEM does: start it as a sender of YMODEM"
 verdict_text NobodyAsked =

@@ -5,6 +5,7 @@
 mod answered;
 mod passed;
 mod sent;
+mod sign_of;
 mod signs;
 mod told;
 mod verdict;
@@ -12,6 +13,7 @@ mod verdict;
 pub use answered::{AnswerLine, tell_answer};
 pub use passed::{Passed, damage_len, front_of};
 pub use sent::{SentLine, SentTold, tell_sent};
+pub use sign_of::{answer_sign, is_zmodem, sent_sign};
 pub use signs::{REFUSALS, Sign, Signs};
 pub use told::{FrameKind, SendPlace, Told, tell};
 pub use verdict::{Verdict, verdict_of};

@@ -17,7 +17,7 @@ pub enum Verdict {
     Echo,
     /// Only seven bits of each byte came.
     SevenBits,
-    /// Bytes came, and no frame of them.
+    /// Bytes came that are no text, and no frame of them.
     Noise,
     /// The sender speaks XMODEM.
     Xmodem,
@@ -27,14 +27,14 @@ pub enum Verdict {
     NobodyAnswered,
     /// The line takes 11 and 13, or 1A, for itself.
     EatenBytes,
-    /// The sender cancelled.
-    SenderCancelled,
-    /// The receiver cancelled.
-    ReceiverCancelled,
     /// A file ended before its length.
     CutLength,
     /// Ten refusals came in a row.
     TooManyErrors,
+    /// The sender cancelled.
+    SenderCancelled,
+    /// The receiver cancelled.
+    ReceiverCancelled,
     /// The receiver acknowledged what was not sent yet.
     ReplyAhead,
     /// None of the others: the session stopped.
@@ -65,7 +65,7 @@ fn verdict_of_start(seen: Signs) -> Verdict
     ensures shown { shows result seen ≡ true }
     ensures first { result ≡ first_shown seen late_order }
 {
-    if seen.junk && !seen.framed && !seen.damaged {
+    if seen.junk && seen.high && !seen.framed && !seen.damaged {
         Verdict::Noise
     } else if seen.unnamed {
         Verdict::Xmodem
@@ -85,14 +85,14 @@ fn verdict_of_end(seen: Signs) -> Verdict
     ensures shown { shows result seen ≡ true }
     ensures first { result ≡ first_shown seen last_order }
 {
-    if seen.sender_cancelled {
-        Verdict::SenderCancelled
-    } else if seen.receiver_cancelled {
-        Verdict::ReceiverCancelled
-    } else if seen.cut_length {
+    if seen.cut_length {
         Verdict::CutLength
     } else if seen.gave_up {
         Verdict::TooManyErrors
+    } else if seen.sender_cancelled {
+        Verdict::SenderCancelled
+    } else if seen.receiver_cancelled {
+        Verdict::ReceiverCancelled
     } else if seen.ahead {
         Verdict::ReplyAhead
     } else {
@@ -123,7 +123,7 @@ impl fmt::Display for Verdict {
             ),
             Verdict::Noise => write!(
                 f,
-                "bytes came and no frame: set both ends to the same speed"
+                "bytes came, no text and no frame: set both ends to the same speed"
             ),
             Verdict::Xmodem => write!(
                 f,
