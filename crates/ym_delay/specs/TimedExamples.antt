@@ -12,6 +12,10 @@ use Rattle.ym_delay.specs.TimedLine.{AnsweredAt, SpokeAt, Times, WroteAt}
 abbrev pub slow_line : Times
 slow_line = record { oldest = 1400; acts = 100; sender_waits = 10000; receiver_waits = 3000 }
 
+-- the same waits, on lines on which nothing is older than this
+abbrev pub line_of : ℕ → Times
+line_of oldest = record slow_line { oldest = oldest }
+
 abbrev pub said : List ℕ → ℕ → List ℕ → ℕ → SpokeAt
 said wrote at came by = record { spoke = record { wrote = wrote; came = came }; at = at; by = by }
 

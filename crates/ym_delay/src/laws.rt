@@ -1,12 +1,13 @@
 //! Laws over the definitions alone: each is the promise of a function that does nothing.
 
-ghost use Rattle.std.specs.Prelude.{List, ℕ};
+ghost use Rattle.std.specs.Prelude.{List, ℕ, ◌≤◌};
 ghost use Rattle.ym_link.specs.ReceiverInto.{ReceiverParts};
 ghost use Rattle.ym_link.specs.Sender.{IsSender, SenderParts};
 ghost use Rattle.ym_line.specs.Promise.{AreNew, CommitsAPrefix};
 ghost use Rattle.ym_line.specs.declared.delivery.Round.{Round};
 ghost use Rattle.ym_pair.specs.Pairing.{AreCalls, PairUp, ends};
-ghost use Rattle.ym_delay.specs.TimedExamples.{slow_last, slow_line, slow_receiver, slow_sender};
+ghost use Rattle.ym_delay.specs.TimedExamples.{line_of, slow_last, slow_line, slow_receiver};
+ghost use Rattle.ym_delay.specs.TimedExamples.{slow_sender};
 ghost use Rattle.ym_delay.specs.TimedLine.{AnsweredAt, BeginsSilent, CallsAreTimed, IsPrompt};
 ghost use Rattle.ym_delay.specs.TimedLine.{IsTimed, SpokeAt, Times, WroteAt, answers_of, spoken};
 
@@ -37,4 +38,12 @@ pub fn timed_engines_commit_a_prefix()
 pub fn a_slow_line_is_timed()
     ensures prompt { IsPrompt slow_line }
     ensures timed { IsTimed slow_line 0 slow_sender slow_last slow_receiver }
+{}
+
+/// With these waits, and a tenth of a second to act, a line is prompt on which nothing is older
+/// than 1.449 seconds. One is not on which something is 1.45 seconds old or older: there the law
+/// above says nothing.
+pub fn the_oldest_that_is_prompt()
+    ensures within { (oldest : ℕ) → oldest ≤ 1449 → IsPrompt (line_of oldest) }
+    ensures beyond { (oldest : ℕ) → 1450 ≤ oldest → IsPrompt (line_of oldest) → ⊥ }
 {}

@@ -1,0 +1,8 @@
+use Rattle.std.proofs.Common.{◌+◌, ◌<◌, ◌≤◌, ℕ, arith}
+use Rattle.ym_delay.proofs.laws.the_oldest_that_is_prompt.Goals as goal
+
+pub returns-clause-within : goal.returns-clause-within
+returns-clause-within c oldest young = record { sender = omega (arith, young); receiver = omega (arith, young) }
+
+pub returns-clause-beyond : goal.returns-clause-beyond
+returns-clause-beyond c oldest old prompt = let limit = prompt.receiver in absurd (omega (arith, old, limit))
