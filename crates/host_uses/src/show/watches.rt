@@ -90,12 +90,21 @@ fn a_receiver(rt: HostRuntime) -> Result<(), Fail> {
     Ok(())
 }
 
+/// A meter that goes by the clock of the system, for as long as its teller is there.
+fn metered<'t>(
+    rt: &'t HostRuntime,
+    teller: &'t mut Teller<Vec<u8>>,
+    limit: u64,
+) -> Meter<'t, Vec<u8>, &'t HostRuntime> {
+    Meter::new(rt.alloc(), rt, teller, limit)
+}
+
 /// What a sender tells of two files, of which it wrote the second block so many times more: of the
 /// first file once.
 fn told_of_sender(rt: &HostRuntime, repeats: u32) -> Result<Vec<u8>, Fail> {
     let mut teller = teller(rt);
     let header = Header::new(rt.alloc(), "a.txt", 130, Stamp::Nothing)?;
-    let meter = Meter::new(rt.alloc(), rt, &mut teller, 100);
+    let meter = metered(rt, &mut teller, 100);
     let shown = RefCell::new(Sending::new(meter));
     let mut watch = SendWatch {
         shown: &shown,
@@ -123,7 +132,7 @@ fn told_of_sender(rt: &HostRuntime, repeats: u32) -> Result<Vec<u8>, Fail> {
 fn told_of_receiver(rt: &HostRuntime, repeats: u32, is_single: bool) -> Result<Vec<u8>, Fail> {
     let mut teller = teller(rt);
     let header = Header::new(rt.alloc(), "a.txt", 130, Stamp::Nothing)?;
-    let meter = Meter::new(rt.alloc(), rt, &mut teller, 30);
+    let meter = metered(rt, &mut teller, 30);
     let besides = if is_single { 1 } else { 2 };
     let shown = RefCell::new(Receiving::new(rt.alloc(), meter, besides));
     let mut watch = ReceiveWatch {
