@@ -40,7 +40,8 @@ def kinds(events, record):
     for _, text, _, _ in record.spans(events):
         kind = re.sub(r"[\d.:]+|k?B/s", "#", re.sub(r", \d+ repeated", "", text))
         kind = re.sub(r"^(\S+# )#%.*", r"\1..", kind)
-        if kind not in found and not kind.startswith("waiting for an answer"):
+        # what begins with a space is a line of which the end is written already
+        if kind not in found and not kind.startswith((" ", "waiting for an answer")):
             found.append(kind)
     # a line may come in pieces
     return [it for it in found if not any(it != more and more.startswith(it) for more in found)]

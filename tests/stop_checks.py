@@ -193,13 +193,23 @@ def held_up():
         wants_same({"settings": settings(it.path)}, {"settings": before})
 
 
+def has_open(pids, path):
+    """Whether one of these processes has this file open."""
+    for pid in pids:
+        with contextlib.suppress(OSError):
+            folder = "/proc/%d/fd" % pid
+            if any(os.readlink(os.path.join(folder, it)) == path for it in os.listdir(folder)):
+                return True
+    return False
+
+
 def line_is_gone():
     """The line of `ymodem-tty` hangs up: the status is that of the program, which says why."""
     with folders() as (here, _), plug() as it, os.fdopen(os.dup(it.outer)):
         # as long as that copy is there, no other terminal gets this path
         paths = write_files(here, FILES)
         with piped([SCRIPT, "--device", it.path, "send", "--verbose", *paths], here) as script:
-            wait_until(lambda: is_running(script.pid), "a transfer began")
+            wait_until(lambda: has_open(runs(script.pid), it.path), "the program has the line open")
             it.pull()
             said = wants_status("ymodem-tty", script, 3)
             if "the line hung up\nfault: closed\n" not in said:
