@@ -1,2 +1,10 @@
+pub mod Acks
+pub mod Again
+pub mod Ahead
+pub mod Alike
+pub mod Clear
+pub mod Cleared
+pub mod ClearedPairs
 pub mod HandedOn
+pub mod Quiet
 pub mod Timed

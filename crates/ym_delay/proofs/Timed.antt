@@ -14,7 +14,7 @@ use Rattle.ym_delay.proofs.HandedOn.{Unread, IsRead, lost-first, unread-first, f
 -- ---- Moments
 
 -- what is taken was written since
-write-since : (times : Times) (since : ℕ) (spoke : List SpokeAt) (last one : WroteAt) (behind : List WroteAt) → SpeaksInTime times since spoke last → Takes (written spoke last) one behind → since ≤ one.at
+pub write-since : (times : Times) (since : ℕ) (spoke : List SpokeAt) (last one : WroteAt) (behind : List WroteAt) → SpeaksInTime times since spoke last → Takes (written spoke last) one behind → since ≤ one.at
 write-since times since [] last one behind speaks (inl same) = subst (λ (x : WroteAt). since ≤ x.at) (sym same.0) speaks
 write-since times since [] last one behind speaks (inr takes) = absurd takes
 write-since times since (s ∷ spoke) last one behind speaks (inl same) = subst (λ (x : WroteAt). since ≤ x.at) (sym same.0) speaks.0
@@ -29,13 +29,13 @@ answer-since times since (a ∷ answered) one behind answers (inr takes) =
     let x = answers.0 in let y = answers.1 in let z = answers.2 in let others = answer-since times a.at answered one behind answers.4 takes in omega (arith, x, y, z, others)
 
 -- what is taken was written behind the first read
-answer-behind : (times : Times) (since : ℕ) (a : AnsweredAt) (answered : List AnsweredAt) (one : AnsweredAt) (behind : List AnsweredAt) → AnswersInTime times since (a ∷ answered) →
+pub answer-behind : (times : Times) (since : ℕ) (a : AnsweredAt) (answered : List AnsweredAt) (one : AnsweredAt) (behind : List AnsweredAt) → AnswersInTime times since (a ∷ answered) →
     Takes (a ∷ answered) one behind → a.by ≤ one.at
 answer-behind times since a answered one behind answers (inl same) = subst (λ (x : AnsweredAt). a.by ≤ x.at) (sym same.0) answers.2
 answer-behind times since a answered one behind answers (inr takes) = let x = answers.2 in let others = answer-since times a.at answered one behind answers.4 takes in omega (arith, x, others)
 
 -- a reply that is too old then is not read
-unread-reply : (times : Times) (a : AnsweredAt) (since : ℕ) (spoke : List SpokeAt) (last : WroteAt) → a.at + times.oldest < since → SpeaksInTime times since spoke last → Unread (BringsBack times) a spoke
+pub unread-reply : (times : Times) (a : AnsweredAt) (since : ℕ) (spoke : List SpokeAt) (last : WroteAt) → a.at + times.oldest ≤ since → SpeaksInTime times since spoke last → Unread (BringsBack times) a spoke
 unread-reply times a since [] last old speaks = tt
 unread-reply times a since (s ∷ spoke) last old speaks =
     let first = speaks.0 in let reads = speaks.2 in (
@@ -66,11 +66,11 @@ read-soon times one since (a ∷ answered) answers (inr later) =
 
 -- ---- One end alone
 
-bad-lost : (bytes : List ℕ) (h : Heard) → h ≡ Bad → ArrivesThere Lost bytes h
+pub bad-lost : (bytes : List ℕ) (h : Heard) → h ≡ Bad → ArrivesThere Lost bytes h
 unfolding verdict_of
 bad-lost bytes h bad = record { bytes = tt; shows = tt; short = tt; heard_is = bad }
 
-abbrev lost_round : Round
+abbrev pub lost_round : Round
 lost_round = record { there = Lost; back = Lost }
 
 receiver-alone : (times : Times) (last : WroteAt) (answered : List AnsweredAt) → HandsThere times (last ∷ []) answered → (rounds : List Round) × ReceiverAlone last.bytes (answers_of answered) rounds
@@ -85,7 +85,7 @@ receiver-alone times last (a ∷ answered) (inr (one, behind, inl (same, none), 
     )
 receiver-alone times last (a ∷ answered) (inr (one, behind, inr takes, brings, later)) = absurd takes
 
-sender-alone : (times : Times) (spoke : List SpokeAt) → HandsBack times [] spoke → (rounds : List Round) × SenderAlone (spoken spoke) rounds
+pub sender-alone : (times : Times) (spoke : List SpokeAt) → HandsBack times [] spoke → (rounds : List Round) × SenderAlone (spoken spoke) rounds
 sender-alone times [] hands = ([], tt)
 sender-alone times (s ∷ spoke) (inl (vain, later)) =
     let rest = sender-alone times spoke later in
@@ -97,7 +97,7 @@ sender-alone times (s ∷ spoke) (inr (one, behind, takes, brings, later)) = abs
 -- why the sender wrote what it wrote last: it had nothing to say, or had heard a reply, or no ask meets it
 abbrev pub Why : Times → ℕ → List SpokeAt → List AnsweredAt → Type 0
 Why times from [] answered = Unit {0}
-Why times from (s ∷ spoke) answered = (s.spoke.wrote ≡ []) ⊎ ((s.at ≤ from + times.oldest + times.acts) ⊎ AllApart times s.at answered)
+Why times from (s ∷ spoke) answered = (s.spoke.wrote ≡ []) ⊎ ((s.at ≤ from + times.oldest + times.sender_acts) ⊎ AllApart times s.at answered)
 
 -- the sender goes on since a moment, and the receiver from another
 pub record Stands (times : Times) (since from : ℕ) (spoke : List SpokeAt) (last : WroteAt) (answered : List AnsweredAt) : Type 0 where

@@ -44,28 +44,30 @@ written spoke last = map wrote spoke ++ last ∷ []
 
 pub record Times : Type 0 where
   pub oldest : ℕ  -- nothing that an end hears was written longer ago
-  pub acts : ℕ  -- an end goes on within this time
+  pub sender_acts : ℕ  -- a sender writes within this time, the line's clearing among it
+  pub receiver_acts : ℕ  -- and so does a receiver, which may have to store what it heard too
   pub sender_waits : ℕ  -- a sender that hears nothing waited so long at least
   pub receiver_waits : ℕ  -- and so did a receiver
 
--- The way there and back, and the peer's acting, take less time than either end waits.
+-- The way there and back, and the peer's acting, take no longer than a sender waits, and less time
+-- than a receiver does.
 pub record IsPrompt (times : Times) : Type 0 where
-  pub sender : times.oldest + times.acts + times.oldest < times.sender_waits
-  pub receiver : times.oldest + times.acts + times.oldest < times.receiver_waits
+  pub sender : times.oldest + times.receiver_acts + times.oldest ≤ times.sender_waits
+  pub receiver : times.oldest + times.sender_acts + times.oldest < times.receiver_waits
 
 -- A sender goes on from this moment: it writes within its time to act, and then reads, one after
 -- another; its last words come behind all that.
 abbrev pub SpeaksInTime : Times → ℕ → List SpokeAt → WroteAt → Type 0
 SpeaksInTime times since [] last = since ≤ last.at
 SpeaksInTime times since (s ∷ spoke) last =
-    (since ≤ s.at) × (s.at ≤ since + times.acts) × (s.at < s.by)
+    (since ≤ s.at) × (s.at ≤ since + times.sender_acts) × (s.at < s.by)
     × SpeaksInTime times s.by spoke last
 
 -- So does a receiver, which reads first and writes then.
 abbrev pub AnswersInTime : Times → ℕ → List AnsweredAt → Type 0
 AnswersInTime times since [] = Unit {0}
 AnswersInTime times since (a ∷ answered) =
-    (since ≤ a.from) × (a.from ≤ a.by) × (a.by ≤ a.at) × (a.at ≤ a.by + times.acts)
+    (since ≤ a.from) × (a.from ≤ a.by) × (a.by ≤ a.at) × (a.at ≤ a.by + times.receiver_acts)
     × AnswersInTime times a.at answered
 
 -- ---- What the line hands on
@@ -139,16 +141,20 @@ NoneMeet times (s ∷ next ∷ spoke) answered =
     (SenderInVain times s → (next.spoke.wrote ≡ []) ⊎ AllApart times next.at answered)
     × NoneMeet times (next ∷ spoke) answered
 
+-- No wait of a sender was in vain: within each something came. Then none meet.
+abbrev pub HearsEachTime : List SpokeAt → Type 0
+HearsEachTime [] = Unit {0}
+HearsEachTime (s ∷ spoke) = (s.spoke.came ≡ [] → ⊥) × HearsEachTime spoke
+
 -- ---- Two ends on such a line
 
--- From this moment on they act in time, the line hands on what they write, and none meet.
-pub record IsTimed (times : Times) (start : ℕ) (spoke : List SpokeAt) (last : WroteAt)
+-- From these moments on a sender and a receiver act in time, and the line hands on what they write.
+pub record IsTimed (times : Times) (start begun : ℕ) (spoke : List SpokeAt) (last : WroteAt)
     (answered : List AnsweredAt) : Type 0 where
   pub speaks : SpeaksInTime times start spoke last
-  pub answers : AnswersInTime times start answered
+  pub answers : AnswersInTime times begun answered
   pub there : HandsThere times (written spoke last) answered
   pub back : HandsBack times answered spoke
-  pub none_meet : NoneMeet times spoke answered
 
 -- a new sender has nothing to say before it has heard a C
 abbrev pub BeginsSilent : List SpokeAt → Type 0
@@ -165,10 +171,11 @@ answers_of answered = map (λ (one : AnsweredAt). one.answered) answered
 pub record CallsAreTimed (times : Times) (s new : SenderParts) (r end : ReceiverParts)
     (calls : AreCalls s new r end) : Type 0 where
   pub start : ℕ
+  pub begun : ℕ
   pub spoke : List SpokeAt
   pub last : WroteAt
   pub answered : List AnsweredAt
-  pub timed : IsTimed times start spoke last answered
+  pub timed : IsTimed times start begun spoke last answered
   pub spoke_is : spoken spoke ≡ spoke_along s calls.deliveries calls.progress new calls.speaks
   pub last_is : last.bytes ≡ written_for (sender.spoken new)
   pub answered_is : answers_of answered ≡ answered_along r calls.heard calls.steps end calls.hears

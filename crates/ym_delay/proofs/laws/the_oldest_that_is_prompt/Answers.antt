@@ -1,4 +1,4 @@
-use Rattle.std.proofs.Common.{◌+◌, ◌<◌, ◌≤◌, ℕ, arith}
+use Rattle.std.proofs.Common.{arith}
 use Rattle.ym_delay.proofs.laws.the_oldest_that_is_prompt.Goals as goal
 
 pub returns-clause-within : goal.returns-clause-within
@@ -6,3 +6,9 @@ returns-clause-within c oldest young = record { sender = omega (arith, young); r
 
 pub returns-clause-beyond : goal.returns-clause-beyond
 returns-clause-beyond c oldest old prompt = let limit = prompt.receiver in absurd (omega (arith, old, limit))
+
+pub returns-clause-clearing : goal.returns-clause-clearing
+returns-clause-clearing c oldest young = record { sender = omega (arith, young); receiver = omega (arith, young) }
+
+pub returns-clause-clearing_beyond : goal.returns-clause-clearing_beyond
+returns-clause-clearing_beyond c oldest old prompt = let limit = prompt.receiver in absurd (omega (arith, old, limit))

@@ -1,0 +1,94 @@
+-- A sender that lets the line clear before it goes on from a frame that it wrote more than once.
+-- What was written is then answered, or too old, whatever either end waits for.
+use Rattle.std.specs.Prelude.{◌≡◌, ◌⊎◌, ◌+◌, ◌≤◌, ℕ, List, [], ◌∷◌}
+use Rattle.ym_frame.specs.declared.control.Control.{Control}
+use Rattle.ym_frame.specs.declared.control.Control.TheVariants as control
+use Rattle.ym_frame.specs.declared.control.Reply.{Reply}
+use Rattle.ym_frame.specs.declared.control.Reply.TheVariants as reply
+use Rattle.ym_core.specs.Reading.{controls_in}
+use Rattle.ym_core.specs.declared.delivery.Heard.TheVariants.{Bad}
+use Rattle.ym_core.specs.declared.state.SendState.TheVariants as state
+use Rattle.ym_link.specs.Sender.{SenderParts}
+use Rattle.ym_pair.specs.Logs.{Answered, Spoke}
+use Rattle.ym_pair.specs.Pairing.{up_to_start}
+use Rattle.ym_delay.specs.TimedLine.{SpokeAt, Times}
+
+-- ---- What either end says to what it heard
+
+abbrev pub HasAck : List Control → Type 0
+HasAck [] = ⊥
+HasAck (control.Ack ∷ more) = Unit {0}
+HasAck (other ∷ more) = HasAck more
+
+-- there is an ACK in what a sender reads of a delivery
+abbrev pub ReadsAck : List ℕ → Type 0
+ReadsAck came = HasAck (up_to_start (controls_in came))
+
+abbrev pub HasCan : List Control → Type 0
+HasCan [] = ⊥
+HasCan (control.Can ∷ more) = Unit {0}
+HasCan (other ∷ more) = HasCan more
+
+abbrev pub ReadsCan : List ℕ → Type 0
+ReadsCan came = HasCan (up_to_start (controls_in came))
+
+-- A sender writes the same again until it has read an ACK. As long as it has nothing to say it may
+-- say anything next, and at last it may give up a wait, or be cancelled.
+abbrev pub SaysAgain : List Spoke → List ℕ → Type 0
+SaysAgain [] last = Unit {0}
+SaysAgain (s ∷ []) last =
+    (last ≡ s.wrote)
+    ⊎ (ReadsAck s.came ⊎ ((s.wrote ≡ []) ⊎ ((s.came ≡ []) ⊎ ReadsCan s.came)))
+SaysAgain (s ∷ next ∷ spoke) last =
+    ((next.wrote ≡ s.wrote) ⊎ (ReadsAck s.came ⊎ (s.wrote ≡ []))) × SaysAgain (next ∷ spoke) last
+
+abbrev pub IsAck : Reply → Type 0
+IsAck reply.Ack = Unit {0}
+IsAck reply.AckStart = Unit {0}
+IsAck _ = ⊥
+
+-- as long as it hears the same frame, or none, it says to that frame what it said before
+abbrev pub AcksAgain : Answered → List Answered → Type 0
+AcksAgain a [] = Unit {0}
+AcksAgain a (b ∷ answered) =
+    (b.heard ≡ Bad → AcksAgain a answered)
+    × (b.heard ≡ a.heard → (b.wrote ≡ a.wrote) × AcksAgain a answered)
+
+-- A receiver says ACK to a frame alone, and the same once more where that frame comes again. Behind
+-- CAN CAN it says nothing more.
+abbrev pub AnswersAlike : List Answered → Type 0
+AnswersAlike [] = Unit {0}
+AnswersAlike (a ∷ answered) =
+    (IsAck a.wrote → (a.heard ≡ Bad → ⊥) × AcksAgain a answered)
+    × (a.wrote ≡ reply.Cancel → answered ≡ []) × AnswersAlike answered
+
+-- ---- How either end ends
+
+-- its last wait was in vain, if there was one
+abbrev pub EndsInVain : List Spoke → Type 0
+EndsInVain [] = Unit {0}
+EndsInVain (s ∷ []) = s.came ≡ []
+EndsInVain (s ∷ next ∷ spoke) = EndsInVain (next ∷ spoke)
+
+-- it did not give up at an ask
+abbrev pub EndsWell : SenderParts → List Spoke → Type 0
+EndsWell new spoke = new.standing.state ≡ state.NoReply → EndsInVain spoke
+
+-- ---- The line clears
+
+-- it writes the same once more, or when all that may answer this write has come, or is too old; or
+-- it wrote nothing
+abbrev pub ClearsBehind : Times → SpokeAt → List SpokeAt → Type 0
+ClearsBehind times s [] = Unit {0}
+ClearsBehind times s (next ∷ spoke) =
+    (next.spoke.wrote ≡ s.spoke.wrote)
+    ⊎ ((s.spoke.wrote ≡ [])
+    ⊎ (s.at + times.oldest + times.receiver_acts + times.oldest ≤ next.at))
+
+-- so it is behind each write that was not the first of its frame
+abbrev pub LetsClear : Times → List SpokeAt → Type 0
+LetsClear times [] = Unit {0}
+LetsClear times (s ∷ []) = Unit {0}
+LetsClear times (s ∷ next ∷ spoke) =
+    (next.spoke.wrote ≡ s.spoke.wrote → ClearsBehind times next spoke)
+    × LetsClear times (next ∷ spoke)
