@@ -4,7 +4,8 @@ use Rattle.ym_frame.specs.declared.control.Control.TheVariants.{Ack, Nak, Start}
 use Rattle.ym_frame.specs.declared.frame.Item.{Item}
 use Rattle.ym_frame.specs.declared.frame.Item.TheVariants as item
 use Rattle.ym_explain.specs.Answered.{byte_line}
-use Rattle.ym_explain.specs.Evidence.{first_shown, order}
+use Rattle.ym_explain.specs.Evidence.{first_shown}
+use Rattle.ym_explain.specs.declared.verdict.TheConstants.{ORDER}
 use Rattle.ym_explain.specs.Noting.{nothing_seen, seen_of}
 use Rattle.ym_explain.specs.Telling.{tells, told_of}
 use Rattle.ym_explain.specs.declared.answered.AnswerLine.TheVariants as line
@@ -40,7 +41,7 @@ ack = refl
 
 -- the verdict of what passed
 abbrev verdict_on : List Sign → Verdict
-verdict_on signs = first_shown (seen_of nothing_seen signs) order
+verdict_on signs = first_shown (seen_of nothing_seen signs) ORDER
 
 whole :
     verdict_on (sign.Answer Start ∷ sign.Block place.Before kind.Name ∷ sign.Answer Ack ∷
@@ -58,7 +59,7 @@ only_asked = refl
 -- 01 00 7F, of which the last has lost its highest bit
 seven_bits :
     verdict_on (sign.Answer Start ∷ sign.Byte 0x01 ∷ sign.Byte 0x00 ∷ sign.Byte 0x7f ∷
-    sign.Damage false ∷ []) ≡ verdict.SevenBits
+    sign.Damage false false ∷ []) ≡ verdict.SevenBits
 seven_bits = refl
 
 -- the name was acknowledged twice

@@ -1,5 +1,5 @@
 -- What stands at the front of what an end has written, and where the next whole block begins.
-use Rattle.std.specs.Prelude.{◌≡◌, ℕ, ◌<◌, ◌≤◌, Bool, true, false, List, drop, Option, Some, None, Result, Ok, Err}
+use Rattle.std.specs.Prelude.{◌≡◌, ℕ, ◌-◌, ◌<◌, ◌≤◌, ◌==◌, ◌&&◌, ◌||◌, Bool, true, false, List, ◌∷◌, drop, Option, Some, None, Result, Ok, Err}
 use Rattle.ym_frame.specs.Frame.{verdict_of}
 use Rattle.ym_frame.specs.WholeFrame.{IsThere, verdict_with}
 use Rattle.ym_frame.specs.declared.frame.Broken.{Broken}
@@ -48,9 +48,20 @@ is_block (Err broken) = false
 abbrev pub has_block : List ℕ → Bool
 has_block bytes = is_block (verdict_of bytes)
 
--- the bytes before the next whole block, of so many at most, and one at least
+-- bytes that begin as this frame does, with a number whose complement agrees
+abbrev pub same_head : List ℕ → List ℕ → Bool
+same_head (first ∷ number ∷ complement ∷ more) (a ∷ b ∷ c ∷ rest) =
+    a == first && b == number && c == complement && complement == 255 - number
+same_head frame bytes = false
+
+-- a damaged frame is over where these bytes begin
+abbrev pub ends_at : List ℕ → List ℕ → Bool
+ends_at frame bytes = has_block bytes || same_head frame bytes
+
+-- the bytes before the place where the frame is over, of so many at most, and one at least
 pub record IsUpToBlock (bytes : List ℕ) (most : ℕ) (count : ℕ) : Type 0 where
   pub some : 1 ≤ count
   pub within : count ≤ most
-  pub none_before : (place : ℕ) → 1 ≤ place → place < count → has_block (drop place bytes) ≡ false
-  pub block_there : count < most → has_block (drop count bytes) ≡ true
+  pub none_before :
+      (place : ℕ) → 1 ≤ place → place < count → ends_at bytes (drop place bytes) ≡ false
+  pub over_there : count < most → ends_at bytes (drop count bytes) ≡ true

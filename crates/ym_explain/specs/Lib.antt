@@ -5,5 +5,6 @@ pub mod FrontOf
 pub mod Noting
 pub mod SentFront
 pub mod SignOf
+pub mod Talking
 pub mod Telling
 pub mod VerdictText

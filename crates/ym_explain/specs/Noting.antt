@@ -1,5 +1,5 @@
 -- What is seen of a session, event by event.
-use Rattle.std.specs.Prelude.{ℕ, ◌+◌, ◌==◌, nat_lt, not, Bool, true, false, ◌||◌, if◌then◌else◌, List, [], ◌∷◌}
+use Rattle.std.specs.Prelude.{ℕ, ◌+◌, ◌-◌, ◌==◌, min, nat_lt, not, Bool, true, false, ◌||◌, if◌then◌else◌, List, [], ◌∷◌}
 use Rattle.ym_frame.specs.declared.control.Control.{Control}
 use Rattle.ym_frame.specs.declared.control.Control.TheVariants.{Ack, Nak, Start, Can}
 use Rattle.ym_explain.specs.declared.told.FrameKind.{FrameKind}
@@ -15,6 +15,8 @@ nothing_seen = record {
   asked = false;
   framed = false;
   damaged = false;
+  headed = false;
+  unmended = false;
   short = false;
   junk = false;
   high = false;
@@ -22,9 +24,12 @@ nothing_seen = record {
   sub = false;
   unnamed = false;
   cut_length = false;
+  no_room = false;
   zmodem = false;
   echoed = false;
-  out = false;
+  back_high = false;
+  nak_first = false;
+  out = 0;
   over = false;
   finished = false;
   ahead = false;
@@ -34,12 +39,29 @@ nothing_seen = record {
   receiver_cancelled = false;
 }
 
+-- one frame more has no answer; eight bits count them
+abbrev pub one_more : ℕ → ℕ
+one_more out = min (out + 1) 255
+
 -- what tells seven bits, flow control and a line that takes SUB: the bytes themselves
 abbrev pub with_byte : Signs → ℕ → Signs
 with_byte seen byte = record seen {
   high = seen.high || not (nat_lt byte 0x80);
   flow = seen.flow || byte == 0x11 || byte == 0x13;
   sub = seen.sub || byte == 0x1a;
+}
+
+abbrev pub with_bytes : Signs → List ℕ → Signs
+with_bytes seen [] = seen
+with_bytes seen (byte ∷ more) = with_bytes (with_byte seen byte) more
+
+abbrev pub with_damage : Signs → Bool → Bool → Signs
+with_damage seen short headed = record seen {
+  damaged = true;
+  headed = seen.headed || headed;
+  short = seen.short || short;
+  unmended = true;
+  out = one_more seen.out;
 }
 
 -- the first block has no block 0 before it
@@ -54,24 +76,34 @@ is_end kind = false
 abbrev pub with_block : Signs → SendPlace → FrameKind → Signs
 with_block seen at kind = record seen {
   framed = true;
-  out = true;
+  unmended = false;
+  out = one_more seen.out;
   unnamed = is_unnamed at kind || seen.unnamed;
   over = is_end kind || seen.over;
 }
 
--- An ACK is for the frame that is out. The last is for the block that ends the batch.
+-- An ACK is for a frame that is out. The last is for the block that ends the batch.
 abbrev pub with_ack : Signs → Signs
 with_ack seen =
-    if seen.out
-    then record seen { refusals = 0; out = false; finished = seen.finished || seen.over }
+    if nat_lt 0 seen.out
+    then record seen { refusals = 0; out = seen.out - 1; finished = seen.finished || seen.over }
     else record seen { refusals = 0; ahead = true }
 
 -- the tenth refusal in a row, and all behind it, are too many
 abbrev pub with_nak : Signs → Signs
 with_nak seen =
     if nat_lt seen.refusals 9
-    then record seen { out = false; refusals = seen.refusals + 1 }
-    else record seen { out = false; refusals = 10; gave_up = true }
+    then record seen {
+      out = seen.out - 1;
+      nak_first = seen.nak_first || not (seen.asked || seen.framed || seen.damaged);
+      refusals = seen.refusals + 1;
+    }
+    else record seen {
+      out = seen.out - 1;
+      nak_first = seen.nak_first || not (seen.asked || seen.framed || seen.damaged);
+      refusals = 10;
+      gave_up = true;
+    }
 
 abbrev pub with_answer : Signs → Control → Signs
 with_answer seen Start = record seen { asked = true }
@@ -82,16 +114,24 @@ with_answer seen Can = seen
 abbrev pub noted : Signs → Sign → Signs
 noted seen (sign.Byte byte) = with_byte seen byte
 noted seen (sign.Block at kind) = with_block seen at kind
-noted seen sign.Eot = record seen { out = true }
-noted seen sign.SenderCancel = record seen { sender_cancelled = true }
-noted seen (sign.Damage short) =
-    record seen { damaged = true; short = seen.short || short; out = true }
+noted seen sign.Eot = record seen { out = one_more seen.out }
+noted seen sign.SenderCancel =
+    record seen { sender_cancelled = seen.sender_cancelled || not seen.receiver_cancelled }
+noted seen (sign.Damage short headed) = with_damage seen short headed
 noted seen sign.Junk = record seen { junk = true }
 noted seen sign.CutLength = record seen { cut_length = true }
+noted seen sign.NoRoom = record seen { no_room = true }
 noted seen sign.Zmodem = record seen { zmodem = true }
 noted seen sign.Echo = record seen { echoed = true }
 noted seen (sign.Answer control) = with_answer seen control
-noted seen sign.ReceiverCancel = record seen { receiver_cancelled = true }
+noted seen sign.ReceiverCancel =
+    record seen { receiver_cancelled = seen.receiver_cancelled || not seen.sender_cancelled }
+noted seen (sign.AnswerJunk byte) =
+    record seen { back_high = seen.back_high || not (nat_lt byte 0x80) }
+
+abbrev pub with_answer_junk : Signs → List ℕ → Signs
+with_answer_junk seen [] = seen
+with_answer_junk seen (byte ∷ more) = with_answer_junk (noted seen (sign.AnswerJunk byte)) more
 
 -- what is seen behind all events, in order
 abbrev pub seen_of : Signs → List Sign → Signs

@@ -1,5 +1,5 @@
 -- Which sign of a session each line is that is told.
-use Rattle.std.specs.Prelude.{ℕ, ◌==◌, ◌&&◌, Bool, false, List, ◌∷◌, Option, Some, None}
+use Rattle.std.specs.Prelude.{ℕ, ◌==◌, ◌&&◌, ◌||◌, Bool, true, false, List, ◌∷◌, Option, Some, None}
 use Rattle.ym_frame.specs.declared.frame.Whole.{Whole}
 use Rattle.ym_frame.specs.declared.frame.Whole.TheVariants as whole
 use Rattle.ym_frame.specs.declared.frame.Why.{Why}
@@ -13,13 +13,14 @@ use Rattle.ym_explain.specs.declared.signs.Sign.TheVariants as sign
 use Rattle.ym_explain.specs.declared.told.FrameKind.{FrameKind}
 use Rattle.ym_explain.specs.declared.told.SendPlace.{SendPlace}
 
--- a CAN that stands alone is no frame, and any other reason is one of a frame
+-- A CAN that stands alone is no frame, and any other reason is one of a frame. Where its check is
+-- wrong or its end is missing, its number and the complement agree.
 abbrev pub damage_sign : Why → Bool → Sign
 damage_sign SecondCan short = sign.Junk
-damage_sign FirstByte short = sign.Damage short
-damage_sign Complement short = sign.Damage short
-damage_sign Check short = sign.Damage short
-damage_sign Cut short = sign.Damage short
+damage_sign FirstByte short = sign.Damage short false
+damage_sign Complement short = sign.Damage short false
+damage_sign Check short = sign.Damage short true
+damage_sign Cut short = sign.Damage short true
 
 abbrev pub frame_sign : SendPlace → Whole → FrameKind → Sign
 frame_sign at (whole.Block size) kind = sign.Block at kind
@@ -37,8 +38,8 @@ answer_sign answer.Cancel = Some sign.ReceiverCancel
 answer_sign (answer.Echo used) = Some sign.Echo
 answer_sign answer.Junk = None
 
--- `**`, CAN, `B00`
+-- `**`, CAN, `B00` or `B01`
 abbrev pub greets_zmodem : List ℕ → Bool
 greets_zmodem (a ∷ b ∷ c ∷ d ∷ e ∷ f ∷ more) =
-    a == 0x2a && b == 0x2a && c == 0x18 && d == 0x42 && e == 0x30 && f == 0x30
+    a == 0x2a && b == 0x2a && c == 0x18 && d == 0x42 && e == 0x30 && (f == 0x30 || f == 0x31)
 greets_zmodem bytes = false

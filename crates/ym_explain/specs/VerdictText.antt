@@ -1,10 +1,13 @@
 -- The sentence of each verdict: what went wrong, and what to try.
 use Rattle.std.specs.Prelude.{ℕ, List, codes}
 use Rattle.ym_explain.specs.declared.verdict.Verdict.{Verdict}
-use Rattle.ym_explain.specs.declared.verdict.Verdict.TheVariants.{Whole, Zmodem, Echo, SevenBits, Noise, Xmodem, NobodyAsked, NobodyAnswered, EatenBytes, SenderCancelled, ReceiverCancelled, CutLength, TooManyErrors, ReplyAhead, Stopped}
+use Rattle.ym_explain.specs.declared.verdict.Verdict.TheVariants.{Whole, Mended, SenderDone, Zmodem, Echo, SevenBits, Noise, Xmodem, XmodemReceiver, NobodyAsked, NobodyAnswered, FlowControl, SubEaten, EatenBytes, NoRoom, CutLength, TooManyErrors, Damage, SenderCancelled, ReceiverCancelled, ReplyAhead, Stopped, Unheard}
 
 abbrev pub verdict_text : Verdict → List ℕ
 verdict_text Whole = codes "the session is whole: nothing went wrong"
+verdict_text Mended = codes "the session is whole: what came damaged was sent again"
+verdict_text SenderDone =
+    codes "the sender wrote its whole batch: what the receiver answered is not in the file"
 verdict_text Zmodem = codes "an end speaks ZMODEM: start it with sb or rb in place of sz or rz"
 verdict_text Echo =
     codes "what the sender wrote came back: start the receiver at the other end first"
@@ -13,19 +16,31 @@ verdict_text SevenBits =
 verdict_text Noise = codes "bytes came, no text and no frame: set both ends to the same speed"
 verdict_text Xmodem =
     codes "the sender names no file, as XMODEM does: start it as a sender of YMODEM"
+verdict_text XmodemReceiver =
+    codes "the receiver asks by NAK, as XMODEM does: start it as a receiver of YMODEM"
 verdict_text NobodyAsked =
     codes "no receiver asked for a file: start one, and see that its line is connected"
 verdict_text NobodyAnswered = codes "the receiver asked and no frame came: start the sender"
+verdict_text FlowControl =
+    codes "frames came short, and no 11 or 13 in them: turn XON/XOFF off at both ends and between them"
+verdict_text SubEaten =
+    codes "frames came short, and no 1A in them: set the line to raw, so that it carries every byte"
 verdict_text EatenBytes =
-    codes "frames came short, with no 11 and 13 or no 1A: turn flow control off"
-verdict_text SenderCancelled = codes "the sender cancelled: see what it says"
-verdict_text ReceiverCancelled =
-    codes "the receiver cancelled: see what it says, and whether it can write the file"
+    codes "frames came short, with no 11 and 13 and no 1A: turn flow control off and set the line to raw"
+verdict_text NoRoom =
+    codes "block 0 had no room for the whole length: send the file under a shorter name"
 verdict_text CutLength =
     codes "a file ended before its stated length: see whether it changed while it was sent"
 verdict_text TooManyErrors =
     codes "ten frames in a row were refused: try a lower speed or a better line"
+verdict_text Damage =
+    codes "a frame came damaged and never whole: try a lower speed or a better line"
+verdict_text SenderCancelled = codes "the sender cancelled: see what it says"
+verdict_text ReceiverCancelled =
+    codes "the receiver cancelled: see what it says, and whether it can write the file"
 verdict_text ReplyAhead =
     codes "the receiver acknowledged what was not sent yet: start both ends again"
 verdict_text Stopped =
     codes "the session stopped before its end: see whether the line was cut or an end was closed"
+verdict_text Unheard =
+    codes "nothing wrong is seen one way: record both ways to see what was answered"

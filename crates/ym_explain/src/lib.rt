@@ -7,6 +7,7 @@ mod passed;
 mod sent;
 mod sign_of;
 mod signs;
+mod talk;
 mod told;
 mod verdict;
 
@@ -15,5 +16,6 @@ pub use passed::{Passed, damage_len, front_of};
 pub use sent::{SentLine, SentTold, tell_sent};
 pub use sign_of::{answer_sign, is_zmodem, sent_sign};
 pub use signs::{REFUSALS, Sign, Signs};
+pub use talk::{Fate, Footing, Meaning, fate_behind, follows, is_ahead, is_parting, meaning_of};
 pub use told::{FrameKind, SendPlace, Told, tell};
-pub use verdict::{Verdict, verdict_of};
+pub use verdict::{Verdict, Ways, verdict_of};

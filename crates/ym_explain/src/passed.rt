@@ -1,7 +1,7 @@
 //! What stands at the front of what one end has written.
 
 ghost use Rattle.std.specs.Prelude.{◌≡◌, ◌<◌, ◌≤◌, length};
-ghost use Rattle.ym_explain.specs.FrontOf.{IsPassed, IsUpToBlock, has_block as there_is_block};
+ghost use Rattle.ym_explain.specs.FrontOf.{IsPassed, IsUpToBlock, ends_at, same_head, has_block as there_is_block};
 
 use ym_frame::{Broken, Whole, Why, whole_at};
 
@@ -39,15 +39,35 @@ fn has_block(bytes: &[u8]) -> bool
     matches!(front_of(bytes), Passed::Frame(Whole::Block(_)))
 }
 
+/// Whether these bytes begin as this frame does, with a number whose complement agrees.
+fn begins_again(frame: &[u8], bytes: &[u8]) -> bool
+    ensures { result ≡ same_head frame.now bytes.now }
+{
+    match (frame, bytes) {
+        ([first, number, complement, ..], [a, b, c, ..]) => {
+            a == first && b == number && c == complement && *complement == 255 - *number
+        }
+        _ => false,
+    }
+}
+
+/// Whether a damaged frame is over where these bytes begin.
+fn is_over(frame: &[u8], bytes: &[u8]) -> bool
+    ensures { result ≡ ends_at frame.now bytes.now }
+{
+    has_block(bytes) || begins_again(frame, bytes)
+}
+
 /// How many of these bytes belong to a damaged frame of `most` bytes at their front: those before
-/// the next block that is whole, at most `most`, and one at least.
+/// the next block that is whole, or before the same block once more, whole or not; at most `most`,
+/// and one at least.
 pub fn damage_len(bytes: &[u8], most: usize) -> usize
     requires one { 0 < most }
     requires within { most ≤ length bytes.now }
     ensures { IsUpToBlock bytes.now most result }
 {
     for place in 1..most {
-        if has_block(&bytes[place..]) {
+        if is_over(bytes, &bytes[place..]) {
             return place;
         }
     }

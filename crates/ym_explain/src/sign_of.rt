@@ -18,7 +18,14 @@ pub fn sent_sign(place: SendPlace, line: SentLine) -> Sign
         SentLine::Junk => Sign::Junk,
         SentLine::Damage { broken, short } => match broken.why {
             Why::SecondCan => Sign::Junk,
-            Why::FirstByte | Why::Complement | Why::Check | Why::Cut => Sign::Damage { short },
+            Why::FirstByte | Why::Complement => Sign::Damage {
+                short,
+                headed: false,
+            },
+            Why::Check | Why::Cut => Sign::Damage {
+                short,
+                headed: true,
+            },
         },
         SentLine::Frame { whole, kind } => match whole {
             Whole::Block(_) => Sign::Block { place, kind },
@@ -40,10 +47,10 @@ pub fn answer_sign(line: AnswerLine) -> Option<Sign>
     }
 }
 
-/// Whether these bytes begin as a header of ZMODEM in hexadecimal does that asks for a receiver:
-/// `**`, CAN, `B00`.
+/// Whether these bytes begin as a header of ZMODEM in hexadecimal does with which an end greets:
+/// `**`, CAN, `B00` of a sender, `B01` of a receiver.
 pub fn is_zmodem(bytes: &[u8]) -> bool
     ensures { result ≡ greets_zmodem bytes.now }
 {
-    matches!(bytes, [0x2a, 0x2a, 0x18, 0x42, 0x30, 0x30, ..])
+    matches!(bytes, [0x2a, 0x2a, 0x18, 0x42, 0x30, 0x30 | 0x31, ..])
 }

@@ -1,7 +1,7 @@
 //! What was seen of a session so far.
 
 ghost use Rattle.std.specs.Prelude.{◌≡◌};
-ghost use Rattle.ym_explain.specs.Noting.{noted, nothing_seen, with_byte, with_block, with_answer, with_ack, with_nak};
+ghost use Rattle.ym_explain.specs.Noting.{noted, nothing_seen, with_byte, with_bytes, with_answer_junk, with_damage, with_block, with_answer, with_ack, with_nak};
 
 use crate::told::{FrameKind, SendPlace};
 use ym_frame::Control;
@@ -29,11 +29,15 @@ pub enum Sign {
     Damage {
         /// Whether the next block begins before its end.
         short: bool,
+        /// Whether its number and the complement agree.
+        headed: bool,
     },
     /// The sender wrote a byte with which no frame begins.
     Junk,
     /// A file ended before its length.
     CutLength,
+    /// A block 0 has no room for the whole length of its file.
+    NoRoom,
     /// An end greeted as ZMODEM does.
     Zmodem,
     /// The whole frame of a block came from the receiver.
@@ -42,6 +46,8 @@ pub enum Sign {
     Answer(Control),
     /// The receiver cancelled.
     ReceiverCancel,
+    /// The receiver wrote a byte that is no answer.
+    AnswerJunk(u8),
 }
 
 /// What was seen of a session.
@@ -53,6 +59,10 @@ pub struct Signs {
     pub framed: bool,
     /// A frame came damaged.
     pub damaged: bool,
+    /// One of those had a number whose complement agrees.
+    pub headed: bool,
+    /// No whole block came behind the last of those.
+    pub unmended: bool,
     /// A frame came with fewer bytes than it has.
     pub short: bool,
     /// A byte came with which no frame begins.
@@ -67,12 +77,18 @@ pub struct Signs {
     pub unnamed: bool,
     /// A file ended before its length.
     pub cut_length: bool,
+    /// A block 0 had no room for the whole length of its file.
+    pub no_room: bool,
     /// An end greeted as ZMODEM does.
     pub zmodem: bool,
     /// A block came from the receiver.
     pub echoed: bool,
-    /// A frame is out, with no answer to it yet.
-    pub out: bool,
+    /// A byte of 80 or more that is no answer came from the receiver.
+    pub back_high: bool,
+    /// The receiver refused before anything was asked or sent.
+    pub nak_first: bool,
+    /// So many frames have no answer yet, copies among them: 255 at most.
+    pub out: u8,
     /// The block that ends the batch came.
     pub over: bool,
     /// That block was acknowledged.
@@ -83,9 +99,9 @@ pub struct Signs {
     pub refusals: u8,
     /// Ten refusals came in a row.
     pub gave_up: bool,
-    /// The sender cancelled.
+    /// The sender cancelled, and the receiver had not.
     pub sender_cancelled: bool,
-    /// The receiver cancelled.
+    /// The receiver cancelled, and the sender had not.
     pub receiver_cancelled: bool,
 }
 
@@ -98,6 +114,8 @@ impl Signs {
             asked: false,
             framed: false,
             damaged: false,
+            headed: false,
+            unmended: false,
             short: false,
             junk: false,
             high: false,
@@ -105,9 +123,12 @@ impl Signs {
             sub: false,
             unnamed: false,
             cut_length: false,
+            no_room: false,
             zmodem: false,
             echoed: false,
-            out: false,
+            back_high: false,
+            nak_first: false,
+            out: 0,
             over: false,
             finished: false,
             ahead: false,
@@ -127,18 +148,20 @@ impl Signs {
             Sign::Byte(byte) => return self.note_byte(byte),
             Sign::Block { place, kind } => return self.note_block(place, kind),
             Sign::Answer(control) => return self.note_answer(control),
-            Sign::Eot => seen.out = true,
-            Sign::SenderCancel => seen.sender_cancelled = true,
-            Sign::Damage { short } => {
-                seen.damaged = true;
-                seen.short = self.short || short;
-                seen.out = true;
+            Sign::Eot => seen.out = self.out.saturating_add(1),
+            Sign::SenderCancel => {
+                seen.sender_cancelled = self.sender_cancelled || !self.receiver_cancelled;
             }
+            Sign::Damage { short, headed } => return self.note_damage(short, headed),
             Sign::Junk => seen.junk = true,
             Sign::CutLength => seen.cut_length = true,
+            Sign::NoRoom => seen.no_room = true,
             Sign::Zmodem => seen.zmodem = true,
             Sign::Echo => seen.echoed = true,
-            Sign::ReceiverCancel => seen.receiver_cancelled = true,
+            Sign::ReceiverCancel => {
+                seen.receiver_cancelled = self.receiver_cancelled || !self.sender_cancelled;
+            }
+            Sign::AnswerJunk(byte) => seen.back_high = self.back_high || byte >= 0x80,
         }
         seen
     }
@@ -154,13 +177,49 @@ impl Signs {
         seen
     }
 
+    /// The same behind these bytes of the sender, one after another.
+    pub fn note_bytes(self, bytes: &[u8]) -> Signs
+        ensures { result ≡ with_bytes self bytes.now }
+    {
+        let mut seen = self;
+        for byte in bytes {
+            seen = seen.note_byte(*byte);
+        }
+        seen
+    }
+
+    /// The same behind these bytes of the receiver that are no answer, one after another.
+    pub fn note_answer_junk(self, bytes: &[u8]) -> Signs
+        ensures { result ≡ with_answer_junk self bytes.now }
+    {
+        let mut seen = self;
+        for byte in bytes {
+            seen = seen.note(Sign::AnswerJunk(*byte));
+        }
+        seen
+    }
+
+    /// The same behind a damaged frame.
+    fn note_damage(self, short: bool, headed: bool) -> Signs
+        ensures { result ≡ with_damage self short headed }
+    {
+        let mut seen = self;
+        seen.damaged = true;
+        seen.headed = self.headed || headed;
+        seen.short = self.short || short;
+        seen.unmended = true;
+        seen.out = self.out.saturating_add(1);
+        seen
+    }
+
     /// The same behind a whole block.
     fn note_block(self, place: SendPlace, kind: FrameKind) -> Signs
         ensures { result ≡ with_block self place kind }
     {
         let mut seen = self;
         seen.framed = true;
-        seen.out = true;
+        seen.unmended = false;
+        seen.out = self.out.saturating_add(1);
         match (place, kind) {
             (SendPlace::Before, FrameKind::OutOfTurn) => seen.unnamed = true,
             (_, FrameKind::End) => seen.over = true,
@@ -189,8 +248,8 @@ impl Signs {
     {
         let mut seen = self;
         seen.refusals = 0;
-        if self.out {
-            seen.out = false;
+        if self.out > 0 {
+            seen.out = self.out - 1;
             seen.finished = self.finished || self.over;
         } else {
             seen.ahead = true;
@@ -203,7 +262,8 @@ impl Signs {
         ensures { result ≡ with_nak self }
     {
         let mut seen = self;
-        seen.out = false;
+        seen.out = self.out.saturating_sub(1);
+        seen.nak_first = self.nak_first || !(self.asked || self.framed || self.damaged);
         if self.refusals < REFUSALS - 1 {
             seen.refusals = self.refusals + 1;
         } else {

@@ -1,7 +1,7 @@
 //! What went wrong in a session, by what was seen of it.
 
-ghost use Rattle.std.specs.Prelude.{◌≡◌, true};
-ghost use Rattle.ym_explain.specs.Evidence.{shows, first_shown, order, late_order, last_order};
+ghost use Rattle.std.specs.Prelude.{◌≡◌};
+ghost use Rattle.ym_explain.specs.Evidence.{shows, first_shown, order_of};
 
 use crate::signs::Signs;
 use std::fmt;
@@ -9,9 +9,13 @@ use std::fmt;
 /// What went wrong, or that nothing did.
 #[derive(Clone, Copy, Debug, PartialEq, Eq)]
 pub enum Verdict {
-    /// The end of the batch was acknowledged.
+    /// The end of the batch was acknowledged, and no frame came damaged.
     Whole,
-    /// The other end speaks ZMODEM.
+    /// The end of the batch was acknowledged, and what came damaged was sent again.
+    Mended,
+    /// The sender wrote the end of the batch, and what was answered is not known.
+    SenderDone,
+    /// An end speaks ZMODEM.
     Zmodem,
     /// What the sender wrote came back.
     Echo,
@@ -21,16 +25,26 @@ pub enum Verdict {
     Noise,
     /// The sender speaks XMODEM.
     Xmodem,
+    /// The receiver speaks XMODEM.
+    XmodemReceiver,
     /// No receiver asked for a file.
     NobodyAsked,
     /// The receiver asked, and no sender wrote.
     NobodyAnswered,
+    /// The line takes 11 and 13 for itself.
+    FlowControl,
+    /// The line takes 1A for itself.
+    SubEaten,
     /// The line takes 11 and 13, or 1A, for itself.
     EatenBytes,
+    /// A block 0 had no room for the whole length.
+    NoRoom,
     /// A file ended before its length.
     CutLength,
     /// Ten refusals came in a row.
     TooManyErrors,
+    /// The last frame came damaged, and never whole.
+    Damage,
     /// The sender cancelled.
     SenderCancelled,
     /// The receiver cancelled.
@@ -39,64 +53,131 @@ pub enum Verdict {
     ReplyAhead,
     /// None of the others: the session stopped.
     Stopped,
+    /// None of the others, and one way alone is known.
+    Unheard,
 }
 
-/// The first verdict that what was seen shows, in the order of `Verdict`, of which `Stopped` is
-/// shown by anything.
-pub fn verdict_of(seen: Signs) -> Verdict
-    ensures shown { shows result seen ≡ true }
-    ensures first { result ≡ first_shown seen order }
+/// The verdicts in the order in which they are looked for, where both ways are known: what keeps a
+/// session from beginning comes before what stops it.
+pub const ORDER: [Verdict; 21] = [
+    Verdict::Whole,
+    Verdict::Mended,
+    Verdict::Zmodem,
+    Verdict::Echo,
+    Verdict::SevenBits,
+    Verdict::Noise,
+    Verdict::Xmodem,
+    Verdict::XmodemReceiver,
+    Verdict::NobodyAsked,
+    Verdict::NobodyAnswered,
+    Verdict::FlowControl,
+    Verdict::SubEaten,
+    Verdict::EatenBytes,
+    Verdict::NoRoom,
+    Verdict::CutLength,
+    Verdict::TooManyErrors,
+    Verdict::Damage,
+    Verdict::ReplyAhead,
+    Verdict::SenderCancelled,
+    Verdict::ReceiverCancelled,
+    Verdict::Stopped,
+];
+
+/// The same where only the way from the sender is known.
+pub const ORDER_THERE: [Verdict; 13] = [
+    Verdict::Zmodem,
+    Verdict::SevenBits,
+    Verdict::Noise,
+    Verdict::Xmodem,
+    Verdict::NoRoom,
+    Verdict::CutLength,
+    Verdict::SenderDone,
+    Verdict::FlowControl,
+    Verdict::SubEaten,
+    Verdict::EatenBytes,
+    Verdict::Damage,
+    Verdict::SenderCancelled,
+    Verdict::Unheard,
+];
+
+/// The same where only the way from the receiver is known.
+pub const ORDER_BACK: [Verdict; 9] = [
+    Verdict::Zmodem,
+    Verdict::Echo,
+    Verdict::Noise,
+    Verdict::XmodemReceiver,
+    Verdict::NobodyAsked,
+    Verdict::TooManyErrors,
+    Verdict::ReceiverCancelled,
+    Verdict::NobodyAnswered,
+    Verdict::Unheard,
+];
+
+/// Which ways of a line are known.
+#[derive(Clone, Copy, Debug, PartialEq, Eq)]
+pub enum Ways {
+    /// Both.
+    Both,
+    /// That from the sender of the files.
+    There,
+    /// That from their receiver.
+    Back,
+}
+
+/// The first verdict that what was seen shows, in the order of these ways.
+pub fn verdict_of(ways: Ways, seen: Signs) -> Verdict
+    ensures { result ≡ first_shown seen (order_of ways) }
 {
-    if seen.finished && !seen.cut_length {
-        Verdict::Whole
-    } else if seen.zmodem {
-        Verdict::Zmodem
-    } else if seen.echoed {
-        Verdict::Echo
-    } else if seen.damaged && !seen.high {
-        Verdict::SevenBits
-    } else {
-        verdict_of_start(seen)
+    match ways {
+        Ways::Both => first_of(seen, &ORDER),
+        Ways::There => first_of(seen, &ORDER_THERE),
+        Ways::Back => first_of(seen, &ORDER_BACK),
     }
 }
 
-/// The same where the line itself is not known to be the reason.
-fn verdict_of_start(seen: Signs) -> Verdict
-    ensures shown { shows result seen ≡ true }
-    ensures first { result ≡ first_shown seen late_order }
+/// The first of these verdicts that what was seen shows.
+fn first_of(seen: Signs, order: &[Verdict]) -> Verdict
+    ensures { result ≡ first_shown seen order.now }
 {
-    if seen.junk && seen.high && !seen.framed && !seen.damaged {
-        Verdict::Noise
-    } else if seen.unnamed {
-        Verdict::Xmodem
-    } else if !seen.asked {
-        Verdict::NobodyAsked
-    } else if !seen.framed && !seen.damaged {
-        Verdict::NobodyAnswered
-    } else if seen.short && !(seen.flow && seen.sub) {
-        Verdict::EatenBytes
-    } else {
-        verdict_of_end(seen)
+    for verdict in order {
+        if verdict.is_shown(seen) {
+            return *verdict;
+        }
     }
+    Verdict::Stopped
 }
 
-/// The same where both ends spoke.
-fn verdict_of_end(seen: Signs) -> Verdict
-    ensures shown { shows result seen ≡ true }
-    ensures first { result ≡ first_shown seen last_order }
-{
-    if seen.cut_length {
-        Verdict::CutLength
-    } else if seen.gave_up {
-        Verdict::TooManyErrors
-    } else if seen.sender_cancelled {
-        Verdict::SenderCancelled
-    } else if seen.receiver_cancelled {
-        Verdict::ReceiverCancelled
-    } else if seen.ahead {
-        Verdict::ReplyAhead
-    } else {
-        Verdict::Stopped
+impl Verdict {
+    /// Whether what was seen bears this verdict out.
+    fn is_shown(self, seen: Signs) -> bool
+        ensures { result ≡ shows self seen }
+    {
+        match self {
+            Verdict::Whole => seen.finished && !seen.cut_length && !seen.no_room && !seen.damaged,
+            Verdict::Mended => seen.finished && !seen.cut_length && !seen.no_room && seen.damaged,
+            Verdict::SenderDone => seen.over && !seen.unmended,
+            Verdict::Zmodem => seen.zmodem,
+            Verdict::Echo => seen.echoed,
+            Verdict::SevenBits => seen.damaged && !seen.high,
+            Verdict::Noise => (seen.junk && seen.high || seen.back_high && !seen.asked)
+                && !seen.framed
+                && !seen.headed,
+            Verdict::Xmodem => seen.unnamed,
+            Verdict::XmodemReceiver => seen.nak_first && !seen.asked,
+            Verdict::NobodyAsked => !seen.asked,
+            Verdict::NobodyAnswered => !seen.framed && !seen.damaged && !seen.ahead,
+            Verdict::FlowControl => seen.short && !seen.flow && seen.sub,
+            Verdict::SubEaten => seen.short && seen.flow && !seen.sub,
+            Verdict::EatenBytes => seen.short && !seen.flow && !seen.sub,
+            Verdict::NoRoom => seen.no_room,
+            Verdict::CutLength => seen.cut_length,
+            Verdict::TooManyErrors => seen.gave_up,
+            Verdict::Damage => seen.unmended,
+            Verdict::SenderCancelled => seen.sender_cancelled,
+            Verdict::ReceiverCancelled => seen.receiver_cancelled,
+            Verdict::ReplyAhead => seen.ahead,
+            Verdict::Stopped | Verdict::Unheard => true,
+        }
     }
 }
 
@@ -109,6 +190,11 @@ impl fmt::Display for Verdict {
     fn fmt<W: fmt::Write>(&self, f: &mut fmt::Formatter<W>) -> fmt::Result {
         match self {
             Verdict::Whole => write!(f, "the session is whole: nothing went wrong"),
+            Verdict::Mended => write!(f, "the session is whole: what came damaged was sent again"),
+            Verdict::SenderDone => write!(
+                f,
+                "the sender wrote its whole batch: what the receiver answered is not in the file"
+            ),
             Verdict::Zmodem => write!(
                 f,
                 "an end speaks ZMODEM: start it with sb or rb in place of sz or rz"
@@ -129,6 +215,10 @@ impl fmt::Display for Verdict {
                 f,
                 "the sender names no file, as XMODEM does: start it as a sender of YMODEM"
             ),
+            Verdict::XmodemReceiver => write!(
+                f,
+                "the receiver asks by NAK, as XMODEM does: start it as a receiver of YMODEM"
+            ),
             Verdict::NobodyAsked => write!(
                 f,
                 "no receiver asked for a file: start one, and see that its line is connected"
@@ -137,14 +227,21 @@ impl fmt::Display for Verdict {
                 f,
                 "the receiver asked and no frame came: start the sender"
             ),
+            Verdict::FlowControl => write!(
+                f,
+                "frames came short, and no 11 or 13 in them: turn XON/XOFF off at both ends and between them"
+            ),
+            Verdict::SubEaten => write!(
+                f,
+                "frames came short, and no 1A in them: set the line to raw, so that it carries every byte"
+            ),
             Verdict::EatenBytes => write!(
                 f,
-                "frames came short, with no 11 and 13 or no 1A: turn flow control off"
+                "frames came short, with no 11 and 13 and no 1A: turn flow control off and set the line to raw"
             ),
-            Verdict::SenderCancelled => write!(f, "the sender cancelled: see what it says"),
-            Verdict::ReceiverCancelled => write!(
+            Verdict::NoRoom => write!(
                 f,
-                "the receiver cancelled: see what it says, and whether it can write the file"
+                "block 0 had no room for the whole length: send the file under a shorter name"
             ),
             Verdict::CutLength => write!(
                 f,
@@ -154,6 +251,15 @@ impl fmt::Display for Verdict {
                 f,
                 "ten frames in a row were refused: try a lower speed or a better line"
             ),
+            Verdict::Damage => write!(
+                f,
+                "a frame came damaged and never whole: try a lower speed or a better line"
+            ),
+            Verdict::SenderCancelled => write!(f, "the sender cancelled: see what it says"),
+            Verdict::ReceiverCancelled => write!(
+                f,
+                "the receiver cancelled: see what it says, and whether it can write the file"
+            ),
             Verdict::ReplyAhead => write!(
                 f,
                 "the receiver acknowledged what was not sent yet: start both ends again"
@@ -161,6 +267,10 @@ impl fmt::Display for Verdict {
             Verdict::Stopped => write!(
                 f,
                 "the session stopped before its end: see whether the line was cut or an end was closed"
+            ),
+            Verdict::Unheard => write!(
+                f,
+                "nothing wrong is seen one way: record both ways to see what was answered"
             ),
         }
     }

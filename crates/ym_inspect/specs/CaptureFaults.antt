@@ -1,0 +1,20 @@
+-- Why a capture is not told to its end, in words.
+use Rattle.std.specs.Prelude.{ℕ, List, ◌++◌, codes, decimal}
+use Rattle.ym_inspect.specs.declared.fault.InspectFault.{InspectFault}
+use Rattle.ym_inspect.specs.declared.fault.InspectFault.TheVariants.{Memory, Read, Write, Endless, Line}
+use Rattle.ym_inspect.specs.declared.fault.RecordFault.{RecordFault}
+use Rattle.ym_inspect.specs.declared.fault.RecordFault.TheVariants.{Seconds, Way, Digit, HalfByte}
+
+abbrev pub record_words : RecordFault → List ℕ
+record_words Seconds = codes "it does not begin with its seconds and a space"
+record_words Way = codes "no > and no < stands behind its seconds"
+record_words Digit = codes "a character is no hexadecimal digit"
+record_words HalfByte = codes "its last byte has one digit"
+
+abbrev pub fault_words : InspectFault → List ℕ
+fault_words Memory = codes "out of memory"
+fault_words Read = codes "a read of the capture failed"
+fault_words Write = codes "a write failed"
+fault_words Endless = codes "the capture has no end"
+fault_words (Line number why) =
+    codes "line " ++ (decimal number ++ (codes ": " ++ record_words why))

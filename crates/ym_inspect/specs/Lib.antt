@@ -1,0 +1,5 @@
+pub mod CaptureFaults
+pub mod CaptureTold
+pub mod EndWords
+pub mod Inspecting
+pub mod Recorded

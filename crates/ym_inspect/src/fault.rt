@@ -1,0 +1,81 @@
+//! Why a capture is not told to its end.
+
+use std::alloc::AllocError;
+use std::fmt;
+
+/// What is wrong with a line of a record.
+#[derive(Clone, Copy, Debug, PartialEq, Eq)]
+pub enum RecordFault {
+    /// It does not begin with a number of seconds and a space.
+    Seconds,
+    /// Neither `>` nor `<` stands behind the seconds.
+    Way,
+    /// A character is no hexadecimal digit.
+    Digit,
+    /// Its last byte has one digit.
+    HalfByte,
+}
+
+impl fmt::Display for RecordFault {
+    ghost use Rattle.std.specs.Prelude.{Some};
+    ghost use Rattle.ym_inspect.specs.CaptureFaults.{record_words};
+
+    ghost output = { λ fault. Some (record_words fault) };
+
+    fn fmt<W: fmt::Write>(&self, f: &mut fmt::Formatter<W>) -> fmt::Result {
+        match self {
+            RecordFault::Seconds => write!(f, "it does not begin with its seconds and a space"),
+            RecordFault::Way => write!(f, "no > and no < stands behind its seconds"),
+            RecordFault::Digit => write!(f, "a character is no hexadecimal digit"),
+            RecordFault::HalfByte => write!(f, "its last byte has one digit"),
+        }
+    }
+}
+
+/// Why a capture is not told to its end.
+#[derive(Clone, Copy, Debug, PartialEq, Eq)]
+pub enum InspectFault {
+    /// Out of memory.
+    Memory,
+    /// A read failed.
+    Read,
+    /// A write failed.
+    Write,
+    /// More was told than 64 bits count.
+    Endless,
+    /// A line of a record cannot be read.
+    Line {
+        /// Its number, from 1 on.
+        number: u64,
+        /// What is wrong with it.
+        why: RecordFault,
+    },
+}
+
+impl fmt::Display for InspectFault {
+    ghost use Rattle.std.specs.Prelude.{Some};
+    ghost use Rattle.ym_inspect.specs.CaptureFaults.{fault_words};
+
+    ghost output = { λ fault. Some (fault_words fault) };
+
+    fn fmt<W: fmt::Write>(&self, f: &mut fmt::Formatter<W>) -> fmt::Result {
+        match *self {
+            InspectFault::Memory => write!(f, "out of memory"),
+            InspectFault::Read => write!(f, "a read of the capture failed"),
+            InspectFault::Write => write!(f, "a write failed"),
+            InspectFault::Endless => write!(f, "the capture has no end"),
+            InspectFault::Line { number, why } => write!(f, "line {number}: {why}"),
+        }
+    }
+}
+
+impl From<AllocError> for InspectFault {
+    ghost use Rattle.std.specs.Prelude.{◌≡◌};
+    ghost use Rattle.ym_inspect.specs.declared.fault.InspectFault.TheVariants.{Memory};
+
+    ghost from_gives = { λ _ fault. fault ≡ Memory };
+
+    fn from(_: AllocError) -> InspectFault {
+        InspectFault::Memory
+    }
+}

@@ -1,0 +1,280 @@
+//! A capture under way: what is held of each way, and where both ends stand.
+
+ghost use Rattle.std.specs.Prelude.{◌≡◌, [], OnOk, IfOk};
+ghost use Rattle.ym_explain.specs.Evidence.{first_shown, order_of};
+ghost use Rattle.std.specs.Io.KnownBytes.{Appends};
+ghost use Rattle.ym_told.specs.TellFront.{used_by};
+ghost use Rattle.ym_inspect.specs.CaptureTold.{Ends, Tells, TellsAll, at_moment, last_words, tagged};
+ghost use Rattle.ym_inspect.specs.Inspecting.{nothing_held, held_of, with_piece, with_scene, without, IsFront, IsTold, TellsFront};
+
+use crate::fault::InspectFault;
+use crate::held::Held;
+use crate::parting::Parting;
+use std::alloc::{AllocError, Global};
+use std::io::Write;
+use std::marker::Model;
+use ym_explain::{Verdict, Ways, tell_sent, verdict_of};
+use ym_told::{
+    Direction, Front, Moment, RunEnd, Scene, Settle, Standing, Stretch, front_back, front_there,
+};
+
+/// A frame that is not whole is over where nothing more came for so many microseconds.
+const QUIET: u64 = 1_000_000;
+
+/// So many are enough where the receiver answers.
+const ANSWERED: u64 = 50_000;
+
+/// A capture under way.
+#[derive(Drop)]
+pub(crate) struct Inspection {
+    alloc: Global,
+    there: Held,
+    back: Held,
+    scene: Scene,
+    last_there: Option<u64>,
+    last_back: Option<u64>,
+    parted_at: Option<Moment>,
+}
+
+impl Model for Inspection {
+    ghost use Rattle.ym_inspect.specs.Inspecting.{Parts};
+
+    ghost Value = { Parts };
+
+    ghost view = { λ i. record {
+      there = i.there;
+      back = i.back;
+      scene = i.scene;
+      last_there = i.last_there;
+      last_back = i.last_back;
+      parted_at = i.parted_at;
+    } };
+}
+
+impl Inspection {
+    /// One of which nothing came.
+    pub(crate) fn new(alloc: Global) -> Inspection
+        ensures { result ≡ nothing_held }
+    {
+        Inspection {
+            alloc,
+            there: Held::new(alloc),
+            back: Held::new(alloc),
+            scene: Scene::new(),
+            last_there: None,
+            last_back: None,
+            parted_at: None,
+        }
+    }
+
+    /// Where both ends stand.
+    pub(crate) fn standing(&self) -> Standing
+        ensures { result ≡ self.now.scene.standing }
+    {
+        self.scene.standing
+    }
+
+    /// The bytes of this way that are held.
+    pub(crate) fn held(&self, way: Direction) -> &[u8]
+        ensures { result.now ≡ held_of self.now way }
+    {
+        match way {
+            Direction::There => self.there.as_slice(),
+            Direction::Back => self.back.as_slice(),
+        }
+    }
+
+    /// Holds bytes that came this way.
+    pub(crate) fn hold(&mut self, way: Direction, piece: &[u8]) -> Result<(), AllocError>
+        ensures { OnOk result (self.new ≡ with_piece self.old way piece.now) }
+    {
+        match way {
+            Direction::There => {
+                self.there.add(piece)?;
+                self.scene.standing.signs = self.scene.standing.signs.note_bytes(piece);
+            }
+            Direction::Back => self.back.add(piece)?,
+        }
+        Ok(())
+    }
+
+    /// Takes bytes that came this way at this moment, and tells what is sure.
+    pub(crate) fn take<W: Write>(
+        &mut self,
+        way: Direction,
+        at: u64,
+        piece: &[u8],
+        out: &mut W,
+    ) -> Result<(), InspectFault>
+        ensures { OnOk result (Tells self.old (W.contents out.old) (tagged way piece.now)
+            self.new (W.contents out.new)) }
+    {
+        self.settle(way, at, piece, out)?;
+        self.pass(way, at);
+        self.hold(way, piece)?;
+        self.tell_way(way, Settle::Nothing, out)?;
+        Ok(())
+    }
+
+    /// Tells what is over before this piece comes this way, at this moment.
+    fn settle<W: Write>(
+        &mut self,
+        way: Direction,
+        at: u64,
+        piece: &[u8],
+        out: &mut W,
+    ) -> Result<(), InspectFault>
+        ensures { OnOk result
+            (Tells self.old (W.contents out.old) [] self.new (W.contents out.new)) }
+    {
+        self.tell_way(way.other(), Settle::Damage, out)?;
+        self.tell_way(Direction::There, self.settle_there(way, at, piece), out)?;
+        self.tell_way(Direction::Back, settle_over(self.last_back, at, QUIET), out)?;
+        Ok(())
+    }
+
+    /// What is sure of the sender's way at this moment, where this comes.
+    fn settle_there(&self, way: Direction, at: u64, piece: &[u8]) -> Settle {
+        let answers = way == Direction::Back && matches!(piece, [0x06 | 0x15 | 0x18, ..]);
+        let most = if answers { ANSWERED } else { QUIET };
+        settle_over(self.last_there, at, most)
+    }
+
+    /// This moment is there, at which this way wrote.
+    fn pass(&mut self, way: Direction, at: u64)
+        ensures { self.new ≡ at_moment self.old way at }
+    {
+        self.scene.moment = Moment(Some(at));
+        match way {
+            Direction::There => self.last_there = Some(at),
+            Direction::Back => self.last_back = Some(at),
+        }
+    }
+
+    /// Tells all that is sure of what is held of this way.
+    pub(crate) fn tell_way<W: Write>(
+        &mut self,
+        way: Direction,
+        settle: Settle,
+        out: &mut W,
+    ) -> Result<(), InspectFault>
+        ensures { OnOk result (TellsAll self.old (W.contents out.old) way settle
+            self.new (W.contents out.new)) }
+    {
+        for _ in 0..u64::MAX {
+            if !self.tell_one(way, settle, out)? {
+                return Ok(());
+            }
+        }
+        Err(InspectFault::Endless)
+    }
+
+    /// What stands at the front of what is held of this way, where that is sure.
+    fn front(&self, way: Direction, settle: Settle) -> Option<Front>
+        ensures { IsFront self.now way settle result }
+    {
+        match way {
+            Direction::There => {
+                let held = self.there.as_slice();
+                front_there(held, tell_sent(self.scene.standing.place, held), settle)
+            }
+            Direction::Back => front_back(
+                self.scene.run.is_in_text(),
+                self.back.as_slice(),
+                settle,
+            ),
+        }
+    }
+
+    /// Tells what stands at the front of what is held of this way, where that is sure, and lets go
+    /// of it. Else the answer is no.
+    pub(crate) fn tell_one<W: Write>(
+        &mut self,
+        way: Direction,
+        settle: Settle,
+        out: &mut W,
+    ) -> Result<bool, InspectFault>
+        ensures { IfOk result (λ told. IsTold self.old way settle told self.new
+            (W.contents out.old) (W.contents out.new)) }
+    {
+        match self.front(way, settle) {
+            None => Ok(false),
+            Some(front) => {
+                self.tell_front(way, front, out)?;
+                Ok(true)
+            }
+        }
+    }
+
+    /// Tells this front, and lets go of it.
+    fn tell_front<W: Write>(
+        &mut self,
+        way: Direction,
+        front: Front,
+        out: &mut W,
+    ) -> Result<(), InspectFault>
+        ensures { OnOk result (TellsFront self.old way front self.new
+            (W.contents out.old) (W.contents out.new)) }
+    {
+        let stretch = Stretch::of(front, self.held(way));
+        let text = self.scene.text(self.alloc, way, &stretch)?;
+        let behind = self.scene.behind(way, &stretch);
+        if out.write_all(text.as_bytes()).is_err() {
+            return Err(InspectFault::Write);
+        }
+        self.go_on(way, front, behind);
+        Ok(())
+    }
+
+    /// Goes on behind this front, where the scene is this.
+    fn go_on(&mut self, way: Direction, front: Front, behind: Scene)
+        ensures { self.new ≡ without (with_scene self.old behind) way (used_by front) }
+    {
+        if behind.standing.parted && !self.scene.standing.parted {
+            self.parted_at = Some(self.scene.moment);
+        }
+        self.scene = behind;
+        match way {
+            Direction::There => self.there.let_go(front.used()),
+            Direction::Back => self.back.let_go(front.used()),
+        }
+    }
+
+    /// Tells all that is left, where the two ends parted, and what went wrong.
+    pub(crate) fn end<W: Write>(&mut self, ways: Ways, out: &mut W) -> Result<Verdict, InspectFault>
+        ensures { IfOk result (λ verdict.
+            Ends self.old (W.contents out.old) ways verdict (W.contents out.new)) }
+    {
+        self.tell_way(Direction::There, Settle::All, out)?;
+        self.tell_way(Direction::Back, Settle::All, out)?;
+        self.put_end(ways, out)
+    }
+
+    /// Writes where the two ends parted, and what went wrong.
+    fn put_end<W: Write>(&self, ways: Ways, out: &mut W) -> Result<Verdict, InspectFault>
+        ensures verdict { IfOk result (λ verdict.
+            verdict ≡ first_shown self.now.scene.standing.signs (order_of ways)) }
+        ensures written { OnOk result
+            (Appends (W.contents out.old) (W.contents out.new) (last_words ways self.now)) }
+    {
+        let end = RunEnd(self.scene.run);
+        let parting = Parting(match ways {
+            Ways::Both => self.parted_at,
+            Ways::There | Ways::Back => None,
+        });
+        let verdict = verdict_of(ways, self.scene.standing.signs);
+        let text = format!(in self.alloc; "{end}{parting}{verdict}\n")?;
+        if out.write_all(text.as_bytes()).is_err() {
+            return Err(InspectFault::Write);
+        }
+        Ok(verdict)
+    }
+}
+
+/// All is sure of a way that was quiet for so long before a moment.
+fn settle_over(last: Option<u64>, at: u64, most: u64) -> Settle {
+    match last {
+        Some(last) if at.saturating_sub(last) >= most => Settle::All,
+        _ => Settle::Nothing,
+    }
+}

@@ -1,0 +1,145 @@
+-- Where both ends stand behind what is told of either.
+use Rattle.std.specs.Prelude.{ℕ, ◌-◌, ◌<◌, nat_lt, Bool, true, false, ◌||◌, if◌then◌else◌, List, Option, Some, None}
+use Rattle.ym_frame.specs.Block.{length_of}
+use Rattle.ym_frame.specs.declared.control.Control.{Control}
+use Rattle.ym_frame.specs.declared.frame.Whole.{Whole}
+use Rattle.ym_frame.specs.declared.frame.Whole.TheVariants as whole
+use Rattle.ym_explain.specs.Noting.{nothing_seen, noted, with_answer_junk}
+use Rattle.ym_explain.specs.SignOf.{sign_of, answer_sign}
+use Rattle.ym_explain.specs.Talking.{footing_of, meaning_of, is_parting, is_ahead}
+use Rattle.ym_explain.specs.Talking.{behind_answer as fate_behind}
+use Rattle.ym_explain.specs.declared.answered.AnswerLine.{AnswerLine}
+use Rattle.ym_explain.specs.declared.answered.AnswerLine.TheVariants as answer
+use Rattle.ym_explain.specs.declared.sent.SentLine.{SentLine}
+use Rattle.ym_explain.specs.declared.sent.SentLine.TheVariants as line
+use Rattle.ym_explain.specs.declared.signs.Sign.{Sign}
+use Rattle.ym_explain.specs.declared.signs.Sign.TheVariants as sign
+use Rattle.ym_explain.specs.declared.signs.Signs.{Signs}
+use Rattle.ym_explain.specs.declared.talk.Fate.{Fate}
+use Rattle.ym_explain.specs.declared.talk.Fate.TheVariants as fate
+use Rattle.ym_explain.specs.declared.told.FrameKind.{FrameKind}
+use Rattle.ym_explain.specs.declared.told.FrameKind.TheVariants as kind
+use Rattle.ym_explain.specs.declared.told.SendPlace.{SendPlace}
+use Rattle.ym_explain.specs.declared.told.SendPlace.TheVariants as place
+use Rattle.ym_told.specs.declared.front.Front.{Front}
+use Rattle.ym_told.specs.declared.front.Front.TheVariants as front
+use Rattle.ym_told.specs.declared.standing.Standing.{Standing}
+use Rattle.ym_told.specs.declared.way.Direction.{Direction}
+use Rattle.ym_told.specs.declared.way.Direction.TheVariants as way
+use Rattle.ym_told.specs.declared.stated.Stated.{Stated}
+use Rattle.ym_told.specs.declared.stated.Stated.TheVariants.{Length, NoRoom, Nothing}
+
+abbrev pub at_start : Standing
+at_start = record {
+  place = place.Before;
+  fate = fate.Start;
+  signs = nothing_seen;
+  left = 0;
+  parted = false;
+}
+
+-- what a block 0 states of its file
+abbrev pub with_stated : Standing → Stated → Standing
+with_stated at (Length length) = record at { left = length }
+with_stated at NoRoom = record at { signs = noted at.signs sign.NoRoom; left = 0 }
+with_stated at Nothing = record at { left = 0 }
+
+-- so many bytes of the file came
+abbrev pub with_data : Standing → Whole → Standing
+with_data at (whole.Block size) = record at { left = at.left - length_of size }
+with_data at whole.Eot = at
+with_data at whole.Cancel = at
+
+-- the file ends here
+abbrev pub with_end : Standing → Standing
+with_end at = if nat_lt 0 at.left then record at { signs = noted at.signs sign.CutLength } else at
+
+abbrev pub counted : Standing → Whole → FrameKind → Stated → Standing
+counted at whole kind.Name stated = with_stated at stated
+counted at whole kind.Data stated = with_data at whole
+counted at whole kind.Eot stated = with_end at
+counted at whole kind.End stated = at
+counted at whole kind.Copy stated = at
+counted at whole kind.OutOfTurn stated = at
+counted at whole kind.Cancel stated = at
+
+-- a frame is out, and a cancel is none
+abbrev pub fate_of : Fate → FrameKind → Fate
+fate_of now kind.Cancel = now
+fate_of now kind.Name = fate.Out
+fate_of now kind.Data = fate.Out
+fate_of now kind.Eot = fate.Out
+fate_of now kind.End = fate.Out
+fate_of now kind.Copy = fate.Out
+fate_of now kind.OutOfTurn = fate.Out
+
+abbrev pub behind_frame : Standing → Whole → FrameKind → SendPlace → Stated → Standing
+behind_frame at whole kind place stated = record (counted at whole kind stated) {
+  place = place;
+  fate = fate_of at.fate kind;
+  signs = noted (counted at whole kind stated).signs (sign_of at.place (line.Frame whole kind));
+  parted = at.parted || is_parting (footing_of at.fate kind);
+}
+
+-- a damaged frame is out, and has moved nobody
+abbrev pub behind_damage : Standing → SentLine → Standing
+behind_damage at told = record at {
+  fate = fate.Damaged;
+  signs = noted at.signs (sign_of at.place told);
+}
+
+-- With its third byte the complement came, and it agreed: the frame was not damaged until it ended.
+abbrev pub behind_cut : Standing → ℕ → Standing
+behind_cut at used = record at {
+  fate = fate.Damaged;
+  signs = noted at.signs (sign.Damage true (nat_lt 2 used));
+}
+
+abbrev pub with_sign : Signs → Option Sign → Signs
+with_sign seen (Some sign) = noted seen sign
+with_sign seen None = seen
+
+abbrev pub fate_at : Fate → AnswerLine → Fate
+fate_at now (answer.Answer control) = fate_behind now control
+fate_at now answer.Cancel = now
+fate_at now (answer.Echo used) = now
+fate_at now answer.Junk = now
+
+-- a frame, or a copy of one, has no answer yet
+abbrev pub owes : Standing → Bool
+owes at = nat_lt 0 at.signs.out
+
+abbrev pub runs_ahead : Standing → AnswerLine → Bool
+runs_ahead at (answer.Answer control) = is_ahead (meaning_of at.place at.fate (owes at) control)
+runs_ahead at answer.Cancel = false
+runs_ahead at (answer.Echo used) = false
+runs_ahead at answer.Junk = false
+
+abbrev pub behind_answer : Standing → AnswerLine → Standing
+behind_answer at line = record at {
+  fate = fate_at at.fate line;
+  signs = with_sign at.signs (answer_sign line);
+  parted = at.parted || runs_ahead at line;
+}
+
+abbrev pub other_way : Direction → Direction
+other_way way.There = way.Back
+other_way way.Back = way.There
+
+-- bytes that are no frame and no answer move nobody
+abbrev pub behind_run : Standing → Direction → List ℕ → Standing
+behind_run at way.There bytes = record at { signs = noted at.signs sign.Junk }
+behind_run at way.Back bytes = record at { signs = with_answer_junk at.signs bytes }
+
+abbrev pub behind_line : Standing → SentLine → SendPlace → Stated → Standing
+behind_line at (line.Frame whole kind) place stated = behind_frame at whole kind place stated
+behind_line at (line.Damage broken short) place stated = behind_damage at (line.Damage broken short)
+behind_line at line.Junk place stated = behind_damage at line.Junk
+
+-- behind a front of this way, with these bytes, which states so much of its file
+abbrev pub behind_front : Standing → Direction → Front → List ℕ → Stated → Standing
+behind_front at way (front.Run used) bytes stated = behind_run at way bytes
+behind_front at way front.Zmodem bytes stated = record at { signs = noted at.signs sign.Zmodem }
+behind_front at way (front.Cut used) bytes stated = behind_cut at used
+behind_front at way (front.Sent told) bytes stated = behind_line at told.line told.place stated
+behind_front at way (front.Answer line) bytes stated = behind_answer at line

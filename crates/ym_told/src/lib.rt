@@ -1,0 +1,23 @@
+//! What is told of each frame and answer that passed on a line: which line tells it, where both
+//! ends stand behind it. It reads no file and writes none.
+#![tactic(auto)]
+
+mod front;
+mod line;
+mod moment;
+mod run;
+mod runs;
+mod scene;
+mod standing;
+mod stated;
+mod way;
+mod words;
+
+pub use front::{ENOUGH, Front, Settle, front_back, front_there};
+pub use line::{Telling, line_of};
+pub use moment::Moment;
+pub use run::{Run, RunEnd, SHOWN};
+pub use scene::{Dated, Scene};
+pub use standing::Standing;
+pub use stated::{Announced, Stated, Stretch};
+pub use way::Direction;

@@ -1,0 +1,183 @@
+//! The lines that are told.
+
+ghost use Rattle.std.specs.Prelude.{◌≡◌, Some};
+ghost use Rattle.ym_told.specs.LineWords.{line_words, short_words};
+ghost use Rattle.ym_told.specs.LineOf.{line_told, line_sent, line_answered};
+
+use crate::front::Front;
+use crate::standing::Standing;
+use crate::words::{ControlWords, FootingWords, KindWords, MeaningWords};
+use std::fmt;
+use ym_explain::{
+    AnswerLine, Footing, FrameKind, Meaning, SentLine, SentTold, follows, meaning_of,
+};
+use ym_frame::{Broken, Control, Whole};
+
+/// What is told of the front of what an end wrote.
+#[derive(Clone, Copy)]
+pub enum Telling {
+    /// A whole block.
+    Block {
+        /// Its number.
+        number: u8,
+        /// How many bytes its frame has.
+        used: usize,
+        /// What it is to its session.
+        kind: FrameKind,
+        /// How it follows what was answered.
+        footing: Footing,
+    },
+    /// The end of a file.
+    Eot {
+        /// What it is to its session.
+        kind: FrameKind,
+        /// How it follows what was answered.
+        footing: Footing,
+    },
+    /// The sender cancels.
+    Cancel,
+    /// A damaged frame.
+    Damage {
+        /// Where and why it is broken.
+        broken: Broken,
+        /// How many bytes of it there are.
+        used: usize,
+        /// Whether another begins before its end.
+        short: bool,
+    },
+    /// A frame that ended before its end.
+    Cut {
+        /// How many bytes of it there are.
+        used: usize,
+    },
+    /// An answer.
+    Answer {
+        /// Which one.
+        control: Control,
+        /// What it means to the sender.
+        meaning: Meaning,
+    },
+    /// The receiver cancels.
+    ReceiverCancel,
+    /// A whole block from the receiver.
+    Echo {
+        /// How many bytes it has.
+        used: usize,
+    },
+    /// A header with which ZMODEM greets.
+    Zmodem,
+}
+
+/// That a damaged frame ends where another begins.
+#[derive(Clone, Copy)]
+struct ShortWords(bool);
+
+impl fmt::Display for ShortWords {
+    ghost output = { λ short. Some (short_words short.0) };
+
+    fn fmt<W: fmt::Write>(&self, f: &mut fmt::Formatter<W>) -> fmt::Result {
+        match self.0 {
+            true => write!(f, ", and another begins there"),
+            false => write!(f, ""),
+        }
+    }
+}
+
+impl fmt::Display for Telling {
+    ghost output = { λ line. Some (line_words line) };
+
+    fn fmt<W: fmt::Write>(&self, f: &mut fmt::Formatter<W>) -> fmt::Result {
+        match *self {
+            Telling::Block {
+                number,
+                used,
+                kind,
+                footing,
+            } => {
+                let kind = KindWords(kind);
+                let footing = FootingWords(footing);
+                write!(f, "block {number}, {used} bytes: {kind}{footing}")
+            }
+            Telling::Eot { kind, footing } => {
+                let kind = KindWords(kind);
+                let footing = FootingWords(footing);
+                write!(f, "EOT: {kind}{footing}")
+            }
+            Telling::Cancel => write!(f, "CAN CAN: the sender cancels"),
+            Telling::Damage {
+                broken,
+                used,
+                short,
+            } => {
+                let short = ShortWords(short);
+                write!(f, "damaged, {used} bytes, {broken}{short}")
+            }
+            Telling::Cut { used } => write!(f, "cut, {used} bytes of a frame and no more"),
+            Telling::Answer { control, meaning } => {
+                let control = ControlWords(control);
+                let meaning = MeaningWords(meaning);
+                write!(f, "{control}: {meaning}")
+            }
+            Telling::ReceiverCancel => write!(f, "CAN CAN: the receiver cancels"),
+            Telling::Echo { used } => write!(f, "{used} bytes of the sender's own: an echo"),
+            Telling::Zmodem => write!(f, "a header of ZMODEM"),
+        }
+    }
+}
+
+/// The line that tells a front, where both ends stand so: a run has none of its own. The number is
+/// that of a block.
+pub fn line_of(standing: &Standing, front: Front, number: u8) -> Option<Telling>
+    ensures { result ≡ line_told standing.now front number }
+{
+    match front {
+        Front::Run(_) => None,
+        Front::Zmodem => Some(Telling::Zmodem),
+        Front::Cut(used) => Some(Telling::Cut { used }),
+        Front::Sent(told) => sent_line(standing, told, number),
+        Front::Answer(line) => answer_line(standing, line),
+    }
+}
+
+/// The line that tells what the sender wrote.
+fn sent_line(standing: &Standing, told: SentTold, number: u8) -> Option<Telling>
+    ensures { result ≡ line_sent standing.now told number }
+{
+    let used = told.used;
+    match told.line {
+        SentLine::Junk => None,
+        SentLine::Damage { broken, short } => Some(Telling::Damage {
+            broken,
+            used,
+            short,
+        }),
+        SentLine::Frame { whole, kind } => {
+            let footing = follows(standing.fate, kind);
+            Some(match whole {
+                Whole::Block(_) => Telling::Block {
+                    number,
+                    used,
+                    kind,
+                    footing,
+                },
+                Whole::Eot => Telling::Eot { kind, footing },
+                Whole::Cancel => Telling::Cancel,
+            })
+        }
+    }
+}
+
+/// The line that tells what the receiver wrote.
+fn answer_line(standing: &Standing, line: AnswerLine) -> Option<Telling>
+    ensures { result ≡ line_answered standing.now line }
+{
+    match line {
+        AnswerLine::Junk => None,
+        AnswerLine::Cancel => Some(Telling::ReceiverCancel),
+        AnswerLine::Echo { used } => Some(Telling::Echo { used }),
+        AnswerLine::Answer(control) => Some(Telling::Answer {
+            control,
+            meaning: meaning_of(standing.place, standing.fate, standing.owes(), control),
+        }),
+    }
+}

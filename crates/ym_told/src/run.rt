@@ -1,0 +1,117 @@
+//! A run of bytes that are no frame and no answer, told as its bytes come.
+
+ghost use Rattle.std.specs.Prelude.{◌≡◌, IfOk, string_bytes};
+ghost use Rattle.ym_told.specs.RunText.{no_run, run_behind, goes_on, is_in_text, part_words, end_words};
+
+use crate::moment::Moment;
+use crate::runs::{front_of, is_printable, shown};
+use crate::way::Direction;
+use std::alloc::{AllocError, Global};
+use std::fmt;
+
+/// So many bytes of a run are shown at most.
+pub const SHOWN: usize = 64;
+
+/// The run that was told last.
+#[derive(Clone, Copy)]
+pub struct Run {
+    /// Whether it may go on: nothing else was told behind it.
+    pub going: bool,
+    /// Which end wrote it.
+    pub way: Direction,
+    /// How many of its bytes are shown: 64 at most.
+    pub shown: usize,
+    /// How many bytes it has.
+    pub count: u64,
+    /// The last of them.
+    pub last: u8,
+}
+
+impl Run {
+    /// None was told.
+    pub fn none() -> Run
+        ensures { result ≡ no_run }
+    {
+        Run {
+            going: false,
+            way: Direction::There,
+            shown: 0,
+            count: 0,
+            last: 0,
+        }
+    }
+
+    /// The run behind these bytes of this way.
+    pub fn behind(self, way: Direction, bytes: &[u8]) -> Run
+        ensures { result ≡ run_behind self way bytes.now }
+    {
+        let before = if self.continues(way) {
+            self
+        } else {
+            Run::none()
+        };
+        let shown = bytes.len().min(SHOWN.saturating_sub(before.shown));
+        Run {
+            going: true,
+            way,
+            shown: before.shown.saturating_add(shown),
+            count: before.count.saturating_add(bytes.len() as u64),
+            last: bytes.last().copied().unwrap_or(before.last),
+        }
+    }
+
+    /// Whether bytes of this way go on with it.
+    pub fn continues(self, way: Direction) -> bool
+        ensures { result ≡ goes_on self way }
+    {
+        self.going && self.way == way
+    }
+
+    /// Whether it is printed text of the receiver so far.
+    pub fn is_in_text(self) -> bool
+        ensures { result ≡ is_in_text self }
+    {
+        self.continues(Direction::Back) && is_printable(self.last)
+    }
+
+    /// What tells these bytes of this way, which are no frame and no answer.
+    pub fn part(
+        self,
+        alloc: Global,
+        at: Moment,
+        way: Direction,
+        bytes: &[u8],
+    ) -> Result<String, AllocError>
+        ensures { IfOk result (λ text. string_bytes text ≡ part_words self at way bytes.now) }
+    {
+        if self.continues(way) {
+            let room = SHOWN.saturating_sub(self.shown);
+            return shown(alloc, front_of(bytes, room));
+        }
+        let end = RunEnd(self);
+        let front = shown(alloc, front_of(bytes, SHOWN))?;
+        format!(in alloc; "{end}{at}{way}no frame: {front}")
+    }
+}
+
+/// What ends the line of a run, if one is open.
+#[derive(Clone, Copy)]
+pub struct RunEnd(pub Run);
+
+impl fmt::Display for RunEnd {
+    ghost use Rattle.std.specs.Prelude.{Some};
+
+    ghost output = { λ end. Some (end_words end.0) };
+
+    fn fmt<W: fmt::Write>(&self, f: &mut fmt::Formatter<W>) -> fmt::Result {
+        let run = self.0;
+        let count = run.count;
+        if !run.going {
+            write!(f, "")
+        } else if count > run.shown as u64 {
+            write!(f, " .. {count} bytes\n")
+        } else {
+            write!(f, "\n")
+        }
+    }
+}

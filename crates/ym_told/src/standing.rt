@@ -1,0 +1,178 @@
+//! Where both ends stand in what was told so far.
+
+ghost use Rattle.std.specs.Prelude.{◌≡◌};
+ghost use Rattle.ym_explain.specs.Noting.{noted};
+ghost use Rattle.ym_told.specs.BothStand.{at_start, behind_front, behind_run, behind_frame, behind_damage, behind_cut, behind_answer, counted, owes as owes_one};
+
+use crate::front::Front;
+use crate::stated::Stated;
+use crate::way::Direction;
+use ym_explain::{
+    AnswerLine, Fate, Footing, FrameKind, Meaning, SendPlace, SentLine, Sign, Signs, answer_sign,
+    fate_behind, follows, is_ahead, is_parting, meaning_of, sent_sign,
+};
+use ym_frame::{Control, Whole};
+
+/// Where both ends stand, and what was seen so far.
+#[derive(Clone, Copy)]
+pub struct Standing {
+    /// Where the sender stands, by its frames.
+    pub place: SendPlace,
+    /// What became of its last frame.
+    pub fate: Fate,
+    /// What was seen.
+    pub signs: Signs,
+    /// How many bytes of the file under way have not come, as far as its length is known.
+    pub left: u64,
+    /// Whether the two ends have parted.
+    pub parted: bool,
+}
+
+impl Standing {
+    /// Nothing passed.
+    pub fn new() -> Standing
+        ensures { result ≡ at_start }
+    {
+        Standing {
+            place: SendPlace::Before,
+            fate: Fate::Start,
+            signs: Signs::new(),
+            left: 0,
+            parted: false,
+        }
+    }
+
+    /// Whether a frame, or a copy of one, has no answer yet.
+    pub fn owes(&self) -> bool
+        ensures { result ≡ owes_one self.now }
+    {
+        self.signs.out > 0
+    }
+
+    /// Behind a front of this way, with these bytes, which announces a file or not.
+    pub fn behind(self, way: Direction, front: Front, bytes: &[u8], stated: Stated) -> Standing
+        ensures { result ≡ behind_front self way front bytes.now stated }
+    {
+        match front {
+            Front::Run(_) => self.behind_run(way, bytes),
+            Front::Zmodem => self.seeing(Sign::Zmodem),
+            Front::Cut(used) => self.behind_cut(used),
+            Front::Sent(told) => match told.line {
+                SentLine::Frame { whole, kind } => {
+                    self.behind_frame(whole, kind, told.place, stated)
+                }
+                SentLine::Damage { .. } | SentLine::Junk => self.behind_damage(told.line),
+            },
+            Front::Answer(line) => self.behind_answer(line),
+        }
+    }
+
+    /// Behind a run of these bytes.
+    fn behind_run(self, way: Direction, bytes: &[u8]) -> Standing
+        ensures { result ≡ behind_run self way bytes.now }
+    {
+        match way {
+            Direction::There => self.seeing(Sign::Junk),
+            Direction::Back => {
+                let mut behind = self;
+                behind.signs = self.signs.note_answer_junk(bytes);
+                behind
+            }
+        }
+    }
+
+    /// Behind a whole frame of this kind, which leaves the sender at this place. A block 0 states
+    /// what it does.
+    fn behind_frame(
+        self,
+        whole: Whole,
+        kind: FrameKind,
+        place: SendPlace,
+        stated: Stated,
+    ) -> Standing
+        ensures { result ≡ behind_frame self whole kind place stated }
+    {
+        let mut behind = self.counted(whole, kind, stated);
+        behind.signs = behind
+            .signs
+            .note(sent_sign(self.place, SentLine::Frame { whole, kind }));
+        behind.place = place;
+        behind.fate = match kind {
+            FrameKind::Cancel => self.fate,
+            _ => Fate::Out,
+        };
+        behind.parted = self.parted || is_parting(follows(self.fate, kind));
+        behind
+    }
+
+    /// With the bytes of the file under way counted.
+    fn counted(self, whole: Whole, kind: FrameKind, stated: Stated) -> Standing
+        ensures { result ≡ counted self whole kind stated }
+    {
+        let mut behind = self;
+        match (kind, whole, stated) {
+            (FrameKind::Name, _, Stated::Length(length)) => behind.left = length,
+            (FrameKind::Name, _, Stated::NoRoom) => {
+                behind.left = 0;
+                behind.signs = self.signs.note(Sign::NoRoom);
+            }
+            (FrameKind::Name, _, Stated::Nothing) => behind.left = 0,
+            (FrameKind::Data, Whole::Block(size), _) => {
+                behind.left = self.left.saturating_sub(size.body_len() as u64);
+            }
+            (FrameKind::Eot, _, _) if self.left > 0 => {
+                behind.signs = self.signs.note(Sign::CutLength);
+            }
+            _ => {}
+        }
+        behind
+    }
+
+    /// Behind a damaged frame: it is out, and has moved nobody.
+    fn behind_damage(self, line: SentLine) -> Standing
+        ensures { result ≡ behind_damage self line }
+    {
+        let mut behind = self;
+        behind.signs = self.signs.note(sent_sign(self.place, line));
+        behind.fate = Fate::Damaged;
+        behind
+    }
+
+    /// Behind a frame that ended before its end, of which so many bytes came.
+    fn behind_cut(self, used: usize) -> Standing
+        ensures { result ≡ behind_cut self used }
+    {
+        let mut behind = self;
+        behind.signs = self.signs.note(Sign::Damage {
+            short: true,
+            headed: used > 2,
+        });
+        behind.fate = Fate::Damaged;
+        behind
+    }
+
+    /// Behind what is told of the receiver.
+    fn behind_answer(self, line: AnswerLine) -> Standing
+        ensures { result ≡ behind_answer self line }
+    {
+        let mut behind = self;
+        if let Some(sign) = answer_sign(line) {
+            behind.signs = self.signs.note(sign);
+        }
+        if let AnswerLine::Answer(control) = line {
+            behind.fate = fate_behind(self.fate, control);
+            behind.parted = self.parted
+                || is_ahead(meaning_of(self.place, self.fate, self.owes(), control));
+        }
+        behind
+    }
+
+    /// Behind a sign that moves nobody.
+    fn seeing(self, sign: Sign) -> Standing
+        ensures { result ≡ record self { signs = noted self.signs sign } }
+    {
+        let mut behind = self;
+        behind.signs = self.signs.note(sign);
+        behind
+    }
+}

@@ -1,0 +1,172 @@
+//! What a block 0 announces of its file.
+
+ghost use Rattle.std.specs.Prelude.{◌≡◌, take};
+ghost use Rattle.ym_frame.specs.Frame.{verdict_of};
+ghost use Rattle.ym_told.specs.TellFront.{used_by};
+ghost use Rattle.ym_told.specs.Announcing.{stated_by, announced_words, after_name, fills, is_digit as digit_byte, IsAnnounced, IsFileIn, names_file};
+
+use crate::front::Front;
+use crate::runs::front_of;
+use std::fmt;
+use ym_explain::{FrameKind, SentLine};
+use ym_frame::{ItemRef, verdict};
+use ym_header::{HeaderFault, HeaderRef, ZeroRef, read_borrowed};
+
+/// What a block 0 states of its file's length.
+#[derive(Clone, Copy)]
+pub enum Stated {
+    /// So many bytes.
+    Length(u64),
+    /// The name leaves no room for the length, or not for all of it.
+    NoRoom,
+    /// Nothing that can be read.
+    Nothing,
+}
+
+/// What the front of the sender's bytes announces.
+#[derive(Drop)]
+pub enum Announced<'a> {
+    /// The file of this header; and whether its length fills block 0 to the end.
+    File(HeaderRef<'a>, bool),
+    /// A file, in a block 0 that cannot be read.
+    Unread(HeaderFault),
+    /// No file.
+    Nothing,
+}
+
+impl Announced<'_> {
+    /// What it states of the length.
+    pub fn stated(&self) -> Stated
+        ensures { result ≡ stated_by self.now }
+    {
+        match self {
+            Announced::File(header, is_full) => {
+                if *is_full {
+                    Stated::NoRoom
+                } else {
+                    Stated::Length(header.length())
+                }
+            }
+            Announced::Unread(HeaderFault::NoLength) => Stated::NoRoom,
+            Announced::Unread(
+                HeaderFault::NameEmpty
+                | HeaderFault::NameLong
+                | HeaderFault::NameUnsafe
+                | HeaderFault::LengthLarge
+                | HeaderFault::Memory,
+            )
+            | Announced::Nothing => Stated::Nothing,
+        }
+    }
+}
+
+impl fmt::Display for Announced<'_> {
+    ghost use Rattle.std.specs.Prelude.{Some};
+
+    ghost output = { λ announced. Some (announced_words announced) };
+
+    fn fmt<W: fmt::Write>(&self, f: &mut fmt::Formatter<W>) -> fmt::Result {
+        match self {
+            Announced::File(header, _) => {
+                let name = header.name();
+                let length = header.length();
+                write!(f, "  file {name}, {length} bytes\n")
+            }
+            Announced::Unread(HeaderFault::NoLength) => {
+                write!(f, "  a file with no length behind its name\n")
+            }
+            Announced::Unread(HeaderFault::LengthLarge) => {
+                write!(f, "  a file with a length that is too large\n")
+            }
+            Announced::Unread(
+                HeaderFault::NameEmpty
+                | HeaderFault::NameLong
+                | HeaderFault::NameUnsafe
+                | HeaderFault::Memory,
+            ) => write!(f, "  a file with a name that no file may have\n"),
+            Announced::Nothing => write!(f, ""),
+        }
+    }
+}
+
+/// Whether digits, and nothing else, stand between the 00 behind the name and the end of the body:
+/// the length may have been cut there.
+fn is_full(body: &[u8]) -> bool
+    ensures { result ≡ fills (after_name body.now) }
+{
+    behind_zero(body).iter().all(|byte| is_digit(*byte))
+}
+
+/// Whether a byte is a decimal digit.
+fn is_digit(byte: u8) -> bool
+    ensures { result ≡ digit_byte byte }
+{
+    matches!(byte, b'0'..=b'9')
+}
+
+/// The bytes behind the first 00.
+fn behind_zero(body: &[u8]) -> &[u8]
+    ensures { result.now ≡ after_name body.entry.now }
+{
+    for (place, byte) in body.iter().enumerate() {
+        if *byte == 0 {
+            return &body[place + 1..];
+        }
+    }
+    &body[body.len()..]
+}
+
+/// A front of a way, with its bytes, and the file that it announces.
+#[derive(Drop)]
+pub struct Stretch<'a> {
+    /// The front.
+    pub front: Front,
+    /// Its bytes.
+    pub bytes: &'a [u8],
+    /// What it announces.
+    pub file: Announced<'a>,
+}
+
+impl<'a> Stretch<'a> {
+    /// This front of these bytes.
+    pub fn of(front: Front, held: &'a [u8]) -> Stretch<'a>
+        ensures front { result.front ≡ front }
+        ensures bytes { result.bytes.now ≡ take (used_by front) held.entry.now }
+        ensures file { IsAnnounced front result.bytes.now result.file }
+    {
+        let bytes = front_of(held, front.used());
+        let file = if is_name(front) {
+            file_in(bytes)
+        } else {
+            Announced::Nothing
+        };
+        Stretch { front, bytes, file }
+    }
+}
+
+/// The file that the block 0 at the front of these bytes announces.
+fn file_in(bytes: &[u8]) -> Announced<'_>
+    ensures { IsFileIn (verdict_of bytes.entry.now) result }
+{
+    let Ok((ItemRef::Block(block), _)) = verdict(bytes) else {
+        return Announced::Nothing;
+    };
+    match read_borrowed(block.body()) {
+        Ok(ZeroRef::File(header)) => Announced::File(header, is_full(block.body())),
+        Ok(ZeroRef::End) => Announced::Nothing,
+        Err(fault) => Announced::Unread(fault),
+    }
+}
+
+/// Whether the front is the block 0 of a file.
+fn is_name(front: Front) -> bool
+    ensures { result ≡ names_file front }
+{
+    match front {
+        Front::Sent(told) => match told.line {
+            SentLine::Frame { kind, .. } => kind == FrameKind::Name,
+            SentLine::Damage { .. } | SentLine::Junk => false,
+        },
+        Front::Run(_) | Front::Zmodem | Front::Cut(_) | Front::Answer(_) => false,
+    }
+}
