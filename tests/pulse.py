@@ -35,6 +35,13 @@ class Pulse(threading.Thread):
                 self.late.append((due, now))
             due = now + BEAT
 
+    def note(self, began, within):
+        """Takes down that what began then is done only now, where that is later than so many
+        seconds."""
+        now = time.monotonic()
+        if now - began > within:
+            self.late.append((began, now))
+
     def was_late(self, since):
         """Whether a beat was late since then."""
         return any(now > since for _, now in list(self.late))

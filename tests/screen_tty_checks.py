@@ -8,7 +8,7 @@ import socket
 import threading
 
 from cable import plug
-from frames import CANCEL
+from frames import CANCEL, header
 from program import LIMIT, PROGRAM, ROOT, folders, free_port, stored, wants_stored, write_files
 from screen import screen
 from screen_checks import WIDTHS, gives, is_progress, packed, takes, told
@@ -128,11 +128,59 @@ def interrupted(columns, sends):
             left = stored(os.path.join(here, "got"))
         wants("what is there", list(left), [] if sends else [NAME + ".part"])
         part = "ymodem-tty: 'got/first.bin.part' is left of a file: "
-        part += "remove it, or receive again with --discard-parts"
+        part += "receive again, which replaces it, or remove it"
         end = shows(columns, STOPPED, *([] if sends else [part]), "[ended 130]")
         wants("the end", lines[-len(end) :], end)
         at = lines[-len(end) - 1]
         wants("whether the line before tells how far it was", is_progress(at) is not None, True)
+
+    return check
+
+
+def replaces(columns):
+    """What an earlier run left is replaced: that is told in as many lines as it needs."""
+
+    def check():
+        with folders() as (here, there):
+            write_files(here, FILE)
+            write_files(there, [(NAME + ".part", b"left")])
+            with on_line(columns, there, "receive") as (it, shown):
+                shown.sees(lambda lines: any("waiting for" in it for it in lines))
+                with peer([PROGRAM, "sb", NAME], here, it.inner):
+                    lines = shown.ended()
+            wants_stored(there, FILE)
+        line = shows(columns, "'%s.part', left from an earlier run, was replaced" % NAME)
+        starts = [at for at in range(len(lines)) if lines[at : at + len(line)] == line]
+        wants("how often it was told", len(starts), 1)
+
+    return check
+
+
+# Times as `date -u` tells them, and modes as `ls -l` does.
+STAMPS = (
+    (b"5120 15300550564 100644", "5120 bytes, 2026-11-22 11:26:44 UTC, rw-r--r--"),
+    (b"5120 0 100755", "5120 bytes, rwxr-xr-x"),
+    (b"5120 15300550564", "5120 bytes, 2026-11-22 11:26:44 UTC"),
+    (b"5120", "5120 bytes"),
+)
+
+
+def introduces(columns, is_asked):
+    """What a header tells of its file is shown as people write it, where that is asked for."""
+
+    def check():
+        for stamp, text in STAMPS:
+            asked = ["--verbose"] if is_asked else []
+            with folders() as (here, _):
+                os.mkdir(os.path.join(here, "got"))
+                with on_line(columns, here, "receive", *asked, "got") as (it, shown):
+                    shown.sees(lambda lines: any("waiting for" in it for it in lines))
+                    with other_end(it, lambda end: end.sendall(header(NAME.encode(), stamp) + CANCEL)):
+                        lines = shown.ended()
+            line = shows(columns, "receiving %s, %s" % (NAME, text))
+            starts = [at for at in range(len(lines)) if lines[at : at + len(line)] == line]
+            wants("how often %r was told" % line, len(starts), 1 if is_asked else 0)
+            wants("what else tells of it", any("receiving" in it for it in lines), is_asked)
 
     return check
 
@@ -236,6 +284,9 @@ CHECKS = [
     *(("a screen of %d: ymodem-tty send is stopped" % it, interrupted(it, True)) for it in WIDTHS),
     *(("a screen of %d: a part is left" % it, interrupted(it, False)) for it in WIDTHS[:-1]),
     ("a part that is left is told by its path", interrupted(WIDTHS[-1], False)),
+    *(("a screen of %d: a part is replaced" % it, replaces(it)) for it in WIDTHS),
+    *(("a screen of %d: what comes is told, --verbose" % it, introduces(it, True)) for it in WIDTHS),
+    *(("a screen of %d: what comes is not told" % it, introduces(it, False)) for it in WIDTHS),
     *(("a screen of %d: cancelled on a line" % it, cancelled(it)) for it in WIDTHS),
     *(("a screen of %d: ymodem-tty refuses words" % it, refused(it)) for it in WIDTHS),
     *(("a screen of %d: a port in use" % it, in_use(it)) for it in WIDTHS),

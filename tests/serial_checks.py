@@ -12,8 +12,9 @@ import tty
 from cable import cable, plug, set_for_ticks
 from frames import END
 from in_call import READ, waits_in
-from program import LIMIT, PROGRAM, file_lines, folders, wants_same, wants_stored, write_files
+from program import LIMIT, PROGRAM, file_lines, folders, stored, wants_same, wants_stored, write_files
 from skipping import Skipped, needs
+from storing import part_of, received, refused, wants_whole_front
 from terminal import joined
 from waits import wait_for
 
@@ -171,6 +172,98 @@ def hangs_up(cut_at):
     return check
 
 
+# Long enough that some of it is in its part before all of it is there.
+LONG = [("before", CHANCE.randbytes(100)), ("first.bin", CHANCE.randbytes(200_000))]
+IN_THE_MIDDLE = 150_000
+LEFT = part_of("first.bin")
+REPLACED = "'%s', left from an earlier run, was replaced\n" % LEFT
+HELD = (
+    "cannot store 'first.bin': '%s' is in use by another program, or is no regular file; "
+    "wait for that program, or move it away\n" % LEFT
+)
+
+
+@contextlib.contextmanager
+def in_the_middle(here, there):
+    """`ymodem rb` in the middle of the second file of a batch, for as long as this lasts, and the
+    line, which goes on at the end where it may."""
+    with cable(hold_at=IN_THE_MIDDLE) as it:
+        for end in (it.near, it.far):
+            set_for_ticks(end.path)
+        paths = write_files(here, LONG)
+        with (
+            started([PROGRAM, "rb", "--line", it.far.path], there) as receiver,
+            started([PROGRAM, "sb", "--line", it.near.path, *paths], here),
+        ):
+            if not it.is_held.wait(LIMIT):
+                raise AssertionError("the line never came to the middle")
+            yield receiver, it
+
+
+def left_by_a_killed_one(here, there):
+    """What `ymodem rb` leaves that is killed in the middle of a file."""
+    with in_the_middle(here, there) as (receiver, _):
+        receiver.kill()
+        receiver.wait(LIMIT)
+    count, parts = wants_whole_front(stored(there), LONG)
+    wants_same({"left": (count, parts)}, {"left": (1, [LEFT])})
+
+
+def rb_of_the_last(here, there, words, status, out, told):
+    """`ymodem rb` of the last file alone: how it ends, and what is told of parts."""
+    with cable() as it:
+        for end in (it.near, it.far):
+            set_for_ticks(end.path)
+        paths = write_files(here, LONG[1:])
+        with (
+            started([PROGRAM, "rb", "--line", it.far.path, *words], there) as receiver,
+            started([PROGRAM, "sb", "--line", it.near.path, *paths], here),
+        ):
+            said, err = ends_with(receiver, status)
+    found = [line for line in err.splitlines(True) if LEFT in line]
+    wants_same({"said": (said, found)}, {"said": (out, told)})
+    if not told and status == 0 and err:
+        raise AssertionError("it told %r" % err)
+
+
+def comes_whole_again(words, told):
+    """`ymodem rb` is killed in the middle of a file. The next one receives it whole, and tells once
+    which part it replaced, to somebody who looks."""
+
+    def check():
+        with folders() as (here, there):
+            left_by_a_killed_one(here, there)
+            out = file_lines(LONG[1:]) + "receiver files 1 finished\n"
+            rb_of_the_last(here, there, words, 0, out, told)
+            wants_stored(there, LONG)
+
+    return check
+
+
+def held_part():
+    """What another `ymodem rb` is writing is left alone, and told. That one goes on."""
+    with folders() as (here, there), in_the_middle(here, there) as (receiver, line):
+        rb_of_the_last(here, there, ["--verbose"], 3, "receiver files 0 sink-failed\n", [HELD])
+        line.go_on.set()
+        says(receiver, 0, file_lines(LONG) + "receiver files 2 finished\n")
+        wants_stored(there, LONG)
+
+
+def receive_refuses_it():
+    """`receive` refuses a file of which a killed `rb` left a part, and says by which flag it does not."""
+    with folders() as (here, there):
+        left_by_a_killed_one(here, there)
+        before = stored(there)
+        for words in ((), ("--verbose",)):
+            ended, _ = received(LONG[1:], there, words)
+            wants_same({"status": ended.status, "out": ended.out}, {"status": 3, "out": refused(0, LONG[1:])})
+            told = "'%s' is left from an earlier run; --discard-parts removes such parts\n" % LEFT
+            wants_same({"told": told in ended.err}, {"told": bool(words)})
+            wants_same(stored(there), before)
+        received(LONG[1:], there, ["--discard-parts"])[0].wants(0, file_lines(LONG[1:]) + "receiver files 1 finished\n")
+        wants_stored(there, LONG)
+
+
 def refuses(path_in, why, before=None, **how):
     """A line that is refused, and what is told of it, to somebody who looks."""
 
@@ -308,6 +401,12 @@ CHECKS = [
     ("a cable that is pulled in block 0", hangs_up(10)),
     ("a cable that is pulled in a data block", hangs_up(1500)),
     ("a cable that is pulled in the second file", hangs_up(20_000)),
+    ("rb: a part that was left is replaced, and told", comes_whole_again(["--verbose"], [REPLACED])),
+    ("rb: a part that was left is replaced, where nobody looks", comes_whole_again([], [])),
+    ("rb: a part that was left is replaced, --quiet", comes_whole_again(["--verbose", "--quiet"], [])),
+    ("rb: a part that was left is replaced, --discard-parts", comes_whole_again(["--discard-parts", "--verbose"], [REPLACED])),
+    ("rb: a part that another one writes is left alone, and told", held_part),
+    ("rb: a part that was left is refused by receive", receive_refuses_it),
     ("a line that is not there", refuses(lambda here, _: here + "/nothing", "no such device")),
     ("a line that is a file", refuses(lambda here, _: write_files(here, [("file", b"")])[0], "it is no terminal")),
     ("a line that is a folder", refuses(lambda here, _: here, "it is no terminal")),

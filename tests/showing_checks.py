@@ -9,7 +9,7 @@ import time
 from frames import ACK, EOT, NAK, START, frames_of
 from peers import PlainReceiver, called, frames_at, receive_from, send_to
 from program import LIMIT, PROGRAM, connected, file_lines, folders, free_port, run, running, wants_stored, write_files
-from telling import DATA, FILE, connecting, line, listening, missing, under_terminal, wants
+from telling import DATA, FILE, coming, connecting, line, listening, missing, under_terminal, wants
 from terminal import UnderTerminal
 
 
@@ -195,7 +195,8 @@ def whole_files_in_lines():
     with folders() as (here, there):
         paths, port = write_files(here, FILE), free_port()
         with running("receive", "-p", port, "--eager", "--verbose", there) as receive:
-            connected_to = re.escape(listening(port).encode()) + b"connected\n"
+            first = listening(port) + "connected\n" + coming("first.bin", len(DATA))
+            connected_to = re.escape(first.encode())
             wants("its first line", receive.child.stderr.readline().decode(), listening(port))
             send = run("send", "-p", port, "--verbose", *paths)
             ended = receive.ended()

@@ -16,6 +16,7 @@ from frames import END, EOT, START, frames_of
 from hang_up_checks import End
 from in_call import WRITE, waits_in
 from program import LIMIT, PROGRAM, Ending, folders, stored, wants_same, write_files
+from pulse import beating
 from serial_checks import ends_with, peer, started
 from skipping import needs
 from terminal import UnderTerminal
@@ -25,6 +26,9 @@ from waits import wait_until
 
 CHANCE = random.Random(23)
 FILES = [("one", CHANCE.randbytes(3000)), ("none", b""), ("two", CHANCE.randbytes(6000))]
+# Seconds within which the cable goes on behind the stop. Two seconds behind the stop the script
+# tells the other end, and what was held back has to be apart from that by one second.
+PROMPT = 0.7
 # Seconds in which an end that was cancelled has ended, also on a busy machine. Where CAN CAN is
 # lost, lrzsz's `rb` takes 50 or more.
 SOON = 40
@@ -139,9 +143,11 @@ def stopped(job, stop, moment, is_lrzsz):
             other = other_end(job, is_lrzsz, ends.other, there if job == "send" else here, paths)
             other = later.enter_context(other)
             wait_until(it.is_held.is_set, "the sender has sent %d bytes" % moment)
+            began = time.monotonic()
             stop.do(shown)
             wait_until(lambda: not runs(shown.child.pid), "the program was stopped")
             it.go_on.set()
+            beating().note(began, PROMPT)
             wants_same({"status": shown.ended()}, {"status": -stop.number})
             wait_until(lambda: bytes(ends.written).endswith(CANCEL), "the other end was told")
             wants_same({"settings": settings(ends.ours.path)}, {"settings": before})

@@ -19,6 +19,10 @@ def connecting(port):
     return "connecting to 127.0.0.1:%d\n" % port
 
 
+def coming(name, length):
+    return "receiving %s, %d bytes\n" % (name, length)
+
+
 def wants(what, got, wanted):
     if got != wanted:
         raise AssertionError("%s: %r, wanted %r" % (what, got, wanted))

@@ -11,7 +11,7 @@ from frames import ACK, ACK_START, CANCEL, END, EOT, NAK, START, header
 from peers import PlainReceiver, frames_at, receive_from, send_to
 from program import PROGRAM, folders, free_port, run, running, wants_stored, write_files
 from skipping import Skipped, needs
-from telling import FAULT, FILE, connecting, listening, missing, wants
+from telling import DATA, FAULT, FILE, coming, connecting, listening, missing, wants
 
 LOUD = ("--verbose",)
 ECHOES = "the line echoes what is sent: is a %s running there?\n"
@@ -48,11 +48,29 @@ def unstored(flags, there_is, told, lock=False):
             for loud in (False, True):
                 port = free_port()
                 with running("receive", "-p", port, "--eager", *flags, *(LOUD if loud else ()), there) as receive, running("send", "-p", port, *paths):
-                    more = listening(port) + "connected\n" + told if loud else ""
+                    more = listening(port) + "connected\n" + coming("first.bin", len(DATA)) + told if loud else ""
                     receive.ended().wants(3, "receiver files 0 sink-failed\n", more + FAULT)
             wants_stored(there, there_is)
 
     return check
+
+
+def replaces_a_part():
+    """A part that was left is removed as it was asked for: what goes to a pipe says nothing of it, and
+    somebody who looks is told."""
+    for flags in ((), LOUD, (*LOUD, "--quiet")):
+        with folders() as (here, there):
+            paths, port = write_files(here, FILE), free_port()
+            write_files(there, [("first.bin.part", b"left")])
+            words = ("receive", "-p", port, "--eager", "--discard-parts", *flags, there)
+            with running(*words) as receive, running("send", "-p", port, *paths):
+                ended = receive.ended()
+            wants_stored(there, FILE)
+        wants("the status", ended.status, 0)
+        told = [it for it in ended.err.splitlines() if "first.bin.part" in it]
+        line = "'first.bin.part', left from an earlier run, was replaced"
+        wants("what it told", told, [line] if flags == LOUD else [])
+        wants("whether it told anything", bool(ended.err), flags == LOUD)
 
 
 def no_folder(make, told, before=tuple):
@@ -170,7 +188,7 @@ def meanwhile(change, told, kept):
 
                 ended = receive_from(peer, there, ("--eager", *flags))
                 if flags:
-                    wants("what it told", ended.err.split("\n", 2)[2], told + FAULT)
+                    wants("what it told", ended.err.split("\n", 2)[2], coming("a", 0) + told + FAULT)
                 else:
                     ended.wants(3, "receiver files 0 sink-failed\n", FAULT)
                 wants("what the folder has", sorted(os.listdir(there)), kept)
@@ -292,10 +310,12 @@ CHECKS = [
         unstored(
             ("--discard-parts",),
             [("first.bin.part", b"held")],
-            "cannot store 'first.bin': 'first.bin.part' is in use by another program, or is no part\n",
+            "cannot store 'first.bin': 'first.bin.part' is in use by another program, or is no regular file; "
+            "wait for that program, or move it away\n",
             lock=True,
         ),
     ),
+    ("tells that a part was replaced", replaces_a_part),
     (
         "tells why a file is not stored: its name came meanwhile",
         meanwhile(takes_the_name, THERE % "a", ["a"]),
@@ -326,7 +346,7 @@ CHECKS = [
     ("tells that answers take longer than usual peers wait", tells_that_answers_are_late),
     (
         "tells that the ends are out of step",
-        received_from(goes_on, 1, "out-of-step", "a block came out of turn: the two ends are out of step, send again\n"),
+        received_from(goes_on, 1, "out-of-step", coming("a", 0) + "a block came out of turn: the two ends are out of step, send again\n"),
     ),
     (
         "tells that a name is not safe",

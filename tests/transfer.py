@@ -1,7 +1,7 @@
 #!/usr/bin/env python3
 """Tries the program on real sockets and files: transfers over a line that is damaged, lines with the pace of a serial one, peers that start
 late, stall or misbehave, and lrzsz where it is installed; ends that are killed, folders, files and calls of the system that fail, a disk that loses
-power, and who can reach the sockets.
+power, who can reach the sockets, and what is told of recorded sessions.
 
 Prints a line for each check, and ends with the line 'N passed, M failed, K skipped'; the status is 1 where a check failed. It needs Python alone,
 uses ports of 127.0.0.1, and takes about two minutes, most of which is spent in waiting. What needs strace, or a file system or a network of its own
@@ -20,6 +20,7 @@ import sys
 sys.dont_write_bytecode = True
 sys.path.insert(0, os.path.dirname(os.path.abspath(__file__)))
 
+import explain_checks
 import kill_checks
 import large_checks
 import late_checks
@@ -41,7 +42,7 @@ from storing import steadily
 # What depends on how soon this process answers comes first, and by itself: most of these checks wait most of the time. The others have work to do.
 TIMED = (transfer_checks, peer_checks, late_checks, stall_checks, line_checks)
 TIMED_AT_ONCE = 500
-OTHERS = (large_checks, kill_checks, refused_call_checks, power_cut_checks, storage_checks, small_disk_checks, socket_checks, tape_checks)
+OTHERS = (large_checks, kill_checks, refused_call_checks, power_cut_checks, storage_checks, small_disk_checks, socket_checks, tape_checks, explain_checks)
 OTHERS_AT_ONCE = 60
 
 

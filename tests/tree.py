@@ -11,7 +11,7 @@ from skipping import needs
 from waits import wait_until
 
 # It tells what it was called with in the file `called`. Where the file `slow` is there, `rt run` and `rt ci` wait for their end, and
-# where `else` is there, a program for tests prints something else than its cases want.
+# where `else` is there, a program for tests prints something else than its cases want. `below` has the crates that `rt ci` proves first.
 STAND_IN = r"""#!/bin/sh
 [ "$1" = version ] || echo "$*" >> "$CALLED/called"
 case $1 in
@@ -33,7 +33,11 @@ lib)
     ;;
 ci)
     [ ! -e "$CALLED/slow" ] || echo $$ > "$CALLED/process"
-    for name in line_cases port_cases ymodem; do
+    for name in $(cat "$CALLED/below" 2> /dev/null); do
+        mkdir -p "crates/$name/out/rlib"
+        echo "rt: $name proved"
+    done
+    for name in explain_cases line_cases port_cases ymodem; do
         mkdir -p "crates/$name/out" && cp "$YMODEM" "crates/$name/out/$name"
         echo "rt: $name proved"
     done

@@ -3,7 +3,7 @@
 
 The gate proves every crate, tries the edits that have to be refused, and runs the crates' tests.
 Beside it come want of memory (tests/memory.py), the library for C with the page, made in a copy
-of the tree since the gate holds the crates' folders, and, as soon as the gate has proved and built
+of the tree since the gate holds the crates' folders, over the crates that the gate proved, and, as soon as the gate has proved and built
 the program, the tests of that very program. So nothing of the program is proved twice, and most
 tests wait for lines and peers while the gate needs the processors.
 
@@ -32,11 +32,13 @@ ROOT = proved.ROOT
 OUT = os.path.join(ROOT, "out")
 LOG = os.path.join(OUT, "gate.log")
 # Copies, since the gate is at work in the crates' own folders, by the variables that name them to the tests.
-TRIED = {"YMODEM": "ymodem", "CASES": "port_cases", "LINE_CASES": "line_cases"}
+TRIED = {"YMODEM": "ymodem", "CASES": "port_cases", "LINE_CASES": "line_cases", "EXPLAIN_CASES": "explain_cases"}
 # The tests side by side, those of a row in turn: most of them wait for lines and peers.
 ROWS = (("transfer", "shipped"), ("lines",), ("library", "bare", "web"), ("uboot", "boards", "portable"))
 # These need the library or the page, which are made meanwhile.
 TESTS_OF_LIBRARY = {"library", "bare", "web", "uboot", "boards", "portable"}
+# The crate of the library for C.
+LIBRARY = "ym_c"
 # What the library as files for every processor is made of, and by.
 WASM = os.path.join(OUT, "lib", "wasm64-unknown-unknown", "libymodem.a")
 # It comes last, and tells what was skipped in the others.
@@ -176,11 +178,19 @@ def memory():
     return shown("tests/memory.py", [*LATER, os.path.join(ROOT, "tests", "memory.py")])
 
 
-def library_and_page(installed):
-    """Makes the library for C and the page in a copy of the tree, where no gate holds the crates' folders."""
+def library_and_page(installed, gate):
+    """Makes the library for C and the page in a copy of the tree, where no gate holds the crates' folders.
+
+    It waits for the crates below the library, and takes them as the gate proved and built them."""
+    below = [name for name in proved.made_of(LIBRARY) if name != LIBRARY]
+    if not gate.has_proved(*below):
+        return 0
     with tempfile.TemporaryDirectory(prefix="ymodem-lib-") as top:
         copy = os.path.join(top, "tree")
         shutil.copytree(ROOT, copy, ignore=shutil.ignore_patterns("out", ".git", "must-fail", "edits", "plants", "__pycache__"))
+        for name in below:
+            made = os.path.join("crates", name, "out", "rlib")
+            shutil.copytree(os.path.join(ROOT, made), os.path.join(copy, made))
         if shown("the library for C", [*LATER, "make", "--no-print-directory", "lib"], copy):
             return 1
         brought(copy, "lib")
@@ -269,7 +279,7 @@ def tried(gate, before, library):
 def judged(gate, beside):
     """Begins all that goes on beside the gate, and waits for its end. Gives the gate's status, or the name of what failed."""
     installed = Beside("packages", packages, gate)
-    works = (("the library for C and the page", lambda: library_and_page(installed)), ("tests/memory.py", memory))
+    works = (("the library for C and the page", lambda: library_and_page(installed, gate)), ("tests/memory.py", memory))
     beside += [installed, *(Beside(name, work, gate) for name, work in works)]
     failed = tried(gate, *beside[:2])
     for it in beside:

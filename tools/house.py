@@ -113,7 +113,8 @@ def edits_of_the_gate():
         if not 2 <= count <= 4:
             yield "%s has %d, not two to four" % (crate, count)
     for crate in sorted(set(edits_in("edits")) - set(tried)):
-        yield "%s has none in must-fail/" % crate
+        if not TRIES.fullmatch(crate):
+            yield "%s has none in must-fail/" % crate
     if sum(tried.values()) > EDITS:
         yield "there are %d, more than %d" % (sum(tried.values()), EDITS)
 

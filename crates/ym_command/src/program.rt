@@ -135,12 +135,12 @@ fn order_of(flags: ReceiveFlags, dir: &str) -> Order<'_>
     }
 }
 
-/// What a receiver is asked for by the flags of `rb`, and where: it asks for the first file at
-/// once, and there is one line.
+/// What a receiver is asked for by the flags of `rb`, and where: it removes the parts that earlier
+/// runs left, asks for the first file at once, and there is one line.
 fn line_order_of(store: StoreFlags, dir: &str) -> Order<'_>
     ensures confirm { result.confirm ≡ confirm_of store.single }
     ensures durability { result.durability ≡ durability_of store.no_sync }
-    ensures leftover { result.leftover ≡ leftover_of store.discard_parts }
+    ensures leftover { result.leftover ≡ Leftover.Discarded }
     ensures eager { result.eager ≡ true }
     ensures keep { result.keep ≡ false }
     ensures dir { result.dir.now ≡ dir.now }
@@ -150,7 +150,10 @@ fn line_order_of(store: StoreFlags, dir: &str) -> Order<'_>
         eager: true,
         keep: false,
     };
-    order_of(flags, dir)
+    Order {
+        leftover: Leftover::Discarded,
+        ..order_of(flags, dir)
+    }
 }
 
 /// How much is told, by the flags of a job.

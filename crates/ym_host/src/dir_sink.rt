@@ -1,14 +1,13 @@
 //! A sink that stores files in a folder.
 
-ghost use Rattle.std.specs.Prelude.{◌≡◌, ◌≢◌, ◌≤◌, [], None, Some, Err, OnOk, OnErr, IfOk, unwrap_or};
+ghost use Rattle.std.specs.Prelude.{◌≡◌, ◌≢◌, ◌≤◌, [], true, None, Some, All, Err, IfSome, OnOk, OnErr, IfOk, option_map, unwrap_or};
 ghost use Rattle.ym_file.specs.Counts.{Rose};
 ghost use Rattle.ym_file.specs.Kept.{IsNew, IsCoveredFile, room};
 ghost use Rattle.ym_host.specs.DirSink.{kept_of, IsTold};
+ghost use Rattle.ym_host.specs.Part.{IsPartName};
 
 use crate::file_id::stands_at;
-use crate::part::{
-    discard_part, give_name, make_part, open_folder, part_name, path_in, remove_part,
-};
+use crate::part::{discard_part, give_name, make_part, open_folder, paths, remove_part};
 use crate::write_behind::WriteBehind;
 use std::alloc::{AllocError, Global};
 use std::fs::{File, Files};
@@ -72,6 +71,8 @@ struct OpenPart {
     target: PathBuf,
     taken: u64,
     standing: Standing,
+    /// The name of NAME.part, where one of an earlier run was removed for it.
+    replaced: Option<String>,
 }
 
 /// Stores each file of a batch in a folder: it is written as NAME.part, 64 KiB at a time, and gets the name NAME when it is whole. Nothing that is
@@ -94,13 +95,13 @@ pub struct DirSink<R: Files<File = File> + Drop> {
 impl<R: Files<File = File> + Drop> Model for DirSink<R> {
     ghost use Rattle.std.specs.Vec.{vec_len, vec_capacity};
     ghost use Rattle.ym_host.specs.DirSink.{DirSinkParts, IsTold};
-    ghost use Rattle.ym_host.specs.OpenPart.{open_header, open_taken, IsReady};
+    ghost use Rattle.ym_host.specs.OpenPart.{open_header, open_replaced, open_taken, IsReady, IsReplacing};
 
     ghost Value = { DirSinkParts };
 
-    ghost view = { λ s. record { opened = open_header s.taking; taken = open_taken s.taking; headers = s.committed.items; failures = s.failed; first = s.first } };
+    ghost view = { λ s. record { opened = open_header s.taking; taken = open_taken s.taking; headers = s.committed.items; failures = s.failed; first = s.first; leftover = s.leftover; replaced = open_replaced s.taking } };
 
-    ghost invariant = { λ s. IsReady s.taking (vec_len s.committed) (vec_capacity s.committed) × IsTold s.failed s.first };
+    ghost invariant = { λ s. IsReady s.taking (vec_len s.committed) (vec_capacity s.committed) × IsTold s.failed s.first × IsReplacing s.leftover s.taking };
 }
 
 /// Refuses a path at which something stands. What cannot be told counts as something.
@@ -141,6 +142,7 @@ impl OpenPart {
     fn put(&mut self, behind: &mut WriteBehind, bytes: &[u8]) -> io::Result<()>
         ensures header { self.new.header ≡ self.old.header }
         ensures taken { self.new.taken ≡ self.old.taken }
+        ensures replaced { self.new.replaced ≡ self.old.replaced }
         ensures was_sound { OnOk result (self.old.standing ≡ Standing.Sound) }
         ensures torn { OnErr result (self.new.standing ≢ Standing.Sound) }
     {
@@ -172,6 +174,7 @@ impl OpenPart {
     ) -> io::Result<()>
         ensures header { self.new.header ≡ self.old.header }
         ensures taken { self.new.taken ≡ self.old.taken }
+        ensures replaced { self.new.replaced ≡ self.old.replaced }
         ensures was_sound { OnOk result (self.old.standing ≡ Standing.Sound) }
         ensures named { OnOk result (self.new.standing ≡ Standing.Named) }
         ensures torn { OnErr result (self.new.standing ≢ Standing.Sound) }
@@ -193,6 +196,7 @@ impl OpenPart {
     fn name<R: Files<File = File>>(&mut self, rt: &R) -> io::Result<()>
         ensures header { self.new.header ≡ self.old.header }
         ensures taken { self.new.taken ≡ self.old.taken }
+        ensures replaced { self.new.replaced ≡ self.old.replaced }
         ensures named { OnOk result (self.new.standing ≡ Standing.Named) }
         ensures not_named { OnErr result (self.new.standing ≡ self.old.standing) }
     {
@@ -216,7 +220,7 @@ impl<R: Files<File = File> + Drop> DirSink<R> {
         durability: Durability,
         leftover: Leftover,
     ) -> Result<DirSink<R>, AllocError>
-        ensures parts { IfOk result (λ sink. sink ≡ record { opened = None; taken = 0; headers = []; failures = 0; first = None }) }
+        ensures parts { IfOk result (λ sink. sink ≡ record { opened = None; taken = 0; headers = []; failures = 0; first = None; leftover = leftover; replaced = None }) }
         ensures new { IfOk result (λ sink. IsNew (kept_of sink)) }
     {
         let dir = String::from_str(alloc, dir)?;
@@ -248,6 +252,17 @@ impl<R: Files<File = File> + Drop> DirSink<R> {
         ensures told { IsTold self.now.failures result }
     {
         self.first
+    }
+
+    /// The name of the part of an earlier run that was removed for the open file, where one was.
+    pub fn replaced(&self) -> Option<&str>
+        ensures name { option_map (λ name. name.now) result ≡ self.now.replaced }
+        ensures part { IfSome self.now.replaced
+            (λ name. IfSome self.now.opened (λ header. IsPartName header.name name)) }
+        ensures open { self.now.opened ≡ None → result ≡ None }
+        ensures asked { self.now.leftover ≡ Leftover.Refused → result ≡ None }
+    {
+        self.taking.as_ref()?.replaced.as_deref()
     }
 
     /// Removes the part that is open, if there is one. Where that fails it stays on the disk, and the sink has no open file all the same. A file that
@@ -283,7 +298,11 @@ impl<R: Files<File = File> + Drop> DirSink<R> {
     }
 
     /// Whether a part of this name may be removed: where that is wanted, and no file that this sink stored has the name.
-    fn may_discard(&self, part_name: &str) -> bool {
+    fn may_discard(&self, part_name: &str) -> bool
+        ensures asked { result ≡ true → self.now.leftover ≡ Leftover.Discarded }
+        ensures not_stored { result ≡ true →
+            All (λ header. header.name ≢ part_name.now) self.now.headers }
+    {
         self.leftover == Leftover::Discarded
             && self
                 .committed
@@ -291,25 +310,21 @@ impl<R: Files<File = File> + Drop> DirSink<R> {
                 .all(|header| header.name() != part_name)
     }
 
-    /// Makes a part new at this path, after one that an earlier run left there was removed where that is wanted.
-    fn open_part(&self, part_name: &str, part: &PathBuf) -> io::Result<File> {
+    /// Makes a part new at this path, after one that an earlier run left there was removed where
+    /// that is wanted; and tells whether one was.
+    fn open_part(&self, part_name: &str, part: &PathBuf) -> io::Result<(File, bool)>
+        ensures { IfOk result (λ made. made.1 ≡ true → self.now.leftover ≡ Leftover.Discarded) }
+    {
         match make_part(&self.rt, part) {
+            Ok(file) => Ok((file, false)),
             Err(error) if error.kind() == ErrorKind::AlreadyExists && self.may_discard(part_name) =>
                 {
                     discard_part(&self.rt, part)?;
-                    make_part(&self.rt, part)
+                    Ok((make_part(&self.rt, part)?, true))
                 }
-            made => made,
+            Err(error) => Err(error),
         }
     }
-}
-
-/// The name and the path of the part of a file of this name in a folder, and the path of the file.
-fn paths(alloc: Global, dir: &str, name: &str) -> Result<(String, PathBuf, PathBuf), AllocError> {
-    let part_name = part_name(alloc, name)?;
-    let part = path_in(alloc, dir, part_name.as_str())?;
-    let target = path_in(alloc, dir, name)?;
-    Ok((part_name, part, target))
 }
 
 impl<R: Files<File = File> + Drop> Sink for DirSink<R> {
@@ -329,7 +344,7 @@ impl<R: Files<File = File> + Drop> Sink for DirSink<R> {
             return Err(self.fail(why));
         }
         match self.open_part(part_name.as_str(), &part) {
-            Ok(file) => {
+            Ok((file, has_replaced)) => {
                 self.behind.clear();
                 self.taking = Some(OpenPart {
                     header,
@@ -338,6 +353,7 @@ impl<R: Files<File = File> + Drop> Sink for DirSink<R> {
                     target,
                     taken: 0,
                     standing: Standing::Sound,
+                    replaced: has_replaced.then_some(part_name),
                 });
                 Ok(())
             }

@@ -30,8 +30,22 @@ pub fn part_name(alloc: Global, name: &str) -> Result<String, AllocError>
 }
 
 /// The path of a name in a folder.
-pub(crate) fn path_in(alloc: Global, dir: &str, name: &str) -> Result<PathBuf, AllocError> {
+fn path_in(alloc: Global, dir: &str, name: &str) -> Result<PathBuf, AllocError> {
     Path::new(dir).join(alloc, name)
+}
+
+/// The name and the path of the part of a file of this name in a folder, and the path of the file.
+pub(crate) fn paths(
+    alloc: Global,
+    dir: &str,
+    name: &str,
+) -> Result<(String, PathBuf, PathBuf), AllocError>
+    ensures { IfOk result (λ made. IsPartName name.now made.0.bytes.items) }
+{
+    let part_name = part_name(alloc, name)?;
+    let part = path_in(alloc, dir, part_name.as_str())?;
+    let target = path_in(alloc, dir, name)?;
+    Ok((part_name, part, target))
 }
 
 /// The folder at this path, opened to be forced out to the disk. An empty path is the folder that the program runs in.

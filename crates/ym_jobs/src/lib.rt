@@ -13,6 +13,7 @@ mod serial;
 mod store;
 mod telling;
 mod told_line;
+mod watched;
 
 pub use command_fault::CommandFault;
 pub use connections::Connections;

@@ -18,6 +18,7 @@ use crate::lines::FileLine;
 use crate::store::Store;
 use crate::telling::{tell_end, tell_not_stored};
 use crate::told_line::{LineWords, ToldLine};
+use crate::watched::Watched;
 use std::alloc::{AllocError, Global};
 use std::cell::RefCell;
 use std::fs::{File, Files};
@@ -33,7 +34,7 @@ use ym_link::{Confirm, EndFault, Port, ReceiverInto, RecvState, receive_over};
 use ym_pair::laws::a_receiver_commits_what_it_heard;
 use ym_play::{Output, StreamFault};
 use ym_port::{InStep, Role, TimedPort};
-use ym_show::{Eager, Meter, ReceiveWatch, Receiving, Teller, Watched, WatchedPort, check_folder};
+use ym_show::{Eager, Meter, ReceiveWatch, Receiving, Teller, WatchedPort, check_folder};
 use ym_text::{EndMessage, FileMessage, Lately, Reason};
 
 /// After so many seconds without a byte it gives up: ten deliveries, each waited for so long.

@@ -7,8 +7,8 @@ mod folder;
 mod meter;
 mod receive_watch;
 mod send_watch;
+mod sink_watch;
 mod teller;
-mod watched;
 mod watched_port;
 
 pub use eager::Eager;
@@ -16,6 +16,6 @@ pub use folder::check_folder;
 pub use meter::Meter;
 pub use receive_watch::{ReceiveWatch, Receiving};
 pub use send_watch::{SendWatch, Sending};
+pub use sink_watch::SinkWatch;
 pub use teller::{Look, Teller};
-pub use watched::{SinkWatch, Watched};
 pub use watched_port::{PortWatch, WatchedPort};

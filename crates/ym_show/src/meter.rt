@@ -5,8 +5,8 @@ use std::alloc::Global;
 use std::io::Write;
 use std::time::{Clock, Duration, Instant};
 use ym_text::{
-    Awaited, Came, EchoMessage, Lately, Progress, Took, Waiting, Whole, progress_line, rate_of,
-    waiting_line,
+    Awaited, Came, Coming, EchoMessage, FileMessage, Lately, Progress, Took, Waiting, Whole,
+    progress_line, rate_of, waiting_line,
 };
 
 /// How long a rate is measured at least, in milliseconds.
@@ -210,6 +210,16 @@ impl<'t, E: Write + Drop, C: Clock + Drop> Meter<'t, E, C> {
             self.has_told_echo = true;
             self.teller.tell(message);
         }
+    }
+
+    /// What a file's header says is told, where more is to be told.
+    pub fn introduce(&mut self, file: Coming<'_>) {
+        self.teller.tell_more(file);
+    }
+
+    /// Something of the file that is under way is told.
+    pub fn tell(&mut self, message: FileMessage<'_>) {
+        self.teller.tell(message);
     }
 
     /// Its end got on.

@@ -1,7 +1,7 @@
 //! Who watches the sink of a receiver, and its port.
 
 use crate::meter::Meter;
-use crate::watched::SinkWatch;
+use crate::sink_watch::SinkWatch;
 use crate::watched_port::PortWatch;
 use std::alloc::Global;
 use std::cell::RefCell;
@@ -9,7 +9,7 @@ use std::io::Write;
 use std::time::Clock;
 use ym_header::Header;
 use ym_link::Wait;
-use ym_text::{Awaited, EchoMessage, Lately};
+use ym_text::{Awaited, Coming, EchoMessage, FileMessage, Lately};
 
 /// What is shown of a receiver.
 #[derive(Drop)]
@@ -58,6 +58,7 @@ impl<'t, E: Write + Drop, C: Clock + Drop> Receiving<'t, E, C> {
         self.blocks = 0;
         self.done = 0;
         self.meter.get_on();
+        self.meter.introduce(Coming(header));
         self.meter.begin(header.name(), header.length());
     }
 
@@ -156,6 +157,16 @@ impl<'s, 't, E: Write + Drop, C: Clock + Drop> SinkWatch for ReceiveWatch<'s, 't
         }
         if let Ok(mut shown) = self.shown.try_borrow_mut() {
             shown.begin(header);
+        }
+    }
+
+    #[cold]
+    fn replaced(&mut self, part: &str) {
+        if !self.is_looked_at {
+            return;
+        }
+        if let Ok(mut shown) = self.shown.try_borrow_mut() {
+            shown.meter.tell(FileMessage::PartIsReplaced(part));
         }
     }
 

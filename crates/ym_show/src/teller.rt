@@ -49,6 +49,8 @@ pub struct Teller<E: Write + Drop> {
     pub look: Look,
     /// Whether it tells anything.
     pub is_loud: bool,
+    /// Whether it tells what is told by `--verbose` alone.
+    pub is_verbose: bool,
     /// How many cells the line takes that is rewritten in place.
     pub standing: usize,
 }
@@ -56,12 +58,19 @@ pub struct Teller<E: Write + Drop> {
 impl<E: Write + Drop> Teller<E> {
     /// One that tells to this writer, where that is a terminal.
     pub fn new(err: E, look: Look) -> Teller<E>
-        ensures { result ≡ record { err = err; look = look; is_loud = look.at_err; standing = 0 } }
+        ensures { result ≡ record {
+          err = err;
+          look = look;
+          is_loud = look.at_err;
+          is_verbose = false;
+          standing = 0;
+        } }
     {
         Teller {
             err,
             look,
             is_loud: look.at_err,
+            is_verbose: false,
             standing: 0,
         }
     }
@@ -69,9 +78,14 @@ impl<E: Write + Drop> Teller<E> {
     /// Does as the flags `--verbose` and `--quiet` say, of which the second one wins.
     pub fn heed(&mut self, is_verbose: bool, is_quiet: bool)
         ensures loud { self.new.is_loud ≡ not is_quiet && (self.old.is_loud || is_verbose) }
-        ensures rest { self.new ≡ record self.old { is_loud = self.new.is_loud } }
+        ensures verbose { self.new.is_verbose ≡ not is_quiet && is_verbose }
+        ensures rest { self.new ≡ record self.old {
+          is_loud = self.new.is_loud;
+          is_verbose = self.new.is_verbose;
+        } }
     {
         self.is_loud = !is_quiet && (self.is_loud || is_verbose);
+        self.is_verbose = !is_quiet && is_verbose;
     }
 
     /// How many milliseconds pass between two showings of the same file.
@@ -101,6 +115,17 @@ impl<E: Write + Drop> Teller<E> {
     {
         if self.is_loud && self.clear().is_ok() {
             let _ = writeln!(self.err, "{text}").and_then(|()| self.err.flush());
+        }
+    }
+
+    /// Tells a line that is told by `--verbose` alone, also on a terminal.
+    pub fn tell_more<D: Display + Drop>(&mut self, text: D)
+        ensures unasked { self.old.is_verbose ≡ false → self.new ≡ self.old }
+        ensures loud { self.new.is_loud ≡ self.old.is_loud }
+        ensures look { self.new.look ≡ self.old.look }
+    {
+        if self.is_verbose {
+            self.tell(text);
         }
     }
 

@@ -1,7 +1,10 @@
 pub mod Briefs
 pub mod Came
 pub mod Messages
+pub mod Moment
+pub mod MomentExamples
 pub mod Progress
 pub mod Readable
 pub mod Reasons
+pub mod Rights
 pub mod Waiting

@@ -5,7 +5,8 @@ use crate::shown::Shown;
 use std::fmt;
 use ym_header::HeaderFault;
 
-/// Why a file is not sent or not stored. Its `Display` is the line that tells it, without its end; names in it are made safe for a terminal.
+/// Why a file is not sent or not stored, and what was removed for one. Its `Display` is the line
+/// that tells it, without its end; names in it are made safe for a terminal.
 #[derive(Clone, Copy, Debug, PartialEq, Eq)]
 pub enum FileMessage<'a> {
     /// The file at this path cannot be opened.
@@ -20,6 +21,8 @@ pub enum FileMessage<'a> {
     PartIsLeft(&'a str, &'a str),
     /// This name has a part, the second text, that may not be removed.
     PartIsInUse(&'a str, &'a str),
+    /// The part of this name, which an earlier run left, was removed for a file.
+    PartIsReplaced(&'a str),
     /// The part of this name, the second text, was moved away or replaced while it was written.
     PartIsGone(&'a str, &'a str),
     /// The file of this name could not be stored.
@@ -68,8 +71,12 @@ impl fmt::Display for FileMessage<'_> {
                 let part = Shown(part);
                 write!(
                     f,
-                    "cannot store '{name}': '{part}' is in use by another program, or is no part"
+                    "cannot store '{name}': '{part}' is in use by another program, or is no regular file; wait for that program, or move it away"
                 )
+            }
+            FileMessage::PartIsReplaced(part) => {
+                let part = Shown(part);
+                write!(f, "'{part}', left from an earlier run, was replaced")
             }
             FileMessage::PartIsGone(name, part) => {
                 let name = Shown(name);

@@ -4,12 +4,15 @@
 
 mod came;
 mod cells;
+mod coming;
 mod echo_message;
 mod end_message;
 mod file_message;
 mod line_message;
+mod moment;
 mod progress;
 mod reason;
+mod rights;
 mod shown;
 mod shown_out;
 mod tty_message;
@@ -17,12 +20,15 @@ mod waiting;
 
 pub use came::{Came, Lately};
 pub use cells::progress_line;
+pub use coming::Coming;
 pub use echo_message::EchoMessage;
 pub use end_message::EndMessage;
 pub use file_message::FileMessage;
 pub use line_message::LineMessage;
+pub use moment::{DAY_SECONDS, Moment};
 pub use progress::{Brief, Detail, Progress, Took, Whole, rate_of};
 pub use reason::Reason;
+pub use rights::Rights;
 pub use shown::Shown;
 pub use shown_out::ShownOut;
 pub use tty_message::TtyMessage;

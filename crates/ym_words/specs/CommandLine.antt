@@ -1,23 +1,48 @@
 -- The command line: `--version`, and six optional subcommands, with `--port` (or `-p`) a required
 -- text, `--line` one that may be left out, DIR one positional, FILE the last positional with one or
 -- more values, and all else flags.
-use Rattle.std.specs.Prelude.{true, Some, codes}
-use Rattle.clap.specs.Words.{App, Rule, Text, new_app, new_rule, with_rule, with_subcommand}
+use Rattle.std.specs.Prelude.{◌≡◌, false, true, List, [], ◌∷◌, Some, codes}
+use Rattle.clap.specs.Words.{App, Rule, Text, app_of, new_app, new_rule, rule_of}
+use Rattle.clap.specs.Words.{with_rule, with_subcommand}
 use Rattle.clap.specs.Lexer.{usize_max}
 use Rattle.clap.specs.declared.builder.ArgAction.TheVariants.{Set, SetTrue, Append}
+use Rattle.clap.specs.declared.builder.arg.Arg.{Arg}
+use Rattle.clap.specs.declared.builder.command.Command.{Command}
+use Rattle.clap.specs.declared.builder.command.Command.TheViews.{out-Command}
+use Rattle.ym_words.specs.declared.args.Flag.{Flag}
+
+-- what a parse reads of an argument that is not global
+pub record HasRule (a : Arg) (r : Rule) : Type 0 where
+  pub rule : rule_of a ≡ r
+  pub local : a.global ≡ false
+
+-- what it reads of a command that has no global argument
+pub record HasApp (c : Command) (app : App) : Type 0 where
+  pub app_is : app_of c ≡ app
+  pub local : (out-Command c).has_globals ≡ false
+
+-- an argument that takes one value, and may be left out
+abbrev pub value_rule : Text → Rule
+value_rule id = record (new_rule id) { value_names = 1; action = Some Set }
 
 abbrev pub port_rule : Rule
-port_rule = record (new_rule (codes "port")) {
+port_rule = record (value_rule (codes "port")) {
   short = Some 112;
   long = Some (codes "port");
-  value_names = 1;
   required = true;
-  action = Some Set;
 }
 
 -- a flag of this name, behind two dashes
 abbrev pub flag : Text → Text → Rule
 flag id long = record (new_rule id) { long = Some long; action = Some SetTrue }
+
+abbrev pub flag_rule : Flag → Rule
+flag_rule f = flag f.id.now f.long.now
+
+-- the command with a flag more for each of these
+abbrev pub with_flags : App → List Flag → App
+with_flags app [] = app
+with_flags app (f ∷ rest) = with_flags (with_rule app (flag_rule f)) rest
 
 abbrev pub short_rule : Rule
 short_rule = flag (codes "short") (codes "short")
@@ -52,18 +77,14 @@ files_rule = record (new_rule (codes "files")) {
 }
 
 abbrev pub dir_rule : Rule
-dir_rule = record (new_rule (codes "dir")) { value_names = 1; required = true; action = Some Set }
+dir_rule = record (value_rule (codes "dir")) { required = true }
 
 -- those of `sb` and `rb` that may be left out: the line, and the folder
 abbrev pub line_rule : Rule
-line_rule = record (new_rule (codes "line")) {
-  long = Some (codes "line");
-  value_names = 1;
-  action = Some Set;
-}
+line_rule = record (value_rule (codes "line")) { long = Some (codes "line") }
 
 abbrev pub folder_rule : Rule
-folder_rule = record (new_rule (codes "dir")) { value_names = 1; action = Some Set }
+folder_rule = value_rule (codes "dir")
 
 -- and how much is told
 abbrev pub with_telling : App → App

@@ -47,19 +47,31 @@ abbrev pub tell_flags_of : List Row → TellFlags
 tell_flags_of rows =
     record { verbose = flag_of (codes "verbose") rows; quiet = flag_of (codes "quiet") rows }
 
-abbrev pub loop_of : Option ℕ → TellFlags → Option Asked
-loop_of None tell = None
-loop_of (Some port) tell = Some (Loop port tell)
+-- over the connection of a port
+abbrev pub send_for : ℕ → Bool → Option (List Text) → TellFlags → Option Asked
+send_for port short None tell = None
+send_for port short (Some files) tell = Some (Send port short files tell)
 
-abbrev pub send_of : Option ℕ → Bool → Option (List Text) → TellFlags → Option Asked
-send_of None short files tell = None
-send_of (Some port) short None tell = None
-send_of (Some port) short (Some files) tell = Some (Send port short files tell)
+abbrev pub send_of : ℕ → List Row → Option Asked
+send_of port rows =
+    send_for port (flag_of (codes "short") rows) (all_of (codes "files") rows) (tell_flags_of rows)
 
-abbrev pub receive_of : Option ℕ → ReceiveFlags → Option Text → TellFlags → Option Asked
-receive_of None flags dir tell = None
-receive_of (Some port) flags None tell = None
-receive_of (Some port) flags (Some dir) tell = Some (Receive port flags dir tell)
+abbrev pub receive_for : ℕ → ReceiveFlags → Option Text → TellFlags → Option Asked
+receive_for port flags None tell = None
+receive_for port flags (Some dir) tell = Some (Receive port flags dir tell)
+
+abbrev pub receive_of : ℕ → List Row → Option Asked
+receive_of port rows =
+    receive_for port (receive_flags_of rows) (first_of (codes "dir") rows) (tell_flags_of rows)
+
+-- what a subcommand with a port asks for
+abbrev pub ported_for : Option ℕ → Text → List Row → Option Asked
+ported_for None name rows = None
+ported_for (Some port) name rows =
+    if bytes_eq name (codes "loop") then Some (Loop port (tell_flags_of rows))
+    else (if bytes_eq name (codes "send") then send_of port rows
+    else (if bytes_eq name (codes "receive") then receive_of port rows
+    else None))
 
 -- without a line it is standard input and output
 abbrev pub send_line_for : Option Text → Bool → Option (List Text) → TellFlags → Option Asked
@@ -83,17 +95,10 @@ receive_line_of rows =
 -- the job that a subcommand and its matches ask for, unless a value is lacking
 abbrev pub asked_for : Text → List Row → Option Asked
 asked_for name rows =
-    let port = port_value (first_of (codes "port") rows) in
-    let tell = tell_flags_of rows in
     if bytes_eq name (codes "play") then Some Play
     else (if bytes_eq name (codes "sb") then send_line_of rows
     else (if bytes_eq name (codes "rb") then Some (receive_line_of rows)
-    else (if bytes_eq name (codes "loop") then loop_of port tell
-    else (if bytes_eq name (codes "send")
-    then send_of port (flag_of (codes "short") rows) (all_of (codes "files") rows) tell
-    else (if bytes_eq name (codes "receive")
-    then receive_of port (receive_flags_of rows) (first_of (codes "dir") rows) tell
-    else None)))))
+    else ported_for (port_value (first_of (codes "port") rows)) name rows))
 
 abbrev pub asked : Option (Text × List Row) → Option Asked
 asked None = Some Play

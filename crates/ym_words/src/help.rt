@@ -1,11 +1,16 @@
 //! What the help of each command says. No line of it is wider than a terminal of 80 columns: the
 //! ends of lines stand in the texts, since clap breaks none.
 
-pub(crate) const ABOUT: &str =
-    "Sends and receives files by YMODEM over serial lines and connections";
+ghost use Rattle.std.specs.Prelude.{codes};
+ghost use Rattle.clap.specs.Words.{new_app};
+ghost use Rattle.ym_words.specs.CommandLine.{HasApp, play_app};
 
-pub(crate) const TOP_HELP: &str =
-    "`ymodem-tty` sets a serial line, runs `sb` or `rb` on it, and sets it back.
+use clap::Command;
+use std::alloc::Global;
+
+const ABOUT: &str = "Sends and receives files by YMODEM over serial lines and connections";
+
+const TOP_HELP: &str = "`ymodem-tty` sets a serial line, runs `sb` or `rb` on it, and sets it back.
 A file goes to a board with U-Boot by three commands. Type the first and the
 last at the prompt of the board, and the second here, while no other program
 has the line:
@@ -30,10 +35,9 @@ Exit status:
 Example of a session that is played:
   printf 'file a.txt 48656C6C6F\\nok 6\\n' | ymodem";
 
-pub(crate) const SB_ABOUT: &str = "Sends files over a serial line, in order";
+const SB_ABOUT: &str = "Sends files over a serial line, in order";
 
-pub(crate) const SB_HELP: &str =
-    "The line is DEVICE, or else standard input and output. `ymodem-tty` sets the
+const SB_HELP: &str = "The line is DEVICE, or else standard input and output. `ymodem-tty` sets the
 line and runs this; by hand, set it so before:
 
   stty -F /dev/ttyUSB0 115200 raw -echo clocal min 0 time 1
@@ -46,25 +50,26 @@ Examples:
   ymodem-tty --device /dev/ttyUSB0 --speed 115200 send firmware.bin
   ymodem sb --line /dev/ttyUSB0 firmware.bin";
 
-pub(crate) const RB_ABOUT: &str = "Receives files over a serial line into a folder";
+const RB_ABOUT: &str = "Receives files over a serial line into a folder";
 
-pub(crate) const RB_HELP: &str =
-    "The line is DEVICE, or else standard input and output. `ymodem-tty` sets the
+const RB_HELP: &str = "The line is DEVICE, or else standard input and output. `ymodem-tty` sets the
 line and runs this; by hand, set it so before:
 
   stty -F /dev/ttyUSB0 115200 raw -echo clocal min 0 time 1
 
-It asks for the first file at once. Files, waits, what is printed and the exit
-status are as those of `receive`. It prints to standard output where DEVICE is
-given, and to standard error where standard output is the line.
+It asks for the first file at once. A NAME.part that is left, and that nobody
+holds, is replaced when NAME comes, also without `--discard-parts`. Else files,
+waits, what is printed and the exit status are as those of `receive`. It prints
+to standard output where DEVICE is given, and to standard error where standard
+output is the line.
 
 Examples:
   ymodem-tty --device /dev/ttyUSB0 --speed 115200 receive
   ymodem rb --line /dev/ttyUSB0";
 
-pub(crate) const SEND_ABOUT: &str = "Connects to 127.0.0.1 and sends files, in order";
+const SEND_ABOUT: &str = "Connects to 127.0.0.1 and sends files, in order";
 
-pub(crate) const SEND_HELP: &str =
+const SEND_HELP: &str =
     "Each file is sent under the last part of its path, without time and mode, in
 blocks of 1024 bytes while as many remain and then of 128. Where nobody listens
 yet it tries again for 2 seconds. It waits 10 seconds for each reply, and gives
@@ -80,10 +85,9 @@ connection or want of memory.
 Example:
   ymodem send --port 4000 firmware.bin settings.txt";
 
-pub(crate) const RECEIVE_ABOUT: &str =
-    "Waits for one connection on 127.0.0.1, and receives into a folder";
+const RECEIVE_ABOUT: &str = "Waits for one connection on 127.0.0.1, and receives into a folder";
 
-pub(crate) const RECEIVE_HELP: &str =
+const RECEIVE_HELP: &str =
     "A file NAME is written as NAME.part and renamed when it is whole. Nothing that
 is there is overwritten. It acknowledges a file when the disk has it. A
 NAME.part that is there, as a receiver leaves it that is killed, refuses NAME.
@@ -100,9 +104,9 @@ words are refused, 3 at a device fault, a closed connection or want of memory.
 Example:
   ymodem receive --port 4000 .";
 
-pub(crate) const PLAY_ABOUT: &str = "Plays the session of a script, and prints what was seen";
+const PLAY_ABOUT: &str = "Plays the session of a script, and prints what was seen";
 
-pub(crate) const PLAY_HELP: &str = "It reads the script from standard input. Lines of a script:
+const PLAY_HELP: &str = "It reads the script from standard input. Lines of a script:
   short                      short blocks alone
   single                     the receiver acknowledges the first EOT
   file NAME HEX|- [TIME [MODE]]   a file, with its time and mode in octal
@@ -115,13 +119,65 @@ refused, 3 at a device fault or want of memory.
 Example:
   printf 'file a.txt 48656C6C6F\\nok 6\\n' | ymodem play";
 
-pub(crate) const LOOP_ABOUT: &str = "Plays the session of a script over a connection to itself";
+const LOOP_ABOUT: &str = "Plays the session of a script over a connection to itself";
 
-pub(crate) const LOOP_HELP: &str =
-    "It reads the script from standard input, and prints what `play` prints.
+const LOOP_HELP: &str = "It reads the script from standard input, and prints what `play` prints.
 
 Exit status: 0 where both ends finished, 1 where not, 2 where the words or the
 script are refused, 3 at a device fault or want of memory.
 
 Example:
   printf 'file a.txt 48656C6C6F\\nok 6\\n' | ymodem loop --port 4000";
+
+/// A command of this name, with what its help says before and behind its words.
+fn new_command<'a>(alloc: Global, name: &'a str, about: &'a str, after_help: &'a str) -> Command<'a>
+    ensures { HasApp result (new_app name.entry.now) }
+{
+    Command::new(alloc, name)
+        .about(about)
+        .after_help(after_help)
+}
+
+/// The whole command, yet without its version and its commands.
+pub(crate) fn bare_top<'a>(alloc: Global) -> Command<'a>
+    ensures { HasApp result (new_app (codes "ymodem")) }
+{
+    new_command(alloc, "ymodem", ABOUT, TOP_HELP)
+}
+
+pub(crate) fn bare_sb<'a>(alloc: Global) -> Command<'a>
+    ensures { HasApp result (new_app (codes "sb")) }
+{
+    new_command(alloc, "sb", SB_ABOUT, SB_HELP)
+}
+
+pub(crate) fn bare_rb<'a>(alloc: Global) -> Command<'a>
+    ensures { HasApp result (new_app (codes "rb")) }
+{
+    new_command(alloc, "rb", RB_ABOUT, RB_HELP)
+}
+
+pub(crate) fn bare_send<'a>(alloc: Global) -> Command<'a>
+    ensures { HasApp result (new_app (codes "send")) }
+{
+    new_command(alloc, "send", SEND_ABOUT, SEND_HELP)
+}
+
+pub(crate) fn bare_receive<'a>(alloc: Global) -> Command<'a>
+    ensures { HasApp result (new_app (codes "receive")) }
+{
+    new_command(alloc, "receive", RECEIVE_ABOUT, RECEIVE_HELP)
+}
+
+/// `play`, which has no words of its own.
+pub(crate) fn play_command<'a>(alloc: Global) -> Command<'a>
+    ensures { HasApp result play_app }
+{
+    new_command(alloc, "play", PLAY_ABOUT, PLAY_HELP)
+}
+
+pub(crate) fn bare_loop<'a>(alloc: Global) -> Command<'a>
+    ensures { HasApp result (new_app (codes "loop")) }
+{
+    new_command(alloc, "loop", LOOP_ABOUT, LOOP_HELP)
+}

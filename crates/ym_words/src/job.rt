@@ -8,6 +8,7 @@ ghost use Rattle.ym_words.specs.PortNumber.{port_value};
 ghost use Rattle.ym_words.specs.Job.{asked, asked_for, asked_of, FaultSays, IsKind};
 ghost use Rattle.ym_words.specs.Job.{flag_of, store_flags_of, receive_flags_of, tell_flags_of};
 ghost use Rattle.ym_words.specs.Job.{folder_of, send_line_of, receive_line_of};
+ghost use Rattle.ym_words.specs.Job.{ported_for, send_of, receive_of};
 
 use crate::command::the_command;
 use crate::port::port_number;
@@ -193,6 +194,75 @@ fn receive_line_in<'a>(matches: &ArgMatches<'a>) -> Job<'a>
     }
 }
 
+/// The job of the matches of `send`.
+fn send_in<'a>(alloc: Global, port: u16, matches: &ArgMatches<'a>) -> Result<Job<'a>, JobFault>
+    ensures ok { let rows = rows_of (found_of matches.now) in
+        IfOk result (λ job. send_of port rows ≡ Some (asked_of job)) }
+    ensures err { let rows = rows_of (found_of matches.now) in
+        IfErr result (λ e. FaultSays e (send_of port rows) true) }
+{
+    let Some(paths) = matches.get_strs("files") else {
+        return Err(JobFault::Value);
+    };
+    match Vec::from_slice(alloc, paths) {
+        Ok(files) => Ok(Job::Send {
+            port,
+            short: flag_in(matches, "short"),
+            files,
+            tell: tell_flags_in(matches),
+        }),
+        Err(_) => Err(JobFault::Memory),
+    }
+}
+
+/// The job of the matches of `receive`.
+fn receive_in<'a>(port: u16, matches: &ArgMatches<'a>) -> Result<Job<'a>, JobFault>
+    ensures ok { let rows = rows_of (found_of matches.now) in
+        IfOk result (λ job. receive_of port rows ≡ Some (asked_of job)) }
+    ensures err { let rows = rows_of (found_of matches.now) in
+        IfErr result (λ e. FaultSays e (receive_of port rows) true) }
+{
+    match matches.get_str("dir") {
+        Some(dir) => Ok(Job::Receive {
+            port,
+            flags: receive_flags_in(matches),
+            dir,
+            tell: tell_flags_in(matches),
+        }),
+        None => Err(JobFault::Value),
+    }
+}
+
+/// The job of the matches of a subcommand with a port.
+fn ported_job_for<'a>(
+    alloc: Global,
+    name: &str,
+    matches: &ArgMatches<'a>,
+) -> Result<Job<'a>, JobFault>
+    ensures ok { let rows = rows_of (found_of matches.now) in IfOk result (λ job.
+        ported_for (port_value (first_of (codes "port") rows)) name.now rows
+        ≡ Some (asked_of job)) }
+    ensures err { let rows = rows_of (found_of matches.now) in IfErr result (λ e.
+        FaultSays e (ported_for (port_value (first_of (codes "port") rows)) name.now rows) true) }
+{
+    let Some(port) = port_in(matches) else {
+        return Err(JobFault::Value);
+    };
+    if name == "loop" {
+        return Ok(Job::Loop {
+            port,
+            tell: tell_flags_in(matches),
+        });
+    }
+    if name == "send" {
+        return send_in(alloc, port, matches);
+    }
+    if name == "receive" {
+        return receive_in(port, matches);
+    }
+    Err(JobFault::Value)
+}
+
 /// The job of a subcommand's matches.
 fn job_for<'a>(alloc: Global, name: &str, matches: &ArgMatches<'a>) -> Result<Job<'a>, JobFault>
     ensures ok { IfOk result (λ job.
@@ -200,7 +270,6 @@ fn job_for<'a>(alloc: Global, name: &str, matches: &ArgMatches<'a>) -> Result<Jo
     ensures err { IfErr result (λ e.
         FaultSays e (asked_for name.now (rows_of (found_of matches.now))) true) }
 {
-    let port = port_in(matches);
     if name == "play" {
         return Ok(Job::Play);
     }
@@ -210,39 +279,7 @@ fn job_for<'a>(alloc: Global, name: &str, matches: &ArgMatches<'a>) -> Result<Jo
     if name == "rb" {
         return Ok(receive_line_in(matches));
     }
-    let Some(port) = port else {
-        return Err(JobFault::Value);
-    };
-    let tell = tell_flags_in(matches);
-    if name == "loop" {
-        return Ok(Job::Loop { port, tell });
-    }
-    if name == "send" {
-        return match matches.get_strs("files") {
-            Some(paths) => match Vec::from_slice(alloc, paths) {
-                Ok(files) => Ok(Job::Send {
-                    port,
-                    short: flag_in(matches, "short"),
-                    files,
-                    tell,
-                }),
-                Err(_) => Err(JobFault::Memory),
-            },
-            None => Err(JobFault::Value),
-        };
-    }
-    if name == "receive" {
-        return match matches.get_str("dir") {
-            Some(dir) => Ok(Job::Receive {
-                port,
-                flags: receive_flags_in(matches),
-                dir,
-                tell,
-            }),
-            None => Err(JobFault::Value),
-        };
-    }
-    Err(JobFault::Value)
+    ported_job_for(alloc, name, matches)
 }
 
 /// What the words ask for. The first word is the program's name, and no further word means `play`.

@@ -60,6 +60,23 @@ fn a_part_of_an_earlier_run_is_removed(rt: HostRuntime) -> Result<(), Fail> {
 }
 
 #[test]
+fn a_part_that_is_replaced_is_told(rt: HostRuntime) -> Result<(), Fail> {
+    let dir = folder(&rt, "told")?;
+    let steps = [
+        Step::Replaces("a", None),
+        Step::Closes(true),
+        Step::Acts(&[Act::Writes("a.part", "old")]),
+        Step::Replaces("b", None),
+        Step::Replaces("a", Some("a.part")),
+        Step::Replaces("a", None),
+        Step::Closes(true),
+    ];
+    assert!(rt; same(&first_wrong(&rt, &dir, Leftover::Discarded, &steps)?, &None));
+    fs::remove_dir_all(&rt, &dir)?;
+    Ok(())
+}
+
+#[test]
 fn a_stored_file_is_no_part(rt: HostRuntime) -> Result<(), Fail> {
     let dir = folder(&rt, "stored")?;
     let steps = [

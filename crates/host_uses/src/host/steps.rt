@@ -34,6 +34,8 @@ pub(super) enum Step<'a> {
     LetsGo(&'a str, &'a [Act<'a>]),
     /// The same, but its part cannot be removed.
     Leaves(&'a str, &'a [Act<'a>]),
+    /// A file of this name is begun, and for it this part was removed, or none.
+    Replaces(&'a str, Option<&'a str>),
     /// What is open is let go, without a fault or with one.
     Closes(bool),
     /// No file of this name is begun.
@@ -141,6 +143,17 @@ fn lets_go(
     Ok(Some(sink.close().is_ok()))
 }
 
+/// Whether this part was removed, or none, for a file of this name that is begun.
+fn replaces(
+    rt: &HostRuntime,
+    sink: &mut DirSink<&HostRuntime>,
+    (name, part): (&str, Option<&str>),
+) -> Result<bool, Fail> {
+    clear(sink)?;
+    take_two(sink, header(rt, name, 3)?)?;
+    Ok(sink.replaced() == part)
+}
+
 /// Whether no file of this name is begun.
 fn refuses(rt: &HostRuntime, sink: &mut DirSink<&HostRuntime>, name: &str) -> Result<bool, Fail> {
     clear(sink)?;
@@ -223,6 +236,7 @@ fn holds(
             == Some(false),
         Step::LetsGo(name, acts) => lets_go(rt, dir, sink, (name, acts))? == Some(true),
         Step::Leaves(name, acts) => lets_go(rt, dir, sink, (name, acts))? == Some(false),
+        Step::Replaces(name, part) => replaces(rt, sink, (name, part))?,
         Step::Closes(is_well) => sink.close().is_ok() == is_well,
         Step::Refuses(name) => refuses(rt, sink, name)?,
         Step::RefusesLocked(name) => refuses_locked(rt, dir, sink, name)?,

@@ -4,12 +4,12 @@ use super::{same, shows};
 use std::io;
 use std::io::ErrorKind;
 use std::test::Fail;
-use ym_header::HeaderFault;
+use ym_header::{Header, HeaderFault, Stamp};
 use ym_link::{RecvState, SendState};
 use ym_show::{Look, Teller};
 use ym_text::{
-    Awaited, Came, EchoMessage, EndMessage, FileMessage, Lately, LineMessage, Reason, Shown,
-    TtyMessage, Waiting, waiting_line,
+    Awaited, Came, Coming, EchoMessage, EndMessage, FileMessage, Lately, LineMessage, Reason,
+    Shown, TtyMessage, Waiting, waiting_line,
 };
 
 const SILENT: Lately = Lately {
@@ -73,7 +73,11 @@ fn of_files(rt: HostRuntime) -> Result<(), Fail> {
         ),
         (
             FileMessage::PartIsInUse("a", "a.part"),
-            "cannot store 'a': 'a.part' is in use by another program, or is no part",
+            "cannot store 'a': 'a.part' is in use by another program, or is no regular file; wait for that program, or move it away",
+        ),
+        (
+            FileMessage::PartIsReplaced("a.part"),
+            "'a.part', left from an earlier run, was replaced",
         ),
         (
             FileMessage::PartIsGone("a", "a.part"),
@@ -84,6 +88,47 @@ fn of_files(rt: HostRuntime) -> Result<(), Fail> {
     }
     let error = io::Error::from(ErrorKind::NotFound);
     assert!(rt; same(&Reason::of(&error), &Reason::Absent));
+    Ok(())
+}
+
+/// Times as `date -u` tells them, and rights as `ls -l` does; what is 0 is not known.
+#[test]
+fn of_files_that_come(rt: HostRuntime) -> Result<(), Fail> {
+    for (stamp, want) in [
+        (Stamp::Nothing, "receiving a.txt, 12345 bytes"),
+        (Stamp::Time(0), "receiving a.txt, 12345 bytes"),
+        (
+            Stamp::Time(1),
+            "receiving a.txt, 12345 bytes, 1970-01-01 00:00:01 UTC",
+        ),
+        (
+            Stamp::TimeMode(1_764_079_387, 0o100644),
+            "receiving a.txt, 12345 bytes, 2025-11-25 14:03:07 UTC, rw-r--r--",
+        ),
+        (
+            Stamp::TimeMode(1_709_164_800, 0o751),
+            "receiving a.txt, 12345 bytes, 2024-02-29 00:00:00 UTC, rwxr-x--x",
+        ),
+        (
+            Stamp::TimeMode(0, 0o100_222),
+            "receiving a.txt, 12345 bytes, -w--w--w-",
+        ),
+        (
+            Stamp::TimeMode(253_402_300_799, 0),
+            "receiving a.txt, 12345 bytes, 9999-12-31 23:59:59 UTC",
+        ),
+        (
+            Stamp::Time(253_402_300_800),
+            "receiving a.txt, 12345 bytes, after the year 9999",
+        ),
+        (
+            Stamp::Time(u64::MAX),
+            "receiving a.txt, 12345 bytes, after the year 9999",
+        ),
+    ] {
+        let header = Header::new(rt.alloc(), "a.txt", 12_345, stamp)?;
+        assert!(rt; shows(&rt, &Coming(&header), want)?, "{want}");
+    }
     Ok(())
 }
 
@@ -139,6 +184,10 @@ fn odd_names_in_messages(rt: HostRuntime) -> Result<(), Fail> {
         (
             FileMessage::IsThere(ODD),
             "cannot store 'a\\u{1b}[2J\\u{202e}b': it is there already; move it away first",
+        ),
+        (
+            FileMessage::PartIsReplaced(ODD),
+            "'a\\u{1b}[2J\\u{202e}b', left from an earlier run, was replaced",
         ),
         (
             FileMessage::PartIsGone(ODD, ODD),

@@ -70,6 +70,7 @@ fn a_receiver(rt: HostRuntime) -> Result<(), Fail> {
     port.waits(Wait::Reply);
     port.wrote(b"C");
     sink.begins(&header);
+    sink.replaced("a.txt.part");
     port.wrote(b"\x06C");
     sink.added(128);
     port.wrote(b"\x06");
@@ -86,7 +87,10 @@ fn a_receiver(rt: HostRuntime) -> Result<(), Fail> {
     let (last, lately) = shown.into_inner().end();
     assert!(rt; last.is_some());
     assert!(rt; lately.came == Came::Text);
-    assert!(rt; told(&teller, b"a.txt: 130 bytes in ", b"B/s, 1 repeated\n"));
+    let front = b"receiving a.txt, 130 bytes\n\
+        'a.txt.part', left from an earlier run, was replaced\n\
+        a.txt: 130 bytes in ";
+    assert!(rt; told(&teller, front, b"B/s, 1 repeated\n"));
     Ok(())
 }
 

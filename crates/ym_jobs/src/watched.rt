@@ -2,41 +2,32 @@
 
 ghost use Rattle.std.specs.Prelude.{◌≡◌};
 
+use crate::store::Store;
 use ym_file::{Sink, SinkFault};
 use ym_header::Header;
-
-/// Who watches a sink. What it does changes nothing of the sink.
-pub trait SinkWatch {
-    /// A file of this header is about to be opened.
-    fn begins(&mut self, header: &Header);
-
-    /// So many bytes were put behind those that the open file took.
-    fn added(&mut self, count: usize);
-
-    /// The open file was committed.
-    fn committed(&mut self);
-
-    /// The sink is asked for no more: what comes behind it is told of it.
-    fn ended(&mut self);
-}
+use ym_show::SinkWatch;
 
 /// A sink, and who watches it. It holds what the sink holds, and fails where that fails.
 #[derive(Drop)]
-pub struct Watched<K: Sink + Drop, V: SinkWatch + Drop> {
+pub struct Watched<K: Store + Drop, V: SinkWatch + Drop> {
     /// The sink.
     pub sink: K,
     /// Who watches it.
     pub watch: V,
 }
 
-impl<K: Sink + Drop, V: SinkWatch + Drop> Sink for Watched<K, V> {
+impl<K: Store + Drop, V: SinkWatch + Drop> Sink for Watched<K, V> {
     ghost kept = { λ s. K.kept s.sink };
 
     ghost failures = { λ s. K.failures s.sink };
 
     fn begin(&mut self, header: Header) -> Result<(), SinkFault> {
         self.watch.begins(&header);
-        self.sink.begin(header)
+        self.sink.begin(header)?;
+        if let Some(part) = self.sink.replaced() {
+            self.watch.replaced(part);
+        }
+        Ok(())
     }
 
     fn add(&mut self, bytes: &[u8]) -> Result<(), SinkFault> {
@@ -53,5 +44,22 @@ impl<K: Sink + Drop, V: SinkWatch + Drop> Sink for Watched<K, V> {
             self.watch.committed();
         }
         done
+    }
+}
+
+impl<K: Store + Drop, V: SinkWatch + Drop> Store for Watched<K, V> {
+    ghost replaced = { λ s. K.replaced s.sink };
+
+    fn headers(&self) -> &[Header] {
+        self.sink.headers()
+    }
+
+    fn replaced(&self) -> Option<&str> {
+        self.sink.replaced()
+    }
+
+    fn close(&mut self) -> Result<(), SinkFault> {
+        self.watch.ended();
+        self.sink.close()
     }
 }

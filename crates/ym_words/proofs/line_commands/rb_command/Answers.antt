@@ -1,0 +1,6 @@
+use Rattle.ym_words.proofs.line_commands.rb_command.Goals as goal
+
+pub returns : goal.returns
+returns c =
+    let with_line = c.in_ok-with_line.ensures _ _ c.bare_rb.ensures c.line_arg.ensures in
+    c.with_words-2.ensures _ _ with_line c.folder_arg.ensures
