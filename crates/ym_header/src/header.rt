@@ -1,6 +1,20 @@
 //! The header of a file.
 
-ghost use Rattle.std.specs.Prelude.{◌≡◌, ◌≢◌, All, ◌≤◌, ◌<◌, ◌^◌, ◌↔◌, IsTrue, IfOk, IfErr, length};
+ghost use Rattle.std.specs.Prelude.{
+  ◌≡◌,
+  ◌≢◌,
+  All,
+  ◌≤◌,
+  ◌<◌,
+  ◌^◌,
+  ◌↔◌,
+  ◌⊎◌,
+  IsTrue,
+  IfOk,
+  IfErr,
+  codes,
+  length,
+};
 ghost use Rattle.ym_header.specs.Header.{IsName, IsSafe, IsHeader, IsRefused, IsStamp, length_limit};
 
 use crate::fault::HeaderFault;
@@ -39,14 +53,23 @@ fn has_safe_bytes(name: &[u8]) -> bool
     name.iter().all(|byte| *byte >= 0x20 && *byte != b'/')
 }
 
+/// Whether these are the bytes of `.` or `..`. A comparison of texts would bring its code for long
+/// ones with it, which boards have no room for.
+fn is_directory(name: &[u8]) -> bool
+    ensures { IsTrue result ↔ (name.now ≡ codes ".") ⊎ (name.now ≡ codes "..") }
+{
+    matches!(name.len(), 1 | 2) && name.iter().all(|byte| *byte == b'.')
+}
+
 /// Whether a text of some length is safe as a file's name.
 pub(crate) fn is_safe(name: &str) -> bool
     ensures { IsTrue result ↔ IsSafe name.now }
 {
-    if name == "." || name == ".." {
+    let bytes = name.as_bytes();
+    if is_directory(bytes) {
         return false;
     }
-    has_safe_bytes(name.as_bytes())
+    has_safe_bytes(bytes)
 }
 
 impl Header {
