@@ -43,8 +43,9 @@ LIBRARY = "ym_c"
 WASM = os.path.join(OUT, "lib", "wasm64-unknown-unknown", "libymodem.a")
 # It comes last, and tells what was skipped in the others.
 LAST = "counts"
-# What has time until the program is proved leaves the processors to the gate, whose longest row of crates is what all wait for.
-LATER = ["nice", "-n", "5"]
+# What has time until the program is proved leaves the processors to the gate, whose longest row of crates is what all wait for. Linux shares
+# them out by sessions, each of which has a nice value of its own, where it knows of such groups.
+LATER = ["/bin/sh", "-c", 'if [ -e /proc/self/autogroup ]; then echo 10 > /proc/self/autogroup; fi; exec nice -n 5 "$@"', "later"]
 
 # The lines that are passed on as they come, and the one of a crate that is proved, by which time its program is built.
 TOLD = re.compile(r"rt: \w+(: its tests are)? (proved|NOT PROVED)|rt: \w+ is kept|rt: \w+: trying its must-fail edits")
