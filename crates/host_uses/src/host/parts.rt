@@ -4,6 +4,42 @@ use super::acts::Act;
 use super::steps::{Room, Step, Why, comes, is_left, new_room};
 use ym_host::{Leftover, part_name};
 
+/// What is done in a folder.
+#[derive(Clone, Copy)]
+enum Course {
+    /// Parts that are open are let go.
+    LetGo,
+    /// A part is replaced before it is stored.
+    ReplacedMeanwhile,
+    /// A part is left from an earlier run.
+    LeftEarlier,
+    /// Parts are replaced, and that is told.
+    Told,
+    /// A file is stored under the name of a part.
+    StoredAsPart,
+    /// Two sinks store at a time.
+    BothStore,
+}
+
+/// Whether it goes so in a folder.
+fn goes_in(room: &mut Option<Room<'_>>, course: Course) -> bool {
+    match course {
+        Course::LetGo => let_go(room),
+        Course::ReplacedMeanwhile => replaced_meanwhile(room),
+        Course::LeftEarlier => left_earlier(room),
+        Course::Told => told(room),
+        Course::StoredAsPart => stored_as_part(room),
+        Course::BothStore => both_store(room),
+    }
+}
+
+/// Whether it goes so in a new folder of this name, which is removed. The folder stands in one
+/// function, which is proved once.
+fn goes(rt: &HostRuntime, name: &str, leftover: Leftover, course: Course) -> bool {
+    let mut room = new_room(rt, name, leftover);
+    goes_in(&mut room, course) && is_left(&room)
+}
+
 /// Whether parts that are open are removed.
 fn let_go(room: &mut Option<Room<'_>>) -> bool {
     comes(room, Step::LetsGo("b", &[Act::Holds("b.part", b"")]))
@@ -15,8 +51,7 @@ fn let_go(room: &mut Option<Room<'_>>) -> bool {
 
 #[test]
 fn a_part_that_is_open_is_removed(rt: HostRuntime) {
-    let mut room = new_room(&rt, "close", Leftover::Refused);
-    assert!(rt; let_go(&mut room) && is_left(&room));
+    assert!(rt; goes(&rt, "close", Leftover::Refused, Course::LetGo));
 }
 
 /// Whether a part is not stored that was replaced meanwhile.
@@ -34,8 +69,14 @@ fn replaced_meanwhile(room: &mut Option<Room<'_>>) -> bool {
 
 #[test]
 fn a_part_that_was_replaced_is_not_stored(rt: HostRuntime) {
-    let mut room = new_room(&rt, "replaced", Leftover::Discarded);
-    assert!(rt; replaced_meanwhile(&mut room) && is_left(&room));
+    assert!(rt;
+        goes(
+            &rt,
+            "replaced",
+            Leftover::Discarded,
+            Course::ReplacedMeanwhile
+        )
+    );
 }
 
 /// Whether a part of an earlier run is removed, once nobody has it.
@@ -54,8 +95,7 @@ fn left_earlier(room: &mut Option<Room<'_>>) -> bool {
 
 #[test]
 fn a_part_of_an_earlier_run_is_removed(rt: HostRuntime) {
-    let mut room = new_room(&rt, "earlier", Leftover::Discarded);
-    assert!(rt; left_earlier(&mut room) && is_left(&room));
+    assert!(rt; goes(&rt, "earlier", Leftover::Discarded, Course::LeftEarlier));
 }
 
 /// Whether a part that is replaced is told.
@@ -71,8 +111,7 @@ fn told(room: &mut Option<Room<'_>>) -> bool {
 
 #[test]
 fn a_part_that_is_replaced_is_told(rt: HostRuntime) {
-    let mut room = new_room(&rt, "told", Leftover::Discarded);
-    assert!(rt; told(&mut room) && is_left(&room));
+    assert!(rt; goes(&rt, "told", Leftover::Discarded, Course::Told));
 }
 
 /// Whether a file that was stored is no part.
@@ -84,8 +123,7 @@ fn stored_as_part(room: &mut Option<Room<'_>>) -> bool {
 
 #[test]
 fn a_stored_file_is_no_part(rt: HostRuntime) {
-    let mut room = new_room(&rt, "stored", Leftover::Discarded);
-    assert!(rt; stored_as_part(&mut room) && is_left(&room));
+    assert!(rt; goes(&rt, "stored", Leftover::Discarded, Course::StoredAsPart));
 }
 
 /// Whether two sinks leave each other's parts.
@@ -105,8 +143,7 @@ fn both_store(room: &mut Option<Room<'_>>) -> bool {
 
 #[test]
 fn two_sinks_do_not_take_each_others_part(rt: HostRuntime) {
-    let mut room = new_room(&rt, "two", Leftover::Discarded);
-    assert!(rt; both_store(&mut room) && is_left(&room));
+    assert!(rt; goes(&rt, "two", Leftover::Discarded, Course::BothStore));
 }
 
 /// Whether this is the name of the part of a file of that name.

@@ -9,6 +9,36 @@ use std::path::PathBuf;
 use std::test::Fail;
 use ym_host::Leftover;
 
+/// What is done in a folder.
+#[derive(Clone, Copy)]
+enum Course {
+    /// A file gets its name when it is whole.
+    GetsItsName,
+    /// What is there stays.
+    Stays,
+    /// A name stays that comes meanwhile.
+    StaysMeanwhile,
+    /// Each name of a file is stored.
+    Names,
+}
+
+/// Whether it goes so in a folder.
+fn goes_in(alloc: Global, room: &mut Option<Room<'_>>, course: Course) -> bool {
+    match course {
+        Course::GetsItsName => gets_its_name(room),
+        Course::Stays => stays(room),
+        Course::StaysMeanwhile => stays_meanwhile(room),
+        Course::Names => are_stored(alloc, room),
+    }
+}
+
+/// Whether it goes so in a new folder of this name, which is removed. The folder stands in one
+/// function, which is proved once.
+fn goes(rt: &HostRuntime, name: &str, leftover: Leftover, course: Course) -> bool {
+    let mut room = new_room(rt, name, leftover);
+    goes_in(rt.alloc(), &mut room, course) && is_left(&room)
+}
+
 /// Whether a file gets its name when it is whole.
 fn gets_its_name(room: &mut Option<Room<'_>>) -> bool {
     comes(
@@ -25,8 +55,7 @@ fn gets_its_name(room: &mut Option<Room<'_>>) -> bool {
 
 #[test]
 fn a_file_gets_its_name_when_it_is_whole(rt: HostRuntime) {
-    let mut room = new_room(&rt, "store", Leftover::Refused);
-    assert!(rt; gets_its_name(&mut room) && is_left(&room));
+    assert!(rt; goes(&rt, "store", Leftover::Refused, Course::GetsItsName));
 }
 
 /// Whether what is there stays.
@@ -51,8 +80,7 @@ fn stays(room: &mut Option<Room<'_>>) -> bool {
 
 #[test]
 fn what_is_there_stays(rt: HostRuntime) {
-    let mut room = new_room(&rt, "stays", Leftover::Refused);
-    assert!(rt; stays(&mut room) && is_left(&room));
+    assert!(rt; goes(&rt, "stays", Leftover::Refused, Course::Stays));
 }
 
 /// Whether a name stays that comes meanwhile.
@@ -68,8 +96,7 @@ fn stays_meanwhile(room: &mut Option<Room<'_>>) -> bool {
 /// A name that comes while its part is open.
 #[test]
 fn what_comes_meanwhile_stays(rt: HostRuntime) {
-    let mut room = new_room(&rt, "meanwhile", Leftover::Refused);
-    assert!(rt; stays_meanwhile(&mut room) && is_left(&room));
+    assert!(rt; goes(&rt, "meanwhile", Leftover::Refused, Course::StaysMeanwhile));
 }
 
 /// Whether a file of one byte is stored in the folder under this name, which has at most 255
@@ -112,8 +139,7 @@ fn are_stored(alloc: Global, room: &mut Option<Room<'_>>) -> bool {
 
 #[test]
 fn every_name_of_a_file_is_stored(rt: HostRuntime) {
-    let mut room = new_room(&rt, "names", Leftover::Refused);
-    assert!(rt; are_stored(rt.alloc(), &mut room) && is_left(&room));
+    assert!(rt; goes(&rt, "names", Leftover::Refused, Course::Names));
 }
 
 /// Whether it is told that the folder is missing.
@@ -121,10 +147,15 @@ fn is_missed(room: &mut Option<Room<'_>>) -> bool {
     comes(room, Step::Refuses("a")) && comes(room, Step::First(Why::System(ErrorKind::NotFound)))
 }
 
+/// The same, of a new folder that is removed before.
+fn misses(rt: &HostRuntime) -> bool {
+    let mut room = new_room(rt, "missing", Leftover::Discarded);
+    is_left(&room) && is_missed(&mut room)
+}
+
 #[test]
 fn a_folder_that_is_missing_is_told(rt: HostRuntime) {
-    let mut room = new_room(&rt, "missing", Leftover::Discarded);
-    assert!(rt; is_left(&room) && is_missed(&mut room));
+    assert!(rt; misses(&rt));
 }
 
 /// Whether these 200,000 bytes are stored in this folder, in order.
