@@ -1,3 +1,4 @@
 mod ends;
+mod frames;
 mod lines;
 mod sockets;

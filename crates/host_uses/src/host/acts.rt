@@ -2,10 +2,9 @@
 
 use super::folders::holds;
 use super::steps::{other_refuses, other_stores};
-use std::fs;
 use std::os::unix::fs::symlink;
 use std::path::PathBuf;
-use std::test::Fail;
+use std::{fs, io};
 
 /// Something that is done, or has to hold, in a folder.
 #[derive(Clone, Copy)]
@@ -38,71 +37,81 @@ pub(super) fn path_of(
     dir: &PathBuf,
     name: &str,
     behind: &str,
-) -> Result<PathBuf, Fail> {
+) -> io::Result<PathBuf> {
     let whole = format!(in rt.alloc(); "{name}{behind}")?;
     Ok(dir.join(rt.alloc(), whole.as_str())?)
 }
 
 /// Puts a link to the file of the second name in the place of the first, which gets that name.
-fn replace(rt: &HostRuntime, dir: &PathBuf, name: &str, other: &str) -> Result<(), Fail> {
+fn replace(rt: &HostRuntime, dir: &PathBuf, name: &str, other: &str) -> io::Result<()> {
     let path = path_of(rt, dir, name, "")?;
     let other = path_of(rt, dir, other, "")?;
     fs::rename(rt, &path, &other)?;
-    symlink(rt, other.as_str(), path.as_str())?;
-    Ok(())
+    symlink(rt, other.as_str(), path.as_str())
 }
 
-/// Writes this text to the file of this name.
-fn write_text(rt: &HostRuntime, dir: &PathBuf, name: &str, text: &str) -> Result<(), Fail> {
-    fs::write(rt, &path_of(rt, dir, name, "")?, text)?;
-    Ok(())
+/// Whether this text is written to the file of this name.
+pub(super) fn writes(rt: &HostRuntime, dir: &PathBuf, name: &str, text: &str) -> bool {
+    match path_of(rt, dir, name, "") {
+        Ok(path) => fs::write(rt, &path, text).is_ok(),
+        Err(_) => false,
+    }
 }
 
-/// Removes the file of this name.
-fn remove(rt: &HostRuntime, dir: &PathBuf, name: &str) -> Result<(), Fail> {
-    fs::remove_file(rt, &path_of(rt, dir, name, "")?)?;
-    Ok(())
+/// Whether the file of this name is removed.
+fn removes(rt: &HostRuntime, dir: &PathBuf, name: &str) -> bool {
+    match path_of(rt, dir, name, "") {
+        Ok(path) => fs::remove_file(rt, &path).is_ok(),
+        Err(_) => false,
+    }
 }
 
-/// Makes a folder of this name.
-fn make_folder(rt: &HostRuntime, dir: &PathBuf, name: &str) -> Result<(), Fail> {
-    fs::create_dir(rt, &path_of(rt, dir, name, "")?)?;
-    Ok(())
+/// Whether a folder of this name is made.
+fn makes_folder(rt: &HostRuntime, dir: &PathBuf, name: &str) -> bool {
+    match path_of(rt, dir, name, "") {
+        Ok(path) => fs::create_dir(rt, &path).is_ok(),
+        Err(_) => false,
+    }
 }
 
-/// Whether what has this name is a folder, or a link.
-fn is_of_kind(rt: &HostRuntime, dir: &PathBuf, name: &str, is_link: bool) -> Result<bool, Fail> {
+/// Whether what has this name is a folder, and whether it is a link.
+fn kind_of(rt: &HostRuntime, dir: &PathBuf, name: &str) -> io::Result<(bool, bool)> {
     let metadata = fs::symlink_metadata(rt, &path_of(rt, dir, name, "")?)?;
-    Ok(if is_link {
-        metadata.is_symlink()
-    } else {
-        metadata.is_dir()
-    })
+    Ok((metadata.is_dir(), metadata.is_symlink()))
+}
+
+/// Whether what has this name is a folder.
+fn is_folder(rt: &HostRuntime, dir: &PathBuf, name: &str) -> bool {
+    matches!(kind_of(rt, dir, name), Ok((true, _)))
+}
+
+/// Whether what has this name is a link.
+fn is_link(rt: &HostRuntime, dir: &PathBuf, name: &str) -> bool {
+    matches!(kind_of(rt, dir, name), Ok((_, true)))
 }
 
 /// Does this, and tells whether it holds.
-fn acts(rt: &HostRuntime, dir: &PathBuf, act: &Act<'_>) -> Result<bool, Fail> {
+fn acts(rt: &HostRuntime, dir: &PathBuf, act: &Act<'_>) -> bool {
     match *act {
-        Act::Holds(name, bytes) => return holds(rt, dir, name, Some(bytes)),
-        Act::Lacks(name) => return holds(rt, dir, name, None),
-        Act::IsFolder(name) => return is_of_kind(rt, dir, name, false),
-        Act::IsLink(name) => return is_of_kind(rt, dir, name, true),
-        Act::OtherRefuses(name) => return other_refuses(rt, dir, name),
-        Act::OtherStores(name, bytes) => return other_stores(rt, dir, name, bytes),
-        Act::Writes(name, text) => write_text(rt, dir, name, text)?,
-        Act::Removes(name) => remove(rt, dir, name)?,
-        Act::Replaces(name, other) => replace(rt, dir, name, other)?,
-        Act::MakesFolder(name) => make_folder(rt, dir, name)?,
+        Act::Holds(name, bytes) => holds(rt, dir, name, Some(bytes)),
+        Act::Lacks(name) => holds(rt, dir, name, None),
+        Act::IsFolder(name) => is_folder(rt, dir, name),
+        Act::IsLink(name) => is_link(rt, dir, name),
+        Act::OtherRefuses(name) => other_refuses(rt, dir, name),
+        Act::OtherStores(name, bytes) => other_stores(rt, dir, name, bytes),
+        Act::Writes(name, text) => writes(rt, dir, name, text),
+        Act::Removes(name) => removes(rt, dir, name),
+        Act::Replaces(name, other) => replace(rt, dir, name, other).is_ok(),
+        Act::MakesFolder(name) => makes_folder(rt, dir, name),
     }
-    Ok(true)
 }
 
 /// Does these in turn, as long as they hold.
-pub(super) fn all_hold(rt: &HostRuntime, dir: &PathBuf, all: &[Act<'_>]) -> Result<bool, Fail> {
+pub(super) fn all_hold(rt: &HostRuntime, dir: &PathBuf, all: &[Act<'_>]) -> bool {
     for act in all {
-        if !acts(rt, dir, act)? {
-            return Ok(false);
+        if !acts(rt, dir, act) {
+            return false;
         }
     }
-    Ok(true)
+    true
 }

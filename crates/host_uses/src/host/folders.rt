@@ -2,11 +2,10 @@
 
 use std::alloc::{AllocError, Global};
 use std::path::PathBuf;
-use std::test::Fail;
 use std::{env, fs, io, process};
 
 /// A new folder of this name.
-pub(super) fn folder(rt: &HostRuntime, name: &str) -> Result<PathBuf, Fail> {
+pub(super) fn folder(rt: &HostRuntime, name: &str) -> io::Result<PathBuf> {
     let id = process::id(rt.process());
     let name = format!(in rt.alloc(); "ym_host-{id}-{name}")?;
     let path = env::temp_dir(rt)?.join(rt.alloc(), name.as_str())?;
@@ -14,20 +13,20 @@ pub(super) fn folder(rt: &HostRuntime, name: &str) -> Result<PathBuf, Fail> {
     Ok(path)
 }
 
+/// Whether a folder is removed, with all that is in it.
+pub(super) fn is_removed(rt: &HostRuntime, dir: &PathBuf) -> bool {
+    fs::remove_dir_all(rt, dir).is_ok()
+}
+
 /// Whether the file of this name in the folder holds these bytes, or is missing where none are given.
-pub(super) fn holds(
-    rt: &HostRuntime,
-    dir: &PathBuf,
-    name: &str,
-    want: Option<&[u8]>,
-) -> Result<bool, Fail> {
-    let path = dir.join(rt.alloc(), name)?;
-    match fs::read(rt, &path) {
-        Ok(bytes) => Ok(match want {
-            Some(want) => bytes.as_slice() == want,
-            None => false,
-        }),
-        Err(error) => Ok(error.kind() == io::ErrorKind::NotFound && want.is_none()),
+pub(super) fn holds(rt: &HostRuntime, dir: &PathBuf, name: &str, want: Option<&[u8]>) -> bool {
+    let Ok(path) = dir.join(rt.alloc(), name) else {
+        return false;
+    };
+    match (fs::read(rt, &path), want) {
+        (Ok(bytes), Some(want)) => bytes.as_slice() == want,
+        (Err(error), None) => error.kind() == io::ErrorKind::NotFound,
+        _ => false,
     }
 }
 

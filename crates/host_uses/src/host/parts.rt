@@ -1,118 +1,161 @@
 //! Parts: those that are open, those of earlier runs, and what stands in their place.
 
 use super::acts::Act;
-use super::folders::{folder, same};
-use super::steps::{Step, Why, first_wrong};
-use std::fs;
-use std::test::Fail;
+use super::steps::{Room, Step, Why, comes, is_left, new_room};
 use ym_host::{Leftover, part_name};
 
-#[test]
-fn a_part_that_is_open_is_removed(rt: HostRuntime) -> Result<(), Fail> {
-    let dir = folder(&rt, "close")?;
-    let steps = [
-        Step::LetsGo("b", &[Act::Holds("b.part", b"")]),
-        Step::Acts(&[Act::Lacks("b.part"), Act::Lacks("b")]),
+/// What is done in a folder.
+#[derive(Clone, Copy)]
+enum Course {
+    /// Parts that are open are let go.
+    LetGo,
+    /// A part is replaced before it is stored.
+    ReplacedMeanwhile,
+    /// A part is left from an earlier run.
+    LeftEarlier,
+    /// Parts are replaced, and that is told.
+    Told,
+    /// A file is stored under the name of a part.
+    StoredAsPart,
+    /// Two sinks store at a time.
+    BothStore,
+}
+
+/// Whether it goes so in a folder.
+fn goes_in(room: &mut Option<Room<'_>>, course: Course) -> bool {
+    match course {
+        Course::LetGo => let_go(room),
+        Course::ReplacedMeanwhile => replaced_meanwhile(room),
+        Course::LeftEarlier => left_earlier(room),
+        Course::Told => told(room),
+        Course::StoredAsPart => stored_as_part(room),
+        Course::BothStore => both_store(room),
+    }
+}
+
+/// Whether it goes so in a new folder of this name, which is removed. The folder stands in one
+/// function, which is proved once.
+fn goes(rt: &HostRuntime, name: &str, leftover: Leftover, course: Course) -> bool {
+    let mut room = new_room(rt, name, leftover);
+    goes_in(&mut room, course) && is_left(&room)
+}
+
+/// Whether parts that are open are removed.
+fn let_go(room: &mut Option<Room<'_>>) -> bool {
+    comes(room, Step::LetsGo("b", &[Act::Holds("b.part", b"")]))
+        && comes(room, Step::Acts(&[Act::Lacks("b.part"), Act::Lacks("b")]))
         // a part that is gone cannot be removed, and no file is open all the same
-        Step::Leaves("b", &[Act::Removes("b.part")]),
-        Step::Closes(true),
-    ];
-    assert!(rt; same(&first_wrong(&rt, &dir, Leftover::Refused, &steps)?, &None));
-    fs::remove_dir_all(&rt, &dir)?;
-    Ok(())
+        && comes(room, Step::Leaves("b", &[Act::Removes("b.part")]))
+        && comes(room, Step::Closes(true))
 }
 
 #[test]
-fn a_part_that_was_replaced_is_not_stored(rt: HostRuntime) -> Result<(), Fail> {
-    let dir = folder(&rt, "replaced")?;
-    let steps = [
+fn a_part_that_is_open_is_removed(rt: HostRuntime) {
+    assert!(rt; goes(&rt, "close", Leftover::Refused, Course::LetGo));
+}
+
+/// Whether a part is not stored that was replaced meanwhile.
+fn replaced_meanwhile(room: &mut Option<Room<'_>>) -> bool {
+    comes(
+        room,
         Step::Fails("a", b"1", &[Act::Replaces("a.part", "other")]),
-        Step::First(Why::PartIsGone),
-        Step::Told(&[]),
-        Step::Acts(&[Act::Lacks("a")]),
+    ) && comes(room, Step::First(Why::PartIsGone))
+        && comes(room, Step::Told(&[]))
+        && comes(room, Step::Acts(&[Act::Lacks("a")]))
         // what is no longer the part stays
-        Step::Closes(false),
-        Step::Acts(&[Act::IsLink("a.part")]),
-    ];
-    assert!(rt; same(&first_wrong(&rt, &dir, Leftover::Discarded, &steps)?, &None));
-    fs::remove_dir_all(&rt, &dir)?;
-    Ok(())
+        && comes(room, Step::Closes(false))
+        && comes(room, Step::Acts(&[Act::IsLink("a.part")]))
 }
 
 #[test]
-fn a_part_of_an_earlier_run_is_removed(rt: HostRuntime) -> Result<(), Fail> {
-    let dir = folder(&rt, "earlier")?;
-    let steps = [
-        Step::Acts(&[Act::Writes("a.part", "old")]),
-        Step::RefusesLocked("a"),
-        Step::First(Why::PartIsThere),
-        Step::Acts(&[Act::Holds("a.part", b"old")]),
-        Step::Stores("a", b"", &[Act::Holds("a.part", b"")]),
-        Step::Acts(&[Act::Holds("a", b"")]),
+fn a_part_that_was_replaced_is_not_stored(rt: HostRuntime) {
+    assert!(rt;
+        goes(
+            &rt,
+            "replaced",
+            Leftover::Discarded,
+            Course::ReplacedMeanwhile
+        )
+    );
+}
+
+/// Whether a part of an earlier run is removed, once nobody has it.
+fn left_earlier(room: &mut Option<Room<'_>>) -> bool {
+    comes(room, Step::Acts(&[Act::Writes("a.part", "old")]))
+        && comes(room, Step::RefusesLocked("a"))
+        && comes(room, Step::First(Why::PartIsThere))
+        && comes(room, Step::Acts(&[Act::Holds("a.part", b"old")]))
+        && comes(room, Step::Stores("a", b"", &[Act::Holds("a.part", b"")]))
+        && comes(room, Step::Acts(&[Act::Holds("a", b"")]))
         // what is no regular file is no part
-        Step::Acts(&[Act::MakesFolder("b.part")]),
-        Step::Refuses("b"),
-        Step::Acts(&[Act::IsFolder("b.part")]),
-    ];
-    assert!(rt; same(&first_wrong(&rt, &dir, Leftover::Discarded, &steps)?, &None));
-    fs::remove_dir_all(&rt, &dir)?;
-    Ok(())
+        && comes(room, Step::Acts(&[Act::MakesFolder("b.part")]))
+        && comes(room, Step::Refuses("b"))
+        && comes(room, Step::Acts(&[Act::IsFolder("b.part")]))
 }
 
 #[test]
-fn a_part_that_is_replaced_is_told(rt: HostRuntime) -> Result<(), Fail> {
-    let dir = folder(&rt, "told")?;
-    let steps = [
-        Step::Replaces("a", None),
-        Step::Closes(true),
-        Step::Acts(&[Act::Writes("a.part", "old")]),
-        Step::Replaces("b", None),
-        Step::Replaces("a", Some("a.part")),
-        Step::Replaces("a", None),
-        Step::Closes(true),
-    ];
-    assert!(rt; same(&first_wrong(&rt, &dir, Leftover::Discarded, &steps)?, &None));
-    fs::remove_dir_all(&rt, &dir)?;
-    Ok(())
+fn a_part_of_an_earlier_run_is_removed(rt: HostRuntime) {
+    assert!(rt; goes(&rt, "earlier", Leftover::Discarded, Course::LeftEarlier));
+}
+
+/// Whether a part that is replaced is told.
+fn told(room: &mut Option<Room<'_>>) -> bool {
+    comes(room, Step::Replaces("a", None))
+        && comes(room, Step::Closes(true))
+        && comes(room, Step::Acts(&[Act::Writes("a.part", "old")]))
+        && comes(room, Step::Replaces("b", None))
+        && comes(room, Step::Replaces("a", Some("a.part")))
+        && comes(room, Step::Replaces("a", None))
+        && comes(room, Step::Closes(true))
 }
 
 #[test]
-fn a_stored_file_is_no_part(rt: HostRuntime) -> Result<(), Fail> {
-    let dir = folder(&rt, "stored")?;
-    let steps = [
-        Step::Stores("a.part", b"1", &[]),
-        Step::Refuses("a"),
-        Step::Acts(&[Act::Holds("a.part", b"1")]),
-    ];
-    assert!(rt; same(&first_wrong(&rt, &dir, Leftover::Discarded, &steps)?, &None));
-    fs::remove_dir_all(&rt, &dir)?;
-    Ok(())
+fn a_part_that_is_replaced_is_told(rt: HostRuntime) {
+    assert!(rt; goes(&rt, "told", Leftover::Discarded, Course::Told));
+}
+
+/// Whether a file that was stored is no part.
+fn stored_as_part(room: &mut Option<Room<'_>>) -> bool {
+    comes(room, Step::Stores("a.part", b"1", &[]))
+        && comes(room, Step::Refuses("a"))
+        && comes(room, Step::Acts(&[Act::Holds("a.part", b"1")]))
 }
 
 #[test]
-fn two_sinks_do_not_take_each_others_part(rt: HostRuntime) -> Result<(), Fail> {
-    let dir = folder(&rt, "two")?;
-    let steps = [
+fn a_stored_file_is_no_part(rt: HostRuntime) {
+    assert!(rt; goes(&rt, "stored", Leftover::Discarded, Course::StoredAsPart));
+}
+
+/// Whether two sinks leave each other's parts.
+fn both_store(room: &mut Option<Room<'_>>) -> bool {
+    comes(
+        room,
         Step::Stores(
             "a",
             b"1",
             &[Act::OtherRefuses("a"), Act::OtherStores("b", b"")],
         ),
+    ) && comes(
+        room,
         Step::Acts(&[Act::Holds("a", b"1"), Act::Holds("b", b"")]),
-    ];
-    assert!(rt; same(&first_wrong(&rt, &dir, Leftover::Discarded, &steps)?, &None));
-    fs::remove_dir_all(&rt, &dir)?;
-    Ok(())
-}
-
-/// Whether this is the name of the part of a file of that name.
-fn is_part_of(rt: &HostRuntime, part: &str, name: &str) -> Result<bool, Fail> {
-    Ok(part_name(rt.alloc(), name)?.as_str() == part)
+    )
 }
 
 #[test]
-fn a_part_is_named_after_its_file(rt: HostRuntime) -> Result<(), Fail> {
-    assert!(rt; is_part_of(&rt, "a.txt.part", "a.txt")?);
-    assert!(rt; is_part_of(&rt, ".part", "")?);
-    Ok(())
+fn two_sinks_do_not_take_each_others_part(rt: HostRuntime) {
+    assert!(rt; goes(&rt, "two", Leftover::Discarded, Course::BothStore));
+}
+
+/// Whether this is the name of the part of a file of that name.
+fn is_part_of(rt: &HostRuntime, part: &str, name: &str) -> bool {
+    match part_name(rt.alloc(), name) {
+        Ok(found) => found.as_str() == part,
+        Err(_) => false,
+    }
+}
+
+#[test]
+fn a_part_is_named_after_its_file(rt: HostRuntime) {
+    assert!(rt; is_part_of(&rt, "a.txt.part", "a.txt"));
+    assert!(rt; is_part_of(&rt, ".part", ""));
 }

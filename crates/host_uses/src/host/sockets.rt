@@ -1,5 +1,5 @@
-//! Sockets on 127.0.0.1: both ends of one connection, in one test. The calls stand in functions that tell a proof nothing, so that a test costs it
-//! little.
+//! Sockets on 127.0.0.1: both ends of one connection, in one test. The calls stand in functions
+//! that tell a proof nothing, so that a test costs it little.
 
 ghost use Rattle.std.specs.Prelude.{◌<◌};
 
@@ -61,41 +61,52 @@ fn is_quiet(rt: &HostRuntime, wire: &mut SocketWire<&HostRuntime>, millis: u64) 
     }
 }
 
+/// Whether a line reads what was written to it, and then is quiet.
+fn reads_what_is_there(
+    rt: &HostRuntime,
+    near: &mut TcpStream,
+    wire: &mut SocketWire<&HostRuntime>,
+) -> bool {
+    let mut buf = [0; 8];
+    write(near, b"abcdefghij").is_ok()
+        && gets(wire, 100, &mut buf, Got::Bytes(8))
+        && same(&buf, b"abcdefgh")
+        && gets(wire, 100, &mut buf, Got::Bytes(2))
+        && buf.starts_with(b"ij")
+        && is_quiet(rt, wire, 100)
+        && is_quiet(rt, wire, 3000)
+        // what is there is read without a wait
+        && gets(wire, 0, &mut buf, Got::Quiet)
+}
+
+/// Whether a line is closed, and stays so.
+fn is_closed(wire: &mut SocketWire<&HostRuntime>) -> bool {
+    let mut buf = [0; 8];
+    gets(wire, 100, &mut buf, Got::Closed) && gets(wire, 3000, &mut buf, Got::Closed)
+}
+
 #[test]
 fn a_line_reads_what_is_there(rt: HostRuntime) -> Result<(), Fail> {
     let (mut near, mut wire) = wire(&rt)?;
-    let mut buf = [0; 8];
-    write(&mut near, b"abcdefghij")?;
-    let there = [
-        gets(&mut wire, 100, &mut buf, Got::Bytes(8)),
-        same(&buf, b"abcdefgh"),
-        gets(&mut wire, 100, &mut buf, Got::Bytes(2)),
-        buf.starts_with(b"ij"),
-        is_quiet(&rt, &mut wire, 100),
-        is_quiet(&rt, &mut wire, 3000),
-        // what is there is read without a wait
-        gets(&mut wire, 0, &mut buf, Got::Quiet),
-    ];
+    assert!(rt; reads_what_is_there(&rt, &mut near, &mut wire));
     drop(near);
-    let closed = [
-        gets(&mut wire, 100, &mut buf, Got::Closed),
-        gets(&mut wire, 3000, &mut buf, Got::Closed),
-    ];
-    assert!(rt;
-        same(&(there, closed), &([true; 7], [true; 2])),
-        "{there:?} {closed:?}"
-    );
+    assert!(rt; is_closed(&mut wire));
     Ok(())
+}
+
+/// Whether the clock of a line goes on with the host's.
+fn goes_on(rt: &HostRuntime, wire: &mut SocketWire<&HostRuntime>) -> bool {
+    let before = wire.moment();
+    thread::sleep(rt, Duration::from_millis(50));
+    let after = wire.moment();
+    after >= before.saturating_add(50) && after < before.saturating_add(60_000)
 }
 
 /// The clock of a line goes on with the host's.
 #[test]
 fn a_line_tells_the_moment(rt: HostRuntime) -> Result<(), Fail> {
     let (_near, mut wire) = wire(&rt)?;
-    let before = wire.moment();
-    thread::sleep(&rt, Duration::from_millis(50));
-    let after = wire.moment();
-    assert!(rt; after >= before.saturating_add(50) && after < before.saturating_add(60_000));
+    assert!(rt; goes_on(&rt, &mut wire));
     Ok(())
 }
 
@@ -105,37 +116,42 @@ fn comes(stream: &mut TcpStream, want: &[u8; 5]) -> bool {
     stream.read_exact(&mut buf).is_ok() && same(&buf, want)
 }
 
+/// Whether what a line takes comes to its peer.
+fn hands_on(near: &mut TcpStream, wire: &mut SocketWire<&HostRuntime>) -> bool {
+    takes(wire, b"abc")
+        && takes(wire, b"")
+        && takes(wire, b"de")
+        && comes(near, b"abcde")
+        // a peer that ends with bytes unread is closed as well
+        && takes(wire, b"unread")
+}
+
 #[test]
 fn a_line_writes(rt: HostRuntime) -> Result<(), Fail> {
     let (mut near, mut wire) = wire(&rt)?;
-    let written = [
-        takes(&mut wire, b"abc"),
-        takes(&mut wire, b""),
-        takes(&mut wire, b"de"),
-        comes(&mut near, b"abcde"),
-        // a peer that ends with bytes unread is closed as well
-        takes(&mut wire, b"unread"),
-    ];
+    assert!(rt; hands_on(&mut near, &mut wire));
     drop(near);
-    let is_closed = gets(&mut wire, 3000, &mut [0; 5], Got::Closed);
-    assert!(rt;
-        is_closed && same(&written, &[true; 5]),
-        "{written:?} {is_closed}"
-    );
+    assert!(rt; gets(&mut wire, 3000, &mut [0; 5], Got::Closed));
     Ok(())
+}
+
+/// Whether a line refuses in the end to take what nobody reads, before it took 65 MB.
+fn refuses(wire: &mut SocketWire<&HostRuntime>) -> bool {
+    let bytes = [0; 65536];
+    for _ in 0..1000 {
+        if !takes(wire, &bytes) {
+            return true;
+        }
+    }
+    false
 }
 
 /// A write to a peer that never reads makes no headway in the end.
 #[test]
 fn a_write_without_headway_fails(rt: HostRuntime) -> Result<(), Fail> {
     let (_near, mut wire) = wire(&rt)?;
-    let bytes = [0; 65536];
-    for _ in 0..1000 {
-        if !takes(&mut wire, &bytes) {
-            return Ok(());
-        }
-    }
-    Err(Fail::new("it took 65 MB that nobody reads"))
+    assert!(rt; refuses(&mut wire));
+    Ok(())
 }
 
 /// What carrying these bytes gives.
@@ -161,22 +177,28 @@ fn fails(carrier: &mut SocketCarrier, alloc: Global, way: Way, bytes: &[u8]) -> 
     carry(carrier, alloc, way, bytes) == Err(CarryFault::Device)
 }
 
+/// A carrier over a new connection.
+fn carrier(rt: &HostRuntime) -> io::Result<SocketCarrier> {
+    let (near, far) = pair(rt)?;
+    Ok(SocketCarrier::new(near, far))
+}
+
+/// Whether a carrier hands on what it is given, either way.
+fn passes(carrier: &mut SocketCarrier, alloc: Global) -> bool {
+    let long = [0x5A; 2048];
+    carries(carrier, alloc, Way::There, b"abc")
+        && carries(carrier, alloc, Way::Back, b"\x06C")
+        && carries(carrier, alloc, Way::There, b"")
+        && carries(carrier, alloc, Way::There, &long)
+        && carries(carrier, alloc, Way::Back, &long)
+        && carries(carrier, alloc, Way::Back, b"")
+        && carries(carrier, alloc, Way::There, b"\x04")
+}
+
 #[test]
 fn a_carrier_passes_bytes_both_ways(rt: HostRuntime) -> Result<(), Fail> {
-    let alloc = rt.alloc();
-    let (near, far) = pair(&rt)?;
-    let mut carrier = SocketCarrier::new(near, far);
-    let long = [0x5A; 2048];
-    let carried = [
-        carries(&mut carrier, alloc, Way::There, b"abc"),
-        carries(&mut carrier, alloc, Way::Back, b"\x06C"),
-        carries(&mut carrier, alloc, Way::There, b""),
-        carries(&mut carrier, alloc, Way::There, &long),
-        carries(&mut carrier, alloc, Way::Back, &long),
-        carries(&mut carrier, alloc, Way::Back, b""),
-        carries(&mut carrier, alloc, Way::There, b"\x04"),
-    ];
-    assert!(rt; same(&carried, &[true; 7]), "{carried:?}");
+    let mut carrier = carrier(&rt)?;
+    assert!(rt; passes(&mut carrier, rt.alloc()));
     Ok(())
 }
 
@@ -189,7 +211,7 @@ fn other(way: Way) -> Way {
 }
 
 /// A carrier over a connection in which a byte is under way already.
-fn strayed(rt: &HostRuntime, way: Way) -> Result<SocketCarrier, Fail> {
+fn strayed(rt: &HostRuntime, way: Way) -> io::Result<SocketCarrier> {
     let (mut near, mut far) = pair(rt)?;
     match way {
         Way::There => write(&mut near, &[0])?,
@@ -198,42 +220,47 @@ fn strayed(rt: &HostRuntime, way: Way) -> Result<SocketCarrier, Fail> {
     Ok(SocketCarrier::new(near, far))
 }
 
+/// Whether a carrier fails at the byte that is under way this way.
+fn compares(carrier: &mut SocketCarrier, alloc: Global, way: Way) -> bool {
+    carries(carrier, alloc, other(way), b"abc")
+        && fails(carrier, alloc, way, b"abc")
+        // and every later one fails, also of no bytes
+        && fails(carrier, alloc, way, b"abc")
+        && fails(carrier, alloc, way, b"")
+        && fails(carrier, alloc, other(way), b"abc")
+        && fails(carrier, alloc, other(way), b"")
+}
+
+/// The same, of a new connection.
+fn finds_stray(rt: &HostRuntime, way: Way) -> bool {
+    match strayed(rt, way) {
+        Ok(mut carrier) => compares(&mut carrier, rt.alloc(), way),
+        Err(_) => false,
+    }
+}
+
 /// The bytes go by the connection: what is written to it beforehand is in their way.
 #[test]
-fn a_carrier_compares_what_came(rt: HostRuntime) -> Result<(), Fail> {
-    let alloc = rt.alloc();
-    for way in [Way::There, Way::Back] {
-        let mut carrier = strayed(&rt, way)?;
-        let seen = [
-            carries(&mut carrier, alloc, other(way), b"abc"),
-            fails(&mut carrier, alloc, way, b"abc"),
-            // and every later one fails, also of no bytes
-            fails(&mut carrier, alloc, way, b"abc"),
-            fails(&mut carrier, alloc, way, b""),
-            fails(&mut carrier, alloc, other(way), b"abc"),
-            fails(&mut carrier, alloc, other(way), b""),
-        ];
-        assert!(rt; same(&seen, &[true; 6]), "{seen:?}");
-    }
-    Ok(())
+fn a_carrier_compares_what_came(rt: HostRuntime) {
+    assert!(rt; finds_stray(&rt, Way::There));
+    assert!(rt; finds_stray(&rt, Way::Back));
+}
+
+/// Whether a carrier refuses more than a delivery, and all that comes behind it.
+fn is_full(carrier: &mut SocketCarrier, alloc: Global) -> bool {
+    fails(carrier, alloc, Way::There, &[0; 2049]) && fails(carrier, alloc, Way::There, &[0; 2048])
 }
 
 #[test]
 fn a_carrier_takes_no_more_than_a_delivery(rt: HostRuntime) -> Result<(), Fail> {
-    let alloc = rt.alloc();
-    let (near, far) = pair(&rt)?;
-    let mut carrier = SocketCarrier::new(near, far);
-    let failed = [
-        fails(&mut carrier, alloc, Way::There, &[0; 2049]),
-        fails(&mut carrier, alloc, Way::There, &[0; 2048]),
-    ];
-    assert!(rt; same(&failed, &[true; 2]), "{failed:?}");
+    let mut carrier = carrier(&rt)?;
+    assert!(rt; is_full(&mut carrier, rt.alloc()));
     Ok(())
 }
 
-/// Writes to one end of a connection until it takes no more, since the other end reads nothing.
-fn fill(stream: &mut TcpStream) -> Result<(), Fail> {
-    stream.set_write_timeout(Some(Duration::from_millis(100)))?;
+/// How often one end of a connection takes no more, of a thousand writes, since the other end reads
+/// nothing. It ends at the third.
+fn refusals(stream: &mut TcpStream) -> u32 {
     let bytes = [0; 65536];
     let mut refused = 0u32;
     for _ in 0..1000 {
@@ -241,25 +268,58 @@ fn fill(stream: &mut TcpStream) -> Result<(), Fail> {
             refused = refused.saturating_add(1);
         }
         if refused == 3 {
-            return Ok(());
+            return refused;
         }
     }
-    Err(Fail::new("it took 65 MB that nobody reads"))
+    refused
 }
 
-/// Bytes that the far end never reads leave no room for a delivery, and the carry ends all the same, once it has waited.
-#[test]
-fn a_carry_without_headway_fails(rt: HostRuntime) -> Result<(), Fail> {
-    for way in [Way::There, Way::Back] {
-        let (mut near, mut far) = pair(&rt)?;
-        match way {
-            Way::There => fill(&mut near)?,
-            Way::Back => fill(&mut far)?,
-        }
-        let mut carrier = SocketCarrier::new(near, far);
-        let start = Instant::now(&rt)?;
-        assert!(rt; fails(&mut carrier, rt.alloc(), way, &[1; 2048]));
-        assert!(rt; start.elapsed(&rt)?.as_millis() >= 9000);
+/// Writes to one end of a connection until it takes no more.
+fn is_filled(stream: &mut TcpStream) -> bool {
+    let timeout = Some(Duration::from_millis(100));
+    stream.set_write_timeout(timeout).is_ok() && refusals(stream) == 3
+}
+
+/// A carrier over a connection that takes nothing more this way.
+fn filled(rt: &HostRuntime, way: Way) -> Option<SocketCarrier> {
+    let Ok((mut near, mut far)) = pair(rt) else {
+        return None;
+    };
+    let is_full = match way {
+        Way::There => is_filled(&mut near),
+        Way::Back => is_filled(&mut far),
+    };
+    if is_full {
+        Some(SocketCarrier::new(near, far))
+    } else {
+        None
     }
-    Ok(())
+}
+
+/// Whether a carrier fails to hand on a delivery this way, once it has waited for 9 seconds.
+fn waits(rt: &HostRuntime, carrier: &mut SocketCarrier, way: Way) -> bool {
+    let Ok(start) = Instant::now(rt) else {
+        return false;
+    };
+    let has_failed = fails(carrier, rt.alloc(), way, &[1; 2048]);
+    match start.elapsed(rt) {
+        Ok(took) => has_failed && took.as_millis() >= 9000,
+        Err(_) => false,
+    }
+}
+
+/// Whether a carry ends this way where there is no room.
+fn ends(rt: &HostRuntime, way: Way) -> bool {
+    match filled(rt, way) {
+        Some(mut carrier) => waits(rt, &mut carrier, way),
+        None => false,
+    }
+}
+
+/// Bytes that the far end never reads leave no room for a delivery, and the carry ends all the
+/// same, once it has waited.
+#[test]
+fn a_carry_without_headway_fails(rt: HostRuntime) {
+    assert!(rt; ends(&rt, Way::There));
+    assert!(rt; ends(&rt, Way::Back));
 }

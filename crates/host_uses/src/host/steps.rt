@@ -1,17 +1,19 @@
-//! What a sink that stores files in a folder is asked, step by step, and what is done in the folder in between. A test is a list of steps: the
-//! sink stands in one function, which is proved once.
+//! What a sink that stores files in a folder is asked, step by step, and what is done in the folder
+//! in between. A test is a chain of steps: the sink stands in one function, which is proved once.
 
 ghost use Rattle.std.specs.Prelude.{◌≡◌, None, IfOk, OnOk, length};
 ghost use Rattle.ym_file.specs.Kept.{IsCoveredFile, IsNew};
 ghost use Rattle.ym_host.specs.DirSink.{kept_of};
 
 use super::acts::{Act, all_hold, path_of};
+use super::folders::{folder, is_removed};
+use std::alloc::AllocError;
 use std::fs::File;
+use std::io;
 use std::io::ErrorKind;
 use std::path::PathBuf;
-use std::test::Fail;
 use ym_file::{Sink, SinkFault};
-use ym_header::{Header, HeaderFault, Stamp};
+use ym_header::{Header, Stamp};
 use ym_host::{DirSink, Durability, Leftover, StoreFault};
 
 /// Why a sink failed first.
@@ -55,18 +57,20 @@ pub(super) fn new_sink<'r>(
     rt: &'r HostRuntime,
     dir: &PathBuf,
     leftover: Leftover,
-) -> Result<DirSink<&'r HostRuntime>, Fail>
+) -> Result<DirSink<&'r HostRuntime>, AllocError>
     ensures { IfOk result (λ sink. IsNew (kept_of sink)) }
 {
-    let sink = DirSink::new(rt, rt.alloc(), dir.as_str(), Durability::Disk, leftover)?;
-    Ok(sink)
+    DirSink::new(rt, rt.alloc(), dir.as_str(), Durability::Disk, leftover)
 }
 
 /// The header of a file of this name and length.
-fn header(rt: &HostRuntime, name: &str, length: u64) -> Result<Header, HeaderFault>
+fn header(rt: &HostRuntime, name: &str, length: u64) -> Result<Header, SinkFault>
     ensures { IfOk result (λ header. header.length ≡ length) }
 {
-    Header::new(rt.alloc(), name, length, Stamp::Nothing)
+    match Header::new(rt.alloc(), name, length, Stamp::Nothing) {
+        Ok(header) => Ok(header),
+        Err(_) => Err(SinkFault::Failed),
+    }
 }
 
 /// Lets go of what is open: of nothing, before a file is begun.
@@ -119,13 +123,13 @@ fn stores(
     dir: &PathBuf,
     sink: &mut DirSink<&HostRuntime>,
     (name, bytes, acts): (&str, &[u8], &[Act<'_>]),
-) -> Result<Option<bool>, Fail> {
+) -> Result<bool, SinkFault> {
     clear(sink)?;
     take(sink, header(rt, name, bytes.len() as u64)?, bytes)?;
-    if !all_hold(rt, dir, acts)? {
-        return Ok(None);
+    if !all_hold(rt, dir, acts) {
+        return Err(SinkFault::Failed);
     }
-    Ok(Some(sink.commit().is_ok()))
+    Ok(sink.commit().is_ok())
 }
 
 /// Whether a file that lacks a byte is let go of without a fault, or with one, after this was done.
@@ -134,13 +138,13 @@ fn lets_go(
     dir: &PathBuf,
     sink: &mut DirSink<&HostRuntime>,
     (name, acts): (&str, &[Act<'_>]),
-) -> Result<Option<bool>, Fail> {
+) -> Result<bool, SinkFault> {
     clear(sink)?;
     take_two(sink, header(rt, name, 3)?)?;
-    if !all_hold(rt, dir, acts)? {
-        return Ok(None);
+    if !all_hold(rt, dir, acts) {
+        return Err(SinkFault::Failed);
     }
-    Ok(Some(sink.close().is_ok()))
+    Ok(sink.close().is_ok())
 }
 
 /// Whether this part was removed, or none, for a file of this name that is begun.
@@ -148,16 +152,27 @@ fn replaces(
     rt: &HostRuntime,
     sink: &mut DirSink<&HostRuntime>,
     (name, part): (&str, Option<&str>),
-) -> Result<bool, Fail> {
+) -> Result<bool, SinkFault> {
     clear(sink)?;
     take_two(sink, header(rt, name, 3)?)?;
     Ok(sink.replaced() == part)
 }
 
 /// Whether no file of this name is begun.
-fn refuses(rt: &HostRuntime, sink: &mut DirSink<&HostRuntime>, name: &str) -> Result<bool, Fail> {
+fn refuses(
+    rt: &HostRuntime,
+    sink: &mut DirSink<&HostRuntime>,
+    name: &str,
+) -> Result<bool, SinkFault> {
     clear(sink)?;
     Ok(sink.begin(header(rt, name, 3)?) == Err(SinkFault::Failed))
+}
+
+/// The part of the file of this name, locked.
+fn locked(rt: &HostRuntime, dir: &PathBuf, name: &str) -> io::Result<File> {
+    let held = File::open(rt, &path_of(rt, dir, name, ".part")?)?;
+    held.lock()?;
+    Ok(held)
 }
 
 /// Whether no file of this name is begun while its part is locked.
@@ -166,39 +181,62 @@ fn refuses_locked(
     dir: &PathBuf,
     sink: &mut DirSink<&HostRuntime>,
     name: &str,
-) -> Result<bool, Fail> {
-    let held = File::open(rt, &path_of(rt, dir, name, ".part")?)?;
-    held.lock()?;
-    refuses(rt, sink, name)
+) -> bool {
+    match locked(rt, dir, name) {
+        Ok(_held) => refuses(rt, sink, name) == Ok(true),
+        Err(_) => false,
+    }
 }
 
-/// Stores the 200,000 bytes of the file `a`. The first bytes wait, the second have no room beside them, and the third are more than ever wait.
-pub(super) fn stores_in_three(rt: &HostRuntime, dir: &PathBuf, all: &[u8]) -> Result<bool, Fail> {
+/// Stores the 200,000 bytes of the file `a`. The first bytes wait, the second have no room beside
+/// them, and the third are more than ever wait.
+fn stores_so(
+    rt: &HostRuntime,
+    sink: &mut DirSink<&HostRuntime>,
+    all: &[u8],
+) -> Result<bool, SinkFault> {
     if all.len() != 200_000 {
         return Ok(false);
     }
-    let mut sink = new_sink(rt, dir, Leftover::Refused)?;
-    take_in_three(&mut sink, header(rt, "a", 200_000)?, all)?;
+    clear(sink)?;
+    take_in_three(sink, header(rt, "a", 200_000)?, all)?;
     Ok(sink.commit().is_ok())
 }
 
+/// Whether a new sink stores these bytes in three pieces.
+pub(super) fn stores_in_three(rt: &HostRuntime, dir: &PathBuf, all: &[u8]) -> bool {
+    match new_sink(rt, dir, Leftover::Refused) {
+        Ok(mut sink) => stores_so(rt, &mut sink, all) == Ok(true),
+        Err(_) => false,
+    }
+}
+
 /// Whether another sink in the folder begins no file of this name.
-pub(super) fn other_refuses(rt: &HostRuntime, dir: &PathBuf, name: &str) -> Result<bool, Fail> {
-    let mut other = new_sink(rt, dir, Leftover::Discarded)?;
-    refuses(rt, &mut other, name)
+pub(super) fn other_refuses(rt: &HostRuntime, dir: &PathBuf, name: &str) -> bool {
+    match new_sink(rt, dir, Leftover::Discarded) {
+        Ok(mut other) => refuses(rt, &mut other, name) == Ok(true),
+        Err(_) => false,
+    }
+}
+
+/// Whether a file is stored, or is not, with nothing done meanwhile.
+fn stores_at_once(
+    rt: &HostRuntime,
+    sink: &mut DirSink<&HostRuntime>,
+    name: &str,
+    bytes: &[u8],
+) -> Result<bool, SinkFault> {
+    clear(sink)?;
+    take(sink, header(rt, name, bytes.len() as u64)?, bytes)?;
+    Ok(sink.commit().is_ok())
 }
 
 /// Whether another sink in the folder stores this file.
-pub(super) fn other_stores(
-    rt: &HostRuntime,
-    dir: &PathBuf,
-    name: &str,
-    bytes: &[u8],
-) -> Result<bool, Fail> {
-    let mut other = new_sink(rt, dir, Leftover::Discarded)?;
-    clear(&mut other)?;
-    take(&mut other, header(rt, name, bytes.len() as u64)?, bytes)?;
-    Ok(other.commit().is_ok())
+pub(super) fn other_stores(rt: &HostRuntime, dir: &PathBuf, name: &str, bytes: &[u8]) -> bool {
+    match new_sink(rt, dir, Leftover::Discarded) {
+        Ok(mut other) => stores_at_once(rt, &mut other, name, bytes) == Ok(true),
+        Err(_) => false,
+    }
 }
 
 /// Whether the files of these names are told as stored, in this order.
@@ -228,36 +266,57 @@ fn holds(
     dir: &PathBuf,
     sink: &mut DirSink<&HostRuntime>,
     step: &Step<'_>,
-) -> Result<bool, Fail> {
-    Ok(match *step {
-        Step::Stores(name, bytes, acts) => stores(rt, dir, sink, (name, bytes, acts))?
-            == Some(true),
-        Step::Fails(name, bytes, acts) => stores(rt, dir, sink, (name, bytes, acts))?
-            == Some(false),
-        Step::LetsGo(name, acts) => lets_go(rt, dir, sink, (name, acts))? == Some(true),
-        Step::Leaves(name, acts) => lets_go(rt, dir, sink, (name, acts))? == Some(false),
-        Step::Replaces(name, part) => replaces(rt, sink, (name, part))?,
+) -> bool {
+    match *step {
+        Step::Stores(name, bytes, acts) => stores(rt, dir, sink, (name, bytes, acts)) == Ok(true),
+        Step::Fails(name, bytes, acts) => stores(rt, dir, sink, (name, bytes, acts)) == Ok(false),
+        Step::LetsGo(name, acts) => lets_go(rt, dir, sink, (name, acts)) == Ok(true),
+        Step::Leaves(name, acts) => lets_go(rt, dir, sink, (name, acts)) == Ok(false),
+        Step::Replaces(name, part) => replaces(rt, sink, (name, part)) == Ok(true),
         Step::Closes(is_well) => sink.close().is_ok() == is_well,
-        Step::Refuses(name) => refuses(rt, sink, name)?,
-        Step::RefusesLocked(name) => refuses_locked(rt, dir, sink, name)?,
-        Step::Acts(acts) => all_hold(rt, dir, acts)?,
+        Step::Refuses(name) => refuses(rt, sink, name) == Ok(true),
+        Step::RefusesLocked(name) => refuses_locked(rt, dir, sink, name),
+        Step::Acts(acts) => all_hold(rt, dir, acts),
         Step::Told(names) => tells(sink, names),
         Step::First(why) => failed_by(sink, why),
-    })
+    }
 }
 
-/// The first of some steps that does not come to what it says, with a new sink in this folder.
-pub(super) fn first_wrong(
-    rt: &HostRuntime,
-    dir: &PathBuf,
+/// A folder, and a sink that stores files there.
+#[derive(Drop)]
+pub(super) struct Room<'r> {
+    rt: &'r HostRuntime,
+    dir: PathBuf,
+    sink: DirSink<&'r HostRuntime>,
+}
+
+/// A new folder of this name, and a new sink there, where both could be made.
+pub(super) fn new_room<'r>(
+    rt: &'r HostRuntime,
+    name: &str,
     leftover: Leftover,
-    steps: &[Step<'_>],
-) -> Result<Option<usize>, Fail> {
-    let mut sink = new_sink(rt, dir, leftover)?;
-    for (at, step) in steps.iter().enumerate() {
-        if !holds(rt, dir, &mut sink, step)? {
-            return Ok(Some(at));
-        }
+) -> Option<Room<'r>> {
+    let Ok(dir) = folder(rt, name) else {
+        return None;
+    };
+    match new_sink(rt, &dir, leftover) {
+        Ok(sink) => Some(Room { rt, dir, sink }),
+        Err(_) => None,
     }
-    Ok(None)
+}
+
+/// Whether the next step in this folder comes to what it says.
+pub(super) fn comes(room: &mut Option<Room<'_>>, step: Step<'_>) -> bool {
+    match room {
+        Some(room) => holds(room.rt, &room.dir, &mut room.sink, &step),
+        None => false,
+    }
+}
+
+/// Whether the folder is removed.
+pub(super) fn is_left(room: &Option<Room<'_>>) -> bool {
+    match room {
+        Some(room) => is_removed(room.rt, &room.dir),
+        None => false,
+    }
 }

@@ -3,7 +3,6 @@
 use std::cell::Cell;
 use std::io;
 use std::io::{Cursor, ErrorKind, Read};
-use std::test::Fail;
 use std::time::{Clock, Duration};
 use ym_host::{TtyFault, TtyWire};
 use ym_link::{Got, PortFault};
@@ -111,43 +110,49 @@ fn comes_to(reads: &[Comes], got: Result<Got, PortFault>, at: u64, why: &str) ->
     is_got && moment.get() == at && word(wire.fault()) == why
 }
 
-#[test]
-fn what_a_wait_comes_to(rt: HostRuntime) -> Result<(), Fail> {
+/// Whether a line that hung up is told from one that only looks so.
+fn tell_hung_up() -> bool {
     let early = Comes::Nothing(0);
     let quiet = Comes::Nothing(100);
-    let there = [
-        comes_to(&[quiet], Ok(Got::Quiet), 1000, "none"),
-        comes_to(&[quiet, Comes::Byte(20)], Ok(Got::Bytes(1)), 120, "none"),
-        // a line that hung up, and one that only looks so
-        comes_to(&[early], Ok(Got::Closed), 0, "hung up"),
-        comes_to(
+    comes_to(&[early], Ok(Got::Closed), 0, "hung up")
+        && comes_to(
             &[early, early, early, early, quiet],
             Ok(Got::Quiet),
             1000,
             "none",
-        ),
-        comes_to(&[Comes::Error(0, 5)], Ok(Got::Closed), 0, "hung up"),
-        // one whose reads wait for ever, and one whose reads are known to end
-        comes_to(&[Comes::Byte(3000)], Err(PortFault), 3000, "endless"),
-        comes_to(&[quiet, Comes::Byte(3000)], Ok(Got::Bytes(1)), 3100, "none"),
-        // an interrupted read, one that did not wait, and one that failed
-        comes_to(
-            &[Comes::Error(7, 4), Comes::Error(7, 11), Comes::Byte(7)],
-            Ok(Got::Bytes(1)),
-            21,
-            "none",
-        ),
-        comes_to(&[Comes::Error(7, 9)], Err(PortFault), 7, "system"),
-    ];
-    assert!(rt; there == [true; 9], "{there:?}");
-    Ok(())
+        )
+        && comes_to(&[Comes::Error(0, 5)], Ok(Got::Closed), 0, "hung up")
+}
+
+/// Whether a line whose reads wait for ever is told from one whose reads are known to end.
+fn tell_endless() -> bool {
+    let reads = [Comes::Nothing(100), Comes::Byte(3000)];
+    comes_to(&[Comes::Byte(3000)], Err(PortFault), 3000, "endless")
+        && comes_to(&reads, Ok(Got::Bytes(1)), 3100, "none")
+}
+
+/// Whether reads that get nothing, a byte, or an error come to what they should.
+fn tell_others() -> bool {
+    let quiet = Comes::Nothing(100);
+    // an interrupted read, one that did not wait, and one that failed
+    let interrupted = [Comes::Error(7, 4), Comes::Error(7, 11), Comes::Byte(7)];
+    comes_to(&[quiet], Ok(Got::Quiet), 1000, "none")
+        && comes_to(&[quiet, Comes::Byte(20)], Ok(Got::Bytes(1)), 120, "none")
+        && comes_to(&interrupted, Ok(Got::Bytes(1)), 21, "none")
+        && comes_to(&[Comes::Error(7, 9)], Err(PortFault), 7, "system")
+}
+
+#[test]
+fn what_a_wait_comes_to(rt: HostRuntime) {
+    assert!(rt; tell_hung_up());
+    assert!(rt; tell_endless());
+    assert!(rt; tell_others());
 }
 
 /// A clock that stands still ends no wait, and the count of reads does.
 #[test]
-fn a_clock_that_stands_still(rt: HostRuntime) -> Result<(), Fail> {
+fn a_clock_that_stands_still(rt: HostRuntime) {
     assert!(rt; comes_to(&[Comes::Error(0, 4)], Ok(Got::Quiet), 0, "none"));
-    Ok(())
 }
 
 /// How many reads get a byte before one finds the line quiet.
@@ -160,19 +165,22 @@ fn dripped(wire: &mut TtyWire<Hand<'_>, Listed<'_>, Cursor<[u8; 64]>>, buf: &mut
     1000
 }
 
+/// Whether bytes that drip are heard for so long, from the first on and from a write on.
+fn drips(moment: &Cell<u64>) -> bool {
+    let reads = [Comes::Nothing(100), Comes::Byte(900)];
+    let mut wire = wire(&reads, moment);
+    let mut buf = [0; 8];
+    dripped(&mut wire, &mut buf) == 35
+        && wire.read(1000, &mut buf) == Ok(Got::Bytes(1))
+        && wire.write(b"bytes").is_ok()
+        && dripped(&mut wire, &mut buf) == 35
+        && word(wire.fault()) == "none"
+}
+
 /// Bytes that come one after another, with no pause as long as a wait, are heard for 30 seconds at
 /// a time by a receiver, or from a write on.
 #[test]
-fn bytes_that_drip(rt: HostRuntime) -> Result<(), Fail> {
+fn bytes_that_drip(rt: HostRuntime) {
     let moment = Cell::new(0);
-    let reads = [Comes::Nothing(100), Comes::Byte(900)];
-    let mut wire = wire(&reads, &moment);
-    let mut buf = [0; 8];
-    let first = dripped(&mut wire, &mut buf);
-    assert_eq!(rt; wire.read(1000, &mut buf), Ok(Got::Bytes(1)));
-    assert!(rt; wire.write(b"bytes").is_ok());
-    let next = dripped(&mut wire, &mut buf);
-    assert_eq!(rt; (first, next), (35, 35));
-    assert_eq!(rt; word(wire.fault()), "none");
-    Ok(())
+    assert!(rt; drips(&moment));
 }

@@ -1,5 +1,6 @@
 //! What the tests of the program share.
 
+use std::alloc::{AllocError, Global};
 use std::fmt::Write;
 use std::test::Fail;
 use ym_command::command;
@@ -15,13 +16,18 @@ pub(super) struct Ending {
     pub(super) told: Vec<u8>,
 }
 
-/// Runs the words of a line, on this input.
-pub(super) fn ran(rt: &HostRuntime, line: &str, input: &[u8]) -> Result<Ending, Fail> {
-    let alloc = rt.alloc();
+/// The words of a line.
+fn words_of(alloc: Global, line: &str) -> Result<Vec<String>, AllocError> {
     let mut words = Vec::new(alloc);
     for word in line.split(' ') {
         words.push(String::from_str(alloc, word)?)?;
     }
+    Ok(words)
+}
+
+/// Runs these words, on this input.
+fn ran_words(rt: &HostRuntime, words: Vec<String>, input: &[u8]) -> Ending {
+    let alloc = rt.alloc();
     let mut input = input;
     let mut out = Vec::new(alloc);
     let mut err = Vec::new(alloc);
@@ -41,12 +47,17 @@ pub(super) fn ran(rt: &HostRuntime, line: &str, input: &[u8]) -> Result<Ending, 
         &mut teller,
     );
     let told = teller.err;
-    Ok(Ending {
+    Ending {
         status,
         out,
         err,
         told,
-    })
+    }
+}
+
+/// Runs the words of a line, on this input.
+pub(super) fn ran(rt: &HostRuntime, line: &str, input: &[u8]) -> Result<Ending, AllocError> {
+    Ok(ran_words(rt, words_of(rt.alloc(), line)?, input))
 }
 
 /// Whether a command of this line, on this input, ends with this status and these texts.
@@ -57,13 +68,15 @@ pub(super) fn ends(
     status: u8,
     out: &str,
     err: &str,
-) -> Result<bool, Fail> {
-    let ran = ran(rt, line, input)?;
-    Ok(
-        ran.status == status
-            && ran.out.as_slice() == out.as_bytes()
-            && ran.err.as_slice() == err.as_bytes(),
-    )
+) -> bool {
+    match ran(rt, line, input) {
+        Ok(ran) => {
+            ran.status == status
+                && ran.out.as_slice() == out.as_bytes()
+                && ran.err.as_slice() == err.as_bytes()
+        }
+        Err(_) => false,
+    }
 }
 
 /// The script of a file of 128 bytes `A`, and further lines.

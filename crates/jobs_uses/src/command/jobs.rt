@@ -1,9 +1,11 @@
 //! What the commands print.
 
 use super::fixtures::{ends, ran, with_file};
+use std::alloc::AllocError;
 use std::net::TcpListener;
+use std::path::PathBuf;
 use std::test::Fail;
-use std::{env, fs};
+use std::{env, fs, io};
 
 const ONE_FILE: &str = "1 > - whole < C whole\n\
     2 > block 0 128 whole < ACK C whole\n\
@@ -53,135 +55,221 @@ fn free_port(rt: &HostRuntime) -> Result<u16, Fail> {
     Ok(listener.local_addr()?.port())
 }
 
+/// Whether these scripts come to these texts, by a command of this line.
+fn plays(rt: &HostRuntime, line: &str, one_file: &str) -> bool {
+    let lost_last_acks = "file a -\nok 3\nround whole lost\nround whole lost\n\
+        round whole lost\nround whole lost\n";
+    let two_more = "file a -\nok 3\nround whole lost\nround whole lost\n\
+        round whole lost\nround whole lost\nok 2\n";
+    let two_files = b"file a -\nfile b -\nok 8\n";
+    ends(rt, line, one_file.as_bytes(), 0, ONE_FILE, "")
+        && ends(rt, line, two_files, 0, TWO_EMPTY_FILES, "")
+        && ends(rt, line, lost_last_acks.as_bytes(), 1, LOST_LAST_ACKS, "")
+        && ends(
+            rt,
+            line,
+            two_more.as_bytes(),
+            0,
+            LOST_LAST_ACKS_AND_TWO_MORE,
+            "",
+        )
+        && ends(rt, line, b"foo\n", 2, "", "line 1: not a command\n")
+}
+
 /// The same text by a session in memory, with and without its word, and by one over a connection.
 #[test]
 fn play_and_loop(rt: HostRuntime) -> Result<(), Fail> {
     let one_file = with_file(&rt, "ok 6\n")?;
-    let lost = "round whole lost\n";
-    let lost_last_acks = format!(in rt.alloc(); "file a -\nok 3\n{lost}{lost}{lost}{lost}")?;
-    let two_more = format!(in rt.alloc(); "{lost_last_acks}ok 2\n")?;
-    let port = free_port(&rt)?;
-    let looped = format!(in rt.alloc(); "ymodem loop --port {port}")?;
-    for line in ["ymodem", "ymodem play", looped.as_str()] {
-        for (script, status, out) in [
-            (one_file.as_str(), 0, ONE_FILE),
-            ("file a -\nfile b -\nok 8\n", 0, TWO_EMPTY_FILES),
-            (lost_last_acks.as_str(), 1, LOST_LAST_ACKS),
-            (two_more.as_str(), 0, LOST_LAST_ACKS_AND_TWO_MORE),
-        ] {
-            assert!(rt;
-                ends(&rt, line, script.as_bytes(), status, out, "")?,
-                "{line}"
-            );
-        }
-        let wrong = "line 1: not a command\n";
-        assert!(rt; ends(&rt, line, b"foo\n", 2, "", wrong)?, "{line}");
-    }
+    let looped = looped_at(&rt, free_port(&rt)?)?;
+    assert!(rt; plays(&rt, "ymodem", one_file.as_str()));
+    assert!(rt; plays(&rt, "ymodem play", one_file.as_str()));
+    assert!(rt; plays(&rt, looped.as_str(), one_file.as_str()));
     Ok(())
+}
+
+/// The line of a session over a connection by this port.
+fn looped_at(rt: &HostRuntime, port: u16) -> Result<String, AllocError> {
+    format!(in rt.alloc(); "ymodem loop --port {port}")
+}
+
+/// The line of a command that waits at this port.
+fn receive_at(rt: &HostRuntime, port: u16) -> Result<String, AllocError> {
+    format!(in rt.alloc(); "ymodem receive --port {port} /nowhere")
+}
+
+/// The line of a command that sends files by this port.
+fn send_by(rt: &HostRuntime, port: u16, words: &str) -> Result<String, AllocError> {
+    format!(in rt.alloc(); "ymodem send --port {port} {words}")
+}
+
+/// Whether a command of this line ends with this status and this fault line, and prints nothing.
+fn faults(
+    rt: &HostRuntime,
+    line: Result<String, AllocError>,
+    input: &[u8],
+    status: u8,
+    err: &str,
+) -> bool {
+    match line {
+        Ok(line) => ends(rt, line.as_str(), input, status, "", err),
+        Err(_) => false,
+    }
 }
 
 #[test]
 fn a_port_that_is_taken(rt: HostRuntime) -> Result<(), Fail> {
     let listener = TcpListener::bind(&rt, "127.0.0.1:0")?;
     let port = listener.local_addr()?.port();
-    let looped = format!(in rt.alloc(); "ymodem loop --port {port}")?;
-    assert!(rt; ends(&rt, looped.as_str(), b"ok 2\n", 3, "", "fault: device\n")?);
-    let receive = format!(in rt.alloc(); "ymodem receive --port {port} /nowhere")?;
-    assert!(rt; ends(&rt, receive.as_str(), b"", 3, "", "fault: device\n")?);
+    let looped = looped_at(&rt, port);
+    assert!(rt; faults(&rt, looped, b"ok 2\n", 3, "fault: device\n"));
+    let receive = receive_at(&rt, port);
+    assert!(rt; faults(&rt, receive, b"", 3, "fault: device\n"));
     Ok(())
+}
+
+/// The path of a file for tests, of this name.
+fn path_of(rt: &HostRuntime, name: &str) -> io::Result<PathBuf> {
+    Ok(env::temp_dir(rt)?.join(rt.alloc(), name)?)
+}
+
+/// A new file for tests, of this name, which holds this text.
+fn file(rt: &HostRuntime, name: &str, text: &str) -> io::Result<PathBuf> {
+    let path = path_of(rt, name)?;
+    fs::write(rt, &path, text)?;
+    Ok(path)
+}
+
+/// Whether a command that sends what these words name by this port ends with this fault line.
+fn sends_not(rt: &HostRuntime, port: u16, words: &str, status: u8, err: &str) -> bool {
+    faults(rt, send_by(rt, port, words), b"", status, err)
+}
+
+/// Whether files that cannot be sent are refused, of which one has this name.
+fn are_refused(rt: &HostRuntime, port: u16, name: &str, two: &str) -> bool {
+    sends_not(rt, port, "/nowhere/a.txt", 3, "fault: device\n")
+        && sends_not(rt, port, "/", 3, "fault: device\n")
+        && sends_not(rt, port, name, 2, "fault: name\n")
+        // the first fault is told
+        && sends_not(rt, port, two, 2, "fault: name\n")
+}
+
+/// The same, behind this path one that is missing.
+fn both_refused(rt: &HostRuntime, port: u16, name: &str) -> Result<bool, AllocError> {
+    let two = format!(in rt.alloc(); "{name} /nowhere/a.txt")?;
+    Ok(are_refused(rt, port, name, two.as_str()))
 }
 
 #[test]
 fn files_that_cannot_be_sent(rt: HostRuntime) -> Result<(), Fail> {
     let port = free_port(&rt)?;
-    let path = env::temp_dir(&rt)?.join(rt.alloc(), "ymodem-a\u{1}b")?;
-    fs::write(&rt, &path, "abc")?;
-    let name = path.as_str();
-    for (words, status, err) in [
-        ("/nowhere/a.txt", 3, "fault: device\n"),
-        ("/", 3, "fault: device\n"),
-        (name, 2, "fault: name\n"),
-    ] {
-        let line = format!(in rt.alloc(); "ymodem send --port {port} {words}")?;
-        assert!(rt; ends(&rt, line.as_str(), b"", status, "", err)?, "{line}");
-    }
-    // the first fault is told
-    let line = format!(in rt.alloc(); "ymodem send --port {port} {name} /nowhere/a.txt")?;
-    assert!(rt; ends(&rt, line.as_str(), b"", 2, "", "fault: name\n")?);
+    let path = file(&rt, "ymodem-a\u{1}b", "abc")?;
+    assert!(rt; both_refused(&rt, port, path.as_str())?);
     fs::remove_file(&rt, &path)?;
     Ok(())
 }
 
 /// Whether a command of this line, which cannot open its file, tells this besides the fault line.
-fn tells(rt: &HostRuntime, line: &str, want: &str) -> Result<bool, Fail> {
-    let ran = ran(rt, line, b"")?;
-    let is_fault = ran.err.as_slice() == b"fault: device\n".as_slice();
-    Ok(ran.status == 3 && is_fault && ran.told.as_slice() == want.as_bytes())
+fn tells(rt: &HostRuntime, line: Result<String, AllocError>, want: &str) -> bool {
+    match line {
+        Ok(line) => tells_by(rt, line.as_str(), want),
+        Err(_) => false,
+    }
+}
+
+/// The same, of a line that there was memory for.
+fn tells_by(rt: &HostRuntime, line: &str, want: &str) -> bool {
+    match ran(rt, line, b"") {
+        Ok(ran) => {
+            ran.status == 3
+                && ran.err.as_slice() == b"fault: device\n".as_slice()
+                && ran.told.as_slice() == want.as_bytes()
+        }
+        Err(_) => false,
+    }
+}
+
+/// Whether it is told why a file cannot be opened, to somebody who asks for it.
+fn tell_besides(rt: &HostRuntime, port: u16) -> bool {
+    tells(
+        rt,
+        send_by(rt, port, "--verbose /nowhere/a.txt"),
+        "cannot open '/nowhere/a.txt': no such file or directory\n",
+    ) && tells(rt, send_by(rt, port, "/nowhere/a.txt"), "")
+        && tells(
+            rt,
+            send_by(rt, port, "--verbose --quiet /nowhere/a.txt"),
+            "",
+        )
 }
 
 /// What is told besides the fault line, to somebody who asks for it.
 #[test]
 fn told_besides(rt: HostRuntime) -> Result<(), Fail> {
     let port = free_port(&rt)?;
-    for (words, want) in [
-        (
-            "--verbose /nowhere/a.txt",
-            "cannot open '/nowhere/a.txt': no such file or directory\n",
-        ),
-        ("/nowhere/a.txt", ""),
-        ("--verbose --quiet /nowhere/a.txt", ""),
-    ] {
-        let line = format!(in rt.alloc(); "ymodem send --port {port} {words}")?;
-        assert!(rt; tells(&rt, line.as_str(), want)?, "{line}");
-    }
+    assert!(rt; tell_besides(&rt, port));
     Ok(())
+}
+
+/// The line of a command that sends the file at this path 65,536 times.
+fn line_of_many(rt: &HostRuntime, path: &str) -> Result<String, AllocError> {
+    let mut line = String::from_str(rt.alloc(), "ymodem send --port 1")?;
+    for _ in 0..65_536u32 {
+        line.push(' ')?;
+        line.push_str(path)?;
+    }
+    Ok(line)
 }
 
 /// One file more than a batch may have.
 #[test]
 fn too_many_files(rt: HostRuntime) -> Result<(), Fail> {
-    let path = env::temp_dir(&rt)?.join(rt.alloc(), "ymodem-many.txt")?;
-    fs::write(&rt, &path, "")?;
-    let mut line = String::from_str(rt.alloc(), "ymodem send --port 1")?;
-    for _ in 0..65_536u32 {
-        line.push(' ')?;
-        line.push_str(path.as_str())?;
-    }
-    let many = ends(&rt, line.as_str(), b"", 2, "", "fault: too many files\n")?;
+    let path = file(&rt, "ymodem-many.txt", "")?;
+    let many = line_of_many(&rt, path.as_str());
+    assert!(rt; faults(&rt, many, b"", 2, "fault: too many files\n"));
     fs::remove_file(&rt, &path)?;
-    assert!(rt; many);
     Ok(())
 }
 
 /// Where nobody listens.
 #[test]
 fn nobody_listens(rt: HostRuntime) -> Result<(), Fail> {
-    let path = env::temp_dir(&rt)?.join(rt.alloc(), "ymodem-nobody.txt")?;
-    fs::write(&rt, &path, "abc")?;
-    let name = path.as_str();
-    let line = format!(in rt.alloc(); "ymodem send --port 1 {name}")?;
-    assert!(rt; ends(&rt, line.as_str(), b"", 3, "", "fault: device\n")?);
+    let path = file(&rt, "ymodem-nobody.txt", "abc")?;
+    assert!(rt; sends_not(&rt, 1, path.as_str(), 3, "fault: device\n"));
     fs::remove_file(&rt, &path)?;
     Ok(())
+}
+
+/// The line of a command that sends a file over the line at this device.
+fn sb_over(rt: &HostRuntime, device: &str, name: &str) -> Result<String, AllocError> {
+    format!(in rt.alloc(); "ymodem sb --verbose --line {device} {name}")
+}
+
+/// The line of a command that receives into a folder over the line at this device.
+fn rb_over(rt: &HostRuntime, device: &str, folder: &str) -> Result<String, AllocError> {
+    format!(in rt.alloc(); "ymodem rb --verbose --line {device} {folder}")
+}
+
+/// Whether either command tells this of the line at this device.
+fn both_tell(rt: &HostRuntime, device: &str, name: &str, folder: &str, want: &str) -> bool {
+    tells(rt, sb_over(rt, device, name), want) && tells(rt, rb_over(rt, device, folder), want)
+}
+
+/// Whether it is told that this file is no terminal.
+fn tell_no_terminal(rt: &HostRuntime, name: &str, folder: &str) -> bool {
+    match format!(in rt.alloc(); "cannot open '{name}': it is no terminal\n") {
+        Ok(want) => both_tell(rt, name, name, folder, want.as_str()),
+        Err(_) => false,
+    }
 }
 
 /// Terminals that cannot be the line, and what is told of each.
 #[test]
 fn lines_that_cannot_be_opened(rt: HostRuntime) -> Result<(), Fail> {
-    let path = env::temp_dir(&rt)?.join(rt.alloc(), "ymodem-no-line.txt")?;
-    fs::write(&rt, &path, "abc")?;
-    let name = path.as_str();
-    let folder = env::temp_dir(&rt)?;
-    let folder = folder.as_str();
-    let no_terminal = format!(in rt.alloc(); "cannot open '{name}': it is no terminal\n")?;
+    let path = file(&rt, "ymodem-no-line.txt", "abc")?;
+    let (name, folder) = (path.as_str(), env::temp_dir(&rt)?);
     let absent = "cannot open '/nowhere/tty': no such device\n";
-    let mut all = true;
-    for (device, want) in [("/nowhere/tty", absent), (name, no_terminal.as_str())] {
-        let send = format!(in rt.alloc(); "ymodem sb --verbose --line {device} {name}")?;
-        let receive = format!(in rt.alloc(); "ymodem rb --verbose --line {device} {folder}")?;
-        all = all && tells(&rt, send.as_str(), want)? && tells(&rt, receive.as_str(), want)?;
-    }
+    assert!(rt; both_tell(&rt, "/nowhere/tty", name, folder.as_str(), absent));
+    assert!(rt; tell_no_terminal(&rt, name, folder.as_str()));
     fs::remove_file(&rt, &path)?;
-    assert!(rt; all);
     Ok(())
 }

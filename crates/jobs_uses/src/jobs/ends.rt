@@ -1,18 +1,20 @@
-//! The ends of `send` and `receive` over a port that plays events: what is printed, what is answered, and which of several faults is told. The
-//! calls stand in functions that tell a proof nothing, so that a test costs it little.
+//! The ends of `send` and `receive` over a port that plays events: what is printed, what is
+//! answered, and which of several faults is told. The calls stand in functions that tell a proof
+//! nothing, so that a test costs it little.
 
 ghost use Rattle.std.specs.Prelude.{IfOk};
 ghost use Rattle.ym_file.specs.Kept.{IsNew};
 ghost use Rattle.ym_host.specs.DirSink.{kept_of};
 
+use super::frames::Frames;
 use std::alloc::{AllocError, Global};
 use std::io::{ErrorKind, Write};
 use std::path::PathBuf;
 use std::test::Fail;
 use std::{env, fs, io, process};
 use ym_file::{MemSource, Shape};
-use ym_frame::{Block, Bytes, Item, encode};
-use ym_header::{Header, Stamp, write, write_end};
+use ym_frame::Bytes;
+use ym_header::Stamp;
 use ym_host::{DirSink, Durability, Leftover};
 use ym_jobs::{CommandFault, receive_batch, send_batch};
 use ym_link::{Confirm, Event, ReceiverInto, ScriptPort, SendFile, SenderFrom};
@@ -82,59 +84,98 @@ impl<'a> Scene<'a> {
 }
 
 /// A sender of the file `a`, which has no bytes.
-fn sender_of(alloc: Global) -> Result<SenderFrom<MemSource>, Fail> {
+fn sender_of(alloc: Global) -> Option<SenderFrom<MemSource>> {
+    let Ok(file) = SendFile::new(alloc, "a", Vec::new(alloc), Stamp::Nothing) else {
+        return None;
+    };
     let mut batch = Vec::new(alloc);
-    batch.push(SendFile::new(alloc, "a", Vec::new(alloc), Stamp::Nothing)?)?;
-    Ok(SenderFrom::new(batch, Shape::Mixed).map_err(|_| "too many files")?)
+    if batch.push(file).is_err() {
+        return None;
+    }
+    match SenderFrom::new(batch, Shape::Mixed) {
+        Ok(sender) => Some(sender),
+        Err(_) => None,
+    }
+}
+
+/// Whether a sender answers and prints this over a port.
+fn answers(
+    mut port: ScriptPort,
+    mut sender: SenderFrom<MemSource>,
+    mut out: Page,
+    want: Result<u8, CommandFault>,
+    text: &str,
+) -> bool {
+    send_batch(&mut port, &mut sender, &mut out) == want && out.text.as_slice() == text.as_bytes()
 }
 
 /// Whether a sender of the file `a` answers and prints this.
-fn sends(
-    alloc: Global,
-    scene: Scene<'_>,
-    want: Result<u8, CommandFault>,
-    text: &str,
-) -> Result<bool, Fail> {
-    let mut port = scene.port(alloc)?;
-    let mut sender = sender_of(alloc)?;
-    let mut out = scene.page(alloc);
-    let answer = send_batch(&mut port, &mut sender, &mut out);
-    Ok(answer == want && out.text.as_slice() == text.as_bytes())
+fn sends(alloc: Global, scene: Scene<'_>, want: Result<u8, CommandFault>, text: &str) -> bool {
+    match (scene.port(alloc), sender_of(alloc)) {
+        (Ok(port), Some(sender)) => answers(port, sender, scene.page(alloc), want, text),
+        _ => false,
+    }
 }
 
-#[test]
-fn a_sender_is_told(rt: HostRuntime) -> Result<(), Fail> {
-    let alloc = rt.alloc();
-    let all: [&[u8]; 5] = [b"C", b"\x06", b"C", b"\x06C", b"\x06"];
-    let none: [&[u8]; 1] = [b"\x18\x18"];
+/// The replies to a sender of a file without bytes.
+const ALL: &[&[u8]] = &[b"C", b"\x06", b"C", b"\x06C", b"\x06"];
+
+/// All of them but the last.
+const NO_LAST: &[&[u8]] = &[b"C", b"\x06", b"C", b"\x06C"];
+
+/// The first two of them.
+const FRONT: &[&[u8]] = &[b"C", b"\x06"];
+
+/// The other end cancels.
+const CANCELS: &[&[u8]] = &[b"\x18\x18"];
+
+/// Whether it is told how a sender ends.
+fn is_sender_told(alloc: Global) -> bool {
     let closed = Err(CommandFault::Closed);
-    let text = "sender done 1 finished\n";
-    assert!(rt; sends(alloc, Scene::whole(&all), Ok(0), text)?);
-    let text = "sender done 1 running\n";
-    assert!(rt; sends(alloc, Scene::whole(&all[..4]), closed, text)?);
-    let text = "sender done 0 running\n";
-    assert!(rt; sends(alloc, Scene::whole(&all[..2]), closed, text)?);
-    let text = "sender done 0 cancelled\n";
-    assert!(rt; sends(alloc, Scene::whole(&none), Ok(1), text)?);
-    Ok(())
+    sends(alloc, Scene::whole(ALL), Ok(0), "sender done 1 finished\n")
+        && sends(
+            alloc,
+            Scene::whole(NO_LAST),
+            closed,
+            "sender done 1 running\n",
+        )
+        && sends(
+            alloc,
+            Scene::whole(FRONT),
+            closed,
+            "sender done 0 running\n",
+        )
+        && sends(
+            alloc,
+            Scene::whole(CANCELS),
+            Ok(1),
+            "sender done 0 cancelled\n",
+        )
 }
 
-/// The fault of the engine before that of the output, and that of the output before what the end says.
 #[test]
-fn of_the_faults_of_a_sender_one_is_told(rt: HostRuntime) -> Result<(), Fail> {
-    let alloc = rt.alloc();
-    let all: [&[u8]; 5] = [b"C", b"\x06", b"C", b"\x06C", b"\x06"];
-    let none: [&[u8]; 1] = [b"\x18\x18"];
+fn a_sender_is_told(rt: HostRuntime) {
+    assert!(rt; is_sender_told(rt.alloc()));
+}
+
+/// Whether a sender tells the first of its faults.
+fn is_sender_fault(alloc: Global) -> bool {
     let closed = Err(CommandFault::Closed);
     let device = Err(CommandFault::Device);
-    assert!(rt; sends(alloc, Scene::broken(&all[..2]), closed, "")?);
-    assert!(rt; sends(alloc, Scene::broken(&all), device, "")?);
-    assert!(rt; sends(alloc, Scene::broken(&none), device, "")?);
-    Ok(())
+    sends(alloc, Scene::broken(FRONT), closed, "")
+        && sends(alloc, Scene::broken(ALL), device, "")
+        && sends(alloc, Scene::broken(CANCELS), device, "")
+}
+
+/// The fault of the engine before that of the output, and that of the output before what the end
+/// says.
+#[test]
+fn of_the_faults_of_a_sender_one_is_told(rt: HostRuntime) {
+    assert!(rt; is_sender_fault(rt.alloc()));
 }
 
 /// A new folder of this name.
-fn folder(rt: &HostRuntime, name: &str) -> Result<PathBuf, Fail> {
+fn folder(rt: &HostRuntime, name: &str) -> io::Result<PathBuf> {
     let id = process::id(rt.process());
     let name = format!(in rt.alloc(); "ymodem-{id}-{name}")?;
     let path = env::temp_dir(rt)?.join(rt.alloc(), name.as_str())?;
@@ -155,20 +196,21 @@ fn sink_in<'r>(rt: &'r HostRuntime, dir: &PathBuf) -> Result<DirSink<&'r HostRun
     )
 }
 
-/// What a receiver into this folder answers, how many files its sink tells, and whether it prints this text.
-fn received(
-    rt: &HostRuntime,
-    dir: &PathBuf,
-    scene: Scene<'_>,
-    text: &str,
-) -> Result<(Result<u8, CommandFault>, usize, bool), Fail> {
-    let alloc = rt.alloc();
-    let receiver = ReceiverInto::with_sink(alloc, sink_in(rt, dir)?, Confirm::Twice);
-    let mut port = scene.port(alloc)?;
-    let mut out = scene.page(alloc);
+/// Whether a receiver into this sink answers so, stores so many files, and prints this text.
+fn ends_so(
+    alloc: Global,
+    mut port: ScriptPort,
+    sink: DirSink<&HostRuntime>,
+    mut out: Page,
+    want: End<'_>,
+) -> bool
+    requires { IsNew (kept_of sink) }
+{
+    let receiver = ReceiverInto::with_sink(alloc, sink, Confirm::Twice);
     let (sink, _state, answer) = receive_batch(&mut port, receiver, &mut out);
-    let is_printed = out.text.as_slice() == text.as_bytes();
-    Ok((answer, sink.headers().len(), is_printed))
+    answer == want.answer
+        && sink.headers().len() == want.files
+        && out.text.as_slice() == want.text.as_bytes()
 }
 
 /// How a receiver ends: what it answers and prints, and how many files it has stored.
@@ -179,133 +221,141 @@ struct End<'a> {
     files: usize,
 }
 
-/// Whether a receiver into a new folder ends so, and leaves no part.
-fn receives(rt: &HostRuntime, name: &str, scene: Scene<'_>, want: End<'_>) -> Result<bool, Fail> {
-    let dir = folder(rt, name)?;
-    let (answer, files, is_printed) = received(rt, &dir, scene, want.text)?;
-    let part = dir.join(rt.alloc(), "a.part")?;
-    let is_gone = !fs::exists(rt, &part)?;
-    fs::remove_dir_all(rt, &dir)?;
-    Ok(answer == want.answer && files == want.files && is_printed && is_gone)
+/// Whether a receiver into this folder ends so.
+fn is_received(rt: &HostRuntime, dir: &PathBuf, scene: Scene<'_>, want: End<'_>) -> bool {
+    let alloc = rt.alloc();
+    match (scene.port(alloc), sink_in(rt, dir)) {
+        (Ok(port), Ok(sink)) => ends_so(alloc, port, sink, scene.page(alloc), want),
+        _ => false,
+    }
 }
 
-/// The bytes of a block's frame.
-fn frame_of(alloc: Global, block: Block) -> Result<Vec<u8>, AllocError> {
-    let frame = encode(&Item::Block(block));
-    Vec::from_slice(alloc, frame.as_bytes())
+/// Whether this folder has no part of the file `a`.
+fn has_no_part(rt: &HostRuntime, dir: &PathBuf) -> bool {
+    match dir.join(rt.alloc(), "a.part") {
+        Ok(part) => fs::exists(rt, &part).is_ok_and(|is_there| !is_there),
+        Err(_) => false,
+    }
 }
 
-/// The frames of a file of one block, but its EOTs; and of the end of the batch.
-#[derive(Drop)]
-struct Frames {
-    header: Vec<u8>,
-    data: Vec<u8>,
-    end: Vec<u8>,
+/// Whether a receiver into a new folder of this name ends so, and leaves no part.
+fn receives(rt: &HostRuntime, name: &str, scene: Scene<'_>, want: End<'_>) -> bool {
+    match folder(rt, name) {
+        Ok(dir) => {
+            is_received(rt, &dir, scene, want)
+                && has_no_part(rt, &dir)
+                && fs::remove_dir_all(rt, &dir).is_ok()
+        }
+        Err(_) => false,
+    }
 }
 
-impl Frames {
-    /// Of a file of this name, length and stamp.
-    fn new(alloc: Global, name: &str, length: u64, stamp: Stamp) -> Result<Frames, Fail> {
-        let header = Header::new(alloc, name, length, stamp)?;
-        let data = Block::new(1, &[b'x'; 128]).map_err(|_| "no block")?;
-        Ok(Frames {
-            header: frame_of(alloc, write(&header))?,
-            data: frame_of(alloc, data)?,
-            end: frame_of(alloc, write_end())?,
-        })
+/// What was received as a whole.
+fn whole(text: &str) -> End<'_> {
+    End {
+        answer: Ok(0),
+        text,
+        files: 1,
     }
+}
 
-    /// Of the file `a` of 128 bytes, with a stamp.
-    fn usual(alloc: Global) -> Result<Frames, Fail> {
-        Frames::new(alloc, "a", 128, Stamp::TimeMode(12, 420))
+/// What a receiver was told by a fault, after it stored so many files.
+fn faulty(fault: CommandFault, text: &str, files: usize) -> End<'_> {
+    End {
+        answer: Err(fault),
+        text,
+        files,
     }
+}
 
-    /// All of them, with two EOTs.
-    fn all(&self) -> [&[u8]; 5] {
-        let eot = b"\x04".as_slice();
-        [&self.header, &self.data, eot, eot, &self.end]
+/// What a receiver comes to that was cancelled.
+fn cancelled() -> End<'static> {
+    End {
+        answer: Ok(1),
+        text: "receiver files 0 cancelled\n",
+        files: 0,
     }
+}
+
+/// Whether it is told of a whole file.
+fn is_whole_told(rt: &HostRuntime, frames: &Frames) -> bool {
+    let want = whole("file a 128 14 644\nreceiver files 1 finished\n");
+    receives(rt, "whole", Scene::whole(&frames.all()), want)
+}
+
+/// Whether it is told of a batch without its end.
+fn is_no_end_told(rt: &HostRuntime, frames: &Frames) -> bool {
+    let text = "file a 128 14 644\nreceiver files 1 running\n";
+    let want = faulty(CommandFault::Closed, text, 1);
+    receives(rt, "no-end", Scene::whole(&frames.no_last()), want)
+}
+
+/// Whether it is told of a file that is open at the end.
+fn is_open_told(rt: &HostRuntime, frames: &Frames) -> bool {
+    let want = faulty(CommandFault::Closed, "receiver files 0 running\n", 0);
+    receives(rt, "open", Scene::whole(&frames.front()), want)
 }
 
 #[test]
 fn a_receiver_is_told(rt: HostRuntime) -> Result<(), Fail> {
     let frames = Frames::usual(rt.alloc())?;
-    let all = frames.all();
-    let none: [&[u8]; 1] = [b"\x18\x18"];
-    let whole = End {
-        answer: Ok(0),
-        text: "file a 128 14 644\nreceiver files 1 finished\n",
-        files: 1,
-    };
-    assert!(rt; receives(&rt, "whole", Scene::whole(&all), whole)?);
-    let no_end = End {
-        answer: Err(CommandFault::Closed),
-        text: "file a 128 14 644\nreceiver files 1 running\n",
-        files: 1,
-    };
-    assert!(rt; receives(&rt, "no-end", Scene::whole(&all[..4]), no_end)?);
-    let open = End {
-        answer: Err(CommandFault::Closed),
-        text: "receiver files 0 running\n",
-        files: 0,
-    };
-    assert!(rt; receives(&rt, "open", Scene::whole(&all[..2]), open)?);
-    let cancelled = End {
-        answer: Ok(1),
-        text: "receiver files 0 cancelled\n",
-        files: 0,
-    };
-    assert!(rt; receives(&rt, "cancelled", Scene::whole(&none), cancelled)?);
+    assert!(rt; is_whole_told(&rt, &frames));
+    assert!(rt; is_no_end_told(&rt, &frames));
+    assert!(rt; is_open_told(&rt, &frames));
+    assert!(rt; receives(&rt, "cancelled", Scene::whole(CANCELS), cancelled()));
     Ok(())
 }
 
-/// The fault of the engine before that of the output, and that of the output before what the end says. What was stored stays.
+/// Whether the fault of the engine is told before that of the output.
+fn is_engine_told(rt: &HostRuntime, frames: &Frames) -> bool {
+    let want = faulty(CommandFault::Closed, "", 0);
+    receives(rt, "engine", Scene::broken(&frames.front()), want)
+}
+
+/// Whether the fault of the output is told, and what was stored stays.
+fn is_output_told(rt: &HostRuntime, frames: &Frames) -> bool {
+    let want = faulty(CommandFault::Device, "", 1);
+    receives(rt, "output", Scene::broken(&frames.all()), want)
+}
+
+/// Whether the fault of the output is told before what the end says.
+fn is_said_last(rt: &HostRuntime) -> bool {
+    let want = faulty(CommandFault::Device, "", 0);
+    receives(rt, "said", Scene::broken(CANCELS), want)
+}
+
+/// The fault of the engine before that of the output, and that of the output before what the end
+/// says. What was stored stays.
 #[test]
 fn of_the_faults_of_a_receiver_one_is_told(rt: HostRuntime) -> Result<(), Fail> {
     let frames = Frames::usual(rt.alloc())?;
-    let all = frames.all();
-    let none: [&[u8]; 1] = [b"\x18\x18"];
-    let engine = End {
-        answer: Err(CommandFault::Closed),
-        text: "",
-        files: 0,
-    };
-    assert!(rt; receives(&rt, "engine", Scene::broken(&all[..2]), engine)?);
-    let output = End {
-        answer: Err(CommandFault::Device),
-        text: "",
-        files: 1,
-    };
-    assert!(rt; receives(&rt, "output", Scene::broken(&all), output)?);
-    let said = End {
-        answer: Err(CommandFault::Device),
-        text: "",
-        files: 0,
-    };
-    assert!(rt; receives(&rt, "said", Scene::broken(&none), said)?);
+    assert!(rt; is_engine_told(&rt, &frames));
+    assert!(rt; is_output_told(&rt, &frames));
+    assert!(rt; is_said_last(&rt));
     Ok(())
+}
+
+/// Whether these frames are received, and this is printed of them.
+fn prints(rt: &HostRuntime, frames: &Frames, text: &str) -> bool {
+    receives(rt, "line", Scene::whole(&frames.all()), whole(text))
+}
+
+/// Whether this is printed of a file of 12 bytes with this stamp.
+fn is_printed(rt: &HostRuntime, stamp: Stamp, text: &str) -> Result<bool, Fail> {
+    let frames = Frames::new(rt.alloc(), "a b", 12, stamp)?;
+    Ok(prints(rt, &frames, text))
 }
 
 /// The line of a file that was stored, with its stamp.
 #[test]
 fn a_file_is_told(rt: HostRuntime) -> Result<(), Fail> {
-    for (stamp, line) in [
-        (Stamp::Nothing, "file a b 12 - -"),
-        (Stamp::Time(12), "file a b 12 14 -"),
-        (Stamp::TimeMode(12, 420), "file a b 12 14 644"),
-        (Stamp::TimeMode(0, 0), "file a b 12 0 0"),
-    ] {
-        let frames = Frames::new(rt.alloc(), "a b", 12, stamp)?;
-        let text = format!(in rt.alloc(); "{line}\nreceiver files 1 finished\n")?;
-        let stored = End {
-            answer: Ok(0),
-            text: text.as_str(),
-            files: 1,
-        };
-        assert!(rt;
-            receives(&rt, "line", Scene::whole(&frames.all()), stored)?,
-            "{line}"
-        );
-    }
+    let text = "file a b 12 - -\nreceiver files 1 finished\n";
+    assert!(rt; is_printed(&rt, Stamp::Nothing, text)?);
+    let text = "file a b 12 14 -\nreceiver files 1 finished\n";
+    assert!(rt; is_printed(&rt, Stamp::Time(12), text)?);
+    let text = "file a b 12 14 644\nreceiver files 1 finished\n";
+    assert!(rt; is_printed(&rt, Stamp::TimeMode(12, 420), text)?);
+    let text = "file a b 12 0 0\nreceiver files 1 finished\n";
+    assert!(rt; is_printed(&rt, Stamp::TimeMode(0, 0), text)?);
     Ok(())
 }

@@ -1,5 +1,6 @@
 //! The ends over sockets, both of one connection in one test.
 
+use std::alloc::Global;
 use std::io;
 use std::io::{Read, Write};
 use std::net::{TcpListener, TcpStream};
@@ -20,30 +21,52 @@ fn pair(rt: &HostRuntime) -> io::Result<(TcpStream, TcpStream)> {
     Ok((near, far))
 }
 
+/// Whether a receiver over this connection, at whose other end the end block was written, finishes.
+fn finishes(rt: &HostRuntime, far: TcpStream) -> bool {
+    let mut port = TimedPort::new(SocketWire::new(rt, far, Role::Receiver), Role::Receiver);
+    let mut receiver = Receiver::new(rt.alloc());
+    receive_over(&mut port, &mut receiver) == Ok(()) && receiver.state() == RecvState::Finished
+}
+
+/// Whether bytes are written to one end of a connection.
+fn writes(near: &mut TcpStream, bytes: &[u8]) -> bool {
+    near.write_all(bytes).is_ok()
+}
+
+/// Whether an ACK comes to one end of a connection.
+fn is_answered(near: &mut TcpStream) -> bool {
+    let mut reply = [0; 1];
+    near.read_exact(&mut reply).is_ok() && reply == [0x06]
+}
+
+/// Whether a receiver at one end of a connection takes the end block, and answers.
+fn takes_the_end(rt: &HostRuntime, near: &mut TcpStream, far: TcpStream) -> bool {
+    writes(near, encode(&Item::Block(write_end())).as_bytes())
+        && finishes(rt, far)
+        && is_answered(near)
+}
+
 #[test]
 fn a_receiver_over_a_socket(rt: HostRuntime) -> Result<(), Fail> {
     let (mut near, far) = pair(&rt)?;
-    let end = encode(&Item::Block(write_end()));
-    near.write_all(end.as_bytes())?;
-    let mut port = TimedPort::new(SocketWire::new(&rt, far, Role::Receiver), Role::Receiver);
-    let mut receiver = Receiver::new(rt.alloc());
-    assert_eq!(rt; receive_over(&mut port, &mut receiver), Ok(()));
-    assert_eq!(rt; receiver.state(), RecvState::Finished);
-    let mut reply = [0; 1];
-    near.read_exact(&mut reply)?;
-    assert_eq!(rt; reply, [0x06]);
+    assert!(rt; takes_the_end(&rt, &mut near, far));
     Ok(())
+}
+
+/// Whether a session over this connection ends in a fault of its carrier.
+fn is_carrier_fault(alloc: Global, near: TcpStream, far: TcpStream) -> bool {
+    let mut carrier = SocketCarrier::new(near, far);
+    match play_script(alloc, b"file a -\nok 3\n", &mut carrier) {
+        Ok(_) => false,
+        Err(fault) => fault == PlayFault::Line(LineFault::Carrier),
+    }
 }
 
 /// What the session hands on goes by the sockets.
 #[test]
 fn a_stray_byte_in_the_way(rt: HostRuntime) -> Result<(), Fail> {
     let (mut near, far) = pair(&rt)?;
-    near.write_all(&[0])?;
-    let mut carrier = SocketCarrier::new(near, far);
-    match play_script(rt.alloc(), b"file a -\nok 3\n", &mut carrier) {
-        Err(fault) => assert_eq!(rt; fault, PlayFault::Line(LineFault::Carrier)),
-        Ok(_) => return Err(Fail::new("played")),
-    }
+    assert!(rt; writes(&mut near, &[0]));
+    assert!(rt; is_carrier_fault(rt.alloc(), near, far));
     Ok(())
 }

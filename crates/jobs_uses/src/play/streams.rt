@@ -1,6 +1,6 @@
 ghost use Rattle.std.specs.Prelude.{None};
 
-use super::calls::{ends, same, session_of};
+use super::calls::{ends, session_of};
 use super::fixtures::with_file;
 use std::alloc::Global;
 use std::io;
@@ -118,31 +118,29 @@ impl Write for Pending {
 }
 
 /// Whether all that these bytes, this text and this line come to is handed on, each at once.
-fn is_handed_on(out: &mut Pending) -> [bool; 3] {
-    let put = out.put(b"bytes").is_ok() && out.handed_on == 5;
-    let text = out.put_text("text").is_ok() && out.handed_on == 9;
-    let line = out.put_line("line").is_ok() && out.handed_on == 14;
-    [put, text, line]
+fn is_handed_on(out: &mut Pending) -> bool {
+    out.put(b"bytes").is_ok()
+        && out.handed_on == 5
+        && out.put_text("text").is_ok()
+        && out.handed_on == 9
+        && out.put_line("line").is_ok()
+        && out.handed_on == 14
+        && out.written.as_slice() == b"bytestextline\n".as_slice()
 }
 
 #[test]
-fn what_is_put_is_handed_on(rt: HostRuntime) -> Result<(), Fail> {
+fn what_is_put_is_handed_on(rt: HostRuntime) {
     let mut out = Pending {
         written: Vec::new(rt.alloc()),
         handed_on: 0,
     };
-    let seen = is_handed_on(&mut out);
-    assert!(rt; same(&seen, &[true; 3]), "{seen:?}");
-    assert!(rt; same(&out.written.as_slice(), &b"bytestextline\n".as_slice()));
-    Ok(())
+    assert!(rt; is_handed_on(&mut out));
 }
 
-#[test]
-fn one_byte_at_a_time(rt: HostRuntime) -> Result<(), Fail> {
-    let alloc = rt.alloc();
-    let script = with_file(alloc, "a.txt", "ok 6\n")?;
+/// Whether a script that is read and printed one byte at a time comes to the whole text.
+fn prints_all(alloc: Global, script: &[u8]) -> bool {
     let mut input = Pieces {
-        rest: script.as_bytes(),
+        rest: script,
         most: 1,
         reads: 1000,
         kind: ErrorKind::Other,
@@ -153,29 +151,42 @@ fn one_byte_at_a_time(rt: HostRuntime) -> Result<(), Fail> {
         writes: 1000,
     };
     let mut err = Vec::new(alloc);
-    let status = session_of(alloc, &mut input, &mut out, &mut err);
-    assert!(rt; same(&status, &0));
-    assert!(rt; same(&out.kept.as_slice(), &ONE_FILE.as_bytes()));
-    assert!(rt; err.is_empty());
+    session_of(alloc, &mut input, &mut out, &mut err) == 0
+        && out.kept.as_slice() == ONE_FILE.as_bytes()
+        && err.is_empty()
+}
+
+#[test]
+fn one_byte_at_a_time(rt: HostRuntime) -> Result<(), Fail> {
+    let script = with_file(rt.alloc(), "a.txt", "ok 6\n")?;
+    assert!(rt; prints_all(rt.alloc(), script.as_bytes()));
     Ok(())
+}
+
+/// Whether a session ends where a read fails so, behind so many reads of 50 bytes.
+fn ends_at_read(alloc: Global, script: &[u8], reads: u32, kind: ErrorKind) -> bool {
+    let mut input = Pieces {
+        rest: script,
+        most: 50,
+        reads,
+        kind,
+    };
+    ends(alloc, &mut input, 3, "", "fault: device\n")
+}
+
+/// Whether a session ends where a read fails so, at first or in the middle.
+fn ends_at_reads(alloc: Global, script: &[u8], kind: ErrorKind) -> bool {
+    ends_at_read(alloc, script, 0, kind)
+        && ends_at_read(alloc, script, 1, kind)
+        && ends_at_read(alloc, script, 3, kind)
 }
 
 /// A read fails, at first or in the middle, and is not tried again.
 #[test]
 fn a_read_fails(rt: HostRuntime) -> Result<(), Fail> {
-    let alloc = rt.alloc();
-    let script = with_file(alloc, "a.txt", "ok 6\n")?;
-    for reads in [0, 1, 3] {
-        for kind in [ErrorKind::Other, ErrorKind::Interrupted] {
-            let mut input = Pieces {
-                rest: script.as_bytes(),
-                most: 50,
-                reads,
-                kind,
-            };
-            assert!(rt; ends(alloc, &mut input, 3, "", "fault: device\n"));
-        }
-    }
+    let script = with_file(rt.alloc(), "a.txt", "ok 6\n")?;
+    assert!(rt; ends_at_reads(rt.alloc(), script.as_bytes(), ErrorKind::Other));
+    assert!(rt; ends_at_reads(rt.alloc(), script.as_bytes(), ErrorKind::Interrupted));
     Ok(())
 }
 
@@ -199,45 +210,46 @@ fn session_in<I: Input, O: Output, E: Output>(
 
 /// Of an input that counts its failures too.
 #[test]
-fn a_counted_read_fails(rt: HostRuntime) -> Result<(), Fail> {
+fn a_counted_read_fails(rt: HostRuntime) {
     let mut input = Broken { failed: 0 };
-    assert!(rt; has_failed(rt.alloc(), &mut input));
-    assert!(rt; same(&input.failed, &1));
-    Ok(())
+    assert!(rt; has_failed(rt.alloc(), &mut input) && input.failed == 1);
+}
+
+/// Whether a session over this input ends since the script is too large.
+fn is_too_large(alloc: Global, input: &mut Endless) -> bool {
+    ends(alloc, input, 2, "", "script: too large\n")
 }
 
 #[test]
-fn a_reader_never_ends(rt: HostRuntime) -> Result<(), Fail> {
+fn a_reader_never_ends(rt: HostRuntime) {
     let mut input = Endless { bytes: 0 };
-    assert!(rt; ends(rt.alloc(), &mut input, 2, "", "script: too large\n"));
-    assert!(rt; same(&input.bytes, &1_048_577));
-    Ok(())
+    assert!(rt; is_too_large(rt.alloc(), &mut input) && input.bytes == 1_048_577);
+}
+
+/// Whether a session ends in a failed device, whose write fails behind so many of 20 bytes.
+fn ends_at_write(alloc: Global, script: &[u8], writes: u32) -> bool {
+    let mut input = script;
+    let mut out = Short {
+        kept: Vec::new(alloc),
+        most: 20,
+        writes,
+    };
+    let mut err = Vec::new(alloc);
+    session_of(alloc, &mut input, &mut out, &mut err) == 3
+        && err.as_slice() == b"fault: device\n".as_slice()
 }
 
 /// The first write of the text fails, or its second.
 #[test]
 fn a_write_fails(rt: HostRuntime) -> Result<(), Fail> {
-    let alloc = rt.alloc();
-    let script = with_file(alloc, "a.txt", "ok 6\n")?;
-    for writes in [0, 1] {
-        let mut input = script.as_bytes();
-        let mut out = Short {
-            kept: Vec::new(alloc),
-            most: 20,
-            writes,
-        };
-        let mut err = Vec::new(alloc);
-        let status = session_of(alloc, &mut input, &mut out, &mut err);
-        assert!(rt; same(&status, &3));
-        assert!(rt; same(&err.as_slice(), &b"fault: device\n".as_slice()));
-    }
+    let script = with_file(rt.alloc(), "a.txt", "ok 6\n")?;
+    assert!(rt; ends_at_write(rt.alloc(), script.as_bytes(), 0));
+    assert!(rt; ends_at_write(rt.alloc(), script.as_bytes(), 1));
     Ok(())
 }
 
-/// Where the line that tells a fault cannot be written, the status is that of a failed device.
-#[test]
-fn the_fault_line_fails(rt: HostRuntime) -> Result<(), Fail> {
-    let alloc = rt.alloc();
+/// Whether a session whose fault line cannot be written ends in a failed device.
+fn ends_unsaid(alloc: Global) -> bool {
     let mut input = b"foo".as_slice();
     let mut out = Vec::new(alloc);
     let mut err = Short {
@@ -245,8 +257,11 @@ fn the_fault_line_fails(rt: HostRuntime) -> Result<(), Fail> {
         most: 100,
         writes: 0,
     };
-    let status = session_of(alloc, &mut input, &mut out, &mut err);
-    assert!(rt; same(&status, &3));
-    assert!(rt; out.is_empty());
-    Ok(())
+    session_of(alloc, &mut input, &mut out, &mut err) == 3 && out.is_empty()
+}
+
+/// Where the line that tells a fault cannot be written, the status is that of a failed device.
+#[test]
+fn the_fault_line_fails(rt: HostRuntime) {
+    assert!(rt; ends_unsaid(rt.alloc()));
 }
