@@ -33,33 +33,35 @@ impl<T: Drop> From<AllocFailed<T>> for Unread {
     }
 }
 
-/// Plays a session, and tells what comes of it.
-fn played(alloc: Global, line: &str) -> Result<String, Unread> {
+/// Plays a session, and puts behind the text what comes of it.
+fn push_played(text: &mut String, alloc: Global, line: &str) -> Result<(), Unread> {
     let (head, did) = line.split_once('|').ok_or(Unread)?;
     match head.split_whitespace().next() {
-        Some("send") => sessions::sent(alloc, head, did),
-        Some("receive") => sessions::received(alloc, head, did),
+        Some("send") => sessions::push_send(text, alloc, head, did),
+        Some("receive") => sessions::push_receive(text, alloc, head, did),
         _ => Err(Unread),
     }
 }
 
 /// What comes of a line.
 fn told(alloc: Global, line: &str) -> Result<String, AllocError> {
-    if line.starts_with('#') {
-        return Ok(String::new(alloc));
+    let mut text = String::new(alloc);
+    if !line.starts_with('#') && push_played(&mut text, alloc, line).is_err() {
+        text.clear();
+        text.push_str("  cannot be read\n")?;
     }
-    match played(alloc, line) {
-        Ok(text) => Ok(text),
-        Err(Unread) => format!(in alloc; "  cannot be read\n"),
-    }
+    Ok(text)
+}
+
+/// Prints a line, and what comes of it.
+fn tell(rt: &HostRuntime, line: &str) -> io::Result<()> {
+    let text = told(rt.alloc(), line)?;
+    print!(rt; "{line}\n{text}")
 }
 
 fn main(rt: HostRuntime) -> io::Result<()> {
     for line in rt.lines(rt.alloc()) {
-        let line = line?;
-        let text = told(rt.alloc(), line.as_str())?;
-        println!(rt; "{line}")?;
-        print!(rt; "{text}")?;
+        tell(&rt, line?.as_str())?;
     }
     Ok(())
 }

@@ -60,28 +60,61 @@ pub fn bytes_of(alloc: Global, digits: &str) -> Result<Vec<u8>, Unread> {
     }
 }
 
+/// What a word says that a call came to.
+fn did_of(alloc: Global, what: &str) -> Result<Did, Unread> {
+    match what {
+        "quiet" => Ok(Did::Quiet),
+        "closed" => Ok(Did::Closed),
+        "wrote" => Ok(Did::Wrote),
+        _ => Ok(Did::Brought(bytes_of(alloc, what)?)),
+    }
+}
+
 /// What a word of the record says.
 fn deed_of(alloc: Global, word: &str) -> Result<Deed, Unread> {
     let (at, what) = word.split_once(':').ok_or(Unread)?;
     let at = at.parse::<u64>().ok().ok_or(Unread)?;
-    let did = match what {
-        "quiet" => Did::Quiet,
-        "closed" => Did::Closed,
-        "wrote" => Did::Wrote,
-        _ => Did::Brought(bytes_of(alloc, what)?),
-    };
+    let did = did_of(alloc, what)?;
     Ok(Deed { at, did })
+}
+
+/// What the words of a record say.
+fn deeds_of(alloc: Global, did: &str) -> Result<Vec<Deed>, Unread> {
+    let mut deeds = Vec::new(alloc);
+    for word in did.split_whitespace() {
+        deeds.push(deed_of(alloc, word)?)?;
+    }
+    Ok(deeds)
+}
+
+/// Gives a read these bytes, unless it has no room for them or they are none.
+fn give(bytes: &[u8], buf: &mut [u8]) -> Option<Got>
+    ensures { (n : ℕ) → result ≡ Some (Got.Bytes n) → (0 < n) × (n ≤ length buf.old) }
+{
+    if bytes.is_empty() {
+        return None;
+    }
+    buf.get_mut(..bytes.len())?.copy_from_slice(bytes);
+    Some(Got::Bytes(bytes.len()))
+}
+
+/// What a read brings of a call that came to this; nothing where it was none.
+fn got_of(did: &Did, buf: &mut [u8]) -> Option<Got>
+    ensures { (n : ℕ) → result ≡ Some (Got.Bytes n) → (0 < n) × (n ≤ length buf.old) }
+{
+    match did {
+        Did::Wrote => None,
+        Did::Quiet => Some(Got::Quiet),
+        Did::Closed => Some(Got::Closed),
+        Did::Brought(bytes) => give(bytes.as_slice(), buf),
+    }
 }
 
 impl Recorded {
     /// The line that did this.
     pub fn new(alloc: Global, did: &str) -> Result<Recorded, Unread> {
-        let mut deeds = Vec::new(alloc);
-        for word in did.split_whitespace() {
-            deeds.push(deed_of(alloc, word)?)?;
-        }
         Ok(Recorded {
-            deeds,
+            deeds: deeds_of(alloc, did)?,
             done: 0,
             now: 0,
             written: Vec::new(alloc),
@@ -104,28 +137,43 @@ impl Recorded {
         self.deeds.len().saturating_sub(self.done)
     }
 
+    /// What the next read brings, and when; nothing where the next call was none.
+    fn next(&self, buf: &mut [u8]) -> Option<(u64, Got)>
+        ensures { (n at : ℕ) → result ≡ Some (at, Got.Bytes n) → (0 < n) × (n ≤ length buf.old) }
+    {
+        let deed = self.deeds.get(self.done)?;
+        let got = got_of(&deed.did, buf)?;
+        Some((deed.at, got))
+    }
+
+    /// When the next call was over, if it was a write.
+    fn next_write(&self) -> Option<u64> {
+        match self.deeds.get(self.done) {
+            Some(
+                Deed {
+                    at,
+                    did: Did::Wrote,
+                },
+            ) => Some(*at),
+            _ => None,
+        }
+    }
+
+    /// Goes on to the next call, at this moment.
+    fn pass(&mut self, at: u64)
+        ensures { self.new ≡ self.old }
+    {
+        self.now = at;
+        self.done = self.done.saturating_add(1);
+    }
+
     /// What the next read brings; nothing where the next call was none.
     fn take(&mut self, buf: &mut [u8]) -> Option<Got>
-        requires { 0 < length buf.old }
         ensures same { self.new ≡ self.old }
         ensures count { (n : ℕ) → result ≡ Some (Got.Bytes n) → (0 < n) × (n ≤ length buf.old) }
     {
-        let deed = self.deeds.get(self.done)?;
-        let got = match &deed.did {
-            Did::Wrote => return None,
-            Did::Quiet => Got::Quiet,
-            Did::Closed => Got::Closed,
-            Did::Brought(bytes) => {
-                let count = bytes.len();
-                if count == 0 || count > buf.len() {
-                    return None;
-                }
-                buf[..count].copy_from_slice(bytes.as_slice());
-                Got::Bytes(count)
-            }
-        };
-        self.now = deed.at;
-        self.done = self.done.saturating_add(1);
+        let (at, got) = self.next(buf)?;
+        self.pass(at);
         Some(got)
     }
 
@@ -133,16 +181,10 @@ impl Recorded {
     fn keep(&mut self, bytes: &[u8]) -> bool
         ensures { self.new ≡ self.old }
     {
-        match self.deeds.get(self.done) {
-            Some(
-                Deed {
-                    at,
-                    did: Did::Wrote,
-                },
-            ) => self.now = *at,
-            _ => return false,
+        match self.next_write() {
+            Some(at) => self.pass(at),
+            None => return false,
         }
-        self.done = self.done.saturating_add(1);
         self.written.extend_from_slice(bytes).is_ok()
     }
 

@@ -35,22 +35,41 @@ fn tells_of_refusal(answer: Result<(), EndFault>, port: &ScriptPort) -> bool {
     }
 }
 
+/// The header, asked for once more where a growth was refused.
+fn header_again(alloc: Global) -> Result<FrameBuf, HeaderFault> {
+    match header_of(alloc) {
+        Ok(header) => Ok(header),
+        Err(_) => header_of(alloc),
+    }
+}
+
+/// The port, asked for once more where a growth was refused.
+fn port_again(alloc: Global, bytes: &[u8]) -> Result<ScriptPort, AllocError> {
+    match port_of(alloc, bytes) {
+        Ok(port) => Ok(port),
+        Err(_) => port_of(alloc, bytes),
+    }
+}
+
+/// The port to which the header comes.
+fn header_port(alloc: Global) -> Result<ScriptPort, Fail> {
+    let header = header_again(alloc)?;
+    Ok(port_again(alloc, header.as_bytes())?)
+}
+
+/// Receives over a port. What it answers tells a proof nothing, and so costs it little.
+fn receive(port: &mut ScriptPort, receiver: &mut Receiver) -> Result<(), EndFault> {
+    receive_over(port, receiver)
+}
+
 /// Each growth may be refused, as `rt try --test --fail-alloc N` does for the Nth: of the port's
 /// record, which is a failure of the port, and of the header, at which the receiver stays as it is
 /// and nothing is written. Where a growth before the call is refused, the call is made again.
 #[test]
 fn of_an_engine(rt: HostRuntime) -> Result<(), Fail> {
-    let alloc = rt.alloc();
-    let header = match header_of(alloc) {
-        Ok(header) => header,
-        Err(_) => header_of(alloc)?,
-    };
-    let mut port = match port_of(alloc, header.as_bytes()) {
-        Ok(port) => port,
-        Err(_) => port_of(alloc, header.as_bytes())?,
-    };
-    let mut receiver = Receiver::new(alloc);
-    let answer = receive_over(&mut port, &mut receiver);
+    let mut port = header_port(rt.alloc())?;
+    let mut receiver = Receiver::new(rt.alloc());
+    let answer = receive(&mut port, &mut receiver);
     assert!(rt; tells_of_refusal(answer, &port));
     assert!(rt; receiver.state() == RecvState::Running);
     Ok(())
@@ -64,10 +83,16 @@ struct Ends {
     line: Direct,
 }
 
-/// The ends of a transfer of one file `a.txt` of these bytes.
-fn ends_of(alloc: Global, bytes: &[u8]) -> Result<Ends, Fail> {
+/// A batch of one file `a.txt` of these bytes.
+fn batch_of(alloc: Global, bytes: &[u8]) -> Result<Vec<SendFile>, Fail> {
     let mut batch = Vec::new(alloc);
     batch.push(SendFile::new(alloc, "a.txt", bytes.to_vec(alloc)?, Stamp::Nothing)?)?;
+    Ok(batch)
+}
+
+/// The ends of a transfer of one file `a.txt` of these bytes.
+fn ends_of(alloc: Global, bytes: &[u8]) -> Result<Ends, Fail> {
+    let batch = batch_of(alloc, bytes)?;
     Ok(Ends {
         sender: Sender::new(batch, Shape::Mixed).map_err(|_| "batch")?,
         receiver: Receiver::new(alloc),
@@ -113,19 +138,28 @@ fn holds(ends: &Ends, fault: LineFault, bytes: &[u8]) -> bool {
     fault == LineFault::Memory && ends.sender.state() == SendState::Running && kept
 }
 
+/// Whether a run comes to its end, at once or behind a growth that was refused, as it then says.
+fn runs(alloc: Global, ends: &mut Ends, rounds: &[Round], bytes: &[u8]) -> bool {
+    match play(alloc, ends, rounds) {
+        Ok(_) => true,
+        Err(fault) => holds(ends, fault, bytes) && play(alloc, ends, rounds).is_ok(),
+    }
+}
+
+/// Whether both ends have finished, and the file is committed.
+fn are_done(ends: &Ends, bytes: &[u8]) -> bool {
+    ends.sender.state() == SendState::Finished
+        && ends.receiver.state() == RecvState::Finished
+        && has_file(&ends.receiver, bytes)
+}
+
 /// Whichever growth of a run is refused, it says so, and the ends go on to the end.
 #[test]
 fn of_a_run(rt: HostRuntime) -> Result<(), Fail> {
-    let alloc = rt.alloc();
     let bytes = [b'A'; 128];
-    let rounds = rounds_of(alloc)?;
-    let mut ends = ends_of(alloc, &bytes)?;
-    if let Err(fault) = play(alloc, &mut ends, rounds.as_slice()) {
-        assert!(rt; holds(&ends, fault, &bytes));
-        assert!(rt; play(alloc, &mut ends, rounds.as_slice()).is_ok());
-    }
-    assert!(rt; ends.sender.state() == SendState::Finished);
-    assert!(rt; ends.receiver.state() == RecvState::Finished);
-    assert!(rt; has_file(&ends.receiver, &bytes));
+    let rounds = rounds_of(rt.alloc())?;
+    let mut ends = ends_of(rt.alloc(), &bytes)?;
+    assert!(rt; runs(rt.alloc(), &mut ends, rounds.as_slice(), &bytes));
+    assert!(rt; are_done(&ends, &bytes));
     Ok(())
 }

@@ -20,14 +20,25 @@ fn lost_rounds(alloc: Global, count: u32) -> Result<Vec<Round>, AllocError> {
     Ok(rounds)
 }
 
+/// A sender of no file.
+fn new_sender(alloc: Global) -> Result<Sender, Fail> {
+    let batch: Vec<SendFile> = Vec::new(alloc);
+    Ok(Sender::new(batch, Shape::Mixed).map_err(|_| "batch")?)
+}
+
+/// How many of these rounds are seen on a line.
+fn seen(alloc: Global, line: &mut Direct, rounds: &[Round]) -> Result<usize, Fail> {
+    let mut sender = new_sender(alloc)?;
+    let mut receiver = Receiver::new(alloc);
+    let trace = run(alloc, &mut sender, &mut receiver, rounds, line)?;
+    Ok(trace.rounds.len())
+}
+
 /// How many of these rounds are seen, and how many deliveries are handed on in them.
 fn counts(alloc: Global, rounds: &[Round]) -> Result<(usize, usize), Fail> {
-    let batch: Vec<SendFile> = Vec::new(alloc);
-    let mut sender = Sender::new(batch, Shape::Mixed).map_err(|_| "batch")?;
-    let mut receiver = Receiver::new(alloc);
     let mut line = Direct::new(alloc);
-    let trace = run(alloc, &mut sender, &mut receiver, rounds, &mut line)?;
-    Ok((trace.rounds.len(), line.handed().len()))
+    let count = seen(alloc, &mut line, rounds)?;
+    Ok((count, line.handed().len()))
 }
 
 #[test]
@@ -52,13 +63,43 @@ fn a_collector_of_3_000_000_bytes(rt: HostRuntime) -> Result<(), Fail> {
     Ok(())
 }
 
-/// Whether a receiver takes the block 0 of a file of this length, and its first block.
-fn takes_a_block(alloc: Global, length: u64) -> Result<bool, Fail> {
+/// The block 0 of a file of this length.
+fn opening(alloc: Global, length: u64) -> Result<Heard, Fail> {
     let header = Header::new(alloc, "a", length, Stamp::Nothing)?;
+    Ok(Heard::Item(Item::Block(write(&header))))
+}
+
+/// The first block of a file.
+fn first_block() -> Result<Heard, Fail> {
+    Ok(Heard::Item(Item::Block(Block::new(1, &[7; 1024])?)))
+}
+
+/// Whether a delivery is answered by this reply.
+fn answers(receiver: &mut Receiver, heard: &Heard, reply: Reply) -> Result<bool, AllocError> {
+    Ok(receiver.hear(heard)? == reply)
+}
+
+/// Whether a receiver takes the block 0 of a file of this length.
+fn takes_opening(alloc: Global, receiver: &mut Receiver, length: u64) -> Result<bool, Fail> {
+    let heard = opening(alloc, length)?;
+    Ok(answers(receiver, &heard, Reply::AckStart)?)
+}
+
+/// Whether a receiver takes the first block of a file.
+fn takes_first(receiver: &mut Receiver) -> Result<bool, Fail> {
+    let heard = first_block()?;
+    Ok(answers(receiver, &heard, Reply::Ack)?)
+}
+
+/// Whether a receiver takes the block 0 of a file of this length, and its first block.
+fn takes_both(alloc: Global, receiver: &mut Receiver, length: u64) -> Result<bool, Fail> {
+    Ok(takes_opening(alloc, receiver, length)? && takes_first(receiver)?)
+}
+
+/// Whether a new receiver takes the block 0 of a file of this length, and its first block.
+fn takes_a_block(alloc: Global, length: u64) -> Result<bool, Fail> {
     let mut receiver = Receiver::new(alloc);
-    let first = receiver.hear(&Heard::Item(Item::Block(write(&header))))?;
-    let next = receiver.hear(&Heard::Item(Item::Block(Block::new(1, &[7; 1024])?)))?;
-    Ok((first, next) == (Reply::AckStart, Reply::Ack))
+    takes_both(alloc, &mut receiver, length)
 }
 
 /// Memory is taken for what comes, and never for a length that block 0 states.
