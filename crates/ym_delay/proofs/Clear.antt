@@ -1,5 +1,5 @@
 -- A sender's line that is let clear was quiet for a while, by the port's clock.
-use Rattle.std.proofs.Common.{◌≡◌, ◌+◌, ◌-◌, ◌^◌, ◌≤◌, ◌⊎◌, ◌&&◌, ◌||◌, inl, inr, ℕ, zero, suc, min, nat_le, nat_eq, Bool, true, false, List, [], ◌∷◌, length, Result, Ok, Err, refl, ap, subst, arith}
+use Rattle.std.proofs.Common.{◌≡◌, ◌+◌, ◌-◌, ◌^◌, ◌≤◌, ◌⊎◌, ◌&&◌, ◌||◌, inl, inr, ℕ, zero, suc, min, max, nat_le, nat_eq, Bool, true, false, List, [], ◌∷◌, length, Result, Ok, Err, refl, sym, subst, arith}
 use Rattle.ym_link.specs.Port.{Seen, Data, Silence, End, Failed, read_gives}
 use Rattle.ym_link.specs.declared.port.PortFault.{PortFault}
 use Rattle.ym_port.specs.TimedPort.{Cleared, Dropped, clear_on, clear_step, dropped, is_clear, looked, over}
@@ -9,9 +9,14 @@ use Rattle.ym_port.specs.declared.deed.Deed.TheVariants.{Looked, Waited}
 use Rattle.ym_port.specs.declared.line.Line.{Line}
 use Rattle.ym_port.specs.declared.line.TheConstants.{CLEAR_PIECE}
 use Rattle.ym_timing.specs.Clears as clears
+use Rattle.ym_timing.specs.Pace.{bound}
 use Rattle.ym_timing.specs.Times.{later, waited}
 use Rattle.ym_timing.specs.declared.clearing.Clearing.{Clearing}
 use Rattle.ym_timing.specs.declared.clearing.Need.TheVariants.{Several}
+use Rattle.ym_timing.specs.declared.out.Out.{Out}
+use Rattle.ym_timing.specs.declared.pace.Pace.{Pace}
+use Rattle.ym_timing.specs.declared.pace.Trust.{Trust}
+use Rattle.ym_timing.specs.declared.pace.Trust.TheVariants.{Unknown, Doubtful, Sure}
 use Rattle.ym_timing.specs.declared.role.Role.{Role}
 use Rattle.ym_timing.specs.declared.role.Role.TheVariants.{Sender, Receiver}
 use Rattle.ym_timing.specs.declared.timing.Timing.{Timing}
@@ -20,34 +25,68 @@ use Rattle.ym_delay.proofs.Quiet.{at-most, either, longest}
 
 -- ---- How long it has to be quiet stays, or grows
 
-module _ (since end : ℕ) where
+-- what the rule goes by in a line that is let clear stays
+pub record Same (first t : Timing) : Type 0 where
+  pub role : t.role ≡ first.role
+  pub pace : t.pace ≡ first.pace
+  pub out : t.out ≡ first.out
+
+ear-same : (r : Role) (byte : ℕ) (written : List ℕ) (now : ℕ) (first t : Timing) → Same first t → Same first (clears.with_ear r byte written now t)
+ear-same Sender byte written now first t is = record { role = is.role; pace = is.pace; out = is.out }
+ear-same Receiver byte written now first t is = is
+
+dropped-same : (c : Clearing) (byte : ℕ) (written : List ℕ) (now : ℕ) (first t : Timing) → Same first t → Same first (clears.after_dropped c byte written now t)
+dropped-same c byte written now first t is =
+    let ear = ear-same t.role byte written now first t is in
+    either (λ (x : Timing). Same first x) (clears.is_heard byte written now t) _ _ (λ _. record { role = ear.role; pace = ear.pace; out = ear.out }) (λ _. ear)
+
+-- ---- Several writes: since a later ACK it takes no less
+
+both-more : (a b c x y z : ℕ) → a ≤ x → b ≤ y → c ≤ z → max a (min b c) ≤ max x (min y z)
+both-more a b c x y z one two three = omega (arith, one, two, three)
+
+later-more : (a b wait : ℕ) → a ≤ b → later a wait ≤ later b wait
+later-more a b wait before = omega (arith, before)
+
+module _ (first t : Timing) (is : Same first t) (since from : ℕ) (before : since ≤ from) where
+  apart-more : clears.apart_until since first ≤ clears.apart_until from t
+  apart-more = subst (λ (o : Out). clears.apart_until since first ≤ later (later from o.gap) 2000) (sym is.out) (later-more _ _ 2000 (later-more since from first.out.gap before))
+
+  due-same : later first.out.last_at (bound first.pace) ≤ later t.out.last_at (bound t.pace)
+  due-same =
+      subst (λ (o : Out). later first.out.last_at (bound first.pace) ≤ later o.last_at (bound t.pace)) (sym is.out)
+      (subst (λ (p : Pace). later first.out.last_at (bound first.pace) ≤ later first.out.last_at (bound p)) (sym is.pace) (omega arith))
+
+  due-more : (trust : Trust) → clears.overdue_at trust since first ≤ clears.overdue_at trust from t
+  due-more Unknown = apart-more
+  due-more Doubtful = due-same
+  due-more Sure = due-same
+
+  several-more : clears.several_until since first ≤ clears.several_until from t
+  several-more =
+      both-more _ _ _ _ _ _ (subst (λ r. later since (clears.quiet_of first.role) ≤ later from (clears.quiet_of r)) (sym is.role) (later-more since from (clears.quiet_of first.role) before)) apart-more
+      (subst (λ (p : Pace). clears.overdue_at first.pace.trust since first ≤ clears.overdue_at p.trust from t) (sym is.pace) (due-more first.pace.trust))
+
+module _ (since end : ℕ) (first : Timing) where
   -- a sender that clears behind several writes, since then at the earliest
   pub record Clears (c : Clearing) (t : Timing) : Type 0 where
-    pub role : t.role ≡ Sender
+    pub same : Same first t
     pub need : c.need ≡ Several
     pub from : since ≤ c.from
     pub end_is : c.end_at ≡ end
 
   brings-clears : (counts answers : Bool) (now : ℕ) (c : Clearing) (t : Timing) → since ≤ now → Clears c t → Clears (clears.brings counts answers now c) t
   brings-clears counts answers now c t before is =
-      record { role = is.role; need = is.need; from = either (λ x. since ≤ x) counts now c.from (λ _. before) (λ _. is.from); end_is = is.end_is }
+      record { same = is.same; need = is.need; from = either (λ x. since ≤ x) counts now c.from (λ _. before) (λ _. is.from); end_is = is.end_is }
 
   brought-clears : (heard : Bool) (c : Clearing) (byte now : ℕ) (t : Timing) → since ≤ now → Clears c t → Clears (clears.brought heard c byte now t) t
   brought-clears heard c byte now t before is = brings-clears (heard && nat_eq byte 0x06 || clears.counts_all t.role c.need) (heard && nat_eq byte 0x06) now c t before is
 
-  ear-role : (r : Role) (byte : ℕ) (written : List ℕ) (now : ℕ) (t : Timing) → t.role ≡ Sender → (clears.with_ear r byte written now t).role ≡ Sender
-  ear-role Sender byte written now t is = is
-  ear-role Receiver byte written now t is = is
-
-  dropped-role : (c : Clearing) (byte : ℕ) (written : List ℕ) (now : ℕ) (t : Timing) → t.role ≡ Sender → (clears.after_dropped c byte written now t).role ≡ Sender
-  dropped-role c byte written now t is =
-      either (λ (x : Timing). x.role ≡ Sender) (clears.is_heard byte written now t) _ _ (λ _. ear-role t.role byte written now t is) (λ _. ear-role t.role byte written now t is)
-
   byte-clears : (c : Clearing) (byte : ℕ) (written : List ℕ) (now : ℕ) (t : Timing) → since ≤ now → Clears c t → Clears (clears.dropped c byte written now t) (clears.after_dropped c byte written now t)
   byte-clears c byte written now t before is =
       let kept = either (λ x. Clears x t) (clears.is_heard byte written now t) (clears.heeds_in t.role byte (clears.brought true c byte now t)) (clears.brought false c byte now t)
-      (λ _. let one = brought-clears true c byte now t before is in record { role = one.role; need = one.need; from = one.from; end_is = one.end_is }) (λ _. brought-clears false c byte now t before is) in
-      record { role = dropped-role c byte written now t is.role; need = kept.need; from = kept.from; end_is = kept.end_is }
+      (λ _. let one = brought-clears true c byte now t before is in record { same = one.same; need = one.need; from = one.from; end_is = one.end_is }) (λ _. brought-clears false c byte now t before is) in
+      record { same = dropped-same c byte written now first t is.same; need = kept.need; from = kept.from; end_is = kept.end_is }
 
   bytes-clear : (bytes written : List ℕ) (now : ℕ) (d : Dropped) → since ≤ now → Clears d.clearing d.timing → Clears (dropped bytes written now d).clearing (dropped bytes written now d).timing
   bytes-clear [] written now d before is = is
@@ -57,14 +96,11 @@ module _ (since end : ℕ) where
 
   -- ---- When it is clear
 
-  abbrev Quiet : Clearing → Line → Type 0
-  Quiet c l = IsOverAtOnce c l ⊎ (min (later since 1250) end ≤ l.clock.at)
+  abbrev pub Quiet : Clearing → Line → Type 0
+  Quiet c l = IsOverAtOnce c l ⊎ (min (clears.several_until since first) end ≤ l.clock.at)
 
-  -- a bound of several writes
-  several : (t : Timing) (from : ℕ) → t.role ≡ Sender → since ≤ from → later since 1250 ≤ clears.several_until from t
-  several t from sender before =
-      let quiet : later from (clears.quiet_of t.role) ≡ later from 1250 = ap (λ r. later from (clears.quiet_of r)) sender in
-      omega (arith, quiet, before)
+  quiet-by : (whole until from now : ℕ) → whole ≡ min until end → from ≤ until → whole ≤ now → min from end ≤ now
+  quiet-by whole until from now is long late = omega (arith, is, long, late)
 
   pub bounded : (c : Clearing) (l : Line) → Clears c l.timing → clears.clear_at c l.timing ≤ l.clock.at → Quiet c l
   bounded c l is late = by l.timing.has_cancel refl (clears.is_answered c l.timing) refl
@@ -74,13 +110,12 @@ module _ (since end : ℕ) where
       by false cancels true is_answered = inl (record { is = inr (inr is_answered) })
       by false cancels false is_answered =
           let whole : clears.clear_at c l.timing ≡ min (clears.several_until c.from l.timing) end = rw (cancels, is.need, is_answered, is.end_is) refl in
-          let long = several l.timing c.from is.role is.from in
-          inr (omega (arith, whole, long, late))
+          inr (quiet-by _ _ _ _ whole (several-more first l.timing is.same since c.from is.from) late)
 
   -- ---- The whole of it
 
   pub record Ends (count : ℕ) (found : Clearing) (e : Cleared) : Type 0 where
-    pub is : IsOverAtOnce found e.line ⊎ ((count ≤ length e.tape.done) ⊎ (min (later since 1250) end ≤ e.line.clock.at))
+    pub is : IsOverAtOnce found e.line ⊎ ((count ≤ length e.tape.done) ⊎ (min (clears.several_until since first) end ≤ e.line.clock.at))
 
   abbrev Goes : ℕ → Clearing → Cleared → Type 0
   Goes count found e = e.answer ≡ Ok found → Ends count found e

@@ -1,12 +1,12 @@
 -- The same, step by step: what a sender does that reads a reply, and one that reads none.
-use Rattle.std.proofs.Common.{◌≡◌, ◌+◌, ◌≤◌, ◌⊎◌, ◌∙◌, inl, inr, ℕ, List, [], ◌∷◌, ◌++◌, append_assoc, refl, sym, subst, arith}
+use Rattle.std.proofs.Common.{◌≡◌, ◌+◌, ◌≤◌, ◌⊎◌, ◌∙◌, inl, inr, ℕ, Bool, true, false, List, [], ◌∷◌, ◌++◌, append_assoc, refl, sym, subst, arith}
 use Rattle.ym_core.specs.Hearing.{heard_of}
 use Rattle.ym_core.specs.declared.delivery.Heard.TheVariants.{Bad}
 use Rattle.ym_line.specs.declared.delivery.Delivery.{Delivery}
 use Rattle.ym_line.specs.declared.delivery.Delivery.TheVariants.{Lost}
 use Rattle.ym_line.specs.declared.delivery.Round.{Round}
 use Rattle.ym_pair.specs.Pairing.{ArrivesThere, ArrivesBack, ReceiverAlone}
-use Rattle.ym_delay.specs.Cleared.{AcksAgain, AnswersAlike, ClearsBehind, LetsClear, ReadsAck, ReadsCan, SaysAgain}
+use Rattle.ym_delay.specs.Cleared.{AcksAgain, AnswersAlike, ClearsFrom, ReadsAck, ReadsCan, SaysAgain}
 use Rattle.ym_delay.specs.TimedLine.{AnsweredAt, AnswersInTime, BringsBack, HandsBack, SenderInVain, SpeaksInTime, SpokeAt, Takes, Times, WroteAt, answers_of, spoken, wrote, written}
 use Rattle.ym_delay.proofs.Acks.{reads-ack, reads-can}
 use Rattle.ym_delay.proofs.Ahead.{Begins, Within}
@@ -16,27 +16,40 @@ use Rattle.ym_delay.proofs.Timed.{Pairs, answer-behind, bad-lost, sender-alone, 
 
 -- ---- A sender that has written its frame
 
--- no copy of it is under way but one
-abbrev pub IsOne : List WroteAt → Type 0
-IsOne [] = Unit {0}
-IsOne (w ∷ []) = Unit {0}
-IsOne (w ∷ x ∷ copies) = ⊥
+-- what was written then is over at this moment
+abbrev pub IsPast : Times → ℕ → ℕ → Type 0
+IsPast times at now = at + times.oldest + times.receiver_acts + times.oldest ≤ now
 
-pub record Stand (times : Times) (since from : ℕ) (s : SpokeAt) (spoke : List SpokeAt) (last : WroteAt) (copies : List WroteAt) (answered : List AnsweredAt) : Type 0 where
+-- all copies are over but the last
+abbrev pub IsOne : Times → ℕ → List WroteAt → Type 0
+IsOne times now [] = Unit {0}
+IsOne times now (w ∷ []) = Unit {0}
+IsOne times now (w ∷ x ∷ copies) = IsPast times w.at now × IsOne times now (x ∷ copies)
+
+abbrev pub Few : Times → Bool → ℕ → List WroteAt → Type 0
+Few times true now copies = Unit {0}
+Few times false now copies = IsOne times now copies
+
+one-more : (times : Times) (bytes : List ℕ) (by now : ℕ) (copies : List WroteAt) (w : WroteAt) → Copies bytes by copies → IsPast times by now → IsOne times now (copies ++ w ∷ [])
+one-more times bytes by now [] w are past = tt
+one-more times bytes by now (x ∷ []) w are past = (let first = are.0.1 in omega (arith, first, past), tt)
+one-more times bytes by now (x ∷ y ∷ copies) w are past = (let first = are.0.1 in omega (arith, first, past), one-more times bytes by now (y ∷ copies) w are.1 past)
+
+pub record Stand (times : Times) (copied : Bool) (since from : ℕ) (s : SpokeAt) (spoke : List SpokeAt) (last : WroteAt) (copies : List WroteAt) (answered : List AnsweredAt) : Type 0 where
   pub speaks : SpeaksInTime times since (s ∷ spoke) last
   pub answers : AnswersInTime times from answered
   pub are : Copies s.spoke.wrote s.at copies
   pub there : There times (copies ++ written spoke last) answered
   pub back : HandsBack times answered (s ∷ spoke)
   pub again : SaysAgain (spoken (s ∷ spoke)) last.bytes
-  pub clears : LetsClear times (s ∷ spoke)
-  pub few : IsOne copies ⊎ ClearsBehind times s spoke
+  pub clears : ClearsFrom times copied (s ∷ spoke)
+  pub few : Few times copied s.at copies
   pub alike : AnswersAlike (answers_of answered)
 
 -- it goes on with these
 abbrev pub Goes : Times → List SpokeAt → WroteAt → List AnsweredAt → Type 0
 Goes times [] last answered = Unit {0}
-Goes times (s ∷ spoke) last answered = (since from : ℕ) (copies : List WroteAt) → Stand times since from s spoke last copies answered → Pairs (s ∷ spoke) last answered
+Goes times (s ∷ spoke) last answered = (copied : Bool) (since from : ℕ) (copies : List WroteAt) → Stand times copied since from s spoke last copies answered → Pairs (s ∷ spoke) last answered
 
 abbrev pub Solved : Times → List AnsweredAt → Type 0
 Solved times answered = (spoke : List SpokeAt) (last : WroteAt) → Goes times spoke last answered
@@ -59,44 +72,69 @@ again-later : (s : SpokeAt) (spoke : List SpokeAt) (last : WroteAt) → SaysAgai
 again-later s [] last again = tt
 again-later s (next ∷ spoke) last again = again.1
 
-clears-later : (times : Times) (s : SpokeAt) (spoke : List SpokeAt) → LetsClear times (s ∷ spoke) → LetsClear times spoke
-clears-later times s [] clears = tt
-clears-later times s (next ∷ spoke) clears = clears.1
-
 -- it goes on to what it writes next, of which these are copies, or there is none
-pub next-goes : (times : Times) (s : SpokeAt) (spoke : List SpokeAt) (last : WroteAt) (from : ℕ) (copies : List WroteAt) (answered : List AnsweredAt) → s.at ≤ s.by → SpeaksInTime times s.by spoke last →
+module _ (times : Times) (copied : Bool) (s : SpokeAt) where
+  -- it writes other bytes, or nothing that it wrote before is under way
+  next-alone : (next : SpokeAt) (spoke : List SpokeAt) (last : WroteAt) (from : ℕ) (answered : List AnsweredAt) → SpeaksInTime times s.by (next ∷ spoke) last → AnswersInTime times from answered →
+      There times (written (next ∷ spoke) last) answered → HandsBack times answered (next ∷ spoke) → SaysAgain (spoken (next ∷ spoke)) last.bytes → (more : Bool) → ClearsFrom times more (next ∷ spoke) → AnswersAlike (answers_of answered) →
+      Goes times (next ∷ spoke) last answered → Pairs (next ∷ spoke) last answered
+  next-alone next spoke last from answered speaks answers there back again more clears alike goes = goes more s.by from (wrote next ∷ []) (record {
+    speaks = speaks;
+    answers = answers;
+    are = ((refl, omega arith), tt);
+    there = there;
+    back = back;
+    again = again;
+    clears = clears;
+    few = first-few more;
+    alike = alike;
+  })
+    where
+      first-few : (more : Bool) → Few times more next.at (wrote next ∷ [])
+      first-few true = tt
+      first-few false = tt
+
+  -- it writes the same once more
+  next-copy : (next : SpokeAt) (spoke : List SpokeAt) (last : WroteAt) (from : ℕ) (copies : List WroteAt) (answered : List AnsweredAt) → s.at ≤ s.by → SpeaksInTime times s.by (next ∷ spoke) last →
+      AnswersInTime times from answered → Copies s.spoke.wrote s.at copies → There times (copies ++ written (next ∷ spoke) last) answered → HandsBack times answered (next ∷ spoke) →
+      SaysAgain (spoken (next ∷ spoke)) last.bytes → (more : Bool) → ClearsFrom times more (next ∷ spoke) → AnswersAlike (answers_of answered) → next.spoke.wrote ≡ s.spoke.wrote → Few times more next.at (copies ++ wrote next ∷ []) →
+      Goes times (next ∷ spoke) last answered → Pairs (next ∷ spoke) last answered
+  next-copy next spoke last from copies answered ends speaks answers are there back again more clears alike same few goes =
+      let first = speaks.0 in
+      let earlier = later-copies s.spoke.wrote s.at next.at copies (omega (arith, ends, first)) are in
+      goes more s.by from (copies ++ wrote next ∷ []) (record {
+        speaks = speaks;
+        answers = answers;
+        are = more-copies next.spoke.wrote next.at copies (wrote next) (subst (λ l. Copies l next.at copies) (sym same) earlier) refl (omega arith);
+        there = subst (λ l. There times l answered) (sym (append_assoc copies (wrote next ∷ []) (written spoke last))) there;
+        back = back;
+        again = again;
+        clears = clears;
+        few = few;
+        alike = alike;
+      })
+
+pub next-goes : (times : Times) (copied : Bool) (s : SpokeAt) (spoke : List SpokeAt) (last : WroteAt) (from : ℕ) (copies : List WroteAt) (answered : List AnsweredAt) → s.at ≤ s.by → SpeaksInTime times s.by spoke last →
     AnswersInTime times from answered → Copies s.spoke.wrote s.at copies → There times (copies ++ written spoke last) answered → HandsBack times answered spoke →
-    SaysAgain (spoken (s ∷ spoke)) last.bytes → LetsClear times (s ∷ spoke) → AnswersAlike (answers_of answered) → (copies ≡ []) ⊎ (following spoke last ≡ s.spoke.wrote) → Goes times spoke last answered → Pairs spoke last answered
-next-goes times s [] last from copies answered ends speaks answers are there back again clears alike (inl none) goes =
+    SaysAgain (spoken (s ∷ spoke)) last.bytes → ClearsFrom times copied (s ∷ spoke) → AnswersAlike (answers_of answered) → (copies ≡ []) ⊎ (following spoke last ≡ s.spoke.wrote) → Goes times spoke last answered → Pairs spoke last answered
+next-goes times copied s [] last from copies answered ends speaks answers are there back again clears alike (inl none) goes =
     alone times last.bytes last.at (last ∷ []) answered ((refl, omega arith), tt) (subst (λ l. There times (l ++ last ∷ []) answered) none there)
-next-goes times s [] last from copies answered ends speaks answers are there back again clears alike (inr same) goes =
+next-goes times copied s [] last from copies answered ends speaks answers are there back again clears alike (inr same) goes =
     let earlier = later-copies s.spoke.wrote s.at last.at copies (omega (arith, ends, speaks)) are in
     alone times last.bytes last.at (copies ++ last ∷ []) answered (more-copies last.bytes last.at copies last (subst (λ l. Copies l last.at copies) (sym same) earlier) refl (omega arith)) there
-next-goes times s (next ∷ spoke) last from copies answered ends speaks answers are there back again clears alike (inl none) goes = goes s.by from (wrote next ∷ []) (record {
-  speaks = speaks;
-  answers = answers;
-  are = ((refl, omega arith), tt);
-  there = subst (λ l. There times (l ++ written (next ∷ spoke) last) answered) none there;
-  back = back;
-  again = again.1;
-  clears = clears.1;
-  few = inl tt;
-  alike = alike;
-})
-next-goes times s (next ∷ spoke) last from copies answered ends speaks answers are there back again clears alike (inr same) goes =
-    let first = speaks.0 in
-    let earlier = later-copies s.spoke.wrote s.at next.at copies (omega (arith, ends, first)) are in
-    goes s.by from (copies ++ wrote next ∷ []) (record {
-      speaks = speaks;
-      answers = answers;
-      are = more-copies next.spoke.wrote next.at copies (wrote next) (subst (λ l. Copies l next.at copies) (sym same) earlier) refl (omega arith);
-      there = subst (λ l. There times l answered) (sym (append_assoc copies (wrote next ∷ []) (written spoke last))) there;
-      back = back;
-      again = again.1;
-      clears = clears.1;
-      few = inr (clears.0 same);
-      alike = alike;
-    })
+next-goes times copied s (next ∷ spoke) last from copies answered ends speaks answers are there back again (inl clears) alike (inl none) goes =
+    next-alone times copied s next spoke last from answered speaks answers (subst (λ l. There times (l ++ written (next ∷ spoke) last) answered) none there) back again.1 false clears.1 alike goes
+next-goes times copied s (next ∷ spoke) last from copies answered ends speaks answers are there back again (inr clears) alike (inl none) goes =
+    next-alone times copied s next spoke last from answered speaks answers (subst (λ l. There times (l ++ written (next ∷ spoke) last) answered) none there) back again.1 true clears.1 alike goes
+next-goes times copied s (next ∷ spoke) last from copies answered ends speaks answers are there back again (inr clears) alike (inr same) goes =
+    next-copy times copied s next spoke last from copies answered ends speaks answers are there back again.1 true clears.1 alike same tt goes
+next-goes times false s (next ∷ spoke) last from copies answered ends speaks answers are there back again (inl clears) alike (inr same) goes =
+    next-copy times false s next spoke last from copies answered ends speaks answers are there back again.1 false clears.1 alike same (one-more times s.spoke.wrote s.at next.at copies (wrote next) are (clears.0 same)) goes
+next-goes times true s (next ∷ spoke) last from copies answered ends speaks answers are there back again (inl clears) alike (inr same) goes =
+    elim clears.0 [
+      | inl silent ↦ next-alone times true s next spoke last from answered speaks answers (none-of-nothing times s.spoke.wrote s.at copies (written (next ∷ spoke) last) answered silent are there) back again.1 false clears.1 alike goes
+      | inr past ↦ next-copy times true s next spoke last from copies answered ends speaks answers are there back again.1 false clears.1 alike same (one-more times s.spoke.wrote s.at next.at copies (wrote next) are past) goes
+    ]
 
 -- ---- Replies that are too old
 
@@ -132,9 +170,9 @@ all-unread times at by since (a ∷ olds) answered spoke last speaks starts old 
 
 -- ---- A sender that has read the ACK of a frame of which copies are under way: it goes on with that to the last of them
 
-module _ (times : Times) (begins : Begins) (s : SpokeAt) (spoke : List SpokeAt) (last : WroteAt) (a : AnsweredAt) (back : Delivery)
+module _ (times : Times) (begins : Begins) (copied : Bool) (s : SpokeAt) (spoke : List SpokeAt) (last : WroteAt) (a : AnsweredAt) (back : Delivery)
     (speaks : SpeaksInTime times s.by spoke last) (ends : s.at ≤ s.by) (reads : ArrivesBack back a.answered.wrote s.spoke.came) (hears : a.answered.heard ≡ heard_of s.spoke.wrote)
-    (again : SaysAgain (spoken (s ∷ spoke)) last.bytes) (clears : LetsClear times (s ∷ spoke)) (starts : StartsBy (s.at + times.oldest + times.receiver_acts + times.oldest) spoke) where
+    (again : SaysAgain (spoken (s ∷ spoke)) last.bytes) (clears : ClearsFrom times copied (s ∷ spoke)) (starts : StartsBy (s.at + times.oldest + times.receiver_acts + times.oldest) spoke) where
   -- a copy that is heard then: if it is the last, it is the one whose ACK was read
   after-copy : (one : WroteAt) (b : AnsweredAt) (more earlier : List AnsweredAt) (from : ℕ) → AllSolved times more → Hears times one b → one.bytes ≡ s.spoke.wrote → one.at ≤ s.at →
       AnswersInTime times from (b ∷ more) → AllBy b.at (earlier ++ b ∷ []) → HandsBack times ((earlier ++ b ∷ []) ++ more) spoke → b.answered.wrote ≡ a.answered.wrote → AnswersAlike (answers_of more) →
@@ -142,7 +180,7 @@ module _ (times : Times) (begins : Begins) (s : SpokeAt) (spoke : List SpokeAt) 
   after-copy one b more earlier from solved heard same before answers all hands alike also (inl left) =
       let young = heard.0.fresh.young in let acts = answers.3 in
       both s spoke last b more heard.0.delivery back (subst (λ l. ArrivesThere heard.0.delivery l b.answered.heard) same heard.0.arrives) (subst (λ r. ArrivesBack back r s.spoke.came) (sym alike) reads)
-      (next-goes times s spoke last b.at [] more ends speaks answers.4 tt left
+      (next-goes times copied s spoke last b.at [] more ends speaks answers.4 tt left
       (all-unread times b.at (s.at + times.oldest + times.receiver_acts + times.oldest) s.by (earlier ++ b ∷ []) more spoke last speaks starts (omega (arith, young, acts, before)) all hands)
       again clears also (inl refl) (solved-here times more solved spoke last))
   after-copy one b more earlier from solved heard same before answers all hands alike also (inr pairs) =
@@ -188,26 +226,36 @@ next-is s (next ∷ spoke) last (inl same, later) = inl same
 next-is s (next ∷ spoke) last (inr (inl ack), later) = inr (inl ack)
 next-is s (next ∷ spoke) last (inr (inr none), later) = inr (inr (inl none))
 
-clear-is : (times : Times) (s : SpokeAt) (spoke : List SpokeAt) (last : WroteAt) → ClearsBehind times s spoke →
+-- behind copies
+clear-is : (times : Times) (s : SpokeAt) (spoke : List SpokeAt) (last : WroteAt) → ClearsFrom times true (s ∷ spoke) →
     (following spoke last ≡ s.spoke.wrote) ⊎ ((s.spoke.wrote ≡ []) ⊎ StartsBy (s.at + times.oldest + times.receiver_acts + times.oldest) spoke)
 clear-is times s [] last clears = inr (inr tt)
-clear-is times s (next ∷ spoke) last (inl same) = inl same
-clear-is times s (next ∷ spoke) last (inr late) = inr late
+clear-is times s (next ∷ spoke) last (inl alone) = inr alone.0
+clear-is times s (next ∷ spoke) last (inr copy) = inl copy.0
 
--- the only copy is taken
-one-taken : (copies : List WroteAt) (one : WroteAt) (rest : List WroteAt) → IsOne copies → Takes copies one rest → rest ≡ []
-one-taken [] one rest few takes = absurd takes
-one-taken (w ∷ []) one rest few (inl same) = same.1
-one-taken (w ∷ []) one rest few (inr takes) = absurd takes
-one-taken (w ∷ x ∷ copies) one rest few takes = absurd few
+-- the last copy is taken: the others are over
+one-taken : (times : Times) (now : ℕ) (copies : List WroteAt) (one : WroteAt) (rest : List WroteAt) → IsOne times now copies → Takes copies one rest → (IsPast times one.at now → ⊥) → rest ≡ []
+one-taken times now [] one rest few takes late = absurd takes
+one-taken times now (w ∷ []) one rest few (inl same) late = same.1
+one-taken times now (w ∷ []) one rest few (inr takes) late = absurd takes
+one-taken times now (w ∷ x ∷ copies) one rest few (inl same) late = absurd (late (subst (λ (y : WroteAt). IsPast times y.at now) (sym same.0) few.0))
+one-taken times now (w ∷ x ∷ copies) one rest few (inr takes) late = one-taken times now (x ∷ copies) one rest few.1 takes late
 
-one-left : (copies : List WroteAt) (one : WroteAt) (rest : List WroteAt) → Takes copies one rest → IsOne copies → IsOne rest
-one-left copies one rest takes few = subst IsOne (sym (one-taken copies one rest few takes)) tt
+one-left : (times : Times) (now : ℕ) (copies : List WroteAt) (one : WroteAt) (rest : List WroteAt) → Takes copies one rest → IsOne times now copies → IsOne times now rest
+one-left times now [] one rest takes few = absurd takes
+one-left times now (w ∷ []) one rest (inl same) few = subst (IsOne times now) (sym same.1) tt
+one-left times now (w ∷ []) one rest (inr takes) few = absurd takes
+one-left times now (w ∷ x ∷ copies) one rest (inl same) few = subst (IsOne times now) (sym same.1) few.1
+one-left times now (w ∷ x ∷ copies) one rest (inr takes) few = one-left times now (x ∷ copies) one rest takes few.1
+
+few-left : (times : Times) (copied : Bool) (now : ℕ) (copies : List WroteAt) (one : WroteAt) (rest : List WroteAt) → Takes copies one rest → Few times copied now copies → Few times copied now rest
+few-left times true now copies one rest takes few = tt
+few-left times false now copies one rest takes few = one-left times now copies one rest takes few
 
 -- ---- A step
 
 module _ (times : Times) (begins : Begins) (within : Within) (a : AnsweredAt) (more : List AnsweredAt) (solved : AllSolved times more) where
-  module _ (s : SpokeAt) (spoke : List SpokeAt) (last : WroteAt) (since from : ℕ) (copies : List WroteAt) (st : Stand times since from s spoke last copies (a ∷ more)) (onward : Goes times spoke last (a ∷ more)) where
+  module _ (copied : Bool) (s : SpokeAt) (spoke : List SpokeAt) (last : WroteAt) (since from : ℕ) (copies : List WroteAt) (st : Stand times copied since from s spoke last copies (a ∷ more)) (onward : Goes times spoke last (a ∷ more)) where
     abbrev Here : Type 0
     Here = Pairs (s ∷ spoke) last (a ∷ more)
 
@@ -222,7 +270,7 @@ module _ (times : Times) (begins : Begins) (within : Within) (a : AnsweredAt) (m
     -- ---- It read nothing
 
     waits : s.spoke.came ≡ [] → (rest : List WroteAt) → Copies s.spoke.wrote s.at rest → There times (rest ++ written spoke last) (a ∷ more) → HandsBack times (a ∷ more) spoke → (rest ≡ []) ⊎ (following spoke last ≡ s.spoke.wrote) → Here
-    waits none rest are there back moves = vain s spoke last a more none (next-goes times s spoke last from rest (a ∷ more) ends st.speaks.3 st.answers are there back st.again st.clears st.alike moves onward)
+    waits none rest are there back moves = vain s spoke last a more none (next-goes times copied s spoke last from rest (a ∷ more) ends st.speaks.3 st.answers are there back st.again st.clears st.alike moves onward)
 
     reads-none : s.spoke.came ≡ [] → HandsBack times (a ∷ more) spoke → NextIs s spoke last → Here
     reads-none none back (inl same) = waits none copies st.are st.there back (inr same)
@@ -233,10 +281,10 @@ module _ (times : Times) (begins : Begins) (within : Within) (a : AnsweredAt) (m
 
     -- ---- It read a later reply
 
-    goes-alone : (there : Delivery) → ArrivesThere there s.spoke.wrote a.answered.heard → (rest : List WroteAt) → Copies s.spoke.wrote s.at rest → There times (rest ++ written spoke last) more → IsOne rest ⊎ ClearsBehind times s spoke →
+    goes-alone : (there : Delivery) → ArrivesThere there s.spoke.wrote a.answered.heard → (rest : List WroteAt) → Copies s.spoke.wrote s.at rest → There times (rest ++ written spoke last) more → Few times copied s.at rest →
         HandsBack times more (s ∷ spoke) → Here
     goes-alone there arrives rest are hands few back =
-        lost s spoke last a more there arrives (solved-here times more solved (s ∷ spoke) last since a.at rest (record {
+        lost s spoke last a more there arrives (solved-here times more solved (s ∷ spoke) last copied since a.at rest (record {
           speaks = st.speaks;
           answers = st.answers.4;
           are = are;
@@ -255,7 +303,7 @@ module _ (times : Times) (begins : Begins) (within : Within) (a : AnsweredAt) (m
           | inl found ↦
               let copy = taken-copy s.spoke.wrote s.at copies frame found.0 st.are found.1 in
               goes-alone hears.0.delivery (subst (λ l. ArrivesThere hears.0.delivery l a.answered.heard) copy.0.0 hears.0.arrives) found.0 copy.1 (subst (λ l. There times l more) found.2 there)
-              (elim st.few [ inl few ↦ inl (one-left copies frame found.0 found.1 few) | inr clears ↦ inr clears ]) (inr (one, behind, takes, brings, back))
+              (few-left times copied s.at copies frame found.0 found.1 st.few) (inr (one, behind, takes, brings, back))
           | inr other ↦
               let x = write-since times s.by spoke last frame others st.speaks.3 other in let y = hears.0.fresh.later in
               let z = answer-behind times from a more one behind st.answers (inr takes) in let w = brings.fresh.later in
@@ -269,7 +317,7 @@ module _ (times : Times) (begins : Begins) (within : Within) (a : AnsweredAt) (m
           Here
       goes-on there arrives rest are hands moves =
           both s spoke last a more there brings.delivery arrives brings.arrives
-          (next-goes times s spoke last a.at rest more ends st.speaks.3 st.answers.4 are hands back st.again st.clears st.alike.2 moves (solved-here times more solved spoke last))
+          (next-goes times copied s spoke last a.at rest more ends st.speaks.3 st.answers.4 are hands back st.again st.clears st.alike.2 moves (solved-here times more solved spoke last))
 
       -- it was cancelled, and the receiver says nothing more
       called-off : (there : Delivery) → ArrivesThere there s.spoke.wrote a.answered.heard → spoke ≡ [] → ReadsCan s.spoke.came → Here
@@ -293,15 +341,21 @@ module _ (times : Times) (begins : Begins) (within : Within) (a : AnsweredAt) (m
 
         leads-late : AcksAgain a.answered (answers_of more) → StartsBy (s.at + times.oldest + times.receiver_acts + times.oldest) spoke → Here
         leads-late acks starts =
-            elim (to-the-last times begins s spoke last a brings.delivery st.speaks.3 ends brings.arrives (heard-is begins hears.0.delivery s.spoke.wrote a.answered.heard arrives hears.1) st.again st.clears starts more [] a.at rest solved there are
+            elim (to-the-last times begins copied s spoke last a brings.delivery st.speaks.3 ends brings.arrives (heard-is begins hears.0.delivery s.spoke.wrote a.answered.heard arrives hears.1) st.again st.clears starts more [] a.at rest solved there are
             st.answers.4 tt back acks st.alike.2) [
               | inl left ↦ goes-on hears.0.delivery arrives [] tt left (inl refl)
               | inr pairs ↦ lost s spoke last a more hears.0.delivery arrives pairs
             ]
 
-        leads-on : AcksAgain a.answered (answers_of more) → IsOne copies ⊎ ClearsBehind times s spoke → Here
-        leads-on acks (inl few) = goes-on hears.0.delivery arrives rest are there (inl (one-taken copies frame rest few taken))
-        leads-on acks (inr clears) =
+        -- it is no copy that was over when the last was written
+        not-past : IsPast times frame.at s.at → ⊥
+        not-past past =
+            let heard = hears.0.fresh.young in let acts = st.answers.3 in let young = brings.fresh.young in let reads = st.speaks.2 in
+            absurd (omega (arith, past, heard, acts, young, reads))
+
+        leads-by : (b : Bool) → Few times b s.at copies → ClearsFrom times b (s ∷ spoke) → AcksAgain a.answered (answers_of more) → Here
+        leads-by false few clears acks = goes-on hears.0.delivery arrives rest are there (inl (one-taken times s.at copies frame rest few taken not-past))
+        leads-by true few clears acks =
             elim (clear-is times s spoke last clears) [
               | inl again ↦ goes-on hears.0.delivery arrives rest are there (inr again)
               | inr late ↦ elim late [ inl silent ↦ absurd (hears.0.some (same ∙ silent)) | inr starts ↦ leads-late acks starts ]
@@ -309,7 +363,7 @@ module _ (times : Times) (begins : Begins) (within : Within) (a : AnsweredAt) (m
 
         answers-copy : NextIs s spoke last → Here
         answers-copy (inl again) = goes-on hears.0.delivery arrives rest are there (inr again)
-        answers-copy (inr (inl ack)) = leads-on (st.alike.0 (reads-ack within brings.delivery a.answered.wrote s.spoke.came brings.arrives ack)).1 st.few
+        answers-copy (inr (inl ack)) = leads-by copied st.few st.clears (st.alike.0 (reads-ack within brings.delivery a.answered.wrote s.spoke.came brings.arrives ack)).1
         answers-copy (inr (inr (inl silent))) = absurd (hears.0.some (same ∙ silent))
         answers-copy (inr (inr (inr (is, inl still)))) = over (is, still)
         answers-copy (inr (inr (inr (is, inr can)))) = called-off hears.0.delivery arrives is can
@@ -334,11 +388,11 @@ module _ (times : Times) (begins : Begins) (within : Within) (a : AnsweredAt) (m
 
   pub solves : Solved times (a ∷ more)
   solves [] last = tt
-  solves (s ∷ spoke) last = λ since from copies st. step s spoke last since from copies st (solves spoke last) st.back
+  solves (s ∷ spoke) last = λ copied since from copies st. step copied s spoke last since from copies st (solves spoke last) st.back
 
 alone-goes : (times : Times) → Solved times []
 alone-goes times [] last = tt
-alone-goes times (s ∷ spoke) last = λ since from copies st. sender-alone times (s ∷ spoke) st.back
+alone-goes times (s ∷ spoke) last = λ copied since from copies st. sender-alone times (s ∷ spoke) st.back
 
 pub solve : (times : Times) → Begins → Within → (answered : List AnsweredAt) → AllSolved times answered
 solve times begins within [] = alone-goes times

@@ -1,6 +1,6 @@
 -- A sender that lets the line clear before it goes on from a frame that it wrote more than once.
 -- What was written is then answered, or too old, whatever either end waits for.
-use Rattle.std.specs.Prelude.{◌≡◌, ◌⊎◌, ◌+◌, ◌≤◌, ℕ, List, [], ◌∷◌}
+use Rattle.std.specs.Prelude.{◌≡◌, ◌⊎◌, ◌+◌, ◌≤◌, ℕ, Bool, true, false, List, [], ◌∷◌}
 use Rattle.ym_frame.specs.declared.control.Control.{Control}
 use Rattle.ym_frame.specs.declared.control.Control.TheVariants as control
 use Rattle.ym_frame.specs.declared.control.Reply.{Reply}
@@ -76,19 +76,25 @@ EndsWell new spoke = new.standing.state ≡ state.NoReply → EndsInVain spoke
 
 -- ---- The line clears
 
--- it writes the same once more, or when all that may answer this write has come, or is too old; or
--- it wrote nothing
-abbrev pub ClearsBehind : Times → SpokeAt → List SpokeAt → Type 0
-ClearsBehind times s [] = Unit {0}
-ClearsBehind times s (next ∷ spoke) =
-    (next.spoke.wrote ≡ s.spoke.wrote)
-    ⊎ ((s.spoke.wrote ≡ [])
-    ⊎ (s.at + times.oldest + times.receiver_acts + times.oldest ≤ next.at))
+-- all that may answer this write has come, or is too old, when the next one is written
+abbrev pub IsOver : Times → SpokeAt → SpokeAt → Type 0
+IsOver times s next = s.at + times.oldest + times.receiver_acts + times.oldest ≤ next.at
 
--- so it is behind each write that was not the first of its frame
+-- What is written next is alone under way: it is another frame, or the write before it is over.
+-- Where that had copies, they are over, or it was nothing.
+abbrev pub IsAlone : Times → Bool → SpokeAt → SpokeAt → Type 0
+IsAlone times false s next = next.spoke.wrote ≡ s.spoke.wrote → IsOver times s next
+IsAlone times true s next = (s.spoke.wrote ≡ []) ⊎ IsOver times s next
+
+-- Each write is alone under way, or one more copy of the one before it. Whether there were copies
+-- before the first of these is given.
+abbrev pub ClearsFrom : Times → Bool → List SpokeAt → Type 0
+ClearsFrom times copied [] = Unit {0}
+ClearsFrom times copied (s ∷ []) = Unit {0}
+ClearsFrom times copied (s ∷ next ∷ spoke) =
+    (IsAlone times copied s next × ClearsFrom times false (next ∷ spoke))
+    ⊎ ((next.spoke.wrote ≡ s.spoke.wrote) × ClearsFrom times true (next ∷ spoke))
+
+-- so a sender lets the line clear
 abbrev pub LetsClear : Times → List SpokeAt → Type 0
-LetsClear times [] = Unit {0}
-LetsClear times (s ∷ []) = Unit {0}
-LetsClear times (s ∷ next ∷ spoke) =
-    (next.spoke.wrote ≡ s.spoke.wrote → ClearsBehind times next spoke)
-    × LetsClear times (next ∷ spoke)
+LetsClear times spoke = ClearsFrom times false spoke

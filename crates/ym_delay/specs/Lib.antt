@@ -1,6 +1,9 @@
 pub mod Beyond
 pub mod Cleared
+pub mod Courses
+pub mod FalseReport
 pub mod HowLong
 pub mod QuietReads
+pub mod Rule
 pub mod TimedExamples
 pub mod TimedLine

@@ -8,6 +8,7 @@ ghost use Rattle.ym_link.specs.ReceiverInto.{ReceiverParts};
 ghost use Rattle.ym_link.specs.Course.{ReceiverHears, SenderHears};
 ghost use Rattle.ym_link.specs.Sender.{IsSender, SenderParts, spoken as sent};
 ghost use Rattle.ym_link.specs.SendOver.{written_for};
+ghost use Rattle.ym_timing.specs.Clears.{several_until};
 ghost use Rattle.ym_timing.specs.Pace.{first_wait};
 ghost use Rattle.ym_timing.specs.Times.{later};
 ghost use Rattle.ym_timing.specs.declared.role.Role.TheVariants.{Receiver, Sender};
@@ -33,6 +34,15 @@ ghost use Rattle.ym_delay.specs.TimedLine.{answers_of, spoken};
 ghost use Rattle.ym_delay.specs.HowLong.{AnswersEnd, ReadsEnd, answered_by, heard_by};
 ghost use Rattle.ym_delay.specs.QuietReads.{IsOverAtOnce, IsSeveral, IsSpent, began, reply_read};
 
+mod courses;
+mod report;
+mod rule;
+
+pub use courses::{
+    batches_in_time_commit_a_prefix, batches_in_time_complete, batches_take_so_long,
+};
+pub use report::a_millisecond_too_soon_loses_a_file;
+pub use rule::{batches_by_the_rule_commit_a_prefix, the_rule_lets_a_line_clear};
 use ym_link::laws::what_came_back_is_of_the_reply;
 use ym_pair::laws::{a_delivery_brings_its_frame, two_engines_commit_a_prefix};
 
@@ -50,8 +60,9 @@ pub fn timed_deliveries_pair_up()
 
 /// So they do, whatever either end waits for, where the sender lets the line clear. It writes a
 /// frame again until it reads an ACK, and the receiver says to a frame that comes again what it
-/// said before. Before the sender goes on from a frame that it wrote more than once, there passes
-/// since it wrote it last the time of the way there and back and of the receiver's acting.
+/// said before. A copy is written when the write before it is over: the time of the way there and
+/// back and of the receiver's acting has passed. Or that passes behind the last copy, before the
+/// sender goes on.
 pub fn cleared_deliveries_pair_up()
     ensures { (times : Times) (start begun : ℕ) (spoke : List SpokeAt) (last : WroteAt)
         (answered : List AnsweredAt) → IsTimed times start begun spoke last answered →
@@ -235,12 +246,20 @@ pub fn a_quiet_read_waited()
 {}
 
 /// The program's port lets the line clear: behind several writes of a frame a sender's line is
-/// clear, by the port's clock, when 1.25 seconds have passed since the last ACK, or a minute since
-/// it began to clear. There is nothing to wait for where the line was closed, CAN CAN came, or each
-/// copy of a block had its ACK; and it gives up when it has asked the line 65,536 times.
+/// clear, by the port's clock, when as long has passed since the last ACK as the rule says
+/// (`by_rule`), 1.25 seconds at least (`quiet`), or a minute since it began to clear. There is
+/// nothing to wait for where the line was closed, CAN CAN came, or each copy of a block had its
+/// ACK; and it gives up when it has asked the line 65,536 times.
 pub fn a_cleared_line_was_quiet()
-    ensures { (bytes : List ℕ) (l : Line) (t : Tape) (c : Clearing) → l.timing.role ≡ Sender →
-        IsSeveral bytes l t → l.timing.heard.answered_at ≤ began l t →
+    ensures by_rule { (bytes : List ℕ) (l : Line) (t : Tape) (c : Clearing) →
+        l.timing.role ≡ Sender → IsSeveral bytes l t → l.timing.heard.answered_at ≤ began l t →
+        (clears_for bytes l t).answer ≡ Ok c →
+        IsOverAtOnce c (clears_for bytes l t).line
+        ⊎ (IsSpent t (clears_for bytes l t).tape
+        ⊎ (min (several_until l.timing.heard.answered_at l.timing) (later (began l t) 60000)
+        ≤ (clears_for bytes l t).line.clock.at)) }
+    ensures quiet { (bytes : List ℕ) (l : Line) (t : Tape) (c : Clearing) →
+        l.timing.role ≡ Sender → IsSeveral bytes l t → l.timing.heard.answered_at ≤ began l t →
         (clears_for bytes l t).answer ≡ Ok c →
         IsOverAtOnce c (clears_for bytes l t).line
         ⊎ (IsSpent t (clears_for bytes l t).tape

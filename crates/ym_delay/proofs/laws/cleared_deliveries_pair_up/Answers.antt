@@ -1,4 +1,4 @@
-use Rattle.std.proofs.Common.{ℕ, List, [], ◌∷◌, inl, refl, arith}
+use Rattle.std.proofs.Common.{ℕ, false, List, [], ◌∷◌, refl, arith}
 use Rattle.ym_delay.specs.Cleared.{AnswersAlike, LetsClear, SaysAgain}
 use Rattle.ym_delay.specs.TimedLine.{AnsweredAt, IsTimed, SpokeAt, Times, WroteAt, answers_of, spoken, wrote, written}
 use Rattle.ym_delay.proofs.Ahead.{Begins, Within}
@@ -11,7 +11,7 @@ pairs : Begins → Within → (times : Times) (start begun : ℕ) (spoke : List 
     Pairs spoke last answered
 pairs begins within times start begun [] last answered timed again alike clears = alone times last.bytes last.at (last ∷ []) answered ((refl, omega arith), tt) (normal times (last ∷ []) answered timed.there)
 pairs begins within times start begun (s ∷ spoke) last answered timed again alike clears =
-    solved-here times answered (solve times begins within answered) (s ∷ spoke) last start begun (wrote s ∷ []) (record {
+    solved-here times answered (solve times begins within answered) (s ∷ spoke) last false start begun (wrote s ∷ []) (record {
       speaks = timed.speaks;
       answers = timed.answers;
       are = ((refl, omega arith), tt);
@@ -19,7 +19,7 @@ pairs begins within times start begun (s ∷ spoke) last answered timed again al
       back = timed.back;
       again = again;
       clears = clears;
-      few = inl tt;
+      few = tt;
       alike = alike;
     })
 

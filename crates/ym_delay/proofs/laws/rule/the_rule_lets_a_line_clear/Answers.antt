@@ -1,0 +1,120 @@
+use Rattle.std.proofs.Common.{◌≡◌, ◌+◌, ◌-◌, ◌^◌, ◌<◌, ◌≤◌, ◌&&◌, inl, inr, ℕ, min, max, nat_lt, nat_le, Bool, true, false, List, [], ◌∷◌, sym, subst, arith}
+use Rattle.ym_timing.specs.Clears.{apart_until, overdue_at, quiet_of, several_until}
+use Rattle.ym_timing.specs.Pace.{bound}
+use Rattle.ym_timing.specs.Times.{later}
+use Rattle.ym_timing.specs.Writing.{is_overdue, late_by}
+use Rattle.ym_timing.specs.declared.out.Owed.{Owed}
+use Rattle.ym_timing.specs.declared.out.Owed.TheVariants as owed
+use Rattle.ym_timing.specs.declared.pace.Trust.{Trust}
+use Rattle.ym_timing.specs.declared.pace.Trust.TheVariants.{Unknown, Doubtful, Sure}
+use Rattle.ym_timing.specs.declared.role.Role.{Role}
+use Rattle.ym_timing.specs.declared.role.Role.TheVariants.{Receiver, Sender}
+use Rattle.ym_timing.specs.declared.timing.Timing.{Timing}
+use Rattle.ym_delay.specs.Cleared.{ClearsFrom, IsAlone}
+use Rattle.ym_delay.specs.Rule.{CopiesLate, GoesOn, IsSeen, Reaches, RuledFrom, WaitsByRule}
+use Rattle.ym_delay.specs.TimedLine.{SpokeAt, Times}
+use Rattle.ym_delay.proofs.Quiet.{at-most}
+use Rattle.ym_delay.proofs.laws.rule.the_rule_lets_a_line_clear.Goals as goal
+
+-- ---- Behind several writes
+
+-- so much later is not too soon
+later-enough : (goal from wait : ℕ) → goal ≤ from + wait → goal < 2 ^ 64 → goal ≤ later from wait
+later-enough goal from wait long within = omega (arith, long, within)
+
+apart-enough : (goal from gap wait : ℕ) → goal ≤ from + gap + wait → goal < 2 ^ 64 → goal ≤ later (later from gap) wait
+apart-enough goal from gap wait long within = omega (arith, long, within)
+
+first-enough : (goal a b c : ℕ) → goal ≤ a → goal ≤ max a (min b c)
+first-enough goal a b c enough = omega (arith, enough)
+
+both-enough : (goal a b c : ℕ) → goal ≤ b → goal ≤ c → goal ≤ max a (min b c)
+both-enough goal a b c one other = omega (arith, one, other)
+
+ends-enough : (goal a b next : ℕ) → goal ≤ a → goal ≤ b → min a b ≤ next → goal ≤ next
+ends-enough goal a b next one other ends = omega (arith, one, other, ends)
+
+module _ (span at next : ℕ) (rule : WaitsByRule span at next) where
+  overdue : (trust : Trust) → IsSeen trust span rule.timing → at + span ≤ apart_until rule.timing.heard.answered_at rule.timing → at + span ≤ overdue_at trust rule.timing.heard.answered_at rule.timing
+  overdue Unknown seen apart = apart
+  overdue Doubtful seen apart = later-enough (at + span) rule.timing.out.last_at (bound rule.timing.pace) (let last = rule.last in omega (arith, last, seen)) rule.within
+  overdue Sure seen apart = later-enough (at + span) rule.timing.out.last_at (bound rule.timing.pace) (let last = rule.last in omega (arith, last, seen)) rule.within
+
+  quiet : at + span ≤ rule.timing.heard.answered_at + 1250 → at + span ≤ later rule.timing.heard.answered_at (quiet_of rule.timing.role)
+  quiet short = subst (λ r. at + span ≤ later rule.timing.heard.answered_at (quiet_of r)) (sym rule.role) (later-enough (at + span) rule.timing.heard.answered_at 1250 short rule.within)
+
+  clears : Reaches span at rule.timing → at + span ≤ several_until rule.timing.heard.answered_at rule.timing
+  clears (inl short) = first-enough (at + span) _ _ _ (quiet short)
+  clears (inr (long, within, seen)) =
+      let apart = apart-enough (at + span) rule.timing.heard.answered_at rule.timing.out.gap 2000 long rule.within in
+      both-enough (at + span) _ _ _ apart (overdue rule.timing.pace.trust seen apart)
+
+  -- no longer than a minute
+  short-of : Reaches span at rule.timing → at + span ≤ rule.began + 60000
+  short-of (inl short) = let before = rule.before in omega (arith, short, before)
+  short-of (inr (long, within, seen)) = let acked = rule.acked in let before = rule.before in omega (arith, within, acked, before)
+
+  several : at + span ≤ next
+  several = ends-enough (at + span) _ _ next (clears rule.reaches) (later-enough (at + span) rule.began 60000 (short-of rule.reaches) rule.within) rule.clear
+
+pub returns-clause-several : goal.returns-clause-several
+returns-clause-several c span at next rule = several span at next rule
+
+pub returns-clause-quiet : goal.returns-clause-quiet
+returns-clause-quiet c span at t acked short = inl (omega (arith, acked, short))
+
+pub returns-clause-twice : goal.returns-clause-twice
+returns-clause-twice c soonest span at t sooner two short within seen = inr (omega (arith, sooner, two, short), within, seen)
+
+-- ---- Behind an answer that was overdue
+
+late-is : (r : Role) (o : Owed) (trust : Trust) (t : Timing) → late_by r o trust t ≡ true → is_overdue t ≡ true
+late-is Sender owed.One Sure t late = late
+late-is Sender owed.Late Sure t late = late
+late-is Sender owed.Several trust t late = absurd (cc)
+late-is Sender owed.Nothing trust t late = absurd (cc)
+late-is Sender owed.One Unknown t late = absurd (cc)
+late-is Sender owed.One Doubtful t late = absurd (cc)
+late-is Sender owed.Late Unknown t late = absurd (cc)
+late-is Sender owed.Late Doubtful t late = absurd (cc)
+late-is Receiver o trust t late = absurd (cc)
+
+second-is : (a b : Bool) → (a && b) ≡ true → b ≡ true
+second-is true b both = both
+second-is false b both = absurd (cc)
+
+late-enough : (span at next : ℕ) → CopiesLate span at next → at + span ≤ next
+late-enough span at next copies =
+    let t = copies.timing in
+    let due : later t.out.last_at (bound t.pace) ≤ t.heard.since = at-most (later t.out.last_at (bound t.pace)) t.heard.since (second-is (nat_lt 0 t.heard.count) (nat_le (later t.out.last_at (bound t.pace)) t.heard.since) (late-is t.role t.out.owed t.pace.trust t copies.late)) in
+    let last = copies.last in
+    let seen = copies.seen in
+    let long = later-enough (at + span) t.out.last_at (bound t.pace) (omega (arith, last, seen)) copies.within in
+    let since = copies.since in
+    omega (arith, due, long, since)
+
+pub returns-clause-late : goal.returns-clause-late
+returns-clause-late c span at next copies = late-enough span at next copies
+
+-- ---- A sender that goes by the rule
+
+module _ (times : Times) where
+  abbrev Span : ℕ
+  Span = times.oldest + times.receiver_acts + times.oldest
+
+  over : (at next : ℕ) → at + Span ≤ next → at + times.oldest + times.receiver_acts + times.oldest ≤ next
+  over at next long = omega (arith, long)
+
+  alone : (copied : Bool) (s next : SpokeAt) → GoesOn Span copied s next → IsAlone times copied s next
+  alone false s next goes = λ same. over s.at next.at (late-enough Span s.at next.at (goes same))
+  alone true s next (inl silent) = inl silent
+  alone true s next (inr rule) = inr (over s.at next.at (several Span s.at next.at rule))
+
+  lets : (copied : Bool) (spoke : List SpokeAt) → RuledFrom Span copied spoke → ClearsFrom times copied spoke
+  lets copied [] rule = tt
+  lets copied (s ∷ []) rule = tt
+  lets copied (s ∷ next ∷ spoke) (inl (goes, rule)) = inl (alone copied s next goes, lets false (next ∷ spoke) rule)
+  lets copied (s ∷ next ∷ spoke) (inr (same, rule)) = inr (same, lets true (next ∷ spoke) rule)
+
+pub returns-clause-lets : goal.returns-clause-lets
+returns-clause-lets c times spoke rule = lets times false spoke rule

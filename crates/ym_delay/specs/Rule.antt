@@ -1,0 +1,72 @@
+-- A sender that lets the line clear by the program's rule: for how long that is enough.
+--
+-- Its port's clock is that by which the ends are measured here.
+use Rattle.std.specs.Prelude.{◌≡◌, ◌⊎◌, ◌+◌, ◌<◌, ◌≤◌, ◌^◌, ℕ, min, Bool, true, false, List, [], ◌∷◌}
+use Rattle.ym_timing.specs.Clears.{several_until}
+use Rattle.ym_timing.specs.Pace.{bound}
+use Rattle.ym_timing.specs.Times.{later}
+use Rattle.ym_timing.specs.Writing.{is_late}
+use Rattle.ym_timing.specs.declared.limits.TheConstants.{APART, LONGEST, SENDER_QUIET}
+use Rattle.ym_timing.specs.declared.pace.Trust.{Trust}
+use Rattle.ym_timing.specs.declared.pace.Trust.TheVariants.{Unknown, Doubtful, Sure}
+use Rattle.ym_timing.specs.declared.role.Role.TheVariants.{Sender}
+use Rattle.ym_timing.specs.declared.timing.Timing.{Timing}
+use Rattle.ym_delay.specs.TimedLine.{SpokeAt}
+
+-- ---- What the rule knows
+
+-- where it has seen how long answers take, none is overdue sooner than this behind its write
+abbrev pub IsSeen : Trust → ℕ → Timing → Type 0
+IsSeen Unknown span t = Unit {0}
+IsSeen Doubtful span t = span ≤ bound t.pace
+IsSeen Sure span t = span ≤ bound t.pace
+
+-- Its clearing reaches so far behind the last of several writes, at this moment: by 1.25 seconds
+-- since the last ACK; or by two seconds more than two of the writes were apart, if no answer is
+-- overdue before.
+abbrev pub Reaches : ℕ → ℕ → Timing → Type 0
+Reaches span at t =
+    (at + span ≤ t.heard.answered_at + SENDER_QUIET)
+    ⊎ ((at + span ≤ t.heard.answered_at + t.out.gap + APART) × (span ≤ LONGEST)
+    × IsSeen t.pace.trust span t)
+
+-- ---- What it does
+
+-- Of a write at the one moment several answers may come, and the next is at the other: the line is
+-- clear by then, as it is when a write of the port returns (`a_cleared_line_was_quiet`).
+pub record WaitsByRule (span at next : ℕ) : Type 0 where
+  pub timing : Timing
+  pub began : ℕ  -- when the line began to clear
+  pub role : timing.role ≡ Sender
+  pub last : at ≡ timing.out.last_at
+  pub acked : at ≤ timing.heard.answered_at  -- an ACK came behind it
+  pub before : timing.heard.answered_at ≤ began
+  pub clear : min (several_until timing.heard.answered_at timing) (later began LONGEST) ≤ next
+  pub reaches : Reaches span at timing
+  pub within : at + span < 2 ^ 64
+
+-- It wrote again when the peer asked, and by what is sure the answer was overdue.
+pub record CopiesLate (span at next : ℕ) : Type 0 where
+  pub timing : Timing
+  pub last : at ≡ timing.out.last_at
+  pub late : is_late timing ≡ true
+  pub since : timing.heard.since ≤ next  -- the ask came before
+  pub seen : span ≤ bound timing.pace
+  pub within : at + span < 2 ^ 64
+
+-- ---- A sender that goes by it
+
+abbrev pub GoesOn : ℕ → Bool → SpokeAt → SpokeAt → Type 0
+GoesOn span false s next = next.spoke.wrote ≡ s.spoke.wrote → CopiesLate span s.at next.at
+GoesOn span true s next = (s.spoke.wrote ≡ []) ⊎ WaitsByRule span s.at next.at
+
+-- what is written next is alone under way by the rule, or it is one more copy
+abbrev pub RuledFrom : ℕ → Bool → List SpokeAt → Type 0
+RuledFrom span copied [] = Unit {0}
+RuledFrom span copied (s ∷ []) = Unit {0}
+RuledFrom span copied (s ∷ next ∷ spoke) =
+    (GoesOn span copied s next × RuledFrom span false (next ∷ spoke))
+    ⊎ ((next.spoke.wrote ≡ s.spoke.wrote) × RuledFrom span true (next ∷ spoke))
+
+abbrev pub KeepsRule : ℕ → List SpokeAt → Type 0
+KeepsRule span spoke = RuledFrom span false spoke
