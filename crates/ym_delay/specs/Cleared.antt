@@ -80,21 +80,35 @@ EndsWell new spoke = new.standing.state ≡ state.NoReply → EndsInVain spoke
 abbrev pub IsOver : Times → SpokeAt → SpokeAt → Type 0
 IsOver times s next = s.at + times.oldest + times.receiver_acts + times.oldest ≤ next.at
 
--- What is written next is alone under way: it is another frame, or the write before it is over.
--- Where that had copies, they are over, or it was nothing.
-abbrev pub IsAlone : Times → Bool → SpokeAt → SpokeAt → Type 0
-IsAlone times false s next = next.spoke.wrote ≡ s.spoke.wrote → IsOver times s next
-IsAlone times true s next = (s.spoke.wrote ≡ []) ⊎ IsOver times s next
+-- when something came last: as this read ended, or before it
+abbrev pub led_by : List ℕ → ℕ → ℕ → ℕ
+led_by [] by led = led
+led_by (byte ∷ came) by led = by
 
--- Each write is alone under way, or one more copy of the one before it. Whether there were copies
--- before the first of these is given.
-abbrev pub ClearsFrom : Times → Bool → List SpokeAt → Type 0
-ClearsFrom times copied [] = Unit {0}
-ClearsFrom times copied (s ∷ []) = Unit {0}
-ClearsFrom times copied (s ∷ next ∷ spoke) =
-    (IsAlone times copied s next × ClearsFrom times false (next ∷ spoke))
-    ⊎ ((next.spoke.wrote ≡ s.spoke.wrote) × ClearsFrom times true (next ∷ spoke))
+-- Something came, and so soon behind what came before that the receiver did not wait in vain
+-- meanwhile: it answers this write.
+pub record IsSoon (times : Times) (led : ℕ) (s : SpokeAt) : Type 0 where
+  pub some : s.spoke.came ≡ [] → ⊥
+  pub soon : s.by + times.oldest ≤ led + times.receiver_waits
+
+-- What is written next is alone under way: it is another frame, or the write before it is over, or
+-- answered. Where that had copies, they are over, or it was nothing.
+abbrev pub IsAlone : Times → ℕ → Bool → SpokeAt → SpokeAt → Type 0
+IsAlone times led false s next =
+    next.spoke.wrote ≡ s.spoke.wrote → IsOver times s next ⊎ IsSoon times led s
+IsAlone times led true s next = (s.spoke.wrote ≡ []) ⊎ IsOver times s next
+
+-- Each write is alone under way, or one more copy of the one before it. When something came last,
+-- and whether there were copies before the first of these, is given.
+abbrev pub ClearsFrom : Times → ℕ → Bool → List SpokeAt → Type 0
+ClearsFrom times led copied [] = Unit {0}
+ClearsFrom times led copied (s ∷ []) = Unit {0}
+ClearsFrom times led copied (s ∷ next ∷ spoke) =
+    (IsAlone times led copied s next
+    × ClearsFrom times (led_by s.spoke.came s.by led) false (next ∷ spoke))
+    ⊎ ((next.spoke.wrote ≡ s.spoke.wrote)
+    × ClearsFrom times (led_by s.spoke.came s.by led) true (next ∷ spoke))
 
 -- so a sender lets the line clear
 abbrev pub LetsClear : Times → List SpokeAt → Type 0
-LetsClear times spoke = ClearsFrom times false spoke
+LetsClear times spoke = ClearsFrom times 0 false spoke

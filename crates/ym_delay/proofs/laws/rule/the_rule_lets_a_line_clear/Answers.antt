@@ -1,8 +1,8 @@
-use Rattle.std.proofs.Common.{◌≡◌, ◌+◌, ◌-◌, ◌^◌, ◌<◌, ◌≤◌, ◌&&◌, inl, inr, ℕ, min, max, nat_lt, nat_le, Bool, true, false, List, [], ◌∷◌, sym, subst, arith}
+use Rattle.std.proofs.Common.{◌≡◌, ◌+◌, ◌-◌, ◌^◌, ◌<◌, ◌≤◌, ◌&&◌, inl, inr, ℕ, min, max, nat_lt, nat_le, not, Bool, true, false, List, [], ◌∷◌, sym, subst, arith}
 use Rattle.ym_timing.specs.Clears.{apart_until, overdue_at, quiet_of, several_until}
 use Rattle.ym_timing.specs.Pace.{bound}
 use Rattle.ym_timing.specs.Times.{later}
-use Rattle.ym_timing.specs.Writing.{is_overdue, late_by}
+use Rattle.ym_timing.specs.Writing.{is_overdue, is_soon, late_by, prompted_by, soon, soon_by}
 use Rattle.ym_timing.specs.declared.out.Owed.{Owed}
 use Rattle.ym_timing.specs.declared.out.Owed.TheVariants as owed
 use Rattle.ym_timing.specs.declared.pace.Trust.{Trust}
@@ -10,8 +10,8 @@ use Rattle.ym_timing.specs.declared.pace.Trust.TheVariants.{Unknown, Doubtful, S
 use Rattle.ym_timing.specs.declared.role.Role.{Role}
 use Rattle.ym_timing.specs.declared.role.Role.TheVariants.{Receiver, Sender}
 use Rattle.ym_timing.specs.declared.timing.Timing.{Timing}
-use Rattle.ym_delay.specs.Cleared.{ClearsFrom, IsAlone}
-use Rattle.ym_delay.specs.Rule.{CopiesLate, GoesOn, IsSeen, Reaches, RuledFrom, WaitsByRule}
+use Rattle.ym_delay.specs.Cleared.{ClearsFrom, IsAlone, IsSoon, led_by}
+use Rattle.ym_delay.specs.Rule.{CopiesLate, CopiesSoon, GoesOn, HasSeenTheWay, IsSeen, Reaches, RuledFrom, WaitsByRule, span_of}
 use Rattle.ym_delay.specs.TimedLine.{SpokeAt, Times}
 use Rattle.ym_delay.proofs.Quiet.{at-most}
 use Rattle.ym_delay.proofs.laws.rule.the_rule_lets_a_line_clear.Goals as goal
@@ -96,25 +96,55 @@ late-enough span at next copies =
 pub returns-clause-late : goal.returns-clause-late
 returns-clause-late c span at next copies = late-enough span at next copies
 
+-- ---- Behind an ask that came soon
+
+soon-enough : (trust : Trust) (oldest : ℕ) (t : Timing) → 1750 + oldest ≤ 3000 → HasSeenTheWay trust oldest t → soon_by trust t.pace.slowest + oldest ≤ 3000
+soon-enough Unknown oldest t near seen = near
+soon-enough Doubtful oldest t near seen = omega (arith, near, seen)
+soon-enough Sure oldest t near seen = omega (arith, near, seen)
+
+pub returns-clause-soon : goal.returns-clause-soon
+returns-clause-soon c oldest t near seen = soon-enough t.pace.trust oldest t near seen
+
+soon-is : (r : Role) (o : Owed) (t : Timing) → r ≡ Sender → prompted_by r o t ≡ true → is_soon t ≡ true
+soon-is Sender owed.One t role prompted = prompted
+soon-is Sender owed.Late t role prompted = prompted
+soon-is Sender owed.Several t role prompted = absurd (cc)
+soon-is Sender owed.Nothing t role prompted = absurd (cc)
+soon-is Receiver o t role prompted = absurd (cc)
+
+soon-by : (since led_at long : ℕ) → since - led_at ≤ long → since ≤ led_at + long
+soon-by since led_at long short = omega (arith, short)
+
+is-soon : (times : Times) (led : ℕ) (s : SpokeAt) → CopiesSoon times led s → IsSoon times led s
+is-soon times led s copies =
+    let t = copies.timing in
+    let came = second-is (not t.heard.has_waited) (nat_le (t.heard.since - t.led_at) (soon t)) (second-is (nat_lt 0 t.heard.count) _ (soon-is t.role t.out.owed t copies.role copies.prompted)) in
+    let short = soon-by t.heard.since t.led_at (soon t) (at-most _ _ came) in
+    let by = copies.since in
+    let before = copies.led_at in
+    let waits = copies.waits in
+    record { some = copies.some; soon = omega (arith, short, by, before, waits) }
+
 -- ---- A sender that goes by the rule
 
 module _ (times : Times) where
   abbrev Span : ℕ
-  Span = times.oldest + times.receiver_acts + times.oldest
+  Span = span_of times
 
   over : (at next : ℕ) → at + Span ≤ next → at + times.oldest + times.receiver_acts + times.oldest ≤ next
   over at next long = omega (arith, long)
 
-  alone : (copied : Bool) (s next : SpokeAt) → GoesOn Span copied s next → IsAlone times copied s next
-  alone false s next goes = λ same. over s.at next.at (late-enough Span s.at next.at (goes same))
-  alone true s next (inl silent) = inl silent
-  alone true s next (inr rule) = inr (over s.at next.at (several Span s.at next.at rule))
+  alone : (led : ℕ) (copied : Bool) (s next : SpokeAt) → GoesOn times led copied s next → IsAlone times led copied s next
+  alone led false s next goes = λ same. elim (goes same) [ inl late ↦ inl (over s.at next.at (late-enough Span s.at next.at late)) | inr soon ↦ inr (is-soon times led s soon) ]
+  alone led true s next (inl silent) = inl silent
+  alone led true s next (inr rule) = inr (over s.at next.at (several Span s.at next.at rule))
 
-  lets : (copied : Bool) (spoke : List SpokeAt) → RuledFrom Span copied spoke → ClearsFrom times copied spoke
-  lets copied [] rule = tt
-  lets copied (s ∷ []) rule = tt
-  lets copied (s ∷ next ∷ spoke) (inl (goes, rule)) = inl (alone copied s next goes, lets false (next ∷ spoke) rule)
-  lets copied (s ∷ next ∷ spoke) (inr (same, rule)) = inr (same, lets true (next ∷ spoke) rule)
+  lets : (led : ℕ) (copied : Bool) (spoke : List SpokeAt) → RuledFrom times led copied spoke → ClearsFrom times led copied spoke
+  lets led copied [] rule = tt
+  lets led copied (s ∷ []) rule = tt
+  lets led copied (s ∷ next ∷ spoke) (inl (goes, rule)) = inl (alone led copied s next goes, lets (led_by s.spoke.came s.by led) false (next ∷ spoke) rule)
+  lets led copied (s ∷ next ∷ spoke) (inr (same, rule)) = inr (same, lets (led_by s.spoke.came s.by led) true (next ∷ spoke) rule)
 
 pub returns-clause-lets : goal.returns-clause-lets
-returns-clause-lets c times spoke rule = lets times false spoke rule
+returns-clause-lets c times spoke rule = lets times 0 false spoke rule
