@@ -1,19 +1,20 @@
 -- A sender that lets the line clear by the program's rule: for how long that is enough.
 --
 -- Its port's clock is that by which the ends are measured here.
-use Rattle.std.specs.Prelude.{◌≡◌, ◌⊎◌, ◌+◌, ◌<◌, ◌≤◌, ◌^◌, ℕ, min, Bool, true, false, List, [], ◌∷◌}
-use Rattle.ym_timing.specs.Clears.{several_until}
+use Rattle.std.specs.Prelude.{◌≡◌, ◌⊎◌, ◌+◌, ◌-◌, ◌<◌, ◌≤◌, ◌^◌, ℕ, zero, suc, min, true, List, [], ◌∷◌}
+use Rattle.ym_timing.specs.Clears.{is_answered, several_until}
 use Rattle.ym_timing.specs.Pace.{bound}
 use Rattle.ym_timing.specs.Times.{later}
 use Rattle.ym_timing.specs.Writing.{is_late, is_prompted, soon}
+use Rattle.ym_timing.specs.declared.clearing.Clearing.{Clearing}
 use Rattle.ym_timing.specs.declared.limits.TheConstants.{APART, FIRST_FRAME, LONGEST}
 use Rattle.ym_timing.specs.declared.limits.TheConstants.{SENDER_QUIET, UNASKED}
 use Rattle.ym_timing.specs.declared.pace.Trust.{Trust}
 use Rattle.ym_timing.specs.declared.pace.Trust.TheVariants.{Unknown, Doubtful, Sure}
 use Rattle.ym_timing.specs.declared.role.Role.TheVariants.{Sender}
 use Rattle.ym_timing.specs.declared.timing.Timing.{Timing}
-use Rattle.ym_delay.specs.Cleared.{led_by}
-use Rattle.ym_delay.specs.TimedLine.{SpokeAt, Times}
+use Rattle.ym_delay.specs.Cleared.{HandsLeft, ReadsAck, first_of, led_by, others_of}
+use Rattle.ym_delay.specs.TimedLine.{AnsweredAt, SpokeAt, Times}
 
 -- ---- What the rule knows
 
@@ -73,28 +74,44 @@ pub record CopiesSoon (times : Times) (led : ℕ) (s : SpokeAt) : Type 0 where
   pub since : s.by ≤ timing.heard.since
   pub waits : soon timing + times.oldest ≤ times.receiver_waits
 
+-- It goes on at once to another frame: behind the ACK that it heard so many were dropped that by its
+-- count each copy of the block was answered.
+pub record CountsByRule (more dropped : ℕ) (s next : SpokeAt) : Type 0 where
+  pub timing : Timing
+  pub clearing : Clearing
+  pub answered : is_answered clearing timing ≡ true
+  pub copies : more ≤ timing.out.copies - 1
+  pub counted : timing.out.copies - 1 ≤ clearing.owed + dropped
+  pub acked : ReadsAck s.spoke.came
+  pub other : next.spoke.wrote ≡ s.spoke.wrote → ⊥
+
 -- ---- A sender that goes by it
 
 -- the way there and back, and the receiver's acting
 abbrev pub span_of : Times → ℕ
 span_of times = times.oldest + times.receiver_acts + times.oldest
 
-abbrev pub GoesOn : Times → ℕ → Bool → SpokeAt → SpokeAt → Type 0
-GoesOn times led false s next =
+abbrev pub GoesOn : Times → ℕ → ℕ → ℕ → SpokeAt → SpokeAt → Type 0
+GoesOn times led zero dropped s next =
     next.spoke.wrote ≡ s.spoke.wrote →
     CopiesLate (span_of times) s.at next.at ⊎ CopiesSoon times led s
-GoesOn times led true s next =
-    (s.spoke.wrote ≡ []) ⊎ WaitsByRule (span_of times) s.at next.at
+GoesOn times led (suc more) dropped s next =
+    (s.spoke.wrote ≡ [])
+    ⊎ (WaitsByRule (span_of times) s.at next.at ⊎ CountsByRule (suc more) dropped s next)
 
--- what is written next is alone under way by the rule, or it is one more copy
-abbrev pub RuledFrom : Times → ℕ → Bool → List SpokeAt → Type 0
-RuledFrom times led copied [] = Unit {0}
-RuledFrom times led copied (s ∷ []) = Unit {0}
-RuledFrom times led copied (s ∷ next ∷ spoke) =
-    (GoesOn times led copied s next
-    × RuledFrom times (led_by s.spoke.came s.by led) false (next ∷ spoke))
+-- What is written next is alone under way by the rule, or it is one more copy. So many ACKs are
+-- dropped behind each read.
+abbrev pub RuledFrom : Times → ℕ → ℕ → List ℕ → List SpokeAt → Type 0
+RuledFrom times led more drops [] = Unit {0}
+RuledFrom times led more drops (s ∷ []) = Unit {0}
+RuledFrom times led more drops (s ∷ next ∷ spoke) =
+    (GoesOn times led more (first_of drops) s next
+    × RuledFrom times (led_by s.spoke.came s.by led) 0 (others_of drops) (next ∷ spoke))
     ⊎ ((next.spoke.wrote ≡ s.spoke.wrote)
-    × RuledFrom times (led_by s.spoke.came s.by led) true (next ∷ spoke))
+    × RuledFrom times (led_by s.spoke.came s.by led) (suc more) (others_of drops) (next ∷ spoke))
 
-abbrev pub KeepsRule : Times → List SpokeAt → Type 0
-KeepsRule times spoke = RuledFrom times 0 false spoke
+pub record KeepsRule (times : Times) (spoke : List SpokeAt) (answered : List AnsweredAt) :
+    Type 0 where
+  pub drops : List ℕ
+  pub back : HandsLeft times drops answered spoke
+  pub ruled : RuledFrom times 0 0 drops spoke

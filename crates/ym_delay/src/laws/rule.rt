@@ -14,7 +14,7 @@ ghost use Rattle.ym_delay.specs.Cleared.{EndsWell, LetsClear};
 ghost use Rattle.ym_delay.specs.Courses.{AreCourses, CoursesAreTimed, said};
 ghost use Rattle.ym_delay.specs.Rule.{CopiesLate, HasSeenTheWay, IsSeen, KeepsRule, Reaches};
 ghost use Rattle.ym_delay.specs.Rule.{WaitsByRule};
-ghost use Rattle.ym_delay.specs.TimedLine.{SpokeAt, Times};
+ghost use Rattle.ym_delay.specs.TimedLine.{AnsweredAt, SpokeAt, Times};
 
 use crate::laws::batches_in_time_commit_a_prefix;
 
@@ -36,8 +36,8 @@ pub fn the_rule_lets_a_line_clear()
     ensures late { (span at next : ℕ) → CopiesLate span at next → at + span ≤ next }
     ensures soon { (oldest : ℕ) (t : Timing) → SOON + oldest ≤ FIRST_FRAME →
         HasSeenTheWay t.pace.trust oldest t → soon t + oldest ≤ FIRST_FRAME }
-    ensures lets { (times : Times) (spoke : List SpokeAt) →
-        KeepsRule times spoke → LetsClear times spoke }
+    ensures lets { (times : Times) (spoke : List SpokeAt) (answered : List AnsweredAt) →
+        KeepsRule times spoke answered → LetsClear times spoke answered }
 {}
 
 /// So two calls commit a prefix of the batch, each file that is reported among it, where the sender
@@ -47,7 +47,7 @@ pub fn batches_by_the_rule_commit_a_prefix()
         (courses : AreCourses s new r end) (timed : CoursesAreTimed times s new r end courses) →
         AreNew (ends s r) → IsSender new → EndsWell new (said s new r end courses) →
         end.receiver.state ≢ receiver_is.TooManyErrors →
-        KeepsRule times timed.spoke →
+        KeepsRule times timed.spoke timed.answered →
         CommitsAPrefix s.files (ends new end) }
 {
     the_rule_lets_a_line_clear();

@@ -1,5 +1,5 @@
-use Rattle.std.proofs.Common.{◌≡◌, ◌+◌, ◌-◌, ◌^◌, ◌<◌, ◌≤◌, ◌&&◌, inl, inr, ℕ, min, max, nat_lt, nat_le, not, Bool, true, false, List, [], ◌∷◌, sym, subst, arith}
-use Rattle.ym_timing.specs.Clears.{apart_until, overdue_at, quiet_of, several_until}
+use Rattle.std.proofs.Common.{◌≡◌, ◌+◌, ◌-◌, ◌^◌, ◌<◌, ◌≤◌, ◌&&◌, inl, inr, ℕ, zero, suc, min, max, nat_eq, nat_lt, nat_le, not, Bool, true, false, List, [], ◌∷◌, refl, sym, subst, arith}
+use Rattle.ym_timing.specs.Clears.{apart_until, counts_answers, overdue_at, quiet_of, several_until}
 use Rattle.ym_timing.specs.Pace.{bound}
 use Rattle.ym_timing.specs.Times.{later}
 use Rattle.ym_timing.specs.Writing.{is_overdue, is_soon, late_by, prompted_by, soon, soon_by}
@@ -10,8 +10,8 @@ use Rattle.ym_timing.specs.declared.pace.Trust.TheVariants.{Unknown, Doubtful, S
 use Rattle.ym_timing.specs.declared.role.Role.{Role}
 use Rattle.ym_timing.specs.declared.role.Role.TheVariants.{Receiver, Sender}
 use Rattle.ym_timing.specs.declared.timing.Timing.{Timing}
-use Rattle.ym_delay.specs.Cleared.{ClearsFrom, IsAlone, IsSoon, led_by}
-use Rattle.ym_delay.specs.Rule.{CopiesLate, CopiesSoon, GoesOn, HasSeenTheWay, IsSeen, Reaches, RuledFrom, WaitsByRule, span_of}
+use Rattle.ym_delay.specs.Cleared.{ClearsFrom, IsAlone, IsCounted, IsSoon, first_of, led_by, others_of}
+use Rattle.ym_delay.specs.Rule.{CopiesLate, CopiesSoon, CountsByRule, GoesOn, HasSeenTheWay, IsSeen, Reaches, RuledFrom, WaitsByRule, span_of}
 use Rattle.ym_delay.specs.TimedLine.{SpokeAt, Times}
 use Rattle.ym_delay.proofs.Quiet.{at-most}
 use Rattle.ym_delay.proofs.laws.rule.the_rule_lets_a_line_clear.Goals as goal
@@ -126,6 +126,25 @@ is-soon times led s copies =
     let waits = copies.waits in
     record { some = copies.some; soon = omega (arith, short, by, before, waits) }
 
+-- ---- Behind as many ACKs as there were copies
+
+both-are : (a b : Bool) → (a && b) ≡ true → (a ≡ true) × (b ≡ true)
+both-are true b both = (refl, both)
+both-are false b both = absurd (cc)
+
+none-owed : (owed : ℕ) → nat_eq owed 0 ≡ true → owed ≡ 0
+none-owed owed is = grind (arith, is)
+
+enough-dropped : (more copies owed dropped : ℕ) → owed ≡ 0 → more ≤ copies → copies ≤ owed + dropped → more ≤ dropped
+enough-dropped more copies owed dropped none few counted = omega (arith, none, few, counted)
+
+is-counted : (more dropped : ℕ) (s next : SpokeAt) → CountsByRule more dropped s next → IsCounted more dropped s next
+is-counted more dropped s next counts =
+    let c = counts.clearing in
+    let t = counts.timing in
+    let is = both-are c.has_brought (nat_eq c.owed 0) (both-are (counts_answers t.role t.sent.kind) (c.has_brought && nat_eq c.owed 0) counts.answered).1 in
+    record { acked = counts.acked; other = counts.other; each = enough-dropped more (t.out.copies - 1) c.owed dropped (none-owed c.owed is.1) counts.copies counts.counted }
+
 -- ---- A sender that goes by the rule
 
 module _ (times : Times) where
@@ -135,16 +154,17 @@ module _ (times : Times) where
   over : (at next : ℕ) → at + Span ≤ next → at + times.oldest + times.receiver_acts + times.oldest ≤ next
   over at next long = omega (arith, long)
 
-  alone : (led : ℕ) (copied : Bool) (s next : SpokeAt) → GoesOn times led copied s next → IsAlone times led copied s next
-  alone led false s next goes = λ same. elim (goes same) [ inl late ↦ inl (over s.at next.at (late-enough Span s.at next.at late)) | inr soon ↦ inr (is-soon times led s soon) ]
-  alone led true s next (inl silent) = inl silent
-  alone led true s next (inr rule) = inr (over s.at next.at (several Span s.at next.at rule))
+  alone : (led more dropped : ℕ) (s next : SpokeAt) → GoesOn times led more dropped s next → IsAlone times led more dropped s next
+  alone led zero dropped s next goes = λ same. elim (goes same) [ inl late ↦ inl (over s.at next.at (late-enough Span s.at next.at late)) | inr soon ↦ inr (is-soon times led s soon) ]
+  alone led (suc more) dropped s next (inl silent) = inl silent
+  alone led (suc more) dropped s next (inr (inl rule)) = inr (inl (over s.at next.at (several Span s.at next.at rule)))
+  alone led (suc more) dropped s next (inr (inr counts)) = inr (inr (is-counted (suc more) dropped s next counts))
 
-  lets : (led : ℕ) (copied : Bool) (spoke : List SpokeAt) → RuledFrom times led copied spoke → ClearsFrom times led copied spoke
-  lets led copied [] rule = tt
-  lets led copied (s ∷ []) rule = tt
-  lets led copied (s ∷ next ∷ spoke) (inl (goes, rule)) = inl (alone led copied s next goes, lets (led_by s.spoke.came s.by led) false (next ∷ spoke) rule)
-  lets led copied (s ∷ next ∷ spoke) (inr (same, rule)) = inr (same, lets (led_by s.spoke.came s.by led) true (next ∷ spoke) rule)
+  lets : (led more : ℕ) (drops : List ℕ) (spoke : List SpokeAt) → RuledFrom times led more drops spoke → ClearsFrom times led more drops spoke
+  lets led more drops [] rule = tt
+  lets led more drops (s ∷ []) rule = tt
+  lets led more drops (s ∷ next ∷ spoke) (inl (goes, rule)) = inl (alone led more (first_of drops) s next goes, lets (led_by s.spoke.came s.by led) 0 (others_of drops) (next ∷ spoke) rule)
+  lets led more drops (s ∷ next ∷ spoke) (inr (same, rule)) = inr (same, lets (led_by s.spoke.came s.by led) (suc more) (others_of drops) (next ∷ spoke) rule)
 
 pub returns-clause-lets : goal.returns-clause-lets
-returns-clause-lets c times spoke rule = lets times 0 false spoke rule
+returns-clause-lets c times spoke answered rule = inr (record { drops = rule.drops; back = rule.back; clears = lets times 0 0 rule.drops spoke rule.ruled })
