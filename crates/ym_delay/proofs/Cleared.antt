@@ -1,5 +1,5 @@
 -- Where a sender lets the line clear, deliveries pair up whatever the waits are: copies of a frame may be heard as one another.
-use Rattle.std.proofs.Common.{◌≡◌, ◌≤◌, ◌⊎◌, ◌∙◌, inl, inr, ℕ, List, [], ◌∷◌, ◌++◌, refl, sym, ap, subst, arith}
+use Rattle.std.proofs.Common.{◌≡◌, ◌+◌, ◌≤◌, ◌⊎◌, ◌∙◌, inl, inr, ℕ, List, [], ◌∷◌, ◌++◌, refl, sym, ap, subst, arith}
 unfoldable use Rattle.ym_frame.specs.Frame.{verdict_of}
 use Rattle.ym_core.specs.Hearing.{heard_of}
 use Rattle.ym_core.specs.Reading.{controls_in}
@@ -12,38 +12,31 @@ use Rattle.ym_pair.specs.Logs.{Answered, Spoke}
 use Rattle.ym_pair.specs.Pairing.{ArrivesThere, ArrivesBack, PairUp, ReceiverAlone, up_to_start}
 use Rattle.ym_delay.specs.TimedLine.{AnsweredAt, BringsThere, HandsOn, HandsThere, SpokeAt, Takes, Times, WroteAt, answers_of}
 use Rattle.ym_delay.proofs.Ahead.{Begins}
-use Rattle.ym_delay.proofs.HandedOn.{lost-first}
 use Rattle.ym_delay.proofs.Timed.{Pairs, bad-lost, lost_round}
 
--- ---- A receiver hears a frame, or nothing
+-- ---- A receiver hears what was written, or nothing
 
-abbrev pub Hears : Times → WroteAt → AnsweredAt → Type 0
-Hears times one a = BringsThere times one a × (a.answered.heard ≡ Bad → ⊥)
+-- it waited in vain, or its reply is too old for what is written from this moment on
+abbrev pub Deaf : Times → ℕ → AnsweredAt → Type 0
+Deaf times now a = (a.answered.heard ≡ Bad) × ((a.from + times.receiver_waits ≤ a.by) ⊎ (a.at + times.oldest ≤ now))
 
-abbrev pub Deaf : AnsweredAt → Type 0
-Deaf a = a.answered.heard ≡ Bad
+abbrev pub There : Times → ℕ → List WroteAt → List AnsweredAt → Type 0
+There times now writes answered = HandsOn (BringsThere times) (Deaf times now) writes answered
 
-abbrev pub There : Times → List WroteAt → List AnsweredAt → Type 0
-There times writes answered = HandsOn (Hears times) Deaf writes answered
-
--- what stands before what was taken is lost
-behind-lost : (times : Times) (writes : List WroteAt) (one : WroteAt) (behind : List WroteAt) (answered : List AnsweredAt) → Takes writes one behind → There times behind answered → There times writes answered
-behind-lost times [] one behind answered takes hands = absurd takes
-behind-lost times (w ∷ writes) one behind answered (inl same) hands = lost-first (Hears times) Deaf w writes answered (subst (λ l. There times l answered) same.1 hands)
-behind-lost times (w ∷ writes) one behind answered (inr takes) hands = lost-first (Hears times) Deaf w writes answered (behind-lost times writes one behind answered takes hands)
-
-is-bad : (h : Heard) → (h ≡ Bad) ⊎ (h ≡ Bad → ⊥)
+pub is-bad : (h : Heard) → (h ≡ Bad) ⊎ (h ≡ Bad → ⊥)
 is-bad (Item item) = inr (λ bad. cc)
 is-bad Bad = inl refl
 
-pub normal : (times : Times) (writes : List WroteAt) (answered : List AnsweredAt) → HandsThere times writes answered → There times writes answered
-normal times writes [] hands = tt
-normal times writes (a ∷ answered) (inl (vain, later)) = inl (vain.nothing, normal times writes answered later)
-normal times writes (a ∷ answered) (inr (one, behind, takes, brings, later)) =
-    elim (is-bad a.answered.heard) [
-      | inl bad ↦ inl (bad, behind-lost times writes one behind answered takes (normal times behind answered later))
-      | inr some ↦ inr (one, behind, takes, (brings, some), normal times behind answered later)
-    ]
+pub there-at : (times : Times) (now : ℕ) (writes : List WroteAt) (answered : List AnsweredAt) → HandsThere times writes answered → There times now writes answered
+there-at times now writes [] hands = tt
+there-at times now writes (a ∷ answered) (inl (vain, later)) = inl ((vain.nothing, inl vain.waited), there-at times now writes answered later)
+there-at times now writes (a ∷ answered) (inr (one, behind, takes, brings, later)) = inr (one, behind, takes, brings, there-at times now behind answered later)
+
+pub there-later : (times : Times) (now then : ℕ) (writes : List WroteAt) (answered : List AnsweredAt) → now ≤ then → There times now writes answered → There times then writes answered
+there-later times now then writes [] before hands = tt
+there-later times now then writes (a ∷ answered) before (inl ((bad, inl waited), later)) = inl ((bad, inl waited), there-later times now then writes answered before later)
+there-later times now then writes (a ∷ answered) before (inl ((bad, inr old), later)) = inl ((bad, inr (omega (arith, before, old))), there-later times now then writes answered before later)
+there-later times now then writes (a ∷ answered) before (inr (one, behind, takes, brings, later)) = inr (one, behind, takes, brings, there-later times now then behind answered before later)
 
 -- ---- Copies of a frame
 
@@ -75,26 +68,26 @@ either-taken (w ∷ copies) others one behind (inl same) = inl (copies, inl (sam
 either-taken (w ∷ copies) others one behind (inr takes) = elim (either-taken copies others one behind takes) [ inl found ↦ inl (found.0, inr found.1, found.2) | inr other ↦ inr other ]
 
 -- of nothing no copy is heard
-pub none-of-nothing : (times : Times) (bytes : List ℕ) (by : ℕ) (copies others : List WroteAt) (answered : List AnsweredAt) → bytes ≡ [] → Copies bytes by copies → There times (copies ++ others) answered →
-    There times others answered
-none-of-nothing times bytes by copies others [] none are hands = tt
-none-of-nothing times bytes by copies others (a ∷ answered) none are (inl (bad, later)) = inl (bad, none-of-nothing times bytes by copies others answered none are later)
-none-of-nothing times bytes by copies others (a ∷ answered) none are (inr (one, behind, takes, hears, later)) =
+pub none-of-nothing : (times : Times) (now : ℕ) (bytes : List ℕ) (by : ℕ) (copies others : List WroteAt) (answered : List AnsweredAt) → bytes ≡ [] → Copies bytes by copies → There times now (copies ++ others) answered →
+    There times now others answered
+none-of-nothing times now bytes by copies others [] none are hands = tt
+none-of-nothing times now bytes by copies others (a ∷ answered) none are (inl (deaf, later)) = inl (deaf, none-of-nothing times now bytes by copies others answered none are later)
+none-of-nothing times now bytes by copies others (a ∷ answered) none are (inr (one, behind, takes, hears, later)) =
     elim (either-taken copies others one behind takes) [
-      | inl found ↦ absurd (hears.0.some ((taken-copy bytes by copies one found.0 are found.1).0.0 ∙ none))
+      | inl found ↦ absurd (hears.some ((taken-copy bytes by copies one found.0 are found.1).0.0 ∙ none))
       | inr other ↦ inr (one, behind, other, hears, later)
     ]
 
 -- a receiver that is alone hears copies of the last words
-pub alone : (times : Times) (bytes : List ℕ) (by : ℕ) (writes : List WroteAt) (answered : List AnsweredAt) → Copies bytes by writes → There times writes answered →
+pub alone : (times : Times) (now : ℕ) (bytes : List ℕ) (by : ℕ) (writes : List WroteAt) (answered : List AnsweredAt) → Copies bytes by writes → There times now writes answered →
     (rounds : List Round) × ReceiverAlone bytes (answers_of answered) rounds
-alone times bytes by writes [] copies hands = ([], tt)
-alone times bytes by writes (a ∷ answered) copies (inl (bad, later)) =
-    let rest = alone times bytes by writes answered copies later in (lost_round ∷ rest.0, (bad-lost bytes a.answered.heard bad, refl, rest.1))
-alone times bytes by writes (a ∷ answered) copies (inr (one, behind, takes, hears, later)) =
-    let found = taken-copy bytes by writes one behind copies takes in let rest = alone times bytes by behind answered found.1 later in (
-      record { there = hears.0.delivery; back = Lost } ∷ rest.0,
-      (subst (λ l. ArrivesThere hears.0.delivery l a.answered.heard) found.0.0 hears.0.arrives, refl, rest.1),
+alone times now bytes by writes [] copies hands = ([], tt)
+alone times now bytes by writes (a ∷ answered) copies (inl (deaf, later)) =
+    let rest = alone times now bytes by writes answered copies later in (lost_round ∷ rest.0, (bad-lost bytes a.answered.heard deaf.0, refl, rest.1))
+alone times now bytes by writes (a ∷ answered) copies (inr (one, behind, takes, hears, later)) =
+    let found = taken-copy bytes by writes one behind copies takes in let rest = alone times now bytes by behind answered found.1 later in (
+      record { there = hears.delivery; back = Lost } ∷ rest.0,
+      (subst (λ l. ArrivesThere hears.delivery l a.answered.heard) found.0.0 hears.arrives, refl, rest.1),
     )
 
 -- what is heard of a frame is that frame
@@ -121,17 +114,17 @@ vain s spoke last a more none later = (lost_round ∷ later.0, inr (record { the
 
 -- ---- A sender that gives up its last wait
 
-pub gives-up : (times : Times) (s : SpokeAt) (last : WroteAt) (copies : List WroteAt) (answered : List AnsweredAt) → s.spoke.came ≡ [] → Copies s.spoke.wrote s.at copies →
-    There times (copies ++ last ∷ []) answered → Pairs (s ∷ []) last answered
-gives-up times s last copies [] none are hands = (lost_round ∷ [], (refl, record { shows = tt; short = tt; heard_is = ap (λ came. up_to_start (controls_in came)) none }, tt))
-gives-up times s last copies (a ∷ more) none are (inl (bad, later)) = lost s [] last a more Lost (bad-lost s.spoke.wrote a.answered.heard bad) (gives-up times s last copies more none are later)
-gives-up times s last copies (a ∷ more) none are (inr (one, behind, takes, hears, later)) =
+pub gives-up : (times : Times) (now : ℕ) (s : SpokeAt) (last : WroteAt) (copies : List WroteAt) (answered : List AnsweredAt) → s.spoke.came ≡ [] → Copies s.spoke.wrote s.at copies →
+    There times now (copies ++ last ∷ []) answered → Pairs (s ∷ []) last answered
+gives-up times now s last copies [] none are hands = (lost_round ∷ [], (refl, record { shows = tt; short = tt; heard_is = ap (λ came. up_to_start (controls_in came)) none }, tt))
+gives-up times now s last copies (a ∷ more) none are (inl (deaf, later)) = lost s [] last a more Lost (bad-lost s.spoke.wrote a.answered.heard deaf.0) (gives-up times now s last copies more none are later)
+gives-up times now s last copies (a ∷ more) none are (inr (one, behind, takes, hears, later)) =
     elim (either-taken copies (last ∷ []) one behind takes) [
       | inl found ↦
           let copy = taken-copy s.spoke.wrote s.at copies one found.0 are found.1 in
-          lost s [] last a more hears.0.delivery (subst (λ l. ArrivesThere hears.0.delivery l a.answered.heard) copy.0.0 hears.0.arrives)
-          (gives-up times s last found.0 more none copy.1 (subst (λ l. There times l more) found.2 later))
-      | inr other ↦ vain s [] last a more none (alone times last.bytes last.at (last ∷ []) (a ∷ more) ((refl, omega arith), tt) (inr (one, behind, other, hears, later)))
+          lost s [] last a more hears.delivery (subst (λ l. ArrivesThere hears.delivery l a.answered.heard) copy.0.0 hears.arrives)
+          (gives-up times now s last found.0 more none copy.1 (subst (λ l. There times now l more) found.2 later))
+      | inr other ↦ vain s [] last a more none (alone times now last.bytes last.at (last ∷ []) (a ∷ more) ((refl, omega arith), tt) (inr (one, behind, other, hears, later)))
     ]
 
 -- of the same deliveries

@@ -4,6 +4,8 @@ pub mod Ahead
 pub mod Alike
 pub mod Clear
 pub mod Cleared
+pub mod ClearedCopies
+pub mod ClearedGoes
 pub mod ClearedPairs
 pub mod HandedOn
 pub mod Quiet

@@ -1,6 +1,6 @@
 -- A sender that lets the line clear before it goes on from a frame that it wrote more than once.
 -- What was written is then answered, or too old, whatever either end waits for.
-use Rattle.std.specs.Prelude.{◌≡◌, ◌⊎◌, ◌+◌, ◌≤◌, ℕ, Bool, true, false, List, [], ◌∷◌}
+use Rattle.std.specs.Prelude.{◌≡◌, ◌⊎◌, ◌+◌, ◌<◌, ◌≤◌, ℕ, zero, suc, List, [], ◌∷◌}
 use Rattle.ym_frame.specs.declared.control.Control.{Control}
 use Rattle.ym_frame.specs.declared.control.Control.TheVariants as control
 use Rattle.ym_frame.specs.declared.control.Reply.{Reply}
@@ -11,7 +11,7 @@ use Rattle.ym_core.specs.declared.state.SendState.TheVariants as state
 use Rattle.ym_link.specs.Sender.{SenderParts}
 use Rattle.ym_pair.specs.Logs.{Answered, Spoke}
 use Rattle.ym_pair.specs.Pairing.{up_to_start}
-use Rattle.ym_delay.specs.TimedLine.{SpokeAt, Times}
+use Rattle.ym_delay.specs.TimedLine.{AnsweredAt, BringsBack, SenderInVain, SpokeAt, Takes, Times}
 
 -- ---- What either end says to what it heard
 
@@ -80,21 +80,84 @@ EndsWell new spoke = new.standing.state ≡ state.NoReply → EndsInVain spoke
 abbrev pub IsOver : Times → SpokeAt → SpokeAt → Type 0
 IsOver times s next = s.at + times.oldest + times.receiver_acts + times.oldest ≤ next.at
 
--- What is written next is alone under way: it is another frame, or the write before it is over.
--- Where that had copies, they are over, or it was nothing.
-abbrev pub IsAlone : Times → Bool → SpokeAt → SpokeAt → Type 0
-IsAlone times false s next = next.spoke.wrote ≡ s.spoke.wrote → IsOver times s next
-IsAlone times true s next = (s.spoke.wrote ≡ []) ⊎ IsOver times s next
+-- when something came last: as this read ended, or before it
+abbrev pub led_by : List ℕ → ℕ → ℕ → ℕ
+led_by [] by led = led
+led_by (byte ∷ came) by led = by
 
--- Each write is alone under way, or one more copy of the one before it. Whether there were copies
--- before the first of these is given.
-abbrev pub ClearsFrom : Times → Bool → List SpokeAt → Type 0
-ClearsFrom times copied [] = Unit {0}
-ClearsFrom times copied (s ∷ []) = Unit {0}
-ClearsFrom times copied (s ∷ next ∷ spoke) =
-    (IsAlone times copied s next × ClearsFrom times false (next ∷ spoke))
-    ⊎ ((next.spoke.wrote ≡ s.spoke.wrote) × ClearsFrom times true (next ∷ spoke))
+-- Something came, and so soon behind what came before that the receiver did not wait in vain
+-- meanwhile: it answers this write.
+pub record IsSoon (times : Times) (led : ℕ) (s : SpokeAt) : Type 0 where
+  pub some : s.spoke.came ≡ [] → ⊥
+  pub soon : s.by + times.oldest ≤ led + times.receiver_waits
 
--- so a sender lets the line clear
-abbrev pub LetsClear : Times → List SpokeAt → Type 0
-LetsClear times spoke = ClearsFrom times false spoke
+-- As many ACKs came behind this one as the frame had copies, and were dropped: each copy has its
+-- own. The sender goes on to another frame.
+pub record IsCounted (more dropped : ℕ) (s next : SpokeAt) : Type 0 where
+  pub acked : ReadsAck s.spoke.came
+  pub other : next.spoke.wrote ≡ s.spoke.wrote → ⊥
+  pub each : more ≤ dropped
+
+-- What is written next is alone under way: it is another frame, or the write before it is over, or
+-- answered. Where that had copies, so many, they are over, or answered, or it was nothing.
+abbrev pub IsAlone : Times → ℕ → ℕ → ℕ → SpokeAt → SpokeAt → Type 0
+IsAlone times led zero dropped s next =
+    next.spoke.wrote ≡ s.spoke.wrote → IsOver times s next ⊎ IsSoon times led s
+IsAlone times led (suc more) dropped s next =
+    (s.spoke.wrote ≡ []) ⊎ (IsOver times s next ⊎ IsCounted (suc more) dropped s next)
+
+-- how many ACKs are dropped behind the first of the reads, and behind the others
+abbrev pub first_of : List ℕ → ℕ
+first_of [] = 0
+first_of (dropped ∷ others) = dropped
+
+abbrev pub others_of : List ℕ → List ℕ
+others_of [] = []
+others_of (dropped ∷ others) = others
+
+-- Each write is alone under way, or one more copy of the one before it. When something came last,
+-- and how many copies there were before the first of these, is given; so is how many ACKs are
+-- dropped behind each read.
+abbrev pub ClearsFrom : Times → ℕ → ℕ → List ℕ → List SpokeAt → Type 0
+ClearsFrom times led more drops [] = Unit {0}
+ClearsFrom times led more drops (s ∷ []) = Unit {0}
+ClearsFrom times led more drops (s ∷ next ∷ spoke) =
+    (IsAlone times led more (first_of drops) s next
+    × ClearsFrom times (led_by s.spoke.came s.by led) 0 (others_of drops) (next ∷ spoke))
+    ⊎ ((next.spoke.wrote ≡ s.spoke.wrote)
+    × ClearsFrom times (led_by s.spoke.came s.by led) (suc more) (others_of drops) (next ∷ spoke))
+
+-- ---- What is dropped meanwhile
+
+-- it was written before the next write
+abbrev pub IsBefore : AnsweredAt → List SpokeAt → Type 0
+IsBefore a [] = ⊥
+IsBefore a (next ∷ spoke) = a.at < next.at
+
+-- so many of these replies, each an ACK, are dropped before the next write, and those left are
+-- behind them
+abbrev pub Drops : List SpokeAt → ℕ → List AnsweredAt → List AnsweredAt → Type 0
+Drops spoke zero answered left = left ≡ answered
+Drops spoke (suc n) answered left =
+    (one : AnsweredAt) × (behind : List AnsweredAt) × Takes answered one behind
+    × IsAck one.answered.wrote × IsBefore one spoke × Drops spoke n behind left
+
+-- to a sender that drops so many ACKs behind each of its reads
+abbrev pub HandsLeft : Times → List ℕ → List AnsweredAt → List SpokeAt → Type 0
+HandsLeft times drops answered [] = Unit {0}
+HandsLeft times drops answered (s ∷ spoke) =
+    (SenderInVain times s × HandsLeft times (others_of drops) answered spoke)
+    ⊎ ((one : AnsweredAt) × (behind : List AnsweredAt) × Takes answered one behind
+    × BringsBack times one s × (left : List AnsweredAt)
+    × Drops spoke (first_of drops) behind left × HandsLeft times (others_of drops) left spoke)
+
+pub record CountsDropped (times : Times) (spoke : List SpokeAt) (answered : List AnsweredAt) :
+    Type 0 where
+  pub drops : List ℕ
+  pub back : HandsLeft times drops answered spoke
+  pub clears : ClearsFrom times 0 0 drops spoke
+
+-- so a sender lets the line clear: by time alone, or it counts what it drops too
+abbrev pub LetsClear : Times → List SpokeAt → List AnsweredAt → Type 0
+LetsClear times spoke answered =
+    ClearsFrom times 0 0 [] spoke ⊎ CountsDropped times spoke answered

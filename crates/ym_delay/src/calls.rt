@@ -48,7 +48,8 @@ pub fn send_and_receive_in_time<P: Port, S: Source, Q: Port, K: Sink>(
         AreNew (ends sender.old receiver.old) →
         EndsWell sender.new
         (spoke_along sender.old calls.deliveries calls.progress sender.new calls.speaks) →
-        receiver.new.receiver.state ≢ receiver_is.TooManyErrors → LetsClear times timed.spoke →
+        receiver.new.receiver.state ≢ receiver_is.TooManyErrors →
+        LetsClear times timed.spoke timed.answered →
         CommitsAPrefix sender.old.files (ends sender.new receiver.new) }
     ensures complete { (times : Times)
         (calls : AreCalls sender.old sender.new receiver.old receiver.new)
@@ -66,7 +67,8 @@ pub fn send_and_receive_in_time<P: Port, S: Source, Q: Port, K: Sink>(
         AreNew (ends sender.old receiver.old) →
         EndsWell sender.new
         (spoke_along sender.old calls.deliveries calls.progress sender.new calls.speaks) →
-        receiver.new.receiver.state ≢ receiver_is.TooManyErrors → LetsClear times timed.spoke →
+        receiver.new.receiver.state ≢ receiver_is.TooManyErrors →
+        LetsClear times timed.spoke timed.answered →
         is_ok result.0 ≡ true → is_ok result.1 ≡ true →
         NoneRose (ends sender.old receiver.old) (ends sender.new receiver.new) →
         (rounds : List Round)

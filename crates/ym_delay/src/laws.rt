@@ -67,7 +67,7 @@ pub fn cleared_deliveries_pair_up()
     ensures { (times : Times) (start begun : ℕ) (spoke : List SpokeAt) (last : WroteAt)
         (answered : List AnsweredAt) → IsTimed times start begun spoke last answered →
         SaysAgain (spoken spoke) last.bytes → AnswersAlike (answers_of answered) →
-        LetsClear times spoke →
+        LetsClear times spoke answered →
         (rounds : List Round) × PairUp (spoken spoke) last.bytes (answers_of answered) rounds }
 {
     a_delivery_brings_its_frame();
@@ -126,7 +126,8 @@ pub fn cleared_calls_pair_up()
     ensures { (times : Times) (s new : SenderParts) (r end : ReceiverParts)
         (calls : AreCalls s new r end) (timed : CallsAreTimed times s new r end calls) →
         EndsWell new (spoke_along s calls.deliveries calls.progress new calls.speaks) →
-        end.receiver.state ≢ receiver_is.TooManyErrors → LetsClear times timed.spoke →
+        end.receiver.state ≢ receiver_is.TooManyErrors →
+        LetsClear times timed.spoke timed.answered →
         (rounds : List Round) × CallsPairUp s new r end calls rounds }
 {
     cleared_deliveries_pair_up();
@@ -140,7 +141,8 @@ pub fn cleared_engines_commit_a_prefix()
         (calls : AreCalls s new r end) (timed : CallsAreTimed times s new r end calls) →
         AreNew (ends s r) → IsSender new →
         EndsWell new (spoke_along s calls.deliveries calls.progress new calls.speaks) →
-        end.receiver.state ≢ receiver_is.TooManyErrors → LetsClear times timed.spoke →
+        end.receiver.state ≢ receiver_is.TooManyErrors →
+        LetsClear times timed.spoke timed.answered →
         CommitsAPrefix s.files (ends new end) }
 {
     cleared_calls_pair_up();
@@ -195,7 +197,8 @@ pub fn deliveries_beyond_do_not_pair_up()
 pub fn a_cleared_session_pairs_up()
     ensures timed { (blocks : Blocks) →
         IsTimed clear_line 0 0 (clear_sender blocks) (clear_last blocks) (clear_receiver blocks) }
-    ensures clears { (blocks : Blocks) → LetsClear clear_line (clear_sender blocks) }
+    ensures clears { (blocks : Blocks) →
+        LetsClear clear_line (clear_sender blocks) (clear_receiver blocks) }
     ensures pairs { (blocks : Blocks) → blocks.zero.item ≢ blocks.one.item →
         (rounds : List Round) × PairUp (spoken (clear_sender blocks)) blocks.two.bytes
         (answers_of (clear_receiver blocks)) rounds }

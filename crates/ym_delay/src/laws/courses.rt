@@ -32,7 +32,8 @@ pub fn batches_in_time_commit_a_prefix()
     ensures cleared { (times : Times) (s new : SenderParts) (r end : ReceiverParts)
         (courses : AreCourses s new r end) (timed : CoursesAreTimed times s new r end courses) →
         AreNew (ends s r) → IsSender new → EndsWell new (said s new r end courses) →
-        end.receiver.state ≢ receiver_is.TooManyErrors → LetsClear times timed.spoke →
+        end.receiver.state ≢ receiver_is.TooManyErrors →
+        LetsClear times timed.spoke timed.answered →
         CommitsAPrefix s.files (ends new end) }
     ensures prompt { (times : Times) (s new : SenderParts) (r end : ReceiverParts)
         (courses : AreCourses s new r end) (timed : CoursesAreTimed times s new r end courses) →
@@ -50,7 +51,8 @@ pub fn batches_in_time_complete()
     ensures cleared { (times : Times) (s new : SenderParts) (r end : ReceiverParts)
         (courses : AreCourses s new r end) (timed : CoursesAreTimed times s new r end courses) →
         AreNew (ends s r) → IsSender new → EndsWell new (said s new r end courses) →
-        end.receiver.state ≢ receiver_is.TooManyErrors → LetsClear times timed.spoke →
+        end.receiver.state ≢ receiver_is.TooManyErrors →
+        LetsClear times timed.spoke timed.answered →
         new.standing.state ≢ sender_is.Running → end.receiver.state ≢ receiver_is.Running →
         NoneRose (ends s r) (ends new end) →
         (rounds : List Round)

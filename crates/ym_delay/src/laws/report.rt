@@ -23,7 +23,8 @@ use ym_pair::laws::a_delivery_brings_its_frame;
 pub fn a_millisecond_too_soon_loses_a_file()
     ensures timed { (batch : SmallBatch) →
         IsTimed clear_line 0 0 (hasty_sender batch) hasty_last (hasty_receiver batch) }
-    ensures clears { (batch : SmallBatch) → LetsClear hasty_line (hasty_sender batch) }
+    ensures clears { (batch : SmallBatch) →
+        LetsClear hasty_line (hasty_sender batch) (hasty_receiver batch) }
     ensures says { (batch : SmallBatch) →
         spoken (hasty_sender batch)
         ≡ sender_says batch (new_standing (1 ∷ [])) hasty_came }

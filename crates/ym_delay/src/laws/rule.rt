@@ -4,23 +4,27 @@ ghost use Rattle.std.specs.Prelude.{List, ℕ, ◌+◌, ◌≢◌, ◌≤◌};
 ghost use Rattle.ym_core.specs.declared.state.RecvState.TheVariants as receiver_is;
 ghost use Rattle.ym_link.specs.ReceiverInto.{ReceiverParts};
 ghost use Rattle.ym_link.specs.Sender.{IsSender, SenderParts};
-ghost use Rattle.ym_timing.specs.declared.limits.TheConstants.{APART, LONGEST, SENDER_QUIET};
+ghost use Rattle.ym_timing.specs.Writing.{soon};
+ghost use Rattle.ym_timing.specs.declared.limits.TheConstants.{APART, FIRST_FRAME, LONGEST};
+ghost use Rattle.ym_timing.specs.declared.limits.TheConstants.{SENDER_QUIET, SOON};
 ghost use Rattle.ym_timing.specs.declared.timing.Timing.{Timing};
 ghost use Rattle.ym_line.specs.Promise.{AreNew, CommitsAPrefix};
 ghost use Rattle.ym_pair.specs.Pairing.{ends};
 ghost use Rattle.ym_delay.specs.Cleared.{EndsWell, LetsClear};
 ghost use Rattle.ym_delay.specs.Courses.{AreCourses, CoursesAreTimed, said};
-ghost use Rattle.ym_delay.specs.Rule.{CopiesLate, IsSeen, KeepsRule, Reaches, WaitsByRule};
-ghost use Rattle.ym_delay.specs.TimedLine.{SpokeAt, Times};
+ghost use Rattle.ym_delay.specs.Rule.{CopiesLate, HasSeenTheWay, IsSeen, KeepsRule, Reaches};
+ghost use Rattle.ym_delay.specs.Rule.{WaitsByRule};
+ghost use Rattle.ym_delay.specs.TimedLine.{AnsweredAt, SpokeAt, Times};
 
 use crate::laws::batches_in_time_commit_a_prefix;
 
 /// The rule's constants are enough: behind the last of several writes it waits as long as it
 /// reaches (`several`), which is 1.25 seconds in any case (`quiet`). Behind two writes it is two
 /// seconds more than the answer to the first one took, if no answer is overdue before (`twice`). A
-/// write that it makes when the answer is overdue is that much behind the one before (`late`). So a
-/// sender that goes by it lets the line clear, where it reaches as far as the way there and back
-/// and the receiver's acting (`lets`).
+/// write that it makes when the answer is overdue is that much behind the one before (`late`). An
+/// ask that it takes for an answer comes sooner than a receiver asks that waited in vain, by the
+/// way there, as far as that is 1.25 seconds (`soon`). So a sender that goes by it lets the line
+/// clear, where it reaches as far as the way there and back and the receiver's acting (`lets`).
 pub fn the_rule_lets_a_line_clear()
     ensures several { (span at next : ℕ) → WaitsByRule span at next → at + span ≤ next }
     ensures quiet { (span at : ℕ) (t : Timing) →
@@ -30,9 +34,10 @@ pub fn the_rule_lets_a_line_clear()
         span ≤ soonest + APART → span ≤ LONGEST → IsSeen t.pace.trust span t →
         Reaches span at t }
     ensures late { (span at next : ℕ) → CopiesLate span at next → at + span ≤ next }
-    ensures lets { (times : Times) (spoke : List SpokeAt) →
-        KeepsRule (times.oldest + times.receiver_acts + times.oldest) spoke →
-        LetsClear times spoke }
+    ensures soon { (oldest : ℕ) (t : Timing) → SOON + oldest ≤ FIRST_FRAME →
+        HasSeenTheWay t.pace.trust oldest t → soon t + oldest ≤ FIRST_FRAME }
+    ensures lets { (times : Times) (spoke : List SpokeAt) (answered : List AnsweredAt) →
+        KeepsRule times spoke answered → LetsClear times spoke answered }
 {}
 
 /// So two calls commit a prefix of the batch, each file that is reported among it, where the sender
@@ -42,7 +47,7 @@ pub fn batches_by_the_rule_commit_a_prefix()
         (courses : AreCourses s new r end) (timed : CoursesAreTimed times s new r end courses) →
         AreNew (ends s r) → IsSender new → EndsWell new (said s new r end courses) →
         end.receiver.state ≢ receiver_is.TooManyErrors →
-        KeepsRule (times.oldest + times.receiver_acts + times.oldest) timed.spoke →
+        KeepsRule times timed.spoke timed.answered →
         CommitsAPrefix s.files (ends new end) }
 {
     the_rule_lets_a_line_clear();

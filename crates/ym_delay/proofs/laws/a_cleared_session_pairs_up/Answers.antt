@@ -38,8 +38,8 @@ module _ (blocks : Blocks) where
   timed : Brought → IsTimed clear_line 0 0 (clear_sender blocks) (clear_last blocks) (clear_receiver blocks)
   timed brought = record { speaks = speaks; answers = answers; there = there brought; back = back }
 
-  clears : LetsClear clear_line (clear_sender blocks)
-  clears = inl (λ same. omega arith, inr (refl, inl (inr (omega arith), inr (refl, tt))))
+  clears : LetsClear clear_line (clear_sender blocks) (clear_receiver blocks)
+  clears = inl (inl (λ same. inl (omega arith), inr (refl, inl (inr (inl (omega arith)), inr (refl, tt)))))
 
   again : SaysAgain (spoken (clear_sender blocks)) blocks.two.bytes
   again = (inr (inr refl), (inl refl, (inr (inl tt), (inl refl, inr (inl tt)))))

@@ -59,7 +59,7 @@ returns-clause-timed c batch = record { speaks = speaks batch; answers = answers
 
 pub returns-clause-clears : goal.returns-clause-clears
 returns-clause-clears c batch =
-    inl (λ same. omega arith, inr (refl, inl (inr (omega arith), inl (λ same. absurd (no-eot c.a_delivery_brings_its_frame.ensures.brought batch same), inl (λ same. absurd (cc), tt)))))
+    inl (inl (λ same. inl (omega arith), inr (refl, inl (inr (inl (omega arith)), inl (λ same. absurd (no-eot c.a_delivery_brings_its_frame.ensures.brought batch same), inl (λ same. absurd (cc), tt))))))
 
 pub returns-clause-says : goal.returns-clause-says
 returns-clause-says c batch = refl

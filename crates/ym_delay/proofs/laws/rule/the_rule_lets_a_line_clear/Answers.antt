@@ -1,8 +1,8 @@
-use Rattle.std.proofs.Common.{◌≡◌, ◌+◌, ◌-◌, ◌^◌, ◌<◌, ◌≤◌, ◌&&◌, inl, inr, ℕ, min, max, nat_lt, nat_le, Bool, true, false, List, [], ◌∷◌, sym, subst, arith}
-use Rattle.ym_timing.specs.Clears.{apart_until, overdue_at, quiet_of, several_until}
+use Rattle.std.proofs.Common.{◌≡◌, ◌+◌, ◌-◌, ◌^◌, ◌<◌, ◌≤◌, ◌&&◌, inl, inr, ℕ, zero, suc, min, max, nat_eq, nat_lt, nat_le, not, Bool, true, false, List, [], ◌∷◌, refl, sym, subst, arith}
+use Rattle.ym_timing.specs.Clears.{apart_until, counts_answers, overdue_at, quiet_of, several_until}
 use Rattle.ym_timing.specs.Pace.{bound}
 use Rattle.ym_timing.specs.Times.{later}
-use Rattle.ym_timing.specs.Writing.{is_overdue, late_by}
+use Rattle.ym_timing.specs.Writing.{is_overdue, is_soon, late_by, prompted_by, soon, soon_by}
 use Rattle.ym_timing.specs.declared.out.Owed.{Owed}
 use Rattle.ym_timing.specs.declared.out.Owed.TheVariants as owed
 use Rattle.ym_timing.specs.declared.pace.Trust.{Trust}
@@ -10,8 +10,8 @@ use Rattle.ym_timing.specs.declared.pace.Trust.TheVariants.{Unknown, Doubtful, S
 use Rattle.ym_timing.specs.declared.role.Role.{Role}
 use Rattle.ym_timing.specs.declared.role.Role.TheVariants.{Receiver, Sender}
 use Rattle.ym_timing.specs.declared.timing.Timing.{Timing}
-use Rattle.ym_delay.specs.Cleared.{ClearsFrom, IsAlone}
-use Rattle.ym_delay.specs.Rule.{CopiesLate, GoesOn, IsSeen, Reaches, RuledFrom, WaitsByRule}
+use Rattle.ym_delay.specs.Cleared.{ClearsFrom, IsAlone, IsCounted, IsSoon, first_of, led_by, others_of}
+use Rattle.ym_delay.specs.Rule.{CopiesLate, CopiesSoon, CountsByRule, GoesOn, HasSeenTheWay, IsSeen, Reaches, RuledFrom, WaitsByRule, span_of}
 use Rattle.ym_delay.specs.TimedLine.{SpokeAt, Times}
 use Rattle.ym_delay.proofs.Quiet.{at-most}
 use Rattle.ym_delay.proofs.laws.rule.the_rule_lets_a_line_clear.Goals as goal
@@ -96,25 +96,75 @@ late-enough span at next copies =
 pub returns-clause-late : goal.returns-clause-late
 returns-clause-late c span at next copies = late-enough span at next copies
 
+-- ---- Behind an ask that came soon
+
+soon-enough : (trust : Trust) (oldest : ℕ) (t : Timing) → 1750 + oldest ≤ 3000 → HasSeenTheWay trust oldest t → soon_by trust t.pace.slowest + oldest ≤ 3000
+soon-enough Unknown oldest t near seen = near
+soon-enough Doubtful oldest t near seen = omega (arith, near, seen)
+soon-enough Sure oldest t near seen = omega (arith, near, seen)
+
+pub returns-clause-soon : goal.returns-clause-soon
+returns-clause-soon c oldest t near seen = soon-enough t.pace.trust oldest t near seen
+
+soon-is : (r : Role) (o : Owed) (t : Timing) → r ≡ Sender → prompted_by r o t ≡ true → is_soon t ≡ true
+soon-is Sender owed.One t role prompted = prompted
+soon-is Sender owed.Late t role prompted = prompted
+soon-is Sender owed.Several t role prompted = absurd (cc)
+soon-is Sender owed.Nothing t role prompted = absurd (cc)
+soon-is Receiver o t role prompted = absurd (cc)
+
+soon-by : (since led_at long : ℕ) → since - led_at ≤ long → since ≤ led_at + long
+soon-by since led_at long short = omega (arith, short)
+
+is-soon : (times : Times) (led : ℕ) (s : SpokeAt) → CopiesSoon times led s → IsSoon times led s
+is-soon times led s copies =
+    let t = copies.timing in
+    let came = second-is (not t.heard.has_waited) (nat_le (t.heard.since - t.led_at) (soon t)) (second-is (nat_lt 0 t.heard.count) _ (soon-is t.role t.out.owed t copies.role copies.prompted)) in
+    let short = soon-by t.heard.since t.led_at (soon t) (at-most _ _ came) in
+    let by = copies.since in
+    let before = copies.led_at in
+    let waits = copies.waits in
+    record { some = copies.some; soon = omega (arith, short, by, before, waits) }
+
+-- ---- Behind as many ACKs as there were copies
+
+both-are : (a b : Bool) → (a && b) ≡ true → (a ≡ true) × (b ≡ true)
+both-are true b both = (refl, both)
+both-are false b both = absurd (cc)
+
+none-owed : (owed : ℕ) → nat_eq owed 0 ≡ true → owed ≡ 0
+none-owed owed is = grind (arith, is)
+
+enough-dropped : (more copies owed dropped : ℕ) → owed ≡ 0 → more ≤ copies → copies ≤ owed + dropped → more ≤ dropped
+enough-dropped more copies owed dropped none few counted = omega (arith, none, few, counted)
+
+is-counted : (more dropped : ℕ) (s next : SpokeAt) → CountsByRule more dropped s next → IsCounted more dropped s next
+is-counted more dropped s next counts =
+    let c = counts.clearing in
+    let t = counts.timing in
+    let is = both-are c.has_brought (nat_eq c.owed 0) (both-are (counts_answers t.role t.sent.kind) (c.has_brought && nat_eq c.owed 0) counts.answered).1 in
+    record { acked = counts.acked; other = counts.other; each = enough-dropped more (t.out.copies - 1) c.owed dropped (none-owed c.owed is.1) counts.copies counts.counted }
+
 -- ---- A sender that goes by the rule
 
 module _ (times : Times) where
   abbrev Span : ℕ
-  Span = times.oldest + times.receiver_acts + times.oldest
+  Span = span_of times
 
   over : (at next : ℕ) → at + Span ≤ next → at + times.oldest + times.receiver_acts + times.oldest ≤ next
   over at next long = omega (arith, long)
 
-  alone : (copied : Bool) (s next : SpokeAt) → GoesOn Span copied s next → IsAlone times copied s next
-  alone false s next goes = λ same. over s.at next.at (late-enough Span s.at next.at (goes same))
-  alone true s next (inl silent) = inl silent
-  alone true s next (inr rule) = inr (over s.at next.at (several Span s.at next.at rule))
+  alone : (led more dropped : ℕ) (s next : SpokeAt) → GoesOn times led more dropped s next → IsAlone times led more dropped s next
+  alone led zero dropped s next goes = λ same. elim (goes same) [ inl late ↦ inl (over s.at next.at (late-enough Span s.at next.at late)) | inr soon ↦ inr (is-soon times led s soon) ]
+  alone led (suc more) dropped s next (inl silent) = inl silent
+  alone led (suc more) dropped s next (inr (inl rule)) = inr (inl (over s.at next.at (several Span s.at next.at rule)))
+  alone led (suc more) dropped s next (inr (inr counts)) = inr (inr (is-counted (suc more) dropped s next counts))
 
-  lets : (copied : Bool) (spoke : List SpokeAt) → RuledFrom Span copied spoke → ClearsFrom times copied spoke
-  lets copied [] rule = tt
-  lets copied (s ∷ []) rule = tt
-  lets copied (s ∷ next ∷ spoke) (inl (goes, rule)) = inl (alone copied s next goes, lets false (next ∷ spoke) rule)
-  lets copied (s ∷ next ∷ spoke) (inr (same, rule)) = inr (same, lets true (next ∷ spoke) rule)
+  lets : (led more : ℕ) (drops : List ℕ) (spoke : List SpokeAt) → RuledFrom times led more drops spoke → ClearsFrom times led more drops spoke
+  lets led more drops [] rule = tt
+  lets led more drops (s ∷ []) rule = tt
+  lets led more drops (s ∷ next ∷ spoke) (inl (goes, rule)) = inl (alone led more (first_of drops) s next goes, lets (led_by s.spoke.came s.by led) 0 (others_of drops) (next ∷ spoke) rule)
+  lets led more drops (s ∷ next ∷ spoke) (inr (same, rule)) = inr (same, lets (led_by s.spoke.came s.by led) (suc more) (others_of drops) (next ∷ spoke) rule)
 
 pub returns-clause-lets : goal.returns-clause-lets
-returns-clause-lets c times spoke rule = lets times false spoke rule
+returns-clause-lets c times spoke answered rule = inr (record { drops = rule.drops; back = rule.back; clears = lets times 0 0 rule.drops spoke rule.ruled })
