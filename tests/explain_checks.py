@@ -1,4 +1,4 @@
-"""Recorded sessions, told by the program `explain_cases`.
+"""Recorded sessions, told by `ymodem explain`.
 
 tests/record_sessions.py made each of them between real senders and receivers of files, over a line
 that was spoiled on purpose. The first line of each has the sentence that what was done to its line,
@@ -10,11 +10,9 @@ import re
 import subprocess
 import tempfile
 
-from program import LIMIT, ROOT
-from skipping import Skipped
+from program import LIMIT, PROGRAM, ROOT
 from wanting import wants
 
-CASES = os.path.abspath(os.environ.get("EXPLAIN_CASES", os.path.join(ROOT, "crates", "explain_cases", "out", "explain_cases")))
 DATA = os.path.join(ROOT, "tests", "data", "sessions")
 PIECE = re.compile(r"^(\d+\.\d+) ([<>]) ([0-9a-f]*)$", re.M)
 
@@ -22,13 +20,18 @@ PIECE = re.compile(r"^(\d+\.\d+) ([<>]) ([0-9a-f]*)$", re.M)
 MOST = 2 * 1024 * 1024
 
 
-def told(*words):
+def explained(*words, **how):
+    """How `ymodem explain` ended with these words."""
+    how = {"stdin": subprocess.DEVNULL, "stdout": subprocess.PIPE, **how}
+    return subprocess.run([PROGRAM, "explain", *words], stderr=subprocess.PIPE, text=True, timeout=LIMIT, check=False, **how)
+
+
+def told(*words, **how):
     """The lines that are told of files."""
-    if not os.access(CASES, os.X_OK):
-        raise Skipped("crates/explain_cases is not built (cd crates/explain_cases; rt run < stdin)")
-    done = subprocess.run([CASES, *words], stdout=subprocess.PIPE, stderr=subprocess.PIPE, text=True, timeout=LIMIT, check=False)
-    wants(done.returncode == 0, "explain_cases: status %d: %s" % (done.returncode, done.stderr[-300:]))
-    return done.stdout.splitlines()[1:]
+    done = explained(*words, **how)
+    wants(done.returncode == 0, "status %d: %s" % (done.returncode, done.stderr[-300:]))
+    wants(not done.stderr, "standard error has %r" % done.stderr[-300:])
+    return done.stdout.splitlines()
 
 
 def record_of(name):
@@ -45,7 +48,7 @@ def recorded():
 def is_told(name):
     def check():
         path, sentence, _ = record_of(name)
-        lines = told("record", path)
+        lines = told(path)
         wants(lines and lines[-1] == sentence, "told %r, wanted %r" % (lines[-1:], sentence))
 
     return check
@@ -69,7 +72,7 @@ def pair_is_told(name):
             for path, data in zip(paths, ways(text)):
                 with open(path, "wb") as it:
                     it.write(data)
-            lines = told("pair", *paths)
+            lines = told("--there", paths[0], "--back", paths[1])
         wants(lines and lines[-1] == sentence, "told %r, wanted %r" % (lines[-1:], sentence))
 
     return check
@@ -82,7 +85,7 @@ def one_way_is_told(name, way, sentence):
             path = os.path.join(folder, "one")
             with open(path, "wb") as it:
                 it.write(ways(text)[way == "back"])
-            lines = told(way, path)
+            lines = told("--" + way, path)
         wants(lines and lines[-1] == sentence, "told %r, wanted %r" % (lines[-1:], sentence))
 
     return check
@@ -91,7 +94,7 @@ def one_way_is_told(name, way, sentence):
 def pieces_do_not_count():
     """However the bytes of a record are cut into lines at one moment, the same is told of frames."""
     path, _, text = record_of("whole")
-    whole = told("record", path)
+    whole = told(path)
     cut = []
     for moment, way, digits in PIECE.findall(text):
         cut += ["%s %s %s" % (moment, way, digits[at:at + 14]) for at in range(0, len(digits), 14)]
@@ -99,7 +102,7 @@ def pieces_do_not_count():
         other = os.path.join(folder, "cut")
         with open(other, "w", encoding="ascii") as it:
             it.write("\n".join(cut) + "\n")
-        lines = told("record", other)
+        lines = told(other)
     wants(lines == whole, "cut into lines of seven bytes, another telling")
 
 
@@ -113,17 +116,92 @@ def a_long_file_is_told():
             for number in range(97657):
                 at = number % 256
                 it.write(bytes((2, at, 255 - at)) + behind)
-        if not os.access(CASES, os.X_OK):
-            raise Skipped("crates/explain_cases is not built")
         # A bound of the system, and not ru_maxrss: a child that was begun with vfork counts the pages of
         # its parent there.
         within = 'ulimit -v %d; exec "$0" "$@"' % (64 * 1024)
         with open(os.devnull, "w", encoding="ascii") as nowhere:
-            it = subprocess.Popen(["/bin/sh", "-c", within, CASES, "there", path], stdout=nowhere)
+            it = subprocess.Popen(["/bin/sh", "-c", within, PROGRAM, "explain", "--there", path], stdout=nowhere)
             _, status, used = os.wait4(it.pid, 0)
             it.returncode = status
         wants(status == 0, "status %d within 64 MiB" % status)
         wants(used.ru_utime < 10, "%.1f s were used" % used.ru_utime)
+
+
+def standard_input_is_told():
+    """Without a file, and by `-`, standard input is read."""
+    path, _, text = record_of("whole")
+    whole = told(path)
+    for words in ((), ("-",)):
+        with open(path, "rb") as it:
+            wants(told(*words, stdin=it) == whole, "another telling of standard input by %r" % (words,))
+    with tempfile.TemporaryDirectory() as folder:
+        path = os.path.join(folder, "there")
+        with open(path, "wb") as it:
+            it.write(ways(text)[0])
+        with open(path, "rb") as it:
+            wants(told("--there", "-", stdin=it) == told("--there", path), "another telling of one way")
+
+
+def is_refused(status, says, text, *words):
+    """A record of this text, and more words, give this status, and a line that says this."""
+
+    def check():
+        with tempfile.TemporaryDirectory() as folder:
+            path = os.path.join(folder, "a.record")
+            if text is not None:
+                with open(path, "w", encoding="ascii") as it:
+                    it.write(text)
+            done = explained(path, *(it.replace("FOLDER", folder) for it in words))
+        wants(done.returncode == status, "status %d: %r" % (done.returncode, done.stderr))
+        wants(done.stderr == says.replace("FOLDER", folder) + "\n", "it said %r" % done.stderr)
+
+    return check
+
+
+def lines_before_are_told():
+    """What the lines before the one that cannot be read say is told."""
+    path, _, _ = record_of("whole")
+    with open(path, encoding="ascii") as it:
+        lines = it.read().splitlines()
+    whole = told(path)
+    for count in range(3, len(lines), 5):
+        text = "\n".join(lines[:count]) + "\n1.5 = 43\n"
+        done = explained(input=text, stdin=None)
+        wants(done.returncode == 1, "status %d" % done.returncode)
+        wants("'standard input' is no record" in done.stderr and ": line %d: " % (count + 1) in done.stderr, "it said %r" % done.stderr)
+        front = done.stdout.splitlines()
+        wants(whole[:len(front)] == front, "told %r" % front[-3:])
+
+
+def a_full_device_is_told():
+    """Where nothing can be printed the status is 3."""
+    path, _, _ = record_of("whole")
+    with open("/dev/full", "w", encoding="ascii") as full:
+        done = explained(path, stdout=full)
+    wants(done.returncode == 3 and done.stderr == "fault: device\n", "status %d: %r" % (done.returncode, done.stderr))
+
+
+def two_files_are_named():
+    """Where one of two files is a folder, both are named; one that is not there is named alone."""
+    path, _, _ = record_of("whole")
+    with tempfile.TemporaryDirectory() as folder:
+        done = explained("--there", path, "--back", folder)
+        wants(done.returncode == 1 and done.stderr == "cannot read '%s' or '%s'\n" % (path, folder), "it said %r" % done.stderr)
+        absent = os.path.join(folder, "absent")
+        done = explained("--there", path, "--back", absent)
+    wants(done.returncode == 1 and done.stderr == "cannot open '%s': no such file or directory\n" % absent, "it said %r" % done.stderr)
+
+
+NO_RECORD = "'FOLDER/a.record' is no record: %s; its lines are SECONDS > HEX or SECONDS < HEX; files of bytes go by --there and --back"
+REFUSED = (
+    ("a line without seconds", 1, NO_RECORD % "line 2: it does not begin with its seconds and a space", "0.1 < 43\n> 43\n"),
+    ("a line without a way", 1, NO_RECORD % "line 1: no > and no < stands behind its seconds", "0.1 43\n"),
+    ("a digit that is none", 1, NO_RECORD % "line 3: a character is no hexadecimal digit", "# one\n0.1 < 43\n0.2 > 4g\n"),
+    ("half a byte", 1, NO_RECORD % "line 1: its last byte has one digit", "0.1 < 4\n"),
+    ("half a byte at the end", 1, NO_RECORD % "line 1: its last byte has one digit", "0.1 < 4"),
+    ("no file", 1, "cannot open 'FOLDER/a.record': no such file or directory", None),
+    ("a record and a way", 2, "a record has both ways: give it alone, or else --there and --back", "0.1 < 43\n", "--there", "FOLDER/a.record"),
+)
 
 
 def crc(data):
@@ -178,6 +256,11 @@ CHECKS = [
     *(("the same as two files of bytes: " + name, pair_is_told(name)) for name in PAIRS),
     *(("one way of a recorded session, %s: %s" % (way, name), one_way_is_told(name, way, sentence)) for name, way, sentence in ONE_WAY),
     ("a session is told alike in any pieces", pieces_do_not_count),
+    ("standard input is told as a file is", standard_input_is_told),
+    *(("what is refused: " + name, is_refused(*more)) for name, *more in REFUSED),
+    ("what the lines before a fault say is told", lines_before_are_told),
+    ("where nothing can be printed the status is 3", a_full_device_is_told),
+    ("a file of two that cannot be read is named", two_files_are_named),
     ("a capture of 100 MB is told in seconds and little memory", a_long_file_is_told),
     ("the recorded sessions are small", is_small),
 ]

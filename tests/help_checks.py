@@ -80,6 +80,8 @@ def templates():
     """The text of each message of the sources, with `{}` where it has one of its values."""
     found = set()
     for source in files(SOURCES + FAULTS):
+        # A text goes on behind a backslash at the end of a line.
+        source = re.sub(r"\\\n\s*", "", source)
         found |= set(re.findall(r"(?:write|format)!\(\s*f,\s*" + TEXT, source))
         found |= set(re.findall(r"#\[error\(" + TEXT, source))
         found |= set(re.findall(r"(?:tell|eprintln)\(\s*" + TEXT, source))

@@ -4,24 +4,25 @@ _ymodem() {
     local cur=${COMP_WORDS[COMP_CWORD]} prev=${COMP_WORDS[COMP_CWORD - 1]} command= words
     case $prev in
     -p | --port) COMPREPLY=(); return ;;
-    --line) compopt -o filenames; COMPREPLY=($(compgen -f -- "$cur")); return ;;
+    --line | --there | --back) compopt -o filenames; COMPREPLY=($(compgen -f -- "$cur")); return ;;
     esac
     [ "$COMP_CWORD" -gt 1 ] && command=${COMP_WORDS[1]}
     case $command in
-    '') words='sb rb send receive play loop help --help -h --version -V' ;;
+    '') words='sb rb send receive play loop explain help --help -h --version -V' ;;
     play) words='--help -h' ;;
     loop) words='--port -p --verbose --quiet --help -h' ;;
     send) words='--port -p --short --verbose --quiet --help -h' ;;
     receive) words='--port -p --single --eager --keep --no-sync --discard-parts --verbose --quiet --help -h' ;;
     sb) words='--line --short --verbose --quiet --help -h' ;;
     rb) words='--line --single --no-sync --discard-parts --verbose --quiet --help -h' ;;
-    help) words='sb rb send receive play loop help' ;;
+    explain) words='--there --back --help -h' ;;
+    help) words='sb rb send receive play loop explain help' ;;
     *) words= ;;
     esac
     local IFS=$'\n'
     case $command:$cur in
     :* | *:-* | help:*) COMPREPLY=($(compgen -W "${words// /$'\n'}" -- "$cur")) ;;
-    send:* | sb:*) compopt -o filenames; COMPREPLY=($(compgen -f -- "$cur")) ;;
+    send:* | sb:* | explain:*) compopt -o filenames; COMPREPLY=($(compgen -f -- "$cur")) ;;
     receive:* | rb:*) compopt -o filenames; COMPREPLY=($(compgen -d -- "$cur")) ;;
     *) COMPREPLY=() ;;
     esac

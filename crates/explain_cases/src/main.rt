@@ -1,20 +1,17 @@
 //! `explain_cases`: tells what passed in sessions. It is a program for tests.
 //!
-//! Without words it reads standard input, which has a session on each line, behind its name: pieces
+//! Standard input has a session on each line, behind its name: pieces
 //! in the order in which they passed, two seconds apart, `>` for one of the sender of the files and
 //! `<` for one of the receiver. A piece is hexadecimal digits, and `TIMES*DIGITS` in it stands for
 //! digits that come so often, apart by commas. Standard output has for each session its name and
 //! what is told of it.
-//!
-//! With the words `record FILE..`, `there FILE`, `back FILE` or `pair FILE FILE` it tells what those
-//! files hold, each behind its path.
 #![tactic(auto)]
 
-use anyhow::{Context, Result, bail};
+use anyhow::{Context, Result};
 use std::alloc::Global;
+use std::io;
 use std::io::{BufWriter, Write};
-use std::{env, fs, io};
-use ym_inspect::{Direction, InspectFault, explain_one_way, explain_pair, explain_record};
+use ym_inspect::explain_record;
 
 /// The digits of a piece, each part as often as it says.
 fn digits_of(alloc: Global, piece: &str) -> Result<String> {
@@ -62,57 +59,6 @@ fn tell_cases(rt: &HostRuntime) -> Result<()> {
     Ok(())
 }
 
-/// Tells the file of this path.
-fn tell_file<W: Write>(
-    rt: &HostRuntime,
-    kind: &str,
-    path: &str,
-    other: Option<&String>,
-    out: &mut W,
-) -> Result<()> {
-    let alloc = rt.alloc();
-    let mut file = fs::open(rt, path)?;
-    writeln!(out, "{path}")?;
-    let told = match kind {
-        "record" => explain_record(alloc, &mut file, out),
-        "there" => explain_one_way(alloc, &mut file, Direction::There, out),
-        "back" => explain_one_way(alloc, &mut file, Direction::Back, out),
-        "pair" => {
-            let mut back = fs::open(rt, other.context("no other file")?.as_str())?;
-            explain_pair(alloc, &mut file, &mut back, out)
-        }
-        _ => bail!("no such kind"),
-    };
-    if let Err(fault) = told {
-        writeln!(out, "fault: {fault}")?;
-    }
-    Ok(())
-}
-
-/// Tells what these words name.
-fn tell_files(rt: &HostRuntime, words: &[String]) -> Result<()> {
-    let mut out = BufWriter::new(rt.alloc(), io::writer(rt))?;
-    let kind = words.first().context("no kind")?.as_str();
-    if kind == "record" {
-        for path in words.iter().skip(1) {
-            tell_file(rt, kind, path.as_str(), None, &mut out)?;
-        }
-    } else {
-        let path = words.get(1).context("no file")?;
-        tell_file(rt, kind, path.as_str(), words.get(2), &mut out)?;
-    }
-    out.flush()?;
-    Ok(())
-}
-
 fn main(rt: HostRuntime) -> Result<()> {
-    let mut words = Vec::new(rt.alloc());
-    for word in env::args(&rt)?.skip(1) {
-        words.push(word)?;
-    }
-    if words.is_empty() {
-        tell_cases(&rt)
-    } else {
-        tell_files(&rt, words.as_slice())
-    }
+    tell_cases(&rt)
 }

@@ -92,6 +92,12 @@ fn job_text(alloc: Global, job: &Job<'_>) -> Result<String, AllocError> {
             push_flag(&mut text, true, dir)?;
             Ok(text)
         }
+        Job::Explain { there, back, both } => {
+            let there = there.unwrap_or("nothing");
+            let back = back.unwrap_or("nothing");
+            let both = both.unwrap_or("nothing");
+            format!(in alloc; "explain {there} there, {back} back, {both} both ways")
+        }
     }
 }
 

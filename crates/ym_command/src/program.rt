@@ -1,12 +1,13 @@
 //! What the program's words ask for, done.
 
-ghost use Rattle.std.specs.Prelude.{◌≡◌, ◌≢◌, ◌≤◌, ◌⊎◌, ℕ, List, [], Some, None, true, false, map, string_bytes};
+ghost use Rattle.std.specs.Prelude.{◌≡◌, ◌≢◌, ◌≤◌, ◌⊎◌, ℕ, List, [], IfOk, Some, None, true, false, map, string_bytes};
 ghost use Rattle.clap.specs.Words.{fault_of};
 ghost use Rattle.ym_words.specs.CommandLine.{the_app};
 ghost use Rattle.ym_words.specs.Job.{Asked, Play, asked_of};
 ghost use Rattle.ym_jobs.specs.Page.{TellsFault};
 ghost use Rattle.ym_command.specs.Program.{AsksFor, IsPlayed, JobGives, shape_of, confirm_of, durability_of, leftover_of, OnlyTells, Does, IsNoJob};
 
+use crate::explaining::explain;
 use clap::error::ErrorKind;
 use std::alloc::Global;
 use std::fmt::Display;
@@ -159,7 +160,7 @@ fn line_order_of(store: StoreFlags, dir: &str) -> Order<'_>
 /// How much is told, by the flags of a job.
 fn tell_flags(job: &Job<'_>) -> TellFlags {
     match job {
-        Job::Play => TellFlags {
+        Job::Play | Job::Explain { .. } => TellFlags {
             verbose: false,
             quiet: false,
         },
@@ -192,7 +193,8 @@ where
     O: Output,
     E: Output,
     T: Write + Drop,
-    ensures { JobGives (asked_of job.entry) (record { text = I.remaining input.old; reads_failed = I.failures input.old; out = record { holds = O.contents out.old; failed = O.failures out.old }; err = record { holds = E.contents err.old; failed = E.failures err.old } }) result (record { text = I.remaining input.new; reads_failed = I.failures input.new; out = record { holds = O.contents out.new; failed = O.failures out.new }; err = record { holds = E.contents err.new; failed = E.failures err.new } }) }
+    ensures gives { JobGives (asked_of job.entry) (record { text = I.remaining input.old; reads_failed = I.failures input.old; out = record { holds = O.contents out.old; failed = O.failures out.old }; err = record { holds = E.contents err.old; failed = E.failures err.old } }) result (record { text = I.remaining input.new; reads_failed = I.failures input.new; out = record { holds = O.contents out.new; failed = O.failures out.new }; err = record { holds = E.contents err.new; failed = E.failures err.new } }) }
+    ensures status { IfOk result (λ status. status ≤ 3) }
 {
     match job {
         Job::Play => Ok(play(alloc, input, out, err)),
@@ -238,6 +240,9 @@ where
             Some(_) => receive_line(rt, alloc, line, line_order_of(flags, dir), out, teller),
             None => receive_line(rt, alloc, line, line_order_of(flags, dir), err, teller),
         },
+        Job::Explain { there, back, both } => {
+            explain(rt, alloc, there, back, both, input, out, err)
+        }
     }
 }
 

@@ -43,7 +43,7 @@ took old before mid between way now piece passed_at held new after p e f q =
     (tells_on old before (tagged way piece) (with_piece (at_moment mid way now) way piece) between [] new after
     (came old before [] (at_moment mid way now) between way piece (passed old before [] mid between way now p)) moved)
 
-tagged-append : (way : Direction) (xs ys : List ℕ) → tagged way (xs ++ ys) ≡ tagged way xs ++ tagged way ys
+pub tagged-append : (way : Direction) (xs ys : List ℕ) → tagged way (xs ++ ys) ≡ tagged way xs ++ tagged way ys
 tagged-append way [] ys = refl
 tagged-append way (x ∷ xs) ys = ap (λ (zs : List (Direction × ℕ)). (way, x) ∷ zs) (tagged-append way xs ys)
 
@@ -60,7 +60,7 @@ pub none_read :
 none_read text way old before remaining e =
     record { taken = []; rest = text; split = refl; left = e; tells = nothing old before }
 
-consumed : (left : Option (List ℕ)) (rest piece : List ℕ) → Consumes (Some rest) left piece → (ys : List ℕ) × (left ≡ Some ys) × (rest ≡ piece ++ ys)
+pub consumed : (left : Option (List ℕ)) (rest piece : List ℕ) → Consumes (Some rest) left piece → (ys : List ℕ) × (left ≡ Some ys) × (rest ≡ piece ++ ys)
 consumed None rest piece h = absurd h
 consumed (Some ys) rest piece h = (ys, refl, h)
 

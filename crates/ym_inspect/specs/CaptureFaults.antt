@@ -1,5 +1,6 @@
 -- Why a capture is not told to its end, in words.
-use Rattle.std.specs.Prelude.{ℕ, List, ◌++◌, codes, decimal}
+use Rattle.std.specs.Prelude.{◌≡◌, ◌≢◌, ℕ, List, ◌++◌, codes, decimal, Result, Err}
+use Rattle.ym_file.specs.Counts.{Rose}
 use Rattle.ym_inspect.specs.declared.fault.InspectFault.{InspectFault}
 use Rattle.ym_inspect.specs.declared.fault.InspectFault.TheVariants.{Memory, Read, Write, Endless, Line}
 use Rattle.ym_inspect.specs.declared.fault.RecordFault.{RecordFault}
@@ -18,3 +19,18 @@ fault_words Write = codes "a write failed"
 fault_words Endless = codes "the capture has no end"
 fault_words (Line number why) =
     codes "line " ++ (decimal number ++ (codes ": " ++ record_words why))
+
+-- A write failed only where that is the fault: so the count of failed writes goes on.
+abbrev pub CountsWrites : {A : Type 0} → Result A InspectFault → ℕ → ℕ → Type 0
+CountsWrites {A} told old new =
+    (told ≡ Err Write → Rose old new) × (told ≢ Err Write → new ≡ old)
+
+-- So it is with reads.
+abbrev pub CountsReads : {A : Type 0} → Result A InspectFault → ℕ → ℕ → Type 0
+CountsReads {A} told old new =
+    (told ≡ Err Read → Rose old new) × (told ≢ Err Read → new ≡ old)
+
+-- Where something is told nothing is read, and no line is refused.
+abbrev pub IsOfTelling : {A : Type 0} → Result A InspectFault → Type 0
+IsOfTelling {A} told =
+    (told ≢ Err Read) × ((number : ℕ) (why : RecordFault) → told ≢ Err (Line number why))

@@ -1,8 +1,9 @@
 //! A record of a line, character by character: lines of `SECONDS > HEX` for bytes from the sender,
 //! and `SECONDS < HEX` for bytes from the receiver.
 
-ghost use Rattle.std.specs.Prelude.{◌≡◌, ◌==◌, if◌then◌else◌};
+ghost use Rattle.std.specs.Prelude.{◌≡◌, ◌==◌, if◌then◌else◌, IfOk};
 ghost use Rattle.ym_inspect.specs.Recorded.{after_char, at_start, behind_moment, digit_value, end_fault, goes_to, half_fault, in_bytes, in_fraction, in_seconds, with_low};
+ghost use Rattle.ym_inspect.specs.RecordRead.{KeepsWay};
 
 use crate::fault::RecordFault;
 use ym_told::Direction;
@@ -54,7 +55,8 @@ fn pass(state: InLine) -> Result<Stepped, RecordFault>
 
 /// What a character of a record leaves.
 pub(crate) fn step(state: InLine, character: u8) -> Result<Stepped, RecordFault>
-    ensures { result ≡ after_char state character }
+    ensures gives { result ≡ after_char state character }
+    ensures way { IfOk result (KeepsWay state character) }
 {
     match state {
         InLine::Start => step_start(character),
@@ -69,7 +71,8 @@ pub(crate) fn step(state: InLine, character: u8) -> Result<Stepped, RecordFault>
 
 /// What the first character of a line leaves.
 fn step_start(character: u8) -> Result<Stepped, RecordFault>
-    ensures { result ≡ at_start character }
+    ensures gives { result ≡ at_start character }
+    ensures way { IfOk result (KeepsWay InLine.Start character) }
 {
     match character {
         b'0'..=b'9' => pass(InLine::Seconds(u64::from(character - b'0') * 1_000_000)),
@@ -81,7 +84,9 @@ fn step_start(character: u8) -> Result<Stepped, RecordFault>
 
 /// What a character of a comment leaves.
 fn step_comment(character: u8) -> Result<Stepped, RecordFault>
-    ensures { result ≡ (if character == 10 then goes_to InLine.Start else goes_to InLine.Comment) }
+    ensures gives { result ≡
+        (if character == 10 then goes_to InLine.Start else goes_to InLine.Comment) }
+    ensures way { IfOk result (KeepsWay InLine.Comment character) }
 {
     if character == b'\n' {
         pass(InLine::Start)
@@ -92,7 +97,8 @@ fn step_comment(character: u8) -> Result<Stepped, RecordFault>
 
 /// What a character leaves behind whole seconds.
 fn step_seconds(micros: u64, character: u8) -> Result<Stepped, RecordFault>
-    ensures { result ≡ in_seconds micros character }
+    ensures gives { result ≡ in_seconds micros character }
+    ensures way { IfOk result (KeepsWay (InLine.Seconds micros) character) }
 {
     match character {
         b'0'..=b'9' => {
@@ -107,7 +113,8 @@ fn step_seconds(micros: u64, character: u8) -> Result<Stepped, RecordFault>
 
 /// What a character leaves behind a point, where the next digit is worth so much.
 fn step_fraction(micros: u64, unit: u64, character: u8) -> Result<Stepped, RecordFault>
-    ensures { result ≡ in_fraction micros unit character }
+    ensures gives { result ≡ in_fraction micros unit character }
+    ensures way { IfOk result (KeepsWay (InLine.Fraction micros unit) character) }
 {
     match character {
         b'0'..=b'9' => {
@@ -121,7 +128,8 @@ fn step_fraction(micros: u64, unit: u64, character: u8) -> Result<Stepped, Recor
 
 /// What a character leaves behind the seconds and a space.
 fn step_moment(micros: u64, character: u8) -> Result<Stepped, RecordFault>
-    ensures { result ≡ behind_moment micros character }
+    ensures gives { result ≡ behind_moment micros character }
+    ensures way { IfOk result (KeepsWay (InLine.Moment micros) character) }
 {
     match character {
         b' ' => pass(InLine::Moment(micros)),
@@ -133,7 +141,8 @@ fn step_moment(micros: u64, character: u8) -> Result<Stepped, RecordFault>
 
 /// What a character leaves behind whole bytes.
 fn step_bytes(at: u64, way: Direction, character: u8) -> Result<Stepped, RecordFault>
-    ensures { result ≡ in_bytes at way character }
+    ensures gives { result ≡ in_bytes at way character }
+    ensures way { IfOk result (KeepsWay (InLine.Bytes at way) character) }
 {
     match character {
         b' ' | b'\r' => pass(InLine::Bytes(at, way)),
@@ -147,7 +156,8 @@ fn step_bytes(at: u64, way: Direction, character: u8) -> Result<Stepped, RecordF
 
 /// What a character leaves behind the first digit of a byte.
 fn step_half(at: u64, way: Direction, high: u8, character: u8) -> Result<Stepped, RecordFault>
-    ensures { result ≡ with_low at way high character (digit_value character) }
+    ensures gives { result ≡ with_low at way high character (digit_value character) }
+    ensures way { IfOk result (KeepsWay (InLine.Half at way high) character) }
 {
     match digit_of(character) {
         Some(low) => Ok(Stepped {

@@ -5,15 +5,16 @@ ghost use Rattle.ym_explain.specs.Evidence.{first_shown, order_of};
 ghost use Rattle.std.specs.Io.KnownBytes.{Appends};
 ghost use Rattle.ym_told.specs.TellFront.{used_by};
 ghost use Rattle.ym_inspect.specs.CaptureTold.{Ends, Tells, TellsAll, at_moment, last_words, tagged};
+ghost use Rattle.ym_inspect.specs.CaptureFaults.{CountsWrites, IsOfTelling};
 ghost use Rattle.ym_inspect.specs.Inspecting.{nothing_held, held_of, with_piece, with_scene, without, IsFront, IsTold, TellsFront};
 
 use crate::fault::InspectFault;
 use crate::held::Held;
 use crate::parting::Parting;
 use std::alloc::{AllocError, Global};
-use std::io::Write;
 use std::marker::Model;
 use ym_explain::{Verdict, Ways, tell_sent, verdict_of};
+use ym_play::Output;
 use ym_told::{
     Direction, Front, Moment, RunEnd, Scene, Settle, Standing, Stretch, front_back, front_there,
 };
@@ -99,15 +100,17 @@ impl Inspection {
     }
 
     /// Takes bytes that came this way at this moment, and tells what is sure.
-    pub(crate) fn take<W: Write>(
+    pub(crate) fn take<O: Output>(
         &mut self,
         way: Direction,
         at: u64,
         piece: &[u8],
-        out: &mut W,
+        out: &mut O,
     ) -> Result<(), InspectFault>
-        ensures { OnOk result (Tells self.old (W.contents out.old) (tagged way piece.now)
-            self.new (W.contents out.new)) }
+        ensures tells { OnOk result (Tells self.old (O.contents out.old) (tagged way piece.now)
+            self.new (O.contents out.new)) }
+        ensures failed { CountsWrites result (O.failures out.old) (O.failures out.new) }
+        ensures why { IsOfTelling result }
     {
         self.settle(way, at, piece, out)?;
         self.pass(way, at);
@@ -117,15 +120,17 @@ impl Inspection {
     }
 
     /// Tells what is over before this piece comes this way, at this moment.
-    fn settle<W: Write>(
+    fn settle<O: Output>(
         &mut self,
         way: Direction,
         at: u64,
         piece: &[u8],
-        out: &mut W,
+        out: &mut O,
     ) -> Result<(), InspectFault>
-        ensures { OnOk result
-            (Tells self.old (W.contents out.old) [] self.new (W.contents out.new)) }
+        ensures tells { OnOk result
+            (Tells self.old (O.contents out.old) [] self.new (O.contents out.new)) }
+        ensures failed { CountsWrites result (O.failures out.old) (O.failures out.new) }
+        ensures why { IsOfTelling result }
     {
         self.tell_way(way.other(), Settle::Damage, out)?;
         self.tell_way(Direction::There, self.settle_there(way, at, piece), out)?;
@@ -152,14 +157,16 @@ impl Inspection {
     }
 
     /// Tells all that is sure of what is held of this way.
-    pub(crate) fn tell_way<W: Write>(
+    pub(crate) fn tell_way<O: Output>(
         &mut self,
         way: Direction,
         settle: Settle,
-        out: &mut W,
+        out: &mut O,
     ) -> Result<(), InspectFault>
-        ensures { OnOk result (TellsAll self.old (W.contents out.old) way settle
-            self.new (W.contents out.new)) }
+        ensures tells { OnOk result (TellsAll self.old (O.contents out.old) way settle
+            self.new (O.contents out.new)) }
+        ensures failed { CountsWrites result (O.failures out.old) (O.failures out.new) }
+        ensures why { IsOfTelling result }
     {
         for _ in 0..u64::MAX {
             if !self.tell_one(way, settle, out)? {
@@ -188,14 +195,16 @@ impl Inspection {
 
     /// Tells what stands at the front of what is held of this way, where that is sure, and lets go
     /// of it. Else the answer is no.
-    pub(crate) fn tell_one<W: Write>(
+    pub(crate) fn tell_one<O: Output>(
         &mut self,
         way: Direction,
         settle: Settle,
-        out: &mut W,
+        out: &mut O,
     ) -> Result<bool, InspectFault>
-        ensures { IfOk result (λ told. IsTold self.old way settle told self.new
-            (W.contents out.old) (W.contents out.new)) }
+        ensures tells { IfOk result (λ told. IsTold self.old way settle told self.new
+            (O.contents out.old) (O.contents out.new)) }
+        ensures failed { CountsWrites result (O.failures out.old) (O.failures out.new) }
+        ensures why { IsOfTelling result }
     {
         match self.front(way, settle) {
             None => Ok(false),
@@ -207,19 +216,21 @@ impl Inspection {
     }
 
     /// Tells this front, and lets go of it.
-    fn tell_front<W: Write>(
+    fn tell_front<O: Output>(
         &mut self,
         way: Direction,
         front: Front,
-        out: &mut W,
+        out: &mut O,
     ) -> Result<(), InspectFault>
-        ensures { OnOk result (TellsFront self.old way front self.new
-            (W.contents out.old) (W.contents out.new)) }
+        ensures tells { OnOk result (TellsFront self.old way front self.new
+            (O.contents out.old) (O.contents out.new)) }
+        ensures failed { CountsWrites result (O.failures out.old) (O.failures out.new) }
+        ensures why { IsOfTelling result }
     {
         let stretch = Stretch::of(front, self.held(way));
         let text = self.scene.text(self.alloc, way, &stretch)?;
         let behind = self.scene.behind(way, &stretch);
-        if out.write_all(text.as_bytes()).is_err() {
+        if out.put(text.as_bytes()).is_err() {
             return Err(InspectFault::Write);
         }
         self.go_on(way, front, behind);
@@ -241,9 +252,15 @@ impl Inspection {
     }
 
     /// Tells all that is left, where the two ends parted, and what went wrong.
-    pub(crate) fn end<W: Write>(&mut self, ways: Ways, out: &mut W) -> Result<Verdict, InspectFault>
-        ensures { IfOk result (λ verdict.
-            Ends self.old (W.contents out.old) ways verdict (W.contents out.new)) }
+    pub(crate) fn end<O: Output>(
+        &mut self,
+        ways: Ways,
+        out: &mut O,
+    ) -> Result<Verdict, InspectFault>
+        ensures ends { IfOk result (λ verdict.
+            Ends self.old (O.contents out.old) ways verdict (O.contents out.new)) }
+        ensures failed { CountsWrites result (O.failures out.old) (O.failures out.new) }
+        ensures why { IsOfTelling result }
     {
         self.tell_way(Direction::There, Settle::All, out)?;
         self.tell_way(Direction::Back, Settle::All, out)?;
@@ -251,11 +268,13 @@ impl Inspection {
     }
 
     /// Writes where the two ends parted, and what went wrong.
-    fn put_end<W: Write>(&self, ways: Ways, out: &mut W) -> Result<Verdict, InspectFault>
+    fn put_end<O: Output>(&self, ways: Ways, out: &mut O) -> Result<Verdict, InspectFault>
         ensures verdict { IfOk result (λ verdict.
             verdict ≡ first_shown self.now.scene.standing.signs (order_of ways)) }
         ensures written { OnOk result
-            (Appends (W.contents out.old) (W.contents out.new) (last_words ways self.now)) }
+            (Appends (O.contents out.old) (O.contents out.new) (last_words ways self.now)) }
+        ensures failed { CountsWrites result (O.failures out.old) (O.failures out.new) }
+        ensures why { IsOfTelling result }
     {
         let end = RunEnd(self.scene.run);
         let parting = Parting(match ways {
@@ -264,7 +283,7 @@ impl Inspection {
         });
         let verdict = verdict_of(ways, self.scene.standing.signs);
         let text = format!(in self.alloc; "{end}{parting}{verdict}\n")?;
-        if out.write_all(text.as_bytes()).is_err() {
+        if out.put(text.as_bytes()).is_err() {
             return Err(InspectFault::Write);
         }
         Ok(verdict)

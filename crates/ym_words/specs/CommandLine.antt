@@ -1,6 +1,6 @@
--- The command line: `--version`, and six optional subcommands, with `--port` (or `-p`) a required
--- text, `--line` one that may be left out, DIR one positional, FILE the last positional with one or
--- more values, and all else flags.
+-- The command line: `--version`, and seven optional subcommands, with `--port` (or `-p`) a required
+-- text, `--line`, `--there` and `--back` ones that may be left out, DIR and RECORD one positional,
+-- FILE the last positional with one or more values, and all else flags.
 use Rattle.std.specs.Prelude.{◌≡◌, false, true, List, [], ◌∷◌, Some, codes}
 use Rattle.clap.specs.Words.{App, Rule, Text, app_of, new_app, new_rule, rule_of}
 use Rattle.clap.specs.Words.{with_rule, with_subcommand}
@@ -86,6 +86,16 @@ line_rule = record (value_rule (codes "line")) { long = Some (codes "line") }
 abbrev pub folder_rule : Rule
 folder_rule = value_rule (codes "dir")
 
+-- those of `explain`: a file for each way, or a record of both
+abbrev pub there_rule : Rule
+there_rule = record (value_rule (codes "there")) { long = Some (codes "there") }
+
+abbrev pub back_rule : Rule
+back_rule = record (value_rule (codes "back")) { long = Some (codes "back") }
+
+abbrev pub record_rule : Rule
+record_rule = value_rule (codes "record")
+
 -- and how much is told
 abbrev pub with_telling : App → App
 with_telling app = with_rule (with_rule app verbose_rule) quiet_rule
@@ -133,9 +143,13 @@ rb_app =
     with_telling (with_rule (with_rule (with_rule rb_line_app no_sync_rule) discard_parts_rule)
     folder_rule)
 
+abbrev pub explain_app : App
+explain_app =
+    with_rule (with_rule (with_rule (new_app (codes "explain")) there_rule) back_rule) record_rule
+
 -- the whole command, serial lines first
 unfoldable pub the_app : App
 the_app =
     with_subcommand (with_subcommand (with_subcommand (with_subcommand (with_subcommand
-    (with_subcommand bare_app sb_app.top) rb_app.top) send_app.top) receive_app.top)
-    play_app.top) loop_app.top
+    (with_subcommand (with_subcommand bare_app sb_app.top) rb_app.top) send_app.top)
+    receive_app.top) play_app.top) loop_app.top) explain_app.top

@@ -20,6 +20,7 @@ pub data Asked : Type 0 where
   Receive : ℕ → ReceiveFlags → Text → TellFlags → Asked
   SendLine : Option Text → Bool → List Text → TellFlags → Asked
   ReceiveLine : Option Text → StoreFlags → Text → TellFlags → Asked
+  Explain : Option Text → Option Text → Option Text → Asked
 
 abbrev pub is_true_text : Option Text → Bool
 is_true_text None = false
@@ -92,13 +93,19 @@ receive_line_of rows =
     ReceiveLine (first_of (codes "line") rows) (store_flags_of rows) (folder_of rows)
     (tell_flags_of rows)
 
+abbrev pub explain_of : List Row → Asked
+explain_of rows =
+    Explain (first_of (codes "there") rows) (first_of (codes "back") rows)
+    (first_of (codes "record") rows)
+
 -- the job that a subcommand and its matches ask for, unless a value is lacking
 abbrev pub asked_for : Text → List Row → Option Asked
 asked_for name rows =
     if bytes_eq name (codes "play") then Some Play
+    else (if bytes_eq name (codes "explain") then Some (explain_of rows)
     else (if bytes_eq name (codes "sb") then send_line_of rows
     else (if bytes_eq name (codes "rb") then Some (receive_line_of rows)
-    else ported_for (port_value (first_of (codes "port") rows)) name rows))
+    else ported_for (port_value (first_of (codes "port") rows)) name rows)))
 
 abbrev pub asked : Option (Text × List Row) → Option Asked
 asked None = Some Play
@@ -113,6 +120,9 @@ asked_of (job.SendLine line short files tell) =
     SendLine (option_map (λ l. l.now) line) short (map (λ f. f.now) files.items) tell
 asked_of (job.ReceiveLine line flags dir tell) =
     ReceiveLine (option_map (λ l. l.now) line) flags dir.now tell
+asked_of (job.Explain there back both) =
+    Explain (option_map (λ f. f.now) there) (option_map (λ f. f.now) back)
+    (option_map (λ f. f.now) both)
 
 -- what each fault says of the words
 abbrev pub FaultSays : JobFault → Option Asked → Bool → Type 0

@@ -5,6 +5,7 @@ ghost use Rattle.clap.specs.Words.{App, Rule, with_rule};
 ghost use Rattle.ym_words.specs.CommandLine.{HasApp, HasRule, flag_rule, with_flags};
 ghost use Rattle.ym_words.specs.CommandLine.{port_rule, files_rule, dir_rule, line_rule};
 ghost use Rattle.ym_words.specs.CommandLine.{folder_rule, value_rule};
+ghost use Rattle.ym_words.specs.CommandLine.{there_rule, back_rule, record_rule};
 
 use clap::{Arg, ArgAction, Command};
 use std::alloc::{AllocError, Global};
@@ -133,6 +134,44 @@ pub(crate) fn dir_arg<'a>(alloc: Global) -> Arg<'a>
     ensures { HasRule result dir_rule }
 {
     value_arg(alloc, "dir", "DIR", "The folder to receive into").required(true)
+}
+
+/// The file of what the sender wrote, of `explain`.
+pub(crate) fn there_arg<'a>(alloc: Global) -> Arg<'a>
+    ensures { HasRule result there_rule }
+{
+    value_arg(
+        alloc,
+        "there",
+        "FILE",
+        "A file of the bytes that the sender wrote",
+    )
+    .long("there")
+}
+
+/// The file of what the receiver wrote, of `explain`.
+pub(crate) fn back_arg<'a>(alloc: Global) -> Arg<'a>
+    ensures { HasRule result back_rule }
+{
+    value_arg(
+        alloc,
+        "back",
+        "FILE",
+        "A file of the bytes that the receiver wrote",
+    )
+    .long("back")
+}
+
+/// The record of both ways, of `explain`.
+pub(crate) fn record_arg<'a>(alloc: Global) -> Arg<'a>
+    ensures { HasRule result record_rule }
+{
+    value_arg(
+        alloc,
+        "record",
+        "RECORD",
+        "A record of both ways (else standard input)",
+    )
 }
 
 /// The command, with an argument more and flags behind it.

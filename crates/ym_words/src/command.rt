@@ -9,6 +9,7 @@ use crate::args::{
     DISCARD_PARTS, EAGER, KEEP, NO_SYNC, QUIET, SHORT, SINGLE, VERBOSE, dir_arg, files_arg,
     port_arg, with_words,
 };
+use crate::explain_command::explain_command;
 use crate::help::{bare_loop, bare_receive, bare_send, bare_top, play_command};
 use crate::line_commands::{rb_command, sb_command};
 use clap::Command;
@@ -70,5 +71,6 @@ pub(crate) fn the_command<'a>(alloc: Global) -> Result<Command<'a>, AllocError>
     let with_send = with_command(with_rb, send_command(alloc))?;
     let with_receive = with_command(with_send, receive_command(alloc))?;
     let with_play = with_receive.subcommand(play_command(alloc))?;
-    with_command(with_play, loop_command(alloc))
+    let with_loop = with_command(with_play, loop_command(alloc))?;
+    with_command(with_loop, explain_command(alloc))
 }

@@ -104,6 +104,25 @@ words are refused, 3 at a device fault, a closed connection or want of memory.
 Example:
   ymodem receive --port 4000 .";
 
+const EXPLAIN_ABOUT: &str = "Tells what passed on a line, and what went wrong there";
+
+const EXPLAIN_HELP: &str =
+    "A record has a line for each piece that passed: the seconds, `>` for what the
+sender of the files wrote or `<` for what their receiver wrote, and the bytes as
+hexadecimal digits. Or give one file of bytes for each way, or for one alone.
+`-` is standard input, where one file is read.
+
+It prints a line for each frame and each answer, and a last one that says what
+went wrong, and what to try.
+
+Exit status: 0 where all of it was told, 1 where a file cannot be read or is no
+record, 2 where the words are refused, 3 where it cannot print, or at want of
+memory.
+
+Examples:
+  ymodem explain session.record
+  ymodem explain --there sent.bin --back answered.bin";
+
 const PLAY_ABOUT: &str = "Plays the session of a script, and prints what was seen";
 
 const PLAY_HELP: &str = "It reads the script from standard input. Lines of a script:
@@ -167,6 +186,12 @@ pub(crate) fn bare_receive<'a>(alloc: Global) -> Command<'a>
     ensures { HasApp result (new_app (codes "receive")) }
 {
     new_command(alloc, "receive", RECEIVE_ABOUT, RECEIVE_HELP)
+}
+
+pub(crate) fn bare_explain<'a>(alloc: Global) -> Command<'a>
+    ensures { HasApp result (new_app (codes "explain")) }
+{
+    new_command(alloc, "explain", EXPLAIN_ABOUT, EXPLAIN_HELP)
 }
 
 /// `play`, which has no words of its own.

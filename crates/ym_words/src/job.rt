@@ -7,7 +7,7 @@ ghost use Rattle.ym_words.specs.CommandLine.{the_app};
 ghost use Rattle.ym_words.specs.PortNumber.{port_value};
 ghost use Rattle.ym_words.specs.Job.{asked, asked_for, asked_of, FaultSays, IsKind};
 ghost use Rattle.ym_words.specs.Job.{flag_of, store_flags_of, receive_flags_of, tell_flags_of};
-ghost use Rattle.ym_words.specs.Job.{folder_of, send_line_of, receive_line_of};
+ghost use Rattle.ym_words.specs.Job.{explain_of, folder_of, send_line_of, receive_line_of};
 ghost use Rattle.ym_words.specs.Job.{ported_for, send_of, receive_of};
 
 use crate::command::the_command;
@@ -85,6 +85,12 @@ pub enum Job<'a> {
         flags: StoreFlags,
         dir: &'a str,
         tell: TellFlags,
+    },
+    /// Tell what passed on a line: what the files of each way say, or a record of both.
+    Explain {
+        there: Option<&'a str>,
+        back: Option<&'a str>,
+        both: Option<&'a str>,
     },
 }
 
@@ -194,6 +200,17 @@ fn receive_line_in<'a>(matches: &ArgMatches<'a>) -> Job<'a>
     }
 }
 
+/// The job of the matches of `explain`.
+fn explain_in<'a>(matches: &ArgMatches<'a>) -> Job<'a>
+    ensures { explain_of (rows_of (found_of matches.now)) ≡ asked_of result }
+{
+    Job::Explain {
+        there: matches.get_str("there"),
+        back: matches.get_str("back"),
+        both: matches.get_str("record"),
+    }
+}
+
 /// The job of the matches of `send`.
 fn send_in<'a>(alloc: Global, port: u16, matches: &ArgMatches<'a>) -> Result<Job<'a>, JobFault>
     ensures ok { let rows = rows_of (found_of matches.now) in
@@ -272,6 +289,9 @@ fn job_for<'a>(alloc: Global, name: &str, matches: &ArgMatches<'a>) -> Result<Jo
 {
     if name == "play" {
         return Ok(Job::Play);
+    }
+    if name == "explain" {
+        return Ok(explain_in(matches));
     }
     if name == "sb" {
         return send_line_in(alloc, matches);

@@ -3,6 +3,7 @@
 
 mod args;
 mod command;
+mod explain_command;
 mod help;
 mod job;
 mod line_commands;

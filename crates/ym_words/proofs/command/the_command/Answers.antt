@@ -10,4 +10,5 @@ returns c =
     let with_send = c.in_ok-with_send.ensures _ _ with_rb c.send_command.ensures in
     let with_receive = c.in_ok-with_receive.ensures _ _ with_send c.receive_command.ensures in
     let with_play = with_sub c.in_ok-with_play.ensures with_receive c.play_command.ensures in
-    c.with_command-5.ensures _ _ with_play c.loop_command.ensures
+    let with_loop = c.in_ok-with_loop.ensures _ _ with_play c.loop_command.ensures in
+    c.with_command-6.ensures _ _ with_loop c.explain_command.ensures

@@ -1,0 +1,206 @@
+//! `explain`: tells what passed on a line, as a record of both ways says it, or files of bytes.
+
+ghost use Rattle.std.specs.Prelude.{◌≡◌, ◌≤◌, IfOk, option_map};
+ghost use Rattle.ym_jobs.specs.Page.{page};
+ghost use Rattle.ym_command.specs.Explaining.{desk, AnswersCapture, AnswersClosed, ExplainGives, FileGives, PairGives, Refuses, Told, untold_words};
+
+use crate::untold::Untold;
+use std::alloc::Global;
+use std::fs::{File, Files};
+use std::{fs, io};
+use ym_explain::Verdict;
+use ym_inspect::{Direction, InspectFault, explain_one_way, explain_pair, explain_record};
+use ym_jobs::CommandFault;
+use ym_play::{Input, Output, StreamFault};
+use ym_text::Reason;
+
+/// The status where a capture was not told to its end.
+const UNTOLD: u8 = 1;
+
+/// The status where the words ask for a record and files of one way.
+const REFUSED: u8 = 2;
+
+/// Standard input, as a word.
+const STANDARD_INPUT: &str = "-";
+
+/// What it is called.
+const INPUT_NAME: &str = "standard input";
+
+/// What a capture has.
+#[derive(Clone, Copy)]
+pub(crate) enum Form {
+    /// Both ways, in lines that say when what passed.
+    Record,
+    /// The bytes of one way.
+    OneWay(Direction),
+}
+
+/// Tells a capture of this form.
+fn tell_form<I: Input, O: Output>(
+    alloc: Global,
+    form: Form,
+    input: &mut I,
+    out: &mut O,
+) -> Result<Verdict, InspectFault>
+    ensures { Told form (I.remaining input.old) (I.failures input.old)
+        (page (O.contents out.old) (O.failures out.old)) result (I.failures input.new)
+        (page (O.contents out.new) (O.failures out.new)) }
+{
+    match form {
+        Form::Record => explain_record(alloc, input, out),
+        Form::OneWay(way) => explain_one_way(alloc, input, way, out),
+    }
+}
+
+/// Writes the line that says why nothing more is told. The answer is this status.
+fn refuse<E: Output>(err: &mut E, why: Untold<'_>, status: u8) -> Result<u8, CommandFault>
+    ensures gives { Refuses (untold_words why.entry) status
+        (page (E.contents err.old) (E.failures err.old)) result
+        (page (E.contents err.new) (E.failures err.new)) }
+    ensures status { IfOk result (λ it. it ≡ status) }
+{
+    match err.put_line(why) {
+        Ok(()) => Ok(status),
+        Err(StreamFault) => Err(CommandFault::Device),
+    }
+}
+
+/// The answer where what has this name was told so. The one is told where it cannot be read.
+fn answer<E: Output>(
+    err: &mut E,
+    name: &str,
+    unread: Untold<'_>,
+    told: Result<Verdict, InspectFault>,
+) -> Result<u8, CommandFault>
+    ensures gives { AnswersCapture name.now (untold_words unread.entry) told
+        (page (E.contents err.old) (E.failures err.old)) result
+        (page (E.contents err.new) (E.failures err.new)) }
+    ensures status { IfOk result (λ status. status ≤ 1) }
+{
+    match told {
+        Ok(_) => Ok(0),
+        Err(InspectFault::Memory) => Err(CommandFault::Memory),
+        Err(InspectFault::Write) => Err(CommandFault::Device),
+        Err(InspectFault::Read) => refuse(err, unread, UNTOLD),
+        Err(InspectFault::Endless) => refuse(err, Untold::Endless(name), UNTOLD),
+        Err(InspectFault::Line { number, why }) => {
+            refuse(err, Untold::NoRecord(name, number, why), UNTOLD)
+        }
+    }
+}
+
+/// The answer where the file at this path cannot be opened.
+fn answer_closed<E: Output>(err: &mut E, path: &str, error: io::Error) -> Result<u8, CommandFault>
+    ensures gives { AnswersClosed path.now
+        (page (E.contents err.old) (E.failures err.old)) result
+        (page (E.contents err.new) (E.failures err.new)) }
+    ensures status { IfOk result (λ status. status ≤ 1) }
+{
+    if error.kind() == io::ErrorKind::OutOfMemory {
+        return Err(CommandFault::Memory);
+    }
+    refuse(err, Untold::Closed(path, Reason::of(&error)), UNTOLD)
+}
+
+/// Tells a capture of one file, or of standard input.
+fn explain_file<R: Files<File = File>, I: Input, O: Output, E: Output>(
+    rt: &R,
+    alloc: Global,
+    path: &str,
+    form: Form,
+    input: &mut I,
+    out: &mut O,
+    err: &mut E,
+) -> Result<u8, CommandFault>
+    ensures gives { FileGives path.now form
+        (desk (I.remaining input.old) (I.failures input.old)
+        (page (O.contents out.old) (O.failures out.old))
+        (page (E.contents err.old) (E.failures err.old))) result
+        (desk (I.remaining input.new) (I.failures input.new)
+        (page (O.contents out.new) (O.failures out.new))
+        (page (E.contents err.new) (E.failures err.new))) }
+    ensures status { IfOk result (λ status. status ≤ 1) }
+{
+    if path == STANDARD_INPUT {
+        let told = tell_form(alloc, form, input, out);
+        return answer(err, INPUT_NAME, Untold::Unread(INPUT_NAME), told);
+    }
+    match fs::open(rt, path) {
+        Ok(mut file) => {
+            let told = tell_form(alloc, form, &mut file, out);
+            answer(err, path, Untold::Unread(path), told)
+        }
+        Err(error) => answer_closed(err, path, error),
+    }
+}
+
+/// Tells a capture of a file for each way.
+fn explain_files<R: Files<File = File>, O: Output, E: Output>(
+    rt: &R,
+    alloc: Global,
+    there: &str,
+    back: &str,
+    out: &mut O,
+    err: &mut E,
+) -> Result<u8, CommandFault>
+    ensures gives { PairGives there.now back.now
+        (page (O.contents out.old) (O.failures out.old))
+        (page (E.contents err.old) (E.failures err.old)) result
+        (page (O.contents out.new) (O.failures out.new))
+        (page (E.contents err.new) (E.failures err.new)) }
+    ensures status { IfOk result (λ status. status ≤ 1) }
+{
+    let mut there_file = match fs::open(rt, there) {
+        Ok(file) => file,
+        Err(error) => return answer_closed(err, there, error),
+    };
+    let mut back_file = match fs::open(rt, back) {
+        Ok(file) => file,
+        Err(error) => return answer_closed(err, back, error),
+    };
+    let told = explain_pair(alloc, &mut there_file, &mut back_file, out);
+    answer(err, there, Untold::UnreadPair(there, back), told)
+}
+
+/// Tells what passed on a line, as these files have it: those of what the sender and the receiver
+/// wrote, or of one of them alone, or else a record of both ways. Where one file is read, `-` is
+/// standard input. A record that is not named is read there.
+pub(crate) fn explain<R: Files<File = File>, I: Input, O: Output, E: Output>(
+    rt: &R,
+    alloc: Global,
+    there: Option<&str>,
+    back: Option<&str>,
+    both: Option<&str>,
+    input: &mut I,
+    out: &mut O,
+    err: &mut E,
+) -> Result<u8, CommandFault>
+    ensures gives { ExplainGives (option_map (λ f. f.now) there.entry)
+        (option_map (λ f. f.now) back.entry) (option_map (λ f. f.now) both.entry)
+        (desk (I.remaining input.old) (I.failures input.old)
+        (page (O.contents out.old) (O.failures out.old))
+        (page (E.contents err.old) (E.failures err.old))) result
+        (desk (I.remaining input.new) (I.failures input.new)
+        (page (O.contents out.new) (O.failures out.new))
+        (page (E.contents err.new) (E.failures err.new))) }
+    ensures status { IfOk result (λ status. status ≤ 2) }
+{
+    match (both, there, back) {
+        (Some(path), None, None) => explain_file(rt, alloc, path, Form::Record, input, out, err),
+        (Some(_), Some(_), None) => refuse(err, Untold::TooMany, REFUSED),
+        (Some(_), None, Some(_)) => refuse(err, Untold::TooMany, REFUSED),
+        (Some(_), Some(_), Some(_)) => refuse(err, Untold::TooMany, REFUSED),
+        (None, None, None) => {
+            explain_file(rt, alloc, STANDARD_INPUT, Form::Record, input, out, err)
+        }
+        (None, Some(path), None) => {
+            let form = Form::OneWay(Direction::There);
+            explain_file(rt, alloc, path, form, input, out, err)
+        }
+        (None, None, Some(path)) => {
+            let form = Form::OneWay(Direction::Back);
+            explain_file(rt, alloc, path, form, input, out, err)
+        }
+        (None, Some(there), Some(back)) => explain_files(rt, alloc, there, back, out, err),
+    }
+}
