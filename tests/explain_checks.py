@@ -116,8 +116,7 @@ def a_long_file_is_told():
             for number in range(97657):
                 at = number % 256
                 it.write(bytes((2, at, 255 - at)) + behind)
-        # A bound of the system, and not ru_maxrss: a child that was begun with vfork counts the pages of
-        # its parent there.
+        # A bound of the system, and not ru_maxrss: behind a vfork a child's has its parent's pages.
         within = 'ulimit -v %d; exec "$0" "$@"' % (64 * 1024)
         with open(os.devnull, "w", encoding="ascii") as nowhere:
             it = subprocess.Popen(["/bin/sh", "-c", within, PROGRAM, "explain", "--there", path], stdout=nowhere)

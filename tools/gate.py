@@ -32,7 +32,7 @@ ROOT = proved.ROOT
 OUT = os.path.join(ROOT, "out")
 LOG = os.path.join(OUT, "gate.log")
 # Copies, since the gate is at work in the crates' own folders, by the variables that name them to the tests.
-TRIED = {"YMODEM": "ymodem", "CASES": "port_cases", "LINE_CASES": "line_cases", "EXPLAIN_CASES": "explain_cases"}
+TRIED = {"YMODEM": "ymodem", "CASES": "port_cases", "LINE_CASES": "line_cases"}
 # The tests side by side, those of a row in turn: most of them wait for lines and peers.
 ROWS = (("transfer", "shipped"), ("lines",), ("library", "bare", "web"), ("uboot", "boards", "portable"))
 # These need the library or the page, which are made meanwhile.
@@ -43,9 +43,12 @@ LIBRARY = "ym_c"
 WASM = os.path.join(OUT, "lib", "wasm64-unknown-unknown", "libymodem.a")
 # It comes last, and tells what was skipped in the others.
 LAST = "counts"
-# What has time until the program is proved leaves the processors to the gate, whose longest row of crates is what all wait for. Linux shares
-# them out by sessions, each of which has a nice value of its own, where it knows of such groups.
-LATER = ["/bin/sh", "-c", 'if [ -e /proc/self/autogroup ]; then echo 10 > /proc/self/autogroup; fi; exec nice -n 5 "$@"', "later"]
+# What has time until the program is proved leaves the processors to the gate, whose longest row of
+# crates is what all wait for. Linux shares them out by sessions, each of which has a nice value of
+# its own, where it knows of such groups. Without leave to set that, the other one has to do.
+GROUP = "/proc/self/autogroup"
+YIELDS = "[ ! -w %s ] || echo 10 > %s || :; exec nice -n 5 \"$@\"" % (GROUP, GROUP)
+LATER = ["/bin/sh", "-c", YIELDS, "later"]
 
 # The lines that are passed on as they come, and the one of a crate that is proved, by which time its program is built.
 TOLD = re.compile(r"rt: \w+(: its tests are)? (proved|NOT PROVED)|rt: \w+ is kept|rt: \w+: trying its must-fail edits")
