@@ -2,9 +2,8 @@
 """Makes out/web from this folder and the library for 64-bit WebAssembly: the module ymodem.wasm, ymodem.js with its types, and the page.
 
 The module is for 32-bit WebAssembly, which every browser runs: Debian's wasm-opt (package binaryen)
-cuts each address of the linked one to 32 bits, and narrow.py moves these cuts to where addresses
-are made. It has the calls that the files of this folder make, and no others. What it asks of itself
-when it runs is answered here, by tools/stack_room.py.
+cuts each address of the linked one to 32 bits. It has the calls that the files of this folder make,
+and no others.
 
 ymodem.js is the files of this folder joined into one, and index.html has all of it inside, the module too, so that it works from a disk, where a page may
 load nothing.
@@ -23,23 +22,15 @@ import subprocess
 import sys
 import tempfile
 
-sys.dont_write_bytecode = True
 HERE = os.path.dirname(os.path.abspath(__file__))
-sys.path.insert(0, os.path.join(os.path.dirname(HERE), "tools"))
-from narrow import narrowed
-from stack_room import Refused, unasked
-
 TARGET = "wasm64-unknown-unknown"
-# Each call's stack is counted, and stays above its lowest bytes. The deepest takes some 4 KB.
-STACK, UNUSED = 65536, 1024
+# The deepest call takes some 3 KB.
+STACK = 65536
 # What the linked module uses of WebAssembly.
 FEATURES = [
     "--enable-" + it
     for it in ("memory64", "bulk-memory", "sign-ext", "mutable-globals", "nontrapping-float-to-int")
 ]
-# How the cut module is made small. That its lowest 1024 bytes are not used is looked at here.
-OFFSETS = ("--low-memory-unused", "--optimize-added-constants-propagate")
-PACKED = (*OFFSETS, "--flatten", "--rereloop", "-Oz", "-Oz", "--converge")
 LIBRARY = ("codes", "errors", "engine", "alarm", "line", "timed", "log", "receiving", "sending", "websocket", "ymodem")
 PAGE = ("words", "remembered", "terminal", "chart", "progress", "ports", "page")
 STYLES = ("controls", "line", "page")
@@ -129,34 +120,8 @@ def lowered(module):
     listed = module + ".json"
     with open(listed, "w", encoding="utf-8") as it:
         json.dump(graph, it)
-    said("wasm-metadce", *FEATURES, "-g", "--graph-file", listed, module, "-o", module)
-    text = module + ".wat"
-    said("wasm-opt", *FEATURES, "-g", "--ssa-nomerge", "-S", module, "-o", text)
-    rewrite(text, roomy)
-    cut = ("-g", "-Oz", "--memory64-lowering", "--ssa-nomerge", "-S")
-    said("wasm-opt", *FEATURES, *cut, text, "-o", text)
-    rewrite(text, narrowed)
-    said("wasm-opt", *FEATURES, *PACKED, text, "-o", module)
-
-
-def roomy(text):
-    """The text of a module without its questions for room, which the stack has."""
-    try:
-        text, needs = unasked(text)
-    except Refused as why:
-        sys.exit("build.py: %s" % why)
-    deepest = max(needs.values())
-    if deepest > STACK - UNUSED:
-        sys.exit("build.py: a call needs %d bytes of stack" % deepest)
-    return text
-
-
-def rewrite(name, how):
-    """Puts into a file what is made of its text."""
-    with open(name, encoding="utf-8") as it:
-        text = how(it.read())
-    with open(name, "w", encoding="utf-8") as it:
-        it.write(text)
+    said("wasm-metadce", *FEATURES, "--graph-file", listed, module, "-o", module)
+    said("wasm-opt", *FEATURES, "-Oz", "--memory64-lowering", "-Oz", module, "-o", module)
 
 
 def made(archive):
