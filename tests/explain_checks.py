@@ -10,7 +10,11 @@ import re
 import subprocess
 import tempfile
 
+from cable import plug
+from picocom import picocom
 from program import LIMIT, PROGRAM, ROOT
+from skipping import needs
+from waits import wait_until
 from wanting import wants
 
 DATA = os.path.join(ROOT, "tests", "data", "sessions")
@@ -91,6 +95,25 @@ def one_way_is_told(name, way, sentence):
     return check
 
 
+def picocom_log_is_told(name, way, sentence):
+    """What `picocom --logfile` writes of one way of a line is the bytes of that way, and no more."""
+
+    def check():
+        needs("picocom")
+        data = ways(record_of(name)[2])[way == "back"]
+        with tempfile.TemporaryDirectory() as folder, plug() as it:
+            log = os.path.join(folder, "log")
+            with picocom("picocom --logfile %s %s" % (log, it.path), folder, os.environ):
+                os.write(it.inner, data)
+                wait_until(lambda: os.path.getsize(log) >= len(data), "picocom wrote all that came")
+            with open(log, "rb") as file:
+                wants(file.read() == data, "the log has other bytes than the line")
+            lines = told("--" + way, log)
+        wants(lines and lines[-1] == sentence, "told %r, wanted %r" % (lines[-1:], sentence))
+
+    return check
+
+
 def pieces_do_not_count():
     """However the bytes of a record are cut into lines at one moment, the same is told of frames."""
     path, _, text = record_of("whole")
@@ -106,6 +129,18 @@ def pieces_do_not_count():
     wants(lines == whole, "cut into lines of seven bytes, another telling")
 
 
+def within_bounds(*words):
+    """A capture is told in seconds and little memory."""
+    # A bound of the system, and not ru_maxrss: behind a vfork a child's has its parent's pages.
+    within = 'ulimit -v %d; exec "$0" "$@"' % (64 * 1024)
+    with open(os.devnull, "w", encoding="ascii") as nowhere:
+        it = subprocess.Popen(["/bin/sh", "-c", within, PROGRAM, "explain", *words], stdout=nowhere)
+        _, status, used = os.wait4(it.pid, 0)
+        it.returncode = status
+    wants(status == 0, "status %d within 64 MiB" % status)
+    wants(used.ru_utime < 10, "%.1f s were used" % used.ru_utime)
+
+
 def a_long_file_is_told():
     """A capture of 100 MB takes seconds and little memory."""
     body = bytes(range(256)) * 4
@@ -116,14 +151,7 @@ def a_long_file_is_told():
             for number in range(97657):
                 at = number % 256
                 it.write(bytes((2, at, 255 - at)) + behind)
-        # A bound of the system, and not ru_maxrss: behind a vfork a child's has its parent's pages.
-        within = 'ulimit -v %d; exec "$0" "$@"' % (64 * 1024)
-        with open(os.devnull, "w", encoding="ascii") as nowhere:
-            it = subprocess.Popen(["/bin/sh", "-c", within, PROGRAM, "explain", "--there", path], stdout=nowhere)
-            _, status, used = os.wait4(it.pid, 0)
-            it.returncode = status
-        wants(status == 0, "status %d within 64 MiB" % status)
-        wants(used.ru_utime < 10, "%.1f s were used" % used.ru_utime)
+        within_bounds("--there", path)
 
 
 def standard_input_is_told():
@@ -250,7 +278,16 @@ ONE_WAY = (
     ("zmodem-receiver", "back", "an end speaks ZMODEM: start it with sb or rb in place of sz or rz"),
 )
 
+# What a board at picocom's line writes, and what a sender on it does.
+PICOCOM = (
+    ("nobody-answered", "back", "the receiver asked and no frame came: start the sender"),
+    ("nobody-asked-shell", "back", "no receiver asked for a file: start one, and see that its line is connected"),
+    ("eats-1a", "there", "frames came short, and no 1A in them: set the line to raw, so that it carries every byte"),
+    ("whole-short-blocks", "there", "the sender wrote its whole batch: what the receiver answered is not in the file"),
+)
+
 CHECKS = [
+    *(("a log of picocom, %s: %s" % (way, name), picocom_log_is_told(name, way, sentence)) for name, way, sentence in PICOCOM),
     *(("the sentence of a recorded session: " + name, is_told(name)) for name in recorded()),
     *(("the same as two files of bytes: " + name, pair_is_told(name)) for name in PAIRS),
     *(("one way of a recorded session, %s: %s" % (way, name), one_way_is_told(name, way, sentence)) for name, way, sentence in ONE_WAY),

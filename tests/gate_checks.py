@@ -11,11 +11,11 @@ from program import ROOT
 STAND_IN = """
 busy='import time
 while time.process_time() < 2: pass'
-"$1" -c "$busy" build --crate-name ym_words &
-"$1" -c "$busy" build --crate-name ym_words --test &
+"$1" -c "$busy" build --crate-name ym_file &
+"$1" -c "$busy" build --crate-name ym_file --test &
 wait
 cd "$2"
-"$1" -c "$busy" check --crate-name ym_words
+"$1" -c "$busy" check --crate-name ym_file
 echo "12 passed, 1 failed"
 exit 1
 """
@@ -29,8 +29,8 @@ def table_of_the_gate():
             raise AssertionError("it ended with %d, and passed on %r: %r" % (ran.returncode, ran.stdout, ran.stderr))
         with open(os.path.join(room, "table"), encoding="utf-8") as it:
             told = it.read()
-        edits = sorted(it for it in os.listdir(os.path.join(ROOT, "crates", "ym_words", "must-fail")) if it.endswith(".edit"))
-        for wanted in ("ym_words: proof", "ym_words: tests", "ym_words: edits", "ym_words/" + edits[0]):
+        edits = sorted(it for it in os.listdir(os.path.join(ROOT, "crates", "ym_file", "must-fail")) if it.endswith(".edit"))
+        for wanted in ("ym_file: proof", "ym_file: tests", "ym_file: edits", "ym_file/" + edits[0]):
             if wanted not in told:
                 raise AssertionError("the table lacks %r: %s" % (wanted, told))
 

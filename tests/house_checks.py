@@ -70,13 +70,13 @@ def counts_that_rose():
         wants("the place", "%s: %s:" % (WIDE, SOURCE) in found, True)
 
 
-PLANT = """file: src/append.rt
-old: self.write_%s(bytes)
+PLANT = """file: src/system_folder.rt
+old: file.write_%s(bytes)
 new: Ok(())
 by: host_uses::host::sinks::%s
 """
-PLANTED = "crates/ym_host/plants/append.append.once_more.edit"
-CANNOT = "plants that cannot be tried: ym_host/append.append.once_more: "
+PLANTED = "crates/ym_host/plants/system_folder.append.once_more.edit"
+CANNOT = "plants that cannot be tried: ym_host/system_folder.append.once_more: "
 CATCHER = "a_file_gets_its_name_when_it_is_whole"
 
 
@@ -85,7 +85,7 @@ def plants_out_of_step():
     with tree() as it:
         table = "tables of other bodies: docs/plants.md: tools/plants.py table writes it"
         it.write(PLANTED, PLANT % ("none", CATCHER))
-        twice = CANNOT + "it cannot be applied: an 'old:' text is in src/append.rt 0 times, and not once"
+        twice = CANNOT + "it cannot be applied: an 'old:' text is in src/system_folder.rt 0 times, and not once"
         wants("what it tells of a text that is not there", told(it), (True, [twice, table]))
         it.write(PLANTED, PLANT % ("all", CATCHER + "_once"))
         nobody = CANNOT + "there is no host_uses::host::sinks::%s_once" % CATCHER

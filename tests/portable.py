@@ -26,6 +26,7 @@ import threading
 sys.dont_write_bytecode = True
 sys.path.insert(0, os.path.dirname(os.path.abspath(__file__)))
 
+import room_checks
 from library_built import LIBRARY, STRICT
 from package_checks import FIXED, linked_program
 from portable_built import HEADER, IO, PORTABLE, SOURCE, needs_portable
@@ -276,6 +277,7 @@ UNDER_VALGRIND = ("valgrind", "-q", "--error-exitcode=9")
 LIMITS = (14 * 1024, 3584, 24 * 1024)
 
 CHECKS = [
+    *room_checks.CHECKS,
     ("two runs make the same", is_same_twice),
     ("each call of ymodem.h, and nothing else, is in it", has_each_call),
     ("what make dist has of it is enough for a host", has_all_for_a_host),

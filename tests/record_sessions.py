@@ -9,20 +9,20 @@ Each session is a file NAME.record in tests/data/sessions: a line for each piece
 `SECONDS > HEX` from the sender to the receiver and `SECONDS < HEX` back, as the recorder saw it.
 The sentence that has to be told of it stands in SESSIONS, and follows from what was done to the
 line, or from who stood at its ends. It is written into the first line of the record, behind `# `.
-Needs lrzsz.
+Needs the program, lrzsz, U-Boot in QEMU (tools/packages.sh), and python3-xmodem.
 """
 
 import os
 import random
 import selectors
-import signal
-import subprocess
 import sys
-import tempfile
 import time
 
-HERE = os.path.dirname(os.path.abspath(__file__))
-DATA = os.path.join(HERE, "data", "sessions")
+sys.dont_write_bytecode = True
+sys.path.insert(0, os.path.dirname(os.path.abspath(__file__)))
+
+from recorded_ends import LOADY, board, nobody, our_receiver, our_sender, piped
+from explain_checks import DATA
 
 WHOLE = "the session is whole: nothing went wrong"
 MENDED = "the session is whole: what came damaged was sent again"
@@ -52,72 +52,43 @@ class Line:
     def __init__(self, there=None, back=None):
         self.there = there or (lambda data: data)
         self.back = back or (lambda data: data)
-        self.lines, self.began = [], time.monotonic()
+        self.lines, self.passed, self.began = [], 0, time.monotonic()
 
     def note(self, way, data):
         if data:
+            self.passed += len(data)
             self.lines.append("%.6f %s %s" % (time.monotonic() - self.began, way, data.hex()))
 
 
-def start(words, folder):
-    return subprocess.Popen(words, cwd=folder, stdin=subprocess.PIPE, stdout=subprocess.PIPE, stderr=subprocess.DEVNULL, bufsize=0)
-
-
-def stop(end):
-    if end:
-        end.stdin.close()
-        if end.poll() is None:
-            end.kill()
-        end.wait()
-        end.stdout.close()
-
-
-def give(end, data):
-    try:
-        end.stdin.write(data)
-    except BrokenPipeError:
-        pass
-
-
 def carry(line, sender, receiver, seconds, then=None):
-    """Carries what both write until both have ended, or the time is over. `then` may do more each turn."""
+    """Carries what both write until both have ended, or the time is over. `then` may do more each
+    turn."""
     until = time.monotonic() + seconds
     open_ends = selectors.DefaultSelector()
     for end, way in ((sender, ">"), (receiver, "<")):
-        if end:
-            open_ends.register(end.stdout, selectors.EVENT_READ, way)
+        if end.fileno() is not None:
+            open_ends.register(end.fileno(), selectors.EVENT_READ, (end, way))
     while open_ends.get_map() and time.monotonic() < until:
         if then:
-            then(line)
+            then(line, sender, receiver)
         for key, _ in open_ends.select(0.05):
-            data = os.read(key.fd, 4096)
+            end, way = key.data
+            data = end.read()
             if not data:
                 open_ends.unregister(key.fileobj)
                 continue
-            there = key.data == ">"
-            data = (line.there if there else line.back)(data)
-            line.note(key.data, data)
-            other = receiver if there else sender
-            if other and data:
-                give(other, data)
+            data = (line.there if way == ">" else line.back)(data)
+            line.note(way, data)
+            (receiver if way == ">" else sender).give(data)
     open_ends.close()
 
 
 def between(send, receive, line=None, files=None, seconds=60, then=None):
-    """The record of a session between these commands, either of which may be nobody."""
+    """The record of a session between these ends, either of which may be nobody."""
     line = line or Line()
-    with tempfile.TemporaryDirectory() as here, tempfile.TemporaryDirectory() as there:
-        for name, data in (files or FILES):
-            with open(os.path.join(here, name), "wb") as it:
-                it.write(data)
-        sender = start(send + [name for name, _ in (files or FILES)], here) if send else None
-        receiver = start(receive, there) if receive else None
+    with send(files or FILES) as sender, receive([]) as receiver:
         line.began = time.monotonic()
-        try:
-            carry(line, sender, receiver, seconds, then and then(sender, receiver))
-        finally:
-            stop(sender)
-            stop(receiver)
+        carry(line, sender, receiver, seconds, then)
     return line.lines
 
 
@@ -126,7 +97,7 @@ def some_bytes(seed, size):
 
 
 FILES = [("real.txt", some_bytes(1, 3000))]
-SB, RB = ["sb", "-q"], ["rb", "-q"]
+SB, SB_LONG, RB = piped("sb", "-q"), piped("sb", "-q", "-k"), piped("rb", "-q")
 
 
 def dropping(codes):
@@ -196,41 +167,33 @@ class Doubled:
         return data
 
 
-def echoed():
+def echoed(sender, wait=0.0, seconds=3):
     """A sender that was asked by mistake, on a line where what it writes comes back."""
     line = Line()
 
-    def then(sender, _):
-        asked = []
-
-        def step(line):
-            if not asked:
-                asked.append(True)
-                line.note("<", b"C")
-                give(sender, b"C")
-        return step
+    def then(line, sender, _):
+        if not line.lines:
+            line.note("<", b"C")
+            sender.give(b"C")
 
     def there(data):
         line.note(">", data)
+        time.sleep(wait)
         line.note("<", data)
         return b""
 
     line.there = there
-    return between(SB, None, line, seconds=3, then=then)
+    return between(sender, nobody, line, seconds=seconds, then=then)
 
 
 def interrupted(who, after):
     """An end that is interrupted once so many bytes have passed: sb and rb then cancel."""
+    done = []
 
-    def then(sender, receiver):
-        done = []
-
-        def step(line):
-            passed = sum(len(it.split()[2]) // 2 for it in line.lines)
-            if not done and passed > after:
-                done.append(True)
-                (sender if who == "sender" else receiver).send_signal(signal.SIGINT)
-        return step
+    def then(line, sender, receiver):
+        if not done and line.passed > after:
+            done.append(True)
+            (sender if who == "sender" else receiver).interrupt()
 
     return then
 
@@ -240,32 +203,93 @@ def slowly(data):
     return data
 
 
-LONG_NAME = "n" * 124
+FLOW_EATEN, SUB_EATEN = dropping(b"\x11\x13"), dropping(b"\x1a")
+LATE_SENDER = piped("sh", "-c", "sleep 6; exec sb -q \"$@\"", "sb")
+SHELL = piped("sh", "-c", "printf 'login: '; sleep 2; printf '\\r\\nPassword: '; sleep 1")
+KILLED = piped("timeout", "-s", "KILL", "2", "sb", "-q")
+# Debian's python3 has its modules, whichever runs this.
+XMODEM_END = ("/usr/bin/python3", os.path.join(os.path.dirname(os.path.abspath(__file__)), "xmodem_end.py"))
+
+
+def named(length):
+    """A file whose name has so many bytes."""
+    return [("n" * length, some_bytes(length, 12345))]
+
+
+def every_fifth(count):
+    return count % 5 == 2
+
+
+def long_file(seed):
+    return [("a", some_bytes(seed, 3000))]
+
+
+def speeds(sent, read):
+    """A sender at one speed and a receiver at another one."""
+    return Line(Sampled(sent, read), Sampled(read, sent))
+
+
 SESSIONS = {
+    # nothing wrong
     "whole": (WHOLE, lambda: between(SB, RB)),
     "whole-short-blocks": (WHOLE, lambda: between(SB, RB, files=[("a", some_bytes(2, 200)), ("b", b""), ("c", some_bytes(3, 128))])),
-    "whole-1k": (WHOLE, lambda: between(SB + ["-k"], RB, files=[("a", some_bytes(4, 9000))])),
-    "whole-receive-asks-late": (WHOLE, lambda: between(["sh", "-c", "sleep 6; exec sb -q \"$@\"", "sb"], RB)),
-    "nobody-answered": (NOBODY_ANSWERED, lambda: between(None, RB, seconds=8)),
-    "nobody-asked": (NOBODY_ASKED, lambda: between(["sb"], None, seconds=3)),
-    "nobody-asked-shell": (NOBODY_ASKED, lambda: between(SB, ["sh", "-c", "printf 'login: '; sleep 2; printf '\\r\\nPassword: '; sleep 1"], seconds=5)),
-    "echo": (ECHO, echoed),
-    "eats-11-13": (FLOW, lambda: between(SB + ["-k"], RB, Line(dropping(b"\x11\x13"), dropping(b"\x11\x13")), files=[("a", some_bytes(5, 3000))], seconds=40)),
-    "eats-1a": (SUB, lambda: between(SB, RB, Line(dropping(b"\x1a")), files=[("a", some_bytes(6, 1000))], seconds=40)),
+    "whole-1k": (WHOLE, lambda: between(SB_LONG, RB, files=[("a", some_bytes(4, 9000))])),
+    "whole-receive-asks-late": (WHOLE, lambda: between(LATE_SENDER, RB)),
+    "whole-own-sender": (WHOLE, lambda: between(our_sender, RB)),
+    "whole-own-receiver": (WHOLE, lambda: between(SB, our_receiver)),
+    "whole-u-boot": (WHOLE, lambda: between(SB, board(LOADY), seconds=30)),
+    "whole-u-boot-own-sender": (WHOLE, lambda: between(our_sender, board(LOADY), seconds=30)),
+    # a peer that is not there
+    "nobody-answered": (NOBODY_ANSWERED, lambda: between(nobody, RB, seconds=8)),
+    "nobody-answered-own": (NOBODY_ANSWERED, lambda: between(nobody, our_receiver, seconds=12)),
+    "nobody-answered-u-boot": (NOBODY_ANSWERED, lambda: between(nobody, board(LOADY), seconds=8)),
+    "nobody-asked": (NOBODY_ASKED, lambda: between(piped("sb"), nobody, seconds=3)),
+    "nobody-asked-shell": (NOBODY_ASKED, lambda: between(SB, SHELL, seconds=5)),
+    "nobody-asked-u-boot": (NOBODY_ASKED, lambda: between(SB, board("echo ready"), seconds=5)),
+    # what is written comes back
+    "echo": (ECHO, lambda: echoed(SB)),
+    "echo-1k": (ECHO, lambda: echoed(SB_LONG)),
+    "echo-own": (ECHO, lambda: echoed(our_sender)),
+    "echo-late": (ECHO, lambda: echoed(SB, wait=0.5)),
+    # bytes that a line keeps for itself
+    "eats-11-13": (FLOW, lambda: between(SB_LONG, RB, Line(FLOW_EATEN, FLOW_EATEN), files=long_file(5), seconds=40)),
+    "eats-11-13-own": (FLOW, lambda: between(our_sender, our_receiver, Line(FLOW_EATEN, FLOW_EATEN), files=long_file(5), seconds=40)),
+    "eats-1a": (SUB, lambda: between(SB, RB, Line(SUB_EATEN), files=[("a", some_bytes(6, 1000))], seconds=40)),
+    "eats-1a-own": (SUB, lambda: between(our_sender, our_receiver, Line(SUB_EATEN), files=[("a", some_bytes(6, 1000))], seconds=40)),
+    # seven bits of each byte
     "seven-bits": (SEVEN, lambda: between(SB, RB, Line(seven_bits, seven_bits), seconds=30)),
-    "other-speed-sender": (SPEED, lambda: between(SB, RB, Line(Sampled(115200, 9600), Sampled(9600, 115200)), seconds=12)),
-    "other-speed-receiver": (SPEED, lambda: between(["sx", "-q"], RB, Line(Sampled(9600, 115200)), seconds=12)),
+    "seven-bits-1k": (SEVEN, lambda: between(SB_LONG, RB, Line(seven_bits, seven_bits), seconds=30)),
+    "seven-bits-one-way": (SEVEN, lambda: between(SB, RB, Line(seven_bits), seconds=30)),
+    "seven-bits-own": (SEVEN, lambda: between(our_sender, our_receiver, Line(seven_bits, seven_bits), seconds=40)),
+    # two speeds
+    "other-speed-sender": (SPEED, lambda: between(SB, RB, speeds(115200, 9600), seconds=12)),
+    "other-speed-receiver": (SPEED, lambda: between(piped("sx", "-q"), RB, Line(Sampled(9600, 115200)), seconds=12)),
+    "other-speed-twice": (SPEED, lambda: between(SB, RB, speeds(9600, 19200), seconds=12)),
+    "other-speed-own": (SPEED, lambda: between(our_sender, our_receiver, speeds(38400, 57600), seconds=30)),
+    # a reply too many
     "reply-ahead": (AHEAD, lambda: between(SB, RB, Line(Noise(lambda count: count > 12), Doubled(4)), seconds=60)),
-    "zmodem-sender": (ZMODEM, lambda: between(["sz", "-q"], None, seconds=4)),
-    "zmodem-receiver": (ZMODEM, lambda: between(SB, ["rz", "-q"], seconds=3)),
-    "xmodem-sender": (XMODEM, lambda: between(["sx", "-q"], RB, seconds=20)),
-    "xmodem-receiver": (XMODEM_RECEIVER, lambda: between(None, ["rx", "-q", "got"], seconds=25)),
-    "no-room-for-length": (NO_ROOM, lambda: between(SB, RB, files=[(LONG_NAME, some_bytes(7, 12345))], seconds=60)),
-    "damage-mended": (MENDED, lambda: between(SB, RB, Line(Noise(lambda count: count % 5 == 2)), seconds=60)),
+    "reply-ahead-early": (AHEAD, lambda: between(SB, RB, Line(Noise(lambda count: count > 12), Doubled(3)), seconds=60)),
+    "reply-ahead-late": (AHEAD, lambda: between(SB, RB, Line(Noise(lambda count: count > 14), Doubled(9)), seconds=60)),
+    # another protocol
+    "zmodem-sender": (ZMODEM, lambda: between(piped("sz", "-q"), nobody, seconds=4)),
+    "zmodem-receiver": (ZMODEM, lambda: between(SB, piped("rz", "-q"), seconds=3)),
+    "xmodem-sender": (XMODEM, lambda: between(piped("sx", "-q"), RB, seconds=20)),
+    "xmodem-sender-python": (XMODEM, lambda: between(piped(*XMODEM_END, "send"), RB, seconds=20)),
+    "xmodem-receiver": (XMODEM_RECEIVER, lambda: between(nobody, piped("rx", "-q", "got"), seconds=25)),
+    "xmodem-receiver-python": (XMODEM_RECEIVER, lambda: between(nobody, piped(*XMODEM_END, "receive", "got"), seconds=20)),
+    # a length that is not that of the file
+    "no-room-for-length": (NO_ROOM, lambda: between(SB, RB, files=named(124), seconds=60)),
+    "no-room-for-two-digits": (NO_ROOM, lambda: between(SB, RB, files=named(123), seconds=60)),
+    "no-room-for-three-digits": (NO_ROOM, lambda: between(SB, RB, files=named(122), seconds=60)),
+    # noise
+    "damage-mended": (MENDED, lambda: between(SB, RB, Line(Noise(every_fifth)), seconds=60)),
+    "damage-mended-own": (MENDED, lambda: between(our_sender, our_receiver, Line(Noise(every_fifth)), seconds=60)),
+    "damage-mended-u-boot": (MENDED, lambda: between(SB, board(LOADY), Line(Noise(every_fifth)), seconds=60)),
     "damage": (TOO_MANY, lambda: between(SB, RB, Line(Noise(lambda count: count > 4)), seconds=120)),
+    # an end that goes away
     "sender-cancels": (SENDER, lambda: between(SB, RB, Line(slowly), files=[("a", some_bytes(8, 30000))], then=interrupted("sender", 5000), seconds=30)),
     "receiver-cancels": (RECEIVER, lambda: between(SB, RB, Line(slowly), files=[("a", some_bytes(9, 30000))], then=interrupted("receiver", 5000), seconds=30)),
-    "sender-killed": (STOPPED, lambda: between(["timeout", "-s", "KILL", "2"] + SB, RB, Line(slowly), files=[("a", some_bytes(10, 60000))], seconds=8)),
+    "sender-killed": (STOPPED, lambda: between(KILLED, RB, Line(slowly), files=[("a", some_bytes(10, 60000))], seconds=8)),
 }
 
 

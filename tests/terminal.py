@@ -34,6 +34,13 @@ def is_raw(end):
     return not termios.tcgetattr(end)[3] & (termios.ICANON | termios.ECHO)
 
 
+def is_ready(end, seconds):
+    """Whether something comes to a descriptor within so many seconds. `select` takes none above 1023, and hundreds of tests are under way at once."""
+    poll = select.poll()
+    poll.register(end, select.POLLIN)
+    return bool(poll.poll(seconds * 1000))
+
+
 class UnderTerminal:
     """A program whose standard streams and controlling terminal are a pseudo terminal, and what it shows."""
 
@@ -56,7 +63,7 @@ class UnderTerminal:
         """Waits until this text is shown, and gives what is shown behind it; the next call looks there."""
         until = time.monotonic() + LIMIT
         while text not in self.shown:
-            if not select.select([self.end], [], [], max(until - time.monotonic(), 0))[0]:
+            if not is_ready(self.end, max(until - time.monotonic(), 0)):
                 raise AssertionError("the terminal never showed %r, but %r" % (text, self.shown))
             try:
                 self.shown += os.read(self.end, 65536)
@@ -67,7 +74,7 @@ class UnderTerminal:
 
     def shows(self, text, seconds=0.5):
         """Whether this text is shown, soon."""
-        if text not in self.shown and select.select([self.end], [], [], seconds)[0]:
+        if text not in self.shown and is_ready(self.end, seconds):
             self.shown += os.read(self.end, 65536)
         return text in self.shown
 

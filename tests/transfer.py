@@ -26,6 +26,7 @@ import large_checks
 import late_checks
 import line_checks
 import lrzsz_checks
+import pcap_checks
 import peer_checks
 import power_cut_checks
 import refused_call_checks
@@ -42,7 +43,7 @@ from storing import steadily
 # What depends on how soon this process answers comes first, and by itself: most of these checks wait most of the time. The others have work to do.
 TIMED = (transfer_checks, peer_checks, late_checks, stall_checks, line_checks)
 TIMED_AT_ONCE = 500
-OTHERS = (large_checks, kill_checks, refused_call_checks, power_cut_checks, storage_checks, small_disk_checks, socket_checks, tape_checks, explain_checks)
+OTHERS = (large_checks, kill_checks, refused_call_checks, power_cut_checks, storage_checks, small_disk_checks, socket_checks, tape_checks, explain_checks, pcap_checks)
 OTHERS_AT_ONCE = 60
 
 

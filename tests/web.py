@@ -23,6 +23,7 @@ import sys
 sys.dont_write_bytecode = True
 sys.path.insert(0, os.path.dirname(os.path.abspath(__file__)))
 
+import narrow_checks
 import web_line_checks
 import web_module_checks
 import web_page_checks
@@ -47,6 +48,8 @@ BOOKS = (
     web_serial_checks,
     web_reader_checks,
 )
+# What needs no browser.
+ALONE = narrow_checks.CHECKS
 BROWSERS = (Chromium, Firefox)
 # As many checks go on at a time, each with a page of its own; most of them wait. Rates are measured
 # alone.
@@ -101,6 +104,7 @@ def main():
     try:
         report.make([it for room in there for it in room.checks([web_rates], asked.words)], 1)
         others = [room.checks(BOOKS, asked.words) for room in there]
+        others.append(chosen(ALONE, asked.words))
         report.make([it for some in others for it in some], SIDE_BY_SIDE)
     finally:
         for room in there:

@@ -195,6 +195,7 @@ def library_and_page(installed, gate):
         for name in below:
             made = os.path.join("crates", name, "out", "rlib")
             shutil.copytree(os.path.join(ROOT, made), os.path.join(copy, made))
+        proved.stamp(copy, below)
         if shown("the library for C", [*LATER, "make", "--no-print-directory", "lib"], copy):
             return 1
         brought(copy, "lib")

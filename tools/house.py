@@ -25,6 +25,8 @@ LIMITS = os.path.join(ROOT, "tools", "house.json")
 COLUMNS = 100
 PROOF_LINES = 400
 EDITS = 50
+# Every contract there is one equation that fixes the result, as of texts and words.
+EQUATIONS = {"ym_text", "ym_told", "ym_words"}
 README, README_LINES = "README.md", 80
 MAP = "docs/map.md"
 # The two pages that say what is promised and how to believe it, and the words of both together.
@@ -112,7 +114,7 @@ def edits_of_the_gate():
     for crate, count in tried.items():
         if not 2 <= count <= 4:
             yield "%s has %d, not two to four" % (crate, count)
-    for crate in sorted(set(edits_in("edits")) - set(tried)):
+    for crate in sorted(set(edits_in("edits")) - set(tried) - EQUATIONS):
         if not TRIES.fullmatch(crate):
             yield "%s has none in must-fail/" % crate
     if sum(tried.values()) > EDITS:

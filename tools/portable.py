@@ -21,9 +21,10 @@ the abstract machine. The back end, the linker, wasm-opt, wasm2c and this script
   is given, and a native build has no such check either.
 - `unreachable`, at a panic. Stays, as a loop for ever: the core is proved never to panic.
 - A divisor of 0. Taken out: each divisor stands in the code as a number, which is looked at here.
-- The room of the stack, by the back end. Taken out: what each call needs is counted here, over all
-  that it calls, and each call brings as much.
-- A call within a call, by the linker. Taken out: each call has a stack pointer of its own.
+- The room of the stack, by the back end. Taken out by stack_room.py, which counts what each call
+  needs, over all that it calls: each call brings as much.
+- A call within a call, by the linker. Taken out there too: each call has a stack pointer of its
+  own.
 - An indirect call, a number with a fraction: there is none, or this script ends.
 
 usage: portable.py ARCHIVE OUT
@@ -36,6 +37,10 @@ import subprocess
 import sys
 import tempfile
 
+sys.dont_write_bytecode = True
+
+from stack_room import Refused, unasked
+
 ROOT = os.path.dirname(os.path.dirname(os.path.abspath(__file__)))
 TARGET = "wasm64-unknown-unknown"
 # Where the constants stand, in the two modules: behind a stack of this size.
@@ -44,8 +49,6 @@ PLACES = (65536, 131072)
 KNOWN = {"wasm-opt": "wasm-opt version 108", "wasm2c": "1.0.32"}
 PACKAGES = {"wasm-opt": "binaryen", "wasm2c": "wabt"}
 FEATURES = ("memory64", "bulk-memory", "sign-ext", "mutable-globals", "nontrapping-float-to-int")
-# The back end wants so many bytes of stack below each frame.
-BELOW = 16
 
 FUNCTION = re.compile(
     r"^static (u32|u64|void) w2c_(\w+)\(Z_ym_instance_t\* instance(.*?)\) \{\n(.*?)^\}\n",
@@ -61,7 +64,6 @@ ACCESS = re.compile(r"\b(i(?:32|64)_(?:load|store)\w*)\(%s\(u64\)\(w2c_i(\d+)\)"
 COPIED = re.compile(r"\bmemory_copy\(%sw2c_i(\d+), w2c_i(\d+), w2c_i(\d+)\)" % (MEMORY * 2))
 FILLED = re.compile(r"\bmemory_fill\(%sw2c_i(\d+), (w2c_i\d+), w2c_i(\d+)\)" % MEMORY)
 STACK = "instance->w2c___stack_pointer"
-ROOM = re.compile(r"\(u64\)\(\(s64\)w2c_j\d+ (>=|<=|<) \(s64\)w2c_j(\d+)\)")
 DIVISION = re.compile(r"DIV_U\((\w+), w2c_([ij]\d+)\)")
 PROTOTYPE = re.compile(r"^(void|uint32_t|uint64_t|size_t) (ym_\w+)\(([^)]*)\);$", re.M)
 # What is not to be left of the module.
@@ -105,32 +107,59 @@ def versions():
 
 
 def translated(archive, place, folder):
-    """What wasm2c writes of the module with its constants at this place."""
+    """What wasm2c writes with the constants at this place, what stack each call needs, and how many
+    bytes the constants have: wasm-opt leaves out zeros at their end, since memory begins as zeros.
+    """
     kit = os.path.dirname(said("rt", "doc"))
     linked, made = os.path.join(folder, "ymodem.wasm"), os.path.join(folder, "module.c")
     where = ["--target", TARGET, "--toolchain", os.path.join(kit, "toolchain")]
     linker = os.path.join(kit, "bin", "rattle-link")
     said(linker, *where, "--stack", str(place), "-o", linked, archive)
     features = ["--enable-" + it for it in FEATURES]
-    # By themselves, so that a cut stands right before its access.
-    for step in ("-Os", "--memory64-lowering"):
-        said("wasm-opt", *features, "-g", step, linked, "-o", linked)
+    text = linked + ".wat"
+    said("wasm-opt", *features, "-g", "--ssa-nomerge", "-S", linked, "-o", text)
+    with open(text, encoding="utf-8") as it:
+        whole = it.read()
+    short, needs = roomy(whole)
+    with open(text, "w", encoding="utf-8") as it:
+        # By the name of its export, as wasm2c calls one that has none.
+        it.write(short.replace("(memory $0", "(memory $memory"))
+    said("wasm-opt", *features, "-g", "-Os", text, "-o", linked)
+    # By itself, so that a cut stands right before its access.
+    said("wasm-opt", *features, "-g", "--memory64-lowering", linked, "-o", linked)
     said("wasm2c", linked, "-n", "ym", "-o", made)
     with open(made, encoding="utf-8") as it:
-        return it.read()
+        return it.read(), needs, constants_end(whole) - place
+
+
+def constants_end(text):
+    """Where the constants of a linked module end, as the linker says."""
+    (name,) = re.findall(r'\(export "__heap_base" \(global (\S+?)\)\)', text)
+    (end,) = re.findall(r"\(global %s i64 \(i64\.const (\d+)\)\)" % re.escape(name), text)
+    return int(end)
+
+
+def roomy(text):
+    """The module without its questions for room, and what stack each call needs."""
+    try:
+        return unasked(text)
+    except Refused as why:
+        return sys.exit("portable.py: %s" % why)
 
 
 # ---- Constants
 
 
-def constants(text, start):
-    """The bytes from the place of the constants on."""
+def constants(text, start, length):
+    """The bytes from the place of the constants on, with those zeros that the module leaves out."""
     body, loaded = DATA.findall(text), LOADED.findall(text)
     wants(len(body) == len(loaded) == 1, "the constants are not in one piece")
     found = [int(it, 16) for it in re.findall(r"0x[0-9a-f]{2}", body[0])]
     at, size = map(int, loaded[0])
     wants(len(found) == size and at >= start, "the constants are not where they were")
-    return [0] * (at - start) + found
+    there = [0] * (at - start) + found
+    wants(len(there) <= length, "the constants are longer than the linker says")
+    return there + [0] * (length - len(there))
 
 
 def with_constants(one, other, size):
@@ -163,8 +192,6 @@ class Function:
         self.types = {it: kind for kind, some in declared for it in re.findall(r"w2c_(\w+)", some)}
         lines = DECLARED.sub("", body).splitlines()
         self.lines = [it for it in lines if not re.fullmatch(r" *FUNC_(PRO|EPI)LOGUE;", it)]
-        self.frame, self.own, self.needs_stack = 0, 0, False
-        self.calls = set(re.findall(r"\bw2c_(\w+)\(instance", body)) - {"__rattle_enter"}
 
     def put(self, i, pattern, text):
         self.lines[i] = pattern.sub(lambda _: text, self.lines[i])
@@ -216,49 +243,6 @@ class Function:
                 wants(self.number(i, found[2]) > 0, "%s: a divisor" % self.name)
                 self.put(i, DIVISION, "%s / w2c_%s" % found.groups())
 
-    def enter(self):
-        """No call stands within a call: what the linker asks for that is answered by no."""
-        left = [it for it in self.lines if not re.match(r"\s*instance->w2c_in_call = \w+;$", it)]
-        self.lines = [it.replace("w2c___rattle_enter(instance)", "0u") for it in left]
-
-    def open(self):
-        """The size of the frame, and each question for room on the stack, answered by yes."""
-        reads = [i for i, it in enumerate(self.lines) if it.endswith("= %s;" % STACK)]
-        self.needs_stack = bool(reads)
-        for i in reads:
-            end = next(at for at in range(i, i + 12) if ROOM.search(self.lines[at]))
-            found = ROOM.search(self.lines[end])
-            asked = self.number(end, "j" + found[2]) + (found[1] == "<=")
-            wants(asked == BELOW, "%s: room for %d more" % (self.name, asked))
-            self.lines[end] = ROOM.sub("1u" if found[1] == ">=" else "0u", self.lines[end])
-            size = self.framed(i, end)
-            self.frame += size
-            # What was inlined has a frame below, and does not move the stack.
-            if any(it.strip().startswith(STACK + " =") for it in self.lines[i:end]):
-                self.own += size
-        moves = [i for i, it in enumerate(self.lines) if it.strip().startswith(STACK + " =")]
-        wants(all(map(self.is_put_back, moves)), "%s: how it moves the stack" % self.name)
-
-    def framed(self, start, end):
-        """The bytes that are taken off the stack between these lines."""
-        text = "\n".join(it.strip() for it in self.lines[start:end])
-        found = re.search(r"w2c_j\d+ = (\d+)ull;\nw2c_j\d+ ([-+])= w2c_j\d+;\n", text)
-        if not found:
-            return 0
-        size = int(found[1]) if found[2] == "-" else 2**64 - int(found[1])
-        wants(0 < size < 2**16 and size % 16 == 0, "%s: a frame of %d bytes" % (self.name, size))
-        return size
-
-    def is_put_back(self, i):
-        """Whether this line moves the stack by the frame, down or up again, or to where it was."""
-        before = "\n".join(it.strip() for it in self.lines[max(0, i - 6) : i])
-        down = r"= %s;\nw2c_j\d+ = \d+ull;\nw2c_j\d+ [-+]= w2c_j\d+;\nw2c_[lp]\d+ = w2c_j\d+;$" % STACK
-        size = r"(= %dull;\nw2c_j\d+ \+|= %dull;\nw2c_j\d+ -)" % (self.own, 2**64 - self.own)
-        up = r"w2c_j\d+ = w2c_[lp]\d+;\nw2c_j\d+ %s= w2c_j\d+;$" % size
-        again = r"w2c_j\d+ = w2c_[lp]\d+;$"
-        ways = (down, up) if self.own else (again,)
-        return any(re.search(it, before) for it in ways)
-
     def prune(self):
         """Takes away what is assigned and never read."""
         while True:
@@ -292,14 +276,6 @@ class Function:
         return "%s {\n%s%s\n}\n" % (self.head(), unused, body)
 
 
-def needed(functions, name, above=()):
-    """The bytes of stack that a function and all that it calls need."""
-    wants(name not in above, "%s calls itself" % name)
-    it = functions[name]
-    below = [needed(functions, called, (*above, name)) for called in it.calls]
-    return it.frame + max([BELOW * it.needs_stack, *below])
-
-
 # ---- The file
 
 
@@ -312,17 +288,16 @@ def access(name):
     return "DEFINE_LOAD(%s, %s%s, %s%s, %s)" % (name, sign, it, sign, whole, full)
 
 
-def calls(functions, header):
-    """Each call of the header, by the function of the module."""
+def calls(needs, header):
+    """Each call of the header, by the function of the module, and with the stack that it needs."""
     found = PROTOTYPE.findall(re.sub(r"\n +", " ", header))
-    has = {it for it in functions if it.startswith("ym_") and "__" not in it}
-    wants({it[1] for it in found} == has, "the header has other calls than the module")
+    wants({it[1] for it in found} == set(needs), "the header has other calls than the module")
     for result, name, params in found:
         named = [(it, re.search(r"\w+$", it)[0]) for it in params.split(", ")]
         given = ["ADDRESS(%s)" % it if "*" in whole else it for whole, it in named]
         answer = "core_%s(%s);" % (name, ", ".join(["&core", *given]))
         answer = answer if result == "void" else "return (%s)%s" % (result, answer)
-        size = (needed(functions, name) + 15) // 16 * 16
+        size = (needs[name] + 15) // 16 * 16
         yield "%s %s(%s) {\n    ENTER(%d);\n    %s\n}\n" % (result, name, params, size, answer)
 
 
@@ -332,22 +307,18 @@ def rewritten(one, other, size):
     for its, others in zip(FUNCTION.findall(one), FUNCTION.findall(other)):
         wants(its[:3] == others[:3], "the two modules have other functions")
         it = Function(*its[:3], with_constants(its[3], others[3], size))
-        if it.name == "__rattle_enter":
-            continue
         it.widen()
         it.divide()
-        it.enter()
-        it.open()
         it.prune()
         found[it.name] = it
     wants(len({it.short for it in found.values()}) == len(found), "two functions of one name")
     return found
 
 
-def portable(one, other):
+def portable(one, other, needs, length):
     """The file, of what wasm2c writes of the two modules."""
-    data, header = constants(one, PLACES[0]), read("include", "ymodem.h")
-    wants(data == constants(other, PLACES[1]), "a constant has an address")
+    data, header = constants(one, PLACES[0], length), read("include", "ymodem.h")
+    wants(data == constants(other, PLACES[1], length), "a constant has an address")
     functions = rewritten(one, other, len(data))
     shorts = {name: it.short for name, it in functions.items()}
     texts = [it.text(shorts) for it in functions.values()]
@@ -361,7 +332,7 @@ def portable(one, other):
         "ACCESSES": "\n".join(map(access, used)),
         "CONSTANTS": "\n".join("    " + " ".join("%d," % it for it in row) for row in rows),
         "FUNCTIONS": "\n".join(heads) + "\n\n" + "\n".join(texts),
-        "CALLS": "\n".join(calls(functions, header)).rstrip(),
+        "CALLS": "\n".join(calls(needs, header)).rstrip(),
     }
     return re.sub(r"@(\w+)@", lambda it: values[it[1]], read("tools", "portable.c.in"))
 
@@ -372,7 +343,9 @@ def main():
     archive, out = sys.argv[1:]
     versions()
     with tempfile.TemporaryDirectory(prefix="ymodem-portable-") as top:
-        text = portable(*(translated(archive, place, top) for place in PLACES))
+        (one, *its), (other, *others) = (translated(archive, place, top) for place in PLACES)
+        wants(its == others, "the two modules need other stacks, or have other constants")
+        text = portable(one, other, *its)
     os.makedirs(out, exist_ok=True)
     headers = {name: read("include", name) for name in ("ymodem.h", "ymodem_io.h")}
     for name, put in {"ymodem.c": text, **headers}.items():

@@ -1,9 +1,7 @@
 #!/usr/bin/env python3
 """Makes out/web from this folder and the library for 64-bit WebAssembly: the module ymodem.wasm, ymodem.js with its types, and the page.
 
-The module is for 32-bit WebAssembly, which every browser runs: Debian's wasm-opt (package binaryen)
-cuts each address of the linked one to 32 bits. It has the calls that the files of this folder make,
-and no others.
+The module is made by module.py. It has the calls that the files of this folder make, and no others.
 
 ymodem.js is the files of this folder joined into one, and index.html has all of it inside, the module too, so that it works from a disk, where a page may
 load nothing.
@@ -14,23 +12,16 @@ usage: build.py ARCHIVE OUT
 import base64
 import gzip
 import hashlib
-import json
 import os
 import re
-import shutil
-import subprocess
 import sys
-import tempfile
 
+sys.dont_write_bytecode = True
 HERE = os.path.dirname(os.path.abspath(__file__))
-TARGET = "wasm64-unknown-unknown"
-# The deepest call takes some 3 KB.
-STACK = 65536
-# What the linked module uses of WebAssembly.
-FEATURES = [
-    "--enable-" + it
-    for it in ("memory64", "bulk-memory", "sign-ext", "mutable-globals", "nontrapping-float-to-int")
-]
+sys.path.insert(0, HERE)
+
+from module import REFUSALS, made
+
 LIBRARY = ("codes", "errors", "engine", "alarm", "line", "timed", "log", "receiving", "sending", "websocket", "ymodem")
 PAGE = ("words", "remembered", "terminal", "chart", "progress", "ports", "page")
 STYLES = ("controls", "line", "page")
@@ -95,63 +86,9 @@ def styled(names):
     return re.sub(r"\s*([{};:,])\s+", r"\1", EDGES.sub("\n", text)).strip() + "\n"
 
 
-def said(*words):
-    how = {"stdout": subprocess.PIPE, "stderr": subprocess.STDOUT, "text": True}
-    ran = subprocess.run(words, check=False, **how)
-    if ran.returncode != 0:
-        sys.exit("build.py: %s: %s" % (words[0], ran.stdout))
-    return ran.stdout.strip()
-
-
-def linked(archive, out):
-    """The module of 64-bit memory, with every call of the library."""
-    kit = os.path.dirname(said("rt", "doc"))
-    linker = os.path.join(kit, "bin", "rattle-link")
-    where = ["--target", TARGET, "--toolchain", os.path.join(kit, "toolchain")]
-    said(linker, *where, "--stack", str(STACK), "-o", out, archive)
-
-
-def lowered(module):
-    """The same for memory of 32 bits, and with what the files of this folder call alone."""
-    called = CALLED.findall("".join(read(it + ".js") for it in LIBRARY))
-    exports = ["memory", "__heap_base", *sorted(set(called))]
-    graph = [{"name": it, "export": it} for it in exports]
-    graph.append({"name": "the page", "reaches": exports, "root": True})
-    listed = module + ".json"
-    with open(listed, "w", encoding="utf-8") as it:
-        json.dump(graph, it)
-    said("wasm-metadce", *FEATURES, "--graph-file", listed, module, "-o", module)
-    said("wasm-opt", *FEATURES, "-Oz", "--memory64-lowering", "-Oz", module, "-o", module)
-
-
-def made(archive):
-    """The module as it is shipped."""
-    for tool in ("wasm-opt", "wasm-metadce"):
-        if not shutil.which(tool):
-            sys.exit("build.py: %s is missing: apt-get install binaryen" % tool)
-    with tempfile.TemporaryDirectory(prefix="ymodem-web-") as folder:
-        module = os.path.join(folder, "ymodem.wasm")
-        linked(archive, module)
-        lowered(module)
-        with open(module, "rb") as it:
-            return bare(it.read())
-
-
-def bare(module):
-    """The module without its custom sections: names for a debugger, and who made it."""
-    kept, at = module[:8], 8
-    while at < len(module):
-        start, at, size, shift = at, at + 1, 0, 0
-        while True:
-            byte = module[at]
-            size |= (byte & 127) << shift
-            at, shift = at + 1, shift + 7
-            if byte < 128:
-                break
-        at += size
-        if module[start] != 0:
-            kept += module[start:at]
-    return kept
+def called():
+    """The calls that the files of this folder make."""
+    return set(CALLED.findall("".join(read(it + ".js") for it in LIBRARY)))
 
 
 def hashed(text):
@@ -191,7 +128,10 @@ def module_text():
 def main():
     archive, out = sys.argv[1:]
     os.makedirs(out, exist_ok=True)
-    module = made(archive)
+    try:
+        module = made(archive, called())
+    except REFUSALS as why:
+        sys.exit("build.py: %s" % why)
     with open(os.path.join(out, "ymodem.wasm"), "wb") as it:
         it.write(module)
     for name, text in (("ymodem.js", module_text()), ("ymodem.d.ts", read("ymodem.d.ts")), ("index.html", page(module))):
@@ -201,4 +141,5 @@ def main():
     print("%s: %s; %d bytes in all" % (out, ", ".join("%s %d" % it for it in sizes.items()), sum(sizes.values())))
 
 
-main()
+if __name__ == "__main__":
+    main()

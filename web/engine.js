@@ -46,7 +46,8 @@ export class Engine {
   #next;
 
   constructor(instance) {
-    this.calls = instance.exports;
+    // an object as others are: a call of it is found sooner than one of the exports
+    this.calls = { ...instance.exports };
     this.#next = rounded(Number(this.calls.__heap_base.value));
   }
 

@@ -1,6 +1,6 @@
 /* The streams of a port, as a transfer reads and writes them: piece by piece, within a time. */
 
-import { Alarm } from "./alarm.js";
+import { Alarm, moment } from "./alarm.js";
 import { YmodemError } from "./errors.js";
 
 /** As many bytes as one delivery has at most. */
@@ -17,6 +17,9 @@ const DRIPS_FOR = 100000;
 // An alarm that rings so late was held up, and so may be what came meanwhile. It is given so long.
 const LATE = 100;
 
+const failed = (how, cause) =>
+  new YmodemError("device", `the line failed while it was ${how}`, { cause });
+
 /** The streams of a port, read piece by piece within a time. */
 export class Line {
   #reader;
@@ -31,11 +34,30 @@ export class Line {
   #stopAt = Infinity;
   #alarm = new Alarm();
   #onAbort = () => this.#stop();
+  // How long the read under way waits, and of how many bytes.
+  #until = 0;
+  #isHeldUp = false;
+  #most = 0;
+  // What a wait hears, made once for all of them.
+  #onTime = () => this.#goOn();
+  #onRead = ({ done, value }) => {
+    this.#coming = null;
+    if (done) this.#ended = true;
+    else if (value.length) this.#came.push(value);
+    this.#goOn();
+  };
+  #onFault = (fault) => {
+    this.#coming = null;
+    this.#fault = fault;
+    this.#goOn();
+  };
 
   /** With what was heard before, and belongs to the transfer. */
   constructor(port, { signal, heard }) {
     if (heard?.length) this.#came.push(heard);
     this.isStopped = false;
+    /** Why nothing comes any more, once a read found that it is so. */
+    this.closed = null;
     this.#reader = port.readable.getReader();
     try {
       this.#writer = port.writable.getWriter();
@@ -52,55 +74,61 @@ export class Line {
   // answered.
   #stop() {
     this.isStopped = true;
-    this.#stopAt = performance.now() + STOPS_WITHIN;
-    this.#wake?.();
+    this.#stopAt = moment() + STOPS_WITHIN;
+    this.#goOn();
   }
 
-  #fetch() {
-    this.#coming ??= this.#reader.read().then(
-      ({ done, value }) => {
-        this.#coming = null;
-        if (done) this.#ended = true;
-        else if (value.length) this.#came.push(value);
-        this.#wake?.();
-      },
-      (fault) => {
-        this.#coming = null;
-        this.#fault = fault;
-        this.#wake?.();
-      },
-    );
+  /** What is there already, at most so many bytes; or QUIET, where only a read can tell. */
+  there(most) {
+    return this.#came.length === 0 || this.#drips() ? QUIET : this.#piece(most);
   }
 
-  /** What came, at most so many bytes; or QUIET, where nothing did within these milliseconds or
-   *  within those of a stop, or where bytes never paused. */
-  async read(millis, most) {
+  /** What came, at most so many bytes; or QUIET, where nothing did within these milliseconds from
+   *  now or within those of a stop, where bytes never paused, or where the line is closed. */
+  read(now, millis, most) {
     if (this.#drips()) return this.#quiet();
-    let now = this.#came.length === 0 ? performance.now() : 0;
-    let until = now + Math.max(millis, 1);
-    let isHeldUp = false;
-    while (this.#came.length === 0) {
-      if (this.#ended) throw new YmodemError("closed", "the line was closed");
-      const cause = this.#fault;
-      if (cause) throw new YmodemError("device", "the line failed while it was read", { cause });
-      const end = Math.min(until, this.#stopAt);
-      if (now >= end) {
-        if (isHeldUp || now < end + LATE) return this.#quiet();
-        isHeldUp = true;
-        until = now + LATE;
-      }
-      this.#fetch();
-      await this.#woken(Math.min(until, this.#stopAt));
-      if (this.#came.length === 0) now = performance.now();
+    this.#until = now + Math.max(millis, 1);
+    this.#isHeldUp = false;
+    this.#most = most;
+    return new Promise((resolve) => {
+      this.#wake = resolve;
+      this.#goOn(now);
+    });
+  }
+
+  /** Ends the read under way, where there is one that may end, or has it wait on. */
+  #goOn(now) {
+    if (this.#wake === null) return;
+    const isThere = this.#came.length > 0;
+    if (!isThere && !this.#isClosed() && !this.#isOver(now ?? moment())) {
+      this.#coming ??= this.#reader.read().then(this.#onRead, this.#onFault);
+      this.#alarm.set(Math.min(this.#until, this.#stopAt), this.#onTime);
+      return;
     }
-    this.#pieces++;
-    return this.#piece(most);
+    this.#wake(isThere ? this.#piece(this.#most) : this.#quiet());
+    this.#wake = null;
+  }
+
+  #isOver(now) {
+    const end = Math.min(this.#until, this.#stopAt);
+    if (now < end) return false;
+    if (this.#isHeldUp || now < end + LATE) return true;
+    this.#isHeldUp = true;
+    this.#until = now + LATE;
+    return false;
+  }
+
+  #isClosed() {
+    const cause = this.#fault;
+    if (this.#ended) this.closed = new YmodemError("closed", "the line was closed");
+    else if (cause) this.closed = failed("read", cause);
+    return this.closed !== null;
   }
 
   #drips() {
     if (this.#pieces === 0) return false;
-    if (this.#pieces === 1) this.#since = performance.now();
-    return performance.now() - this.#since > DRIPS_FOR;
+    if (this.#pieces === 1) this.#since = moment();
+    return moment() - this.#since > DRIPS_FOR;
   }
 
   #quiet() {
@@ -108,44 +136,30 @@ export class Line {
     return QUIET;
   }
 
-  #woken(until) {
-    return new Promise((resolve) => {
-      this.#wake = resolve;
-      this.#alarm.set(until, resolve);
-    });
-  }
-
   #piece(most) {
+    this.#pieces++;
     const first = this.#came[0];
     if (first.length <= most) return this.#came.shift();
     this.#came[0] = first.subarray(most);
     return first.subarray(0, most);
   }
 
-  /** Writes all of it, or fails where the line takes nothing for long. */
-  async write(bytes) {
+  /** Writes all of it, or fails where the line takes nothing for long from now on. */
+  write(now, bytes) {
     this.#pieces = 0;
-    try {
-      await new Promise((resolve, reject) => {
-        const stuck = () => reject(new Error("the line takes no bytes"));
-        this.#alarm.set(performance.now() + WRITES_WITHIN, stuck);
-        this.#writer.write(bytes).then(resolve, reject);
-      });
-    } catch (fault) {
-      throw new YmodemError("device", "the line failed while it was written", { cause: fault });
-    }
+    return new Promise((resolve, reject) => {
+      const fails = (cause) => reject(failed("written", cause));
+      this.#alarm.set(now + WRITES_WITHIN, () => fails(new Error("the line takes no bytes")));
+      this.#writer.write(bytes).then(resolve, fails);
+    });
   }
 
   /** After a receiver's CAN CAN: what the sender had under way is dropped, so that it does not
    *  stand in a terminal. */
   async settle() {
-    this.#stopAt = performance.now() + 5 * STOPS_WITHIN;
-    try {
-      for (let reads = 0; reads < 64; reads++) {
-        if ((await this.read(STOPS_WITHIN / 2, DELIVERY)) === QUIET) break;
-      }
-    } catch {
-      // the line is gone, and with it what it had
+    this.#stopAt = moment() + 5 * STOPS_WITHIN;
+    for (let reads = 0; reads < 64; reads++) {
+      if ((await this.read(moment(), STOPS_WITHIN / 2, DELIVERY)) === QUIET) break;
     }
   }
 

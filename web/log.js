@@ -34,7 +34,7 @@ export class Log {
 
   #front(at, length) {
     const { calls, view } = this.#engine;
-    calls.ym_frame_read(BigInt(at), BigInt(length), BigInt(this.#at));
+    calls.ym_frame_read(at, length, this.#at);
     const kind = view.getUint32(this.#at + LAYOUT.ym_front.kind, true);
     const number = view.getUint32(this.#at + LAYOUT.ym_front.number, true);
     if (kind === FRONT.block) return { kind: "block", number, text: `block ${number}` };

@@ -42,9 +42,23 @@ class Collected {
   abort() {}
 }
 
+/** Whether this is a promise: a file that takes bytes at once is not waited for. */
+const isLater = (it) => typeof it?.then === "function";
+
 export class Receiving {
   files = [];
-  about = null;
+  #engine;
+  #calls;
+  #line;
+  #port;
+  #options;
+  #log;
+  // Where in the engine's memory stand the receiver, what it asks, and what it answers.
+  #receiver;
+  #ask;
+  #reply;
+  #about = null;
+  #cause;
   #sink = null;
   #answered = false;
   // The first question goes out after the shorter wait: somebody is watching.
@@ -54,59 +68,55 @@ export class Receiving {
   #isOtherFile = false;
 
   constructor(engine, line, options) {
-    this.engine = engine;
-    this.line = line;
-    this.port = new TimedLine(engine, line, true);
-    this.options = options;
-    this.receiver = engine.take(LAYOUT.ym_receiver.size);
-    this.ask = engine.take(LAYOUT.ym_ask.size);
-    this.reply = engine.take(2);
-    // the same as the calls take them
-    this.self = BigInt(this.receiver);
-    this.askAt = BigInt(this.ask);
-    this.replyAt = BigInt(this.reply);
-    this.log = new Log(engine, options.onFrame);
-    engine.calls.ym_receiver_init(this.self, 0);
+    this.#engine = engine;
+    this.#line = line;
+    this.#port = new TimedLine(engine, line, true);
+    this.#options = options;
+    this.#receiver = engine.take(LAYOUT.ym_receiver.size);
+    this.#ask = engine.take(LAYOUT.ym_ask.size);
+    this.#reply = engine.take(2);
+    this.#log = new Log(engine, options.onFrame);
+    this.#calls = engine.calls;
+    this.#calls.ym_receiver_init(this.#receiver, 0);
   }
 
-  get state() {
+  get #state() {
     return RECEIVED[this.#of("state")];
   }
 
   #of(field) {
-    return this.engine.number(this.receiver + LAYOUT.ym_receiver[field]);
+    return this.#engine.number(this.#receiver + LAYOUT.ym_receiver[field]);
   }
 
   #asked(field) {
-    return this.engine.number(this.ask + LAYOUT.ym_ask[field]);
+    return this.#engine.number(this.#ask + LAYOUT.ym_ask[field]);
   }
 
   #askedLong(field) {
-    return this.engine.long(this.ask + LAYOUT.ym_ask[field]);
+    return this.#engine.long(this.#ask + LAYOUT.ym_ask[field]);
   }
 
   #held() {
-    const at = this.receiver + LAYOUT.ym_receiver.held;
-    return this.engine.bytes.subarray(at, at + this.#of("len"));
+    const at = this.#receiver + LAYOUT.ym_receiver.held;
+    return this.#engine.bytes.subarray(at, at + this.#of("len"));
   }
 
   #wants() {
-    return this.engine.calls.ym_receiver_wants(this.self) !== 0n;
+    return this.#calls.ym_receiver_wants(this.#receiver) !== 0;
   }
 
   #feed(count) {
-    const { calls } = this.engine;
-    const { heard } = this.port;
+    const { heard } = this.#port;
     let fed = 0;
     let took;
     do {
-      took = Number(calls.ym_receiver_feed(this.self, BigInt(heard + fed), BigInt(count - fed)));
+      took = this.#calls.ym_receiver_feed(this.#receiver, heard + fed, count - fed);
       fed += took;
     } while (took > 0 && fed < count);
   }
 
   #hear() {
-    this.engine.calls.ym_receiver_hear(this.self, this.askAt);
+    this.#calls.ym_receiver_hear(this.#receiver, this.#ask);
   }
 
   /** Reads one delivery: to the end of a frame, until the line is quiet, or 2048 bytes. What is left of the last piece is dropped. */
@@ -114,7 +124,7 @@ export class Receiving {
     let came = 0;
     while (came < DELIVERY) {
       const wait = came === 0 && this.#hasAsked ? WAIT.first : WAIT.more;
-      const count = await this.port.read(wait, DELIVERY - came);
+      const count = await this.#port.read(wait, DELIVERY - came);
       this.#hasAsked = true;
       if (count === 0) break;
       came += count;
@@ -127,26 +137,26 @@ export class Receiving {
   }
 
   async run() {
-    while (this.state === "running") {
+    while (this.#state === "running") {
       await this.#deliver();
-      if (this.options.onFrame) this.#tell();
+      if (this.#options.onFrame) this.#tell();
       this.#open();
-      const done = !this.#isOtherFile && (await this.#act());
-      await this.#answer(done);
-      if (this.line.isStopped && this.state === "host-failed") await this.line.settle();
+      const done = this.#isOtherFile ? false : this.#act();
+      await this.#answer(isLater(done) ? await done : done);
+      if (this.#line.isStopped && this.#state === "host-failed") await this.#line.settle();
     }
-    if (this.state !== "finished") throw this.#failed();
+    if (this.#state !== "finished") throw this.#failed();
   }
 
   /** What came behind the transfer. */
   get rest() {
-    return this.state === "cancelled" ? this.port.behind(false) : new Uint8Array();
+    return this.#state === "cancelled" ? this.#port.behind(false) : new Uint8Array();
   }
 
   #tell() {
     const length = this.#of("len");
-    if (length === 0) this.log.quiet();
-    else this.log.frame(false, this.receiver + LAYOUT.ym_receiver.held, length);
+    if (length === 0) this.#log.quiet();
+    else this.#log.frame(false, this.#receiver + LAYOUT.ym_receiver.held, length);
   }
 
   /** Where only block 0 can come again, one with other bytes is out of step: another file began. */
@@ -157,7 +167,7 @@ export class Receiving {
 
   #isOpening() {
     if (this.#asked("bad") || !this.#of("in_file")) return false;
-    const isNew = this.engine.long(this.receiver + LAYOUT.ym_receiver.blocks) === 0;
+    const isNew = this.#engine.long(this.#receiver + LAYOUT.ym_receiver.blocks) === 0;
     return isNew && this.#of("len") >= SHORT_FRAME && this.#held()[1] === 0;
   }
 
@@ -167,65 +177,77 @@ export class Receiving {
     return `${held.length} ${held.subarray(-2)}`;
   }
 
-  /** Does what is asked, and answers whether it could. */
-  async #act() {
-    if (this.line.isStopped) return false;
+  /** Does what is asked, and answers whether it could: later, where that takes its time. */
+  #act() {
+    if (this.#line.isStopped) return false;
     try {
-      await this.#doAsked();
-      return true;
+      const done = this.#doAsked();
+      return isLater(done) ? this.#couldLater(done) : true;
     } catch (fault) {
-      this.cause = fault;
-      return false;
+      return this.#couldNot(fault);
     }
   }
 
-  async #doAsked() {
+  async #couldLater(done) {
+    try {
+      await done;
+      return true;
+    } catch (fault) {
+      return this.#couldNot(fault);
+    }
+  }
+
+  #couldNot(fault) {
+    this.#cause = fault;
+    return false;
+  }
+
+  #doAsked() {
     const kind = this.#asked("kind");
     if (!this.#asked("bad")) this.#answered = true;
-    if (kind === ASKED.begin) await this.#begin(this.#askedBytes());
-    else if (kind === ASKED.add) await this.#sink.write(this.#askedBytes());
-    else if (kind === ASKED.commit) await this.#commit();
+    if (kind === ASKED.begin) return this.#begin(this.#askedBytes());
+    if (kind === ASKED.add) return this.#sink.write(this.#askedBytes());
+    return kind === ASKED.commit ? this.#commit() : null;
   }
 
   #askedBytes() {
-    return this.engine.copy(this.receiver + LAYOUT.ym_receiver.held + this.#asked("at"), this.#askedLong("count"));
+    return this.#engine.copy(this.#receiver + LAYOUT.ym_receiver.held + this.#asked("at"), this.#askedLong("count"));
   }
 
   async #begin(name) {
     const stamp = this.#asked("stamp");
-    this.about = { name: new TextDecoder().decode(name), length: this.#askedLong("length") };
-    if (stamp > 0) this.about.time = this.#askedLong("time");
-    if (stamp > 1) this.about.mode = this.#asked("mode");
-    this.#sink = (await this.options.onFile?.(this.about)) ?? new Collected(this.about);
+    this.#about = { name: new TextDecoder().decode(name), length: this.#askedLong("length") };
+    if (stamp > 0) this.#about.time = this.#askedLong("time");
+    if (stamp > 1) this.#about.mode = this.#asked("mode");
+    this.#sink = (await this.#options.onFile?.(this.#about)) ?? new Collected(this.#about);
   }
 
   async #commit() {
     await this.#sink.close();
     this.#sink = null;
-    this.files.push(this.about);
-    this.#progress(this.about.length);
+    this.files.push(this.#about);
+    this.#progress(this.#about.length);
   }
 
-  async #answer(done) {
-    const { calls } = this.engine;
-    const count = calls.ym_receiver_answer(this.self, done ? 1 : 0, this.replyAt, 2n);
-    const length = Number(count);
-    if (this.#of("in_file")) this.#progress(this.engine.long(this.receiver + LAYOUT.ym_receiver.taken));
-    if (length === 0) return;
-    if (this.options.onFrame) this.log.reply(true, this.engine.copy(this.reply, length));
-    await this.port.write(this.reply, length);
+  /** Answers what came: a promise of that, where there is something to say. */
+  #answer(done) {
+    const length = this.#calls.ym_receiver_answer(this.#receiver, done ? 1 : 0, this.#reply, 2);
+    if (this.#of("in_file")) this.#progress(this.#engine.long(this.#receiver + LAYOUT.ym_receiver.taken));
+    if (length === 0) return null;
+    if (this.#options.onFrame) this.#log.reply(true, this.#engine.copy(this.#reply, length));
+    return this.#port.write(this.#reply, length);
   }
 
   #progress(bytes) {
-    this.options.onProgress?.({ file: this.about, files: this.files.length, bytes, length: this.about.length });
+    this.#options.onProgress?.({ file: this.#about, files: this.files.length, bytes, length: this.#about.length });
   }
 
   #failed() {
     const why = this.#isOtherFile ? "out-of-step" : "aborted";
-    const isOurs = this.#isOtherFile || this.line.isStopped;
-    const state = isOurs && this.state === "host-failed" ? why : this.state;
+    const isOurs = this.#isOtherFile || this.#line.isStopped;
+    const state = isOurs && this.#state === "host-failed" ? why : this.#state;
     const fault = FAULTS[this.#of("fault")] ?? "";
-    return new YmodemError(state, MESSAGES[state] ?? state, { fault, cause: this.cause, answered: this.#answered });
+    return new YmodemError(state, MESSAGES[state] ?? state, { fault, cause: this.#cause, answered: this.#answered });
   }
 
   /** Lets go of a file that is not whole. */

@@ -14,94 +14,127 @@ const PIECE = 64;
 /** A file of the batch: its bytes, by windows, of which the next is under way while one is sent. */
 export class Source {
   #start = 0;
-  #window = new Uint8Array();
+  #window;
   #ahead = null;
+  #blob;
+  #longs;
 
   constructor(item) {
     const isOwn = item instanceof Blob;
-    this.blob = isOwn ? item : item.data instanceof Blob ? item.data : new Blob([item.data]);
+    const data = isOwn ? item : item.data;
+    // Bytes in memory are one window, and copied: who has them may change them.
+    const isHere = data instanceof Uint8Array;
+    this.#window = new Uint8Array(isHere ? data : 0);
+    this.#blob = isHere ? null : data instanceof Blob ? data : new Blob([data]);
     this.name = item.name;
-    this.length = this.blob.size;
+    this.length = this.#blob?.size ?? data.length;
     this.time = isOwn ? undefined : item.time;
     this.mode = isOwn ? undefined : item.mode;
     // A long block while at least 1024 bytes remain, and then short ones.
-    this.longs = Math.floor(this.length / 1024);
-    this.blocks = this.longs + Math.ceil((this.length % 1024) / 128);
+    this.#longs = Math.floor(this.length / 1024);
+    this.blocks = this.#longs + Math.ceil((this.length % 1024) / 128);
   }
 
   /** Where a data block stands in the file, and how many bytes it carries. */
   place(number) {
-    if (number <= this.longs) return { start: (number - 1) * 1024, size: 1024 };
-    return { start: this.longs * 1024 + (number - 1 - this.longs) * 128, size: 128 };
+    if (number <= this.#longs) return { start: (number - 1) * 1024, size: 1024 };
+    return { start: this.#longs * 1024 + (number - 1 - this.#longs) * 128, size: 128 };
   }
 
   async #read(start) {
-    const part = this.blob.slice(start, start + WINDOW);
+    const part = this.#blob.slice(start, start + WINDOW);
     return new Uint8Array(await part.arrayBuffer());
   }
 
-  /** The bytes from here on, as many as the file has. */
-  async bytes(start, size) {
+  /** Whether the bytes of this place, as many as the file has, stand in the window. */
+  has({ start, size }) {
     const end = Math.min(start + size, this.length);
-    if (start < this.#start || end > this.#start + this.#window.length) {
-      this.#window = await (this.#ahead ?? this.#read(start));
-      this.#start = start;
-      const next = start + WINDOW;
-      this.#ahead = next < this.length ? this.#read(next) : null;
-      this.#ahead?.catch(() => {});
-    }
-    return this.#window.subarray(start - this.#start, end - this.#start);
+    return start >= this.#start && end <= this.#start + this.#window.length;
+  }
+
+  /** Moves the window there. */
+  async load({ start }) {
+    this.#window = await (this.#ahead ?? this.#read(start));
+    this.#start = start;
+    const next = start + WINDOW;
+    this.#ahead = next < this.length ? this.#read(next) : null;
+    this.#ahead?.catch(() => {});
+  }
+
+  /** The bytes of this place, which the window has. */
+  bytes({ start, size }) {
+    return this.#window.subarray(start - this.#start, start - this.#start + size);
   }
 }
 
 export class Sending {
   files = [];
-  about = null;
+  #engine;
+  #calls;
+  #line;
+  #port;
+  #sources;
+  #options;
+  #log;
+  // Where in the engine's memory stand the sender and its batch, and what goes in and out of it.
+  #sender;
+  #batch;
+  #total;
+  #filling;
+  #heard;
+  #body;
+  #about = null;
+  #cause;
   #answered = false;
+  #onFault = (cause) => {
+    this.#cause = cause;
+    this.#fail();
+  };
 
   constructor(engine, line, sources, options) {
-    this.engine = engine;
-    this.line = line;
-    this.port = new TimedLine(engine, line, false);
-    this.sources = sources;
-    this.options = options;
-    this.sender = engine.take(LAYOUT.ym_sender.size);
-    this.fill = engine.take(LAYOUT.ym_fill.size);
-    this.heard = engine.take(DELIVERY);
-    this.body = engine.take(1024);
-    const blocks = engine.take(8 * sources.length + 8);
-    sources.forEach((source, at) => engine.view.setBigUint64(blocks + 8 * at, BigInt(source.blocks), true));
-    // the sender and its batch, as its calls take them
-    this.self = [BigInt(this.sender), BigInt(blocks), BigInt(sources.length)];
-    this.heardAt = BigInt(this.heard);
-    this.fillAt = BigInt(this.fill);
-    this.bodyAt = BigInt(this.body);
-    this.log = new Log(engine, options.onFrame);
-    engine.calls.ym_sender_init(...this.self);
+    this.#engine = engine;
+    this.#line = line;
+    this.#port = new TimedLine(engine, line, false);
+    this.#sources = sources;
+    this.#options = options;
+    this.#sender = engine.take(LAYOUT.ym_sender.size);
+    this.#filling = engine.take(LAYOUT.ym_fill.size);
+    this.#heard = engine.take(DELIVERY);
+    this.#body = engine.take(1024);
+    this.#batch = engine.take(8 * sources.length + 8);
+    this.#total = sources.length;
+    sources.forEach(({ blocks }, at) => {
+      engine.view.setBigUint64(this.#batch + 8 * at, BigInt(blocks), true);
+    });
+    this.#log = new Log(engine, options.onFrame);
+    this.#calls = engine.calls;
+    this.#calls.ym_sender_init(this.#sender, this.#batch, this.#total);
   }
 
-  get state() {
+  get #state() {
     return SENT[this.#of("state")];
   }
 
   #of(field) {
-    return this.engine.number(this.sender + LAYOUT.ym_sender[field]);
+    return this.#engine.number(this.#sender + LAYOUT.ym_sender[field]);
   }
 
   #isSettled(held) {
-    return this.engine.calls.ym_sender_settled(...this.self, this.heardAt, BigInt(held)) !== 0;
+    return (
+      this.#calls.ym_sender_settled(this.#sender, this.#batch, this.#total, this.#heard, held) > 0
+    );
   }
 
   /** Reads one delivery, and answers how many bytes it has. */
   async #deliver() {
-    const { port, engine } = this;
+    const [port, engine] = [this.#port, this.#engine];
     let held = 0;
     // a byte of the line may make two
     while (held + 2 <= DELIVERY) {
       const most = Math.min(PIECE, (DELIVERY - held) >> 1);
       const count = await port.read(held === 0 ? WAIT.first : WAIT.more, most);
       if (count === 0) break;
-      engine.bytes.copyWithin(this.heard + held, port.heard, port.heard + count);
+      engine.bytes.copyWithin(this.#heard + held, port.heard, port.heard + count);
       held += count;
       if (this.#isSettled(held)) break;
     }
@@ -109,70 +142,82 @@ export class Sending {
   }
 
   async run() {
-    while (this.state === "running") {
+    while (this.#state === "running") {
       const held = await this.#deliver();
       this.#tell(held);
-      await this.#hear(held);
-      if (this.line.isStopped) this.#fail();
+      this.#hear(held);
+      const filled = this.#fill();
+      if (filled) await filled;
+      if (this.#line.isStopped) this.#fail();
       await this.#out();
     }
-    if (this.state !== "finished") throw this.#failed();
+    if (this.#state !== "finished") throw this.#failed();
   }
 
   /** What came behind the transfer. */
   get rest() {
-    return this.port.behind(this.state === "finished");
+    return this.#port.behind(this.#state === "finished");
   }
 
   #tell(held) {
     if (held > 0) this.#answered = true;
-    if (!this.options.onFrame) return;
-    if (held === 0) this.log.quiet();
-    else this.log.reply(false, this.engine.copy(this.heard, held));
+    if (!this.#options.onFrame) return;
+    if (held === 0) this.#log.quiet();
+    else this.#log.reply(false, this.#engine.copy(this.#heard, held));
   }
 
-  async #hear(held) {
-    this.engine.calls.ym_sender_hear(...this.self, this.heardAt, BigInt(held), this.fillAt);
+  #hear(held) {
+    this.#calls.ym_sender_hear(
+      this.#sender,
+      this.#batch,
+      this.#total,
+      this.#heard,
+      held,
+      this.#filling,
+    );
     this.#count();
+  }
+
+  /** Fills what is asked for: a promise of that, where a block has to be read first. */
+  #fill() {
+    const { ym_fill } = LAYOUT;
+    const kind = this.#engine.number(this.#filling + ym_fill.kind);
+    const source = this.#sources[this.#engine.number(this.#filling + ym_fill.file)];
     try {
-      await this.#doFill();
+      if (kind === FILL.header) return this.#header(source);
+      if (kind !== FILL.block) return null;
+      const place = source.place(this.#engine.long(this.#filling + ym_fill.number));
+      if (source.has(place)) return this.#block(source, place);
+      return source.load(place).then(() => this.#block(source, place)).catch(this.#onFault);
     } catch (fault) {
-      this.cause = fault;
-      this.#fail();
+      return this.#onFault(fault);
     }
   }
 
-  async #doFill() {
-    const { ym_fill } = LAYOUT;
-    const kind = this.engine.number(this.fill + ym_fill.kind);
-    const source = this.sources[this.engine.number(this.fill + ym_fill.file)];
-    if (kind === FILL.header) this.#header(source);
-    else if (kind === FILL.block) await this.#block(source, this.engine.long(this.fill + ym_fill.number));
-  }
-
   #fail() {
-    if (this.state === "running") this.engine.calls.ym_sender_failed(...this.self);
+    if (this.#state !== "running") return;
+    this.#calls.ym_sender_failed(this.#sender, this.#batch, this.#total);
   }
 
   /** Counts the files that are done: those before the one at which the sender stands. */
   #count() {
-    const done = this.#of("place") === PLACE_END ? this.sources.length : this.#of("file");
+    const done = this.#of("place") === PLACE_END ? this.#sources.length : this.#of("file");
     while (this.files.length < done) {
-      this.files.push(this.about);
-      this.#progress(this.about.length);
+      this.files.push(this.#about);
+      this.#progress(this.#about.length);
     }
   }
 
   #header(source) {
     const name = new TextEncoder().encode(source.name);
-    this.about = { name: source.name, length: source.length };
+    this.#about = { name: source.name, length: source.length };
     const room = name.subarray(0, DELIVERY);
-    this.engine.bytes.set(room, this.heard);
+    this.#engine.bytes.set(room, this.#heard);
     const stamp = source.time === undefined ? 0 : source.mode === undefined ? 1 : 2;
-    const fault = this.engine.calls.ym_sender_header(
-      this.self[0],
-      this.heardAt,
-      BigInt(room.length),
+    const fault = this.#calls.ym_sender_header(
+      this.#sender,
+      this.#heard,
+      room.length,
       BigInt(source.length),
       stamp,
       BigInt(source.time ?? 0),
@@ -182,35 +227,36 @@ export class Sending {
     this.#progress(0);
   }
 
-  async #block(source, number) {
-    const { start, size } = source.place(number);
-    const { bytes, calls } = this.engine;
-    bytes.fill(0x1a, this.body, this.body + size);
-    bytes.set(await source.bytes(start, size), this.body);
-    calls.ym_sender_block(this.self[0], this.bodyAt, BigInt(size));
-    this.#progress(start);
+  #block(source, place) {
+    const { bytes } = this.#engine;
+    const body = source.bytes(place);
+    bytes.set(body, this.#body);
+    bytes.fill(0x1a, this.#body + body.length, this.#body + place.size);
+    this.#calls.ym_sender_block(this.#sender, this.#body, place.size);
+    this.#progress(place.start);
   }
 
-  async #out() {
-    const out = this.engine.calls.ym_sender_out(...this.self);
+  /** Writes what is to be sent: a promise of that. */
+  #out() {
+    const out = this.#calls.ym_sender_out(this.#sender, this.#batch, this.#total);
     if (out === OUT.frame) {
-      const [at, length] = [this.sender + LAYOUT.ym_sender.frame, this.#of("len")];
-      this.log.frame(true, at, length);
-      await this.port.write(at, length);
-    } else if (out === OUT.cancel) {
-      this.log.reply(true, CANCEL);
-      await this.port.write(this.port.cancel, CANCEL.length);
+      const [at, length] = [this.#sender + LAYOUT.ym_sender.frame, this.#of("len")];
+      this.#log.frame(true, at, length);
+      return this.#port.write(at, length);
     }
+    if (out !== OUT.cancel) return null;
+    this.#log.reply(true, CANCEL);
+    return this.#port.write(this.#port.cancel, CANCEL.length);
   }
 
   #progress(bytes) {
-    this.options.onProgress?.({ file: this.about, files: this.files.length, bytes, length: this.about.length });
+    this.#options.onProgress?.({ file: this.#about, files: this.files.length, bytes, length: this.#about.length });
   }
 
   #failed() {
-    const isOurs = this.line.isStopped && this.state === "source-failed";
-    const state = isOurs ? "aborted" : this.cause?.code === "bad-header" ? "bad-header" : this.state;
-    return new YmodemError(state, MESSAGES[state] ?? state, { cause: this.cause, fault: this.cause?.fault, answered: this.#answered });
+    const isOurs = this.#line.isStopped && this.#state === "source-failed";
+    const state = isOurs ? "aborted" : this.#cause?.code === "bad-header" ? "bad-header" : this.#state;
+    return new YmodemError(state, MESSAGES[state] ?? state, { cause: this.#cause, fault: this.#cause?.fault, answered: this.#answered });
   }
 
   abandon() {}

@@ -2,6 +2,7 @@
    it lets its line clear. This is the driver of docs/timing.md over the calls ym_line_*; nothing of
    the rule itself stands here. */
 
+import { moment } from "./alarm.js";
 import { CANCEL, LAYOUT, VAIN, WAIT } from "./codes.js";
 import { DELIVERY, QUIET, joined } from "./line.js";
 
@@ -11,77 +12,91 @@ const ACK = Uint8Array.of(0x06);
 const MOST_READS = 65536;
 const FRAME = 1029;
 // Of a byte that came two may be heard.
-const ROOM = BigInt(2 * DELIVERY);
+const ROOM = 2 * DELIVERY;
 // Pieces that are kept for whoever has the line next.
 const MOST_KEPT = 4096;
-
-const clock = () => BigInt(Math.floor(performance.now()));
 
 /** A line as a receiver or a sender of an engine has it. What is read and what is written stands in
  *  the engine's memory. */
 export class TimedLine {
+  #engine;
+  #line;
+  #isSender;
   #calls;
   #state;
   #clearing;
   #came;
-  #cameAt;
-  #heardAt;
   #written;
-  #writtenAt;
-  #writtenLength = 0n;
+  #writtenLength = 0;
+  // The moment of the last look, whole milliseconds of it, and what the rule makes of them.
+  #looked = 0;
+  #millis = 0;
   #now = 0n;
-  #closed = null;
+  // Until when the last read waited.
+  #until = 0n;
   #mayCancel = false;
   // What came since the last write, as it came.
   #since = [];
 
   constructor(engine, line, isReceiver) {
-    this.engine = engine;
-    this.line = line;
-    this.isSender = !isReceiver;
+    this.#engine = engine;
+    this.#line = line;
+    this.#isSender = !isReceiver;
     this.#calls = engine.calls;
-    this.#state = BigInt(engine.take(LAYOUT.ym_line.size));
-    this.#clearing = BigInt(engine.take(LAYOUT.ym_clearing.size));
+    this.#state = engine.take(LAYOUT.ym_line.size);
+    this.#clearing = engine.take(LAYOUT.ym_clearing.size);
     this.#came = engine.take(DELIVERY);
-    this.#cameAt = BigInt(this.#came);
     this.#written = engine.take(FRAME);
-    this.#writtenAt = BigInt(this.#written);
     /** Where that stands which was heard last. */
     this.heard = engine.take(2 * DELIVERY);
-    this.#heardAt = BigInt(this.heard);
     this.cancel = engine.take(CANCEL.length);
     engine.bytes.set(CANCEL, this.cancel);
     this.#calls.ym_line_init(this.#state, isReceiver ? 1 : 0);
     this.#look();
   }
 
+  /** Takes the moment. A block costs three looks: where a wait begins, where bytes came, and where
+   *  some are written. */
   #look() {
-    this.#now = this.#calls.ym_line_now(this.#state, clock());
+    const before = this.#clock();
+    // the rule knows of most milliseconds already
+    if (this.#millis === before) return;
+    this.#now = this.#calls.ym_line_now(this.#state, BigInt(this.#millis));
+  }
+
+  /** Looks at the clock, and answers what it told before. */
+  #clock() {
+    const before = this.#millis;
+    this.#looked = moment();
+    this.#millis = Math.floor(this.#looked);
+    return before;
   }
 
   /** Reads what is to be heard of at most so many bytes, and answers how many bytes that is: 0
    *  where the line was quiet. */
   async read(wait, most) {
     if (this.#hasCancel()) return this.#hears(CANCEL);
-    if (this.#closed) throw this.#closed;
+    if (this.#line.closed) throw this.#line.closed;
     if (wait === WAIT.first) this.#look();
     const start = this.#now;
     for (let reads = 0; reads < MOST_READS; reads++) {
-      const until = this.#until(wait, wait === WAIT.first ? start : this.#now);
-      const piece = await this.#get(until, most);
+      const piece = this.#line.there(most) ?? (await this.#comes(this.#end(wait, start), most));
+      this.#stops(piece);
       const count = piece === QUIET ? 0 : this.#take(piece);
-      if (count > 0 || this.line.isStopped) return count;
+      if (count > 0 || this.#line.isStopped) return count;
       // where nothing of it is heard, a wait goes on, for as long as one for a reply
-      if (piece !== QUIET && this.#until(WAIT.first, start) > this.#now) continue;
+      if (piece !== QUIET && this.#end(WAIT.first, start) > this.#now) continue;
       const vain = this.#calls.ym_line_expired(this.#state, wait, this.#now);
       if (vain === VAIN.ack) return this.#hears(ACK);
-      if (this.#closed) throw this.#closed;
+      if (this.#line.closed) throw this.#line.closed;
       if (vain === VAIN.quiet) return 0;
     }
     return 0;
   }
 
-  #until(wait, since) {
+  /** When a wait is over: one for a reply that began then, or one for more, which begins now. */
+  #end(wait, start) {
+    const since = wait === WAIT.first ? start : this.#now;
     return this.#calls.ym_line_until(this.#state, wait, since);
   }
 
@@ -93,24 +108,22 @@ export class TimedLine {
   }
 
   /** What the line brings until then. One that closes or fails is quiet, and known to be closed. */
-  async #get(until, most) {
+  #comes(until, most) {
+    this.#until = until;
     const millis = until > this.#now ? Number(until - this.#now) : 0;
-    let piece;
-    try {
-      piece = await this.line.read(millis, most);
-    } catch (fault) {
-      this.#closed = fault;
-      return QUIET;
-    }
-    if (piece !== QUIET) this.#look();
-    else if (!this.line.isStopped) {
-      this.#now = this.#calls.ym_line_waited(this.#state, until, clock());
-    }
-    return piece;
+    return this.#line.read(this.#looked, millis, most);
+  }
+
+  /** Takes the moment at which a read ended, with a piece or in vain. */
+  #stops(piece) {
+    if (piece !== QUIET) return this.#look();
+    if (this.#line.isStopped || this.#line.closed) return;
+    this.#clock();
+    this.#now = this.#calls.ym_line_waited(this.#state, this.#until, BigInt(this.#millis));
   }
 
   #hears(bytes) {
-    this.engine.bytes.set(bytes, this.heard);
+    this.#engine.bytes.set(bytes, this.heard);
     return bytes.length;
   }
 
@@ -118,33 +131,36 @@ export class TimedLine {
    *  which its peer cancels. */
   #take(piece) {
     if (this.#since.length < MOST_KEPT) this.#since.push(piece);
-    this.engine.bytes.set(piece, this.#came);
+    this.#engine.bytes.set(piece, this.#came);
     const count = this.#calls.ym_line_hear(
       this.#state,
-      this.#cameAt,
-      BigInt(piece.length),
-      this.#writtenAt,
+      this.#came,
+      piece.length,
+      this.#written,
       this.#writtenLength,
       this.#now,
-      this.#heardAt,
+      this.heard,
       ROOM,
     );
-    const cancels = this.isSender && this.#calls.ym_line_cancels(this.#heardAt, count);
-    return cancels ? this.#hears(CANCEL) : Number(count);
+    const cancels = this.#isSender && this.#calls.ym_line_cancels(this.heard, count);
+    return cancels ? this.#hears(CANCEL) : count;
   }
 
   /** Writes so many bytes of the engine's memory, behind what has to clear before them. */
-  async write(at, length) {
-    const [from, count] = [BigInt(at), BigInt(length)];
+  write(at, length) {
     this.#look();
-    this.#calls.ym_line_clearing(this.#state, from, count, this.#now, this.#clearing);
-    if (!this.#isClear()) await this.#clear();
-    if (this.#closed) throw this.#closed;
-    this.#calls.ym_line_wrote(this.#state, this.#clearing, from, count, this.#now);
-    this.engine.bytes.copyWithin(this.#written, at, at + length);
-    this.#writtenLength = count;
+    this.#calls.ym_line_clearing(this.#state, at, length, this.#now, this.#clearing);
+    if (this.#isClear()) return this.#put(at, length);
+    return this.#clear().then(() => this.#put(at, length));
+  }
+
+  #put(at, length) {
+    if (this.#line.closed) throw this.#line.closed;
+    this.#calls.ym_line_wrote(this.#state, this.#clearing, at, length, this.#now);
+    this.#engine.bytes.copyWithin(this.#written, at, at + length);
+    this.#writtenLength = length;
     this.#since = [];
-    await this.line.write(this.engine.copy(at, length));
+    return this.#line.write(this.#looked, this.#engine.copy(at, length));
   }
 
   #clearAt() {
@@ -152,25 +168,26 @@ export class TimedLine {
   }
 
   #isClear() {
-    return this.#clearAt() <= this.#now || this.#closed !== null || this.line.isStopped;
+    return this.#clearAt() <= this.#now || this.#line.closed !== null || this.#line.isStopped;
   }
 
   async #clear() {
     this.#mayCancel = true;
     for (let reads = 0; reads < MOST_READS && !this.#isClear(); reads++) {
-      const piece = await this.#get(this.#clearAt(), DELIVERY);
+      const piece = this.#line.there(DELIVERY) ?? (await this.#comes(this.#clearAt(), DELIVERY));
+      this.#stops(piece);
       if (piece !== QUIET) this.#drop(piece);
     }
   }
 
   #drop(piece) {
-    this.engine.bytes.set(piece, this.#came);
+    this.#engine.bytes.set(piece, this.#came);
     this.#calls.ym_line_drop(
       this.#state,
       this.#clearing,
-      this.#cameAt,
-      BigInt(piece.length),
-      this.#writtenAt,
+      this.#came,
+      piece.length,
+      this.#written,
       this.#writtenLength,
       this.#now,
     );

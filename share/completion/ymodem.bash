@@ -15,7 +15,7 @@ _ymodem() {
     receive) words='--port -p --single --eager --keep --no-sync --discard-parts --verbose --quiet --help -h' ;;
     sb) words='--line --short --verbose --quiet --help -h' ;;
     rb) words='--line --single --no-sync --discard-parts --verbose --quiet --help -h' ;;
-    explain) words='--there --back --help -h' ;;
+    explain) words='--there --back --turned --help -h' ;;
     help) words='sb rb send receive play loop explain help' ;;
     *) words= ;;
     esac

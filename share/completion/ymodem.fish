@@ -27,4 +27,5 @@ complete -c ymodem -n '__fish_seen_subcommand_from sb rb' -r -l line -d 'The ter
 complete -c ymodem -n '__fish_seen_subcommand_from receive rb' -a '(__fish_complete_directories)' -d 'The folder to receive into'
 complete -c ymodem -n '__fish_seen_subcommand_from explain' -r -F -l there -d 'A file of the bytes that the sender wrote'
 complete -c ymodem -n '__fish_seen_subcommand_from explain' -r -F -l back -d 'A file of the bytes that the receiver wrote'
+complete -c ymodem -n '__fish_seen_subcommand_from explain' -l turned -d 'Takes the sender of a capture of TCP for the receiver'
 complete -c ymodem -n '__fish_seen_subcommand_from explain' -F

@@ -11,7 +11,7 @@ use anyhow::{Context, Result};
 use std::alloc::Global;
 use std::io;
 use std::io::{BufWriter, Write};
-use ym_inspect::explain_record;
+use ym_inspect::explain_capture;
 
 /// The digits of a piece, each part as often as it says.
 fn digits_of(alloc: Global, piece: &str) -> Result<String> {
@@ -51,7 +51,7 @@ fn tell_cases(rt: &HostRuntime) -> Result<()> {
         writeln!(out, "{name}")?;
         let record = record_of(rt.alloc(), pieces)?;
         let mut bytes = record.as_bytes();
-        if let Err(fault) = explain_record(rt.alloc(), &mut bytes, &mut out) {
+        if let Err(fault) = explain_capture(rt.alloc(), &mut bytes, false, &mut out) {
             writeln!(out, "fault: {fault}")?;
         }
     }

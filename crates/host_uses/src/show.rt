@@ -9,12 +9,6 @@ mod watches;
 use std::alloc::AllocError;
 use std::fmt::Display;
 
-/// Whether two values are equal. It has no contract, so that the proof of a test does not follow
-/// how they are compared.
-fn same<T: PartialEq>(left: &T, right: &T) -> bool {
-    left == right
-}
-
 /// The text of a message.
 fn told<D: Display>(rt: &HostRuntime, message: &D) -> Result<String, AllocError> {
     format!(in rt.alloc(); "{message}")

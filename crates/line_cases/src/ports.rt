@@ -7,8 +7,7 @@
 //!
 //! - `NAME=BYTES`, a file to be sent, and `short` for short blocks alone;
 //! - `once`, for a receiver that confirms once;
-//! - `clear`, for a port that lets the line clear, and `peer`, for the calls that promise against
-//!   any peer;
+//! - `peer`, for the calls that promise against any peer;
 //! - `write:N`, for a port whose write number N fails.
 
 use super::spelled::bytes_of;
@@ -18,8 +17,7 @@ use ym_file::{MemSource, Shape};
 use ym_frame::Bytes;
 use ym_header::Stamp;
 use ym_link::{
-    Clearing, EndFault, Event, Receiver, Role, ScriptPort, SendFile, Sender, SourceFile,
-    receive_over, send_over,
+    EndFault, Event, Receiver, ScriptPort, SendFile, Sender, SourceFile, receive_over, send_over,
 };
 use ym_pair::{receive_from_any_peer, send_and_receive, send_to_any_peer};
 
@@ -134,10 +132,6 @@ fn send(port: &mut ScriptPort, sender: &mut Sender, to_any_peer: bool) -> Answer
     }
 }
 
-fn send_clear(port: &mut Clearing<ScriptPort>, sender: &mut Sender) -> Answer {
-    send_over(port, sender)
-}
-
 fn receive(port: &mut ScriptPort, receiver: &mut Receiver, from_any_peer: bool) -> Answer {
     if from_any_peer {
         receive_from_any_peer(port, receiver)
@@ -146,26 +140,15 @@ fn receive(port: &mut ScriptPort, receiver: &mut Receiver, from_any_peer: bool) 
     }
 }
 
-fn receive_clear(port: &mut Clearing<ScriptPort>, receiver: &mut Receiver) -> Answer {
-    receive_over(port, receiver)
-}
-
 /// Sends what a case has, and tells how it ended.
 pub fn sent(alloc: Global, head: &str, parts: &[&str]) -> Result<String, Unread> {
     let coming = parts.first().ok_or(Unread)?;
     let mut port = port_of(alloc, head, coming)?;
     let mut sender = sender_of(alloc, head)?;
     let mut text = String::new(alloc);
-    if has(head, "clear") {
-        let mut port = Clearing::new(port, Role::Sender);
-        let answer = send_clear(&mut port, &mut sender);
-        push_sender(&mut text, answer, &sender)?;
-        push_port(&mut text, alloc, port.port(), parts.get(1))?;
-    } else {
-        let answer = send(&mut port, &mut sender, has(head, "peer"));
-        push_sender(&mut text, answer, &sender)?;
-        push_port(&mut text, alloc, &port, parts.get(1))?;
-    }
+    let answer = send(&mut port, &mut sender, has(head, "peer"));
+    push_sender(&mut text, answer, &sender)?;
+    push_port(&mut text, alloc, &port, parts.get(1))?;
     Ok(text)
 }
 
@@ -184,16 +167,9 @@ pub fn received(alloc: Global, head: &str, parts: &[&str]) -> Result<String, Unr
     let mut port = port_of(alloc, head, coming)?;
     let mut receiver = receiver_of(alloc, head);
     let mut text = String::new(alloc);
-    if has(head, "clear") {
-        let mut port = Clearing::new(port, Role::Receiver);
-        let answer = receive_clear(&mut port, &mut receiver);
-        push_receiver(&mut text, answer, &receiver)?;
-        push_port(&mut text, alloc, port.port(), parts.get(1))?;
-    } else {
-        let answer = receive(&mut port, &mut receiver, has(head, "peer"));
-        push_receiver(&mut text, answer, &receiver)?;
-        push_port(&mut text, alloc, &port, parts.get(1))?;
-    }
+    let answer = receive(&mut port, &mut receiver, has(head, "peer"));
+    push_receiver(&mut text, answer, &receiver)?;
+    push_port(&mut text, alloc, &port, parts.get(1))?;
     push_files(&mut text, alloc, &receiver)?;
     Ok(text)
 }

@@ -92,11 +92,20 @@ fn job_text(alloc: Global, job: &Job<'_>) -> Result<String, AllocError> {
             push_flag(&mut text, true, dir)?;
             Ok(text)
         }
-        Job::Explain { there, back, both } => {
+        Job::Explain {
+            there,
+            back,
+            both,
+            turned,
+        } => {
             let there = there.unwrap_or("nothing");
             let back = back.unwrap_or("nothing");
             let both = both.unwrap_or("nothing");
-            format!(in alloc; "explain {there} there, {back} back, {both} both ways")
+            let mut text = format!(in alloc;
+                "explain {there} there, {back} back, {both} both ways"
+            )?;
+            push_flag(&mut text, *turned, "turned")?;
+            Ok(text)
         }
     }
 }

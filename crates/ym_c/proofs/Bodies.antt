@@ -1,7 +1,7 @@
 -- A body in its frame.
-use Rattle.std.specs.Prelude.{◌≡◌, ◌≤◌, ℕ, ◌+◌, ◌-◌, ◌/◌, ◌%◌, List, [], ◌∷◌, ◌++◌, length, take, drop, refl}
+use Rattle.std.specs.Prelude.{◌≡◌, ℕ, ◌+◌, ◌-◌, ◌/◌, ◌%◌, List, [], ◌∷◌, ◌++◌, length, take, drop, refl}
 use Rattle.std.proofs.Common.{◌∙◌, ap, ap₂, arith, inl, inr, length-append, length-drop}
-use Rattle.std.proofs.lemmas.List.{length-take-le, take_at, take_all, drop_at}
+use Rattle.std.proofs.lemmas.List.{length-take-le, take_at, drop_at}
 use borrow.Rule.Slice.PartMut.{put_mid}
 use Rattle.ym_frame.specs.Check.{check_of}
 use Rattle.ym_frame.specs.Seal.{IsBlockFrame}
@@ -26,8 +26,3 @@ frame_length number body frame (inr (l, e)) = ap length e ∙ (let all = length-
 pub frame_front : (number : ℕ) (body frame more : List ℕ) (n : ℕ) → IsBlockFrame number body frame → length body + 5 ≡ n → IsBlockFrame number body (take n (frame ++ more))
 frame_front number body frame more n h e =
     rw (take_at frame more n (frame_length number body frame h ∙ e)) h
-
-pub frame_whole : (number : ℕ) (body frame : List ℕ) (n : ℕ) → IsBlockFrame number body frame → length body + 5 ≤ n → IsBlockFrame number body (take n frame)
-frame_whole number body frame n h e =
-    let l = frame_length number body frame h in
-    rw (take_all n frame (omega arith)) h

@@ -14,7 +14,7 @@ ghost use Rattle.ym_timing.specs.Timing as table;
 ghost use Rattle.ym_timing.specs.Writing as writing;
 
 use ym_line_c::{YmClearing, YmLine, code_of_vain, drop_bytes, hear_bytes, role_of, wait_of};
-use ym_timing::cancels;
+use ym_timing::{Timing, cancels};
 
 /// Makes the line of an end that said and heard nothing, whatever stood there: 0 a sender, any
 /// other a receiver.
@@ -58,7 +58,15 @@ pub extern "C" fn ym_line_waited(line: &mut YmLine, until: u64, clock: u64) -> u
 pub extern "C" fn ym_line_until(line: &YmLine, wait: u32, start: u64) -> u64
     ensures { result ≡ table.until (codes.wait_of wait) start (timing_of line.now) }
 {
-    line.timing().until(wait_of(wait), start)
+    // A wait depends on this alone of what the line knows.
+    let timing = Timing {
+        pace: line.pace.load(),
+        sent: line.sent.load(),
+        heard: line.heard.load(),
+        hold: line.hold.load(),
+        ..Timing::new(role_of(u32::from(line.role)))
+    };
+    timing.until(wait_of(wait), start)
 }
 
 /// Takes that a read waited until then, and nothing came: 0 it waits on; 1 an ACK that came before
@@ -120,10 +128,9 @@ pub extern "C" fn ym_line_cancelled(line: &mut YmLine) -> u32
     ensures result { result ≡ bool_code (timing_of line.old).has_cancel }
     ensures clock { clock_of line.new ≡ clock_of line.old }
 {
-    let mut timing = line.timing();
-    let was = timing.hears_cancel();
-    line.keep(timing);
-    if was { 1 } else { 0 }
+    let was = line.has_cancel;
+    line.has_cancel = 0;
+    if was != 0 { 1 } else { 0 }
 }
 
 /// Why the line has to clear before these bytes are written, if it has to, and how far it is.
@@ -139,7 +146,16 @@ pub extern "C" fn ym_line_clearing(line: &YmLine, bytes: &[u8], now: u64, cleari
 pub extern "C" fn ym_line_clear_at(line: &YmLine, clearing: &YmClearing) -> u64
     ensures { result ≡ clears.clear_at (clearing_of clearing.now) (timing_of line.now) }
 {
-    line.timing().clear_at(clearing.load())
+    // How far it is clear depends on this alone of what the line knows.
+    let timing = Timing {
+        pace: line.pace.load(),
+        out: line.out.load(),
+        sent: line.sent.load(),
+        vain: line.vain,
+        has_cancel: line.has_cancel != 0,
+        ..Timing::new(role_of(u32::from(line.role)))
+    };
+    timing.clear_at(clearing.load())
 }
 
 /// Takes bytes that came now and are dropped while the line clears, where this was written last.

@@ -94,17 +94,15 @@ pub fn seal_frame(frame: &mut [u8], number: u8, body: &[u8])
 }
 
 /// Makes the frame of the block of this number and this body at the front, and answers its length.
+#[inline(never)]
 fn seal_body(frame: &mut [u8; 1029], number: u8, body: &[u8]) -> u32
     requires { (length body.now ≡ 128) ⊎ (length body.now ≡ 1024) }
     ensures frame { IsBlockFrame number body.now (take result frame.new) }
     ensures room { result ≤ 1029 }
 {
-    if body.len() == 128 {
-        seal_frame(&mut frame[..133], number, body);
-        return 133;
-    }
-    seal_frame(frame, number, body);
-    1029
+    let size = body.len() + 5;
+    seal_frame(&mut frame[..size], number, body);
+    size as u32
 }
 
 /// Makes the frame of a header's block 0 at the front, and answers its length.

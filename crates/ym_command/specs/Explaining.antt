@@ -3,13 +3,15 @@ use Rattle.std.specs.Prelude.{◌≡◌, ◌⊎◌, ◌++◌, ⊤, ℕ, List, Bo
 use Rattle.std.specs.Prelude.{IfOk, IfErr, Option, Some, None, Result, Ok, Err}
 use Rattle.std.specs.Str.{bytes_eq}
 use Rattle.clap.specs.Words.{Text}
+use Rattle.ym_capture.specs.CaptureWords.{capture_words}
+use Rattle.ym_capture.specs.declared.fault.CaptureFault.{CaptureFault}
 use Rattle.ym_explain.specs.declared.verdict.Verdict.{Verdict}
 use Rattle.ym_explain.specs.declared.verdict.Ways.{Ways}
 use Rattle.ym_explain.specs.declared.verdict.Ways.TheVariants as ways
 use Rattle.ym_file.specs.Counts.{Rose}
 use Rattle.ym_inspect.specs.CaptureFaults.{CountsReads, CountsWrites, record_words}
 use Rattle.ym_inspect.specs.CaptureTold.{Explains, TellsLast, tagged, ways_of}
-use Rattle.ym_inspect.specs.RecordRead.{IsFirstLine, TellsRecord}
+use Rattle.ym_inspect.specs.PcapRead.{FaultOfCapture, TellsCapture}
 use Rattle.ym_inspect.specs.declared.fault.InspectFault.{InspectFault}
 use Rattle.ym_inspect.specs.declared.fault.InspectFault.TheVariants as inspect
 use Rattle.ym_inspect.specs.declared.fault.RecordFault.{RecordFault}
@@ -22,7 +24,7 @@ use Rattle.ym_text.specs.Reasons.{reason_text}
 use Rattle.ym_text.specs.declared.reason.Reason.{Reason}
 use Rattle.ym_told.specs.declared.way.Direction.TheVariants.{There, Back}
 use Rattle.ym_command.specs.declared.explaining.Form.{Form}
-use Rattle.ym_command.specs.declared.explaining.Form.TheVariants.{Record, OneWay}
+use Rattle.ym_command.specs.declared.explaining.Form.TheVariants.{Capture, OneWay}
 use Rattle.ym_command.specs.declared.untold.Untold.{Untold}
 use Rattle.ym_command.specs.declared.untold.Untold.TheVariants as untold
 
@@ -50,6 +52,16 @@ no_record_words name number why =
     codes "'" ++ (name ++ (codes "' is no record: line " ++ (decimal number ++ (codes ": "
     ++ (record_words why ++ forms_words)))))
 
+abbrev pub pcapng_words : Text → List ℕ
+pcapng_words name =
+    codes "'" ++ (name ++ codes
+    "' is a pcapng capture, which is not read; editcap -F pcap IN OUT makes a pcap of it")
+
+abbrev pub no_capture_words : Text → ℕ → CaptureFault → List ℕ
+no_capture_words name place why =
+    codes "'" ++ (name ++ (codes "' cannot be read on: byte " ++ (decimal place ++ (codes ": "
+    ++ capture_words why))))
+
 abbrev pub too_many_words : List ℕ
 too_many_words = codes "a record has both ways: give it alone, or else --there and --back"
 
@@ -59,24 +71,27 @@ untold_words (untold.Unread name) = unread_words name.now
 untold_words (untold.UnreadPair there back) = pair_words there.now back.now
 untold_words (untold.Endless name) = endless_words name.now
 untold_words (untold.NoRecord name number why) = no_record_words name.now number why
+untold_words (untold.Pcapng name) = pcapng_words name.now
+untold_words (untold.NoCapture name place why) = no_capture_words name.now place why
 untold_words untold.TooMany = too_many_words
 
 -- ---- What is told
 
 abbrev pub ways_in : Form → Ways
-ways_in Record = ways.Both
+ways_in (Capture turned) = ways.Both
 ways_in (OneWay way) = ways_of way
 
 -- all of a capture of these bytes is told in its order, and nothing else
 abbrev pub TellsForm :
     Form → List ℕ → Option (List ℕ) → Verdict → Option (List ℕ) → Type 0
-TellsForm Record text before verdict after = TellsRecord text before verdict after
+TellsForm (Capture turned) text before verdict after =
+    TellsCapture turned text before verdict after
 TellsForm (OneWay way) text before verdict after =
     Explains (ways_of way) (tagged way text) before verdict after
 
--- a line that cannot be read is the first such line of a record
+-- a line that cannot be read is the first such line of a record, and a packet of a capture
 abbrev pub IsFaultOf : Form → InspectFault → List ℕ → Type 0
-IsFaultOf Record why text = IsFirstLine why text
+IsFaultOf (Capture turned) why text = FaultOfCapture turned why text
 IsFaultOf (OneWay way) why text = ⊤
 
 -- A capture of this form was told, where reads give this text: its last line is the verdict's.
@@ -112,6 +127,10 @@ AnswersCapture name unread (Err inspect.Endless) old answer new =
     Refuses (endless_words name) 1 old answer new
 AnswersCapture name unread (Err (inspect.Line number why)) old answer new =
     Refuses (no_record_words name number why) 1 old answer new
+AnswersCapture name unread (Err inspect.Pcapng) old answer new =
+    Refuses (pcapng_words name) 1 old answer new
+AnswersCapture name unread (Err (inspect.Packet place why)) old answer new =
+    Refuses (no_capture_words name place why) 1 old answer new
 
 -- where the file at this path could not be opened
 abbrev pub AnswersClosed : Text → Page → Result ℕ CommandFault → Page → Type 0
@@ -183,15 +202,20 @@ abbrev pub RefusesBoth : Desk → Result ℕ CommandFault → Desk → Type 0
 RefusesBoth old answer new =
     Refuses too_many_words 2 old.err answer new.err × (new.out ≡ old.out) × KeepsInput old new
 
--- where these files of one way are given, and a record or none
+-- where these files of one way are given, and a capture or none, whose ways are turned or not
 abbrev pub ExplainGives :
-    Option Text → Option Text → Option Text → Desk → Result ℕ CommandFault → Desk → Type 0
-ExplainGives None None (Some path) old answer new = FileGives path Record old answer new
-ExplainGives None (Some back) (Some path) old answer new = RefusesBoth old answer new
-ExplainGives (Some there) None (Some path) old answer new = RefusesBoth old answer new
-ExplainGives (Some there) (Some back) (Some path) old answer new = RefusesBoth old answer new
-ExplainGives None None None old answer new = FileGives (codes "-") Record old answer new
-ExplainGives (Some path) None None old answer new = FileGives path (OneWay There) old answer new
-ExplainGives None (Some path) None old answer new = FileGives path (OneWay Back) old answer new
-ExplainGives (Some there) (Some back) None old answer new =
+    Option Text → Option Text → Option Text → Bool → Desk → Result ℕ CommandFault → Desk → Type 0
+ExplainGives None None (Some path) turned old answer new =
+    FileGives path (Capture turned) old answer new
+ExplainGives None (Some back) (Some path) turned old answer new = RefusesBoth old answer new
+ExplainGives (Some there) None (Some path) turned old answer new = RefusesBoth old answer new
+ExplainGives (Some there) (Some back) (Some path) turned old answer new =
+    RefusesBoth old answer new
+ExplainGives None None None turned old answer new =
+    FileGives (codes "-") (Capture turned) old answer new
+ExplainGives (Some path) None None turned old answer new =
+    FileGives path (OneWay There) old answer new
+ExplainGives None (Some path) None turned old answer new =
+    FileGives path (OneWay Back) old answer new
+ExplainGives (Some there) (Some back) None turned old answer new =
     PairGives there back old.out old.err answer new.out new.err × KeepsInput old new

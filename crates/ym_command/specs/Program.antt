@@ -6,10 +6,10 @@ use Rattle.ym_file.specs.declared.plan.Shape.{Shape}
 use Rattle.ym_file.specs.declared.plan.Shape.TheVariants.{Mixed, Short}
 use Rattle.ym_machine.specs.declared.confirm.Confirm.{Confirm}
 use Rattle.ym_machine.specs.declared.confirm.Confirm.TheVariants.{Twice, Once}
-use Rattle.ym_host.specs.declared.dir_sink.Durability.{Durability}
-use Rattle.ym_host.specs.declared.dir_sink.Durability.TheVariants.{Disk, System}
-use Rattle.ym_host.specs.declared.dir_sink.Leftover.{Leftover}
-use Rattle.ym_host.specs.declared.dir_sink.Leftover.TheVariants.{Refused, Discarded}
+use Rattle.ym_folder.specs.declared.dir_sink.Durability.{Durability}
+use Rattle.ym_folder.specs.declared.dir_sink.Durability.TheVariants.{Disk, System}
+use Rattle.ym_folder.specs.declared.dir_sink.Leftover.{Leftover}
+use Rattle.ym_folder.specs.declared.dir_sink.Leftover.TheVariants.{Refused, Discarded}
 use Rattle.ym_line.specs.declared.delivery.Handed.{Handed}
 use Rattle.ym_play.specs.Session.{SessionGives}
 use Rattle.ym_words.specs.CommandLine.{the_app}
@@ -87,8 +87,8 @@ JobGives (job.SendLine line short files tell) old answer new =
     PrintsBeside line (SendGives (shape_of short) files) old answer new
 JobGives (job.ReceiveLine line flags dir tell) old answer new =
     PrintsBeside line (ReceiveGives (confirm_of flags.single)) old answer new
-JobGives (job.Explain there back both) old answer new =
-    ExplainGives there back both old answer new
+JobGives (job.Explain there back both turned) old answer new =
+    ExplainGives there back both turned old answer new
 
 -- the line of a fault was written to err, and nothing else was done
 pub record OnlyTells (why : CommandFault) (old : Desk) (status : ℕ) (new : Desk) : Type 0 where

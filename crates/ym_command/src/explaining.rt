@@ -1,4 +1,5 @@
-//! `explain`: tells what passed on a line, as a record of both ways says it, or files of bytes.
+//! `explain`: tells what passed on a line, as a record or a capture of both ways says it, or files
+//! of bytes.
 
 ghost use Rattle.std.specs.Prelude.{◌≡◌, ◌≤◌, IfOk, option_map};
 ghost use Rattle.ym_jobs.specs.Page.{page};
@@ -9,7 +10,7 @@ use std::alloc::Global;
 use std::fs::{File, Files};
 use std::{fs, io};
 use ym_explain::Verdict;
-use ym_inspect::{Direction, InspectFault, explain_one_way, explain_pair, explain_record};
+use ym_inspect::{Direction, InspectFault, explain_capture, explain_one_way, explain_pair};
 use ym_jobs::CommandFault;
 use ym_play::{Input, Output, StreamFault};
 use ym_text::Reason;
@@ -29,8 +30,8 @@ const INPUT_NAME: &str = "standard input";
 /// What a capture has.
 #[derive(Clone, Copy)]
 pub(crate) enum Form {
-    /// Both ways, in lines that say when what passed.
-    Record,
+    /// Both ways, in lines or in packets that say when what passed. Its ways may be turned.
+    Capture(bool),
     /// The bytes of one way.
     OneWay(Direction),
 }
@@ -47,7 +48,7 @@ fn tell_form<I: Input, O: Output>(
         (page (O.contents out.new) (O.failures out.new)) }
 {
     match form {
-        Form::Record => explain_record(alloc, input, out),
+        Form::Capture(turned) => explain_capture(alloc, input, turned, out),
         Form::OneWay(way) => explain_one_way(alloc, input, way, out),
     }
 }
@@ -85,6 +86,10 @@ fn answer<E: Output>(
         Err(InspectFault::Endless) => refuse(err, Untold::Endless(name), UNTOLD),
         Err(InspectFault::Line { number, why }) => {
             refuse(err, Untold::NoRecord(name, number, why), UNTOLD)
+        }
+        Err(InspectFault::Pcapng) => refuse(err, Untold::Pcapng(name), UNTOLD),
+        Err(InspectFault::Packet { place, why }) => {
+            refuse(err, Untold::NoCapture(name, place, why), UNTOLD)
         }
     }
 }
@@ -163,20 +168,21 @@ fn explain_files<R: Files<File = File>, O: Output, E: Output>(
 }
 
 /// Tells what passed on a line, as these files have it: those of what the sender and the receiver
-/// wrote, or of one of them alone, or else a record of both ways. Where one file is read, `-` is
-/// standard input. A record that is not named is read there.
+/// wrote, or of one of them alone, or else a capture of both ways, which may be turned. Where one
+/// file is read, `-` is standard input. A capture that is not named is read there.
 pub(crate) fn explain<R: Files<File = File>, I: Input, O: Output, E: Output>(
     rt: &R,
     alloc: Global,
     there: Option<&str>,
     back: Option<&str>,
     both: Option<&str>,
+    turned: bool,
     input: &mut I,
     out: &mut O,
     err: &mut E,
 ) -> Result<u8, CommandFault>
     ensures gives { ExplainGives (option_map (λ f. f.now) there.entry)
-        (option_map (λ f. f.now) back.entry) (option_map (λ f. f.now) both.entry)
+        (option_map (λ f. f.now) back.entry) (option_map (λ f. f.now) both.entry) turned
         (desk (I.remaining input.old) (I.failures input.old)
         (page (O.contents out.old) (O.failures out.old))
         (page (E.contents err.old) (E.failures err.old))) result
@@ -186,12 +192,15 @@ pub(crate) fn explain<R: Files<File = File>, I: Input, O: Output, E: Output>(
     ensures status { IfOk result (λ status. status ≤ 2) }
 {
     match (both, there, back) {
-        (Some(path), None, None) => explain_file(rt, alloc, path, Form::Record, input, out, err),
+        (Some(path), None, None) => {
+            explain_file(rt, alloc, path, Form::Capture(turned), input, out, err)
+        }
         (Some(_), Some(_), None) => refuse(err, Untold::TooMany, REFUSED),
         (Some(_), None, Some(_)) => refuse(err, Untold::TooMany, REFUSED),
         (Some(_), Some(_), Some(_)) => refuse(err, Untold::TooMany, REFUSED),
         (None, None, None) => {
-            explain_file(rt, alloc, STANDARD_INPUT, Form::Record, input, out, err)
+            let form = Form::Capture(turned);
+            explain_file(rt, alloc, STANDARD_INPUT, form, input, out, err)
         }
         (None, Some(path), None) => {
             let form = Form::OneWay(Direction::There);

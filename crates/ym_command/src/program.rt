@@ -17,7 +17,7 @@ use std::io::{IsTerminal, Print, Write};
 use std::net::{Net, TcpListener, TcpStream};
 use std::time::Clock;
 use ym_file::Shape;
-use ym_host::{Durability, Leftover};
+use ym_folder::{Durability, Leftover};
 use ym_jobs::{
     CommandFault, Order, looped_session, receive_as_asked, receive_line, send, send_line,
 };
@@ -240,9 +240,12 @@ where
             Some(_) => receive_line(rt, alloc, line, line_order_of(flags, dir), out, teller),
             None => receive_line(rt, alloc, line, line_order_of(flags, dir), err, teller),
         },
-        Job::Explain { there, back, both } => {
-            explain(rt, alloc, there, back, both, input, out, err)
-        }
+        Job::Explain {
+            there,
+            back,
+            both,
+            turned,
+        } => explain(rt, alloc, there, back, both, turned, input, out, err),
     }
 }
 

@@ -4,11 +4,11 @@ ghost use Rattle.std.specs.Prelude.{Some};
 ghost use Rattle.ym_command.specs.Explaining.{untold_words};
 
 use std::fmt;
-use ym_inspect::RecordFault;
+use ym_inspect::{CaptureFault, RecordFault};
 use ym_text::Reason;
 
 /// Why a capture is not told to its end. Its `Display` is the line that tells it, without its end.
-#[derive(Clone, Copy, Debug, PartialEq, Eq)]
+#[derive(Clone, Copy)]
 pub(crate) enum Untold<'a> {
     /// The file at this path cannot be opened.
     Closed(&'a str, Reason),
@@ -20,6 +20,10 @@ pub(crate) enum Untold<'a> {
     Endless(&'a str),
     /// This line of what has this name is none of a record.
     NoRecord(&'a str, u64, RecordFault),
+    /// What has this name is a capture of packets in the form that is not read.
+    Pcapng(&'a str),
+    /// What has this name cannot be read on from this byte.
+    NoCapture(&'a str, u64, CaptureFault),
     /// A record and files of one way were given.
     TooMany,
 }
@@ -38,6 +42,14 @@ impl fmt::Display for Untold<'_> {
                 "'{name}' is no record: line {number}: {why}; its lines are SECONDS > HEX or \
                  SECONDS < HEX; files of bytes go by --there and --back"
             ),
+            Untold::Pcapng(name) => write!(
+                f,
+                "'{name}' is a pcapng capture, which is not read; editcap -F pcap IN OUT makes a \
+                 pcap of it"
+            ),
+            Untold::NoCapture(name, place, why) => {
+                write!(f, "'{name}' cannot be read on: byte {place}: {why}")
+            }
             Untold::TooMany => write!(
                 f,
                 "a record has both ways: give it alone, or else --there and --back"

@@ -9,7 +9,7 @@ use crate::place::{Mode, Place, next_place};
 use ym_frame::{Control, control_of};
 
 /// Why the reading of a delivery stopped before its end.
-#[derive(Clone, Copy, Debug, PartialEq, Eq)]
+#[derive(Clone, Copy, PartialEq, Eq)]
 pub enum Stop {
     /// The frame of the place that was come to is to be sent.
     Sends,
@@ -22,7 +22,7 @@ pub enum Stop {
 }
 
 /// Where the reading of a delivery has come to.
-#[derive(Clone, Copy, Debug, PartialEq, Eq)]
+#[derive(Clone, Copy, PartialEq, Eq)]
 pub struct Reading {
     /// The frame that is out or to go.
     pub place: Place,

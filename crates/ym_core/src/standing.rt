@@ -13,7 +13,7 @@ use crate::state::SendState;
 use ym_machine::GIVE_UP;
 
 /// Where a sender stands.
-#[derive(Clone, Copy, Debug, PartialEq, Eq)]
+#[derive(Clone, Copy, PartialEq, Eq)]
 pub struct Standing {
     /// The frame that is out or to go.
     pub place: Place,
@@ -28,7 +28,7 @@ pub struct Standing {
 }
 
 /// What a delivery leads to.
-#[derive(Clone, Copy, Debug, PartialEq, Eq)]
+#[derive(Clone, Copy, PartialEq, Eq)]
 pub struct SendStep {
     /// Where the sender stands behind it.
     pub standing: Standing,

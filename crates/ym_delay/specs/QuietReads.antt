@@ -2,7 +2,7 @@
 -- clock.
 use Rattle.std.specs.Prelude.{◌≡◌, ◌+◌, ◌≤◌, ◌⊎◌, ℕ, true, List, length}
 use Rattle.ym_link.specs.declared.port.Wait.TheVariants as asked
-use Rattle.ym_link.specs.declared.sweep.TheConstants.{MOST_READS}
+use Rattle.ym_port.specs.declared.line.TheConstants.{MOST_READS}
 use Rattle.ym_port.specs.TimedPort.{Read, looked, read_of}
 use Rattle.ym_port.specs.Wire.{Tape, moment_of}
 use Rattle.ym_port.specs.declared.line.Line.{Line}

@@ -6,7 +6,7 @@ ghost use Rattle.ym_explain.specs.Answered.{answer_of, byte_line};
 use ym_frame::{Control, Whole, Why, control_of, whole_at};
 
 /// What stands at the front of what the receiver wrote.
-#[derive(Clone, Copy, Debug, PartialEq, Eq)]
+#[derive(Clone, Copy)]
 pub enum AnswerLine {
     /// ACK, NAK, C, or a CAN that stands alone: one byte.
     Answer(Control),

@@ -6,7 +6,7 @@ ghost use Rattle.ym_explain.specs.FrontOf.{IsPassed, IsUpToBlock, ends_at, same_
 use ym_frame::{Broken, Whole, Why, whole_at};
 
 /// What stands at the front of some bytes.
-#[derive(Clone, Copy, Debug, PartialEq, Eq)]
+#[derive(Clone, Copy)]
 pub enum Passed {
     /// A whole frame, whose check fits.
     Frame(Whole),

@@ -9,7 +9,7 @@ use crate::told::{FrameKind, SendPlace, tell};
 use ym_frame::{Broken, SOH, STX, Whole};
 
 /// What stands at the front of what the sender wrote.
-#[derive(Clone, Copy, Debug, PartialEq, Eq)]
+#[derive(Clone, Copy)]
 pub enum SentLine {
     /// A whole frame.
     Frame {
@@ -30,7 +30,7 @@ pub enum SentLine {
 }
 
 /// What is told of the front of what the sender wrote.
-#[derive(Clone, Copy, Debug, PartialEq, Eq)]
+#[derive(Clone, Copy)]
 pub struct SentTold {
     /// What stands there.
     pub line: SentLine,

@@ -10,7 +10,7 @@ use ym_frame::Control;
 pub const REFUSALS: u8 = 10;
 
 /// What passed, as far as a verdict asks for it.
-#[derive(Clone, Copy, Debug, PartialEq, Eq)]
+#[derive(Clone, Copy)]
 pub enum Sign {
     /// The sender wrote a byte.
     Byte(u8),
@@ -51,7 +51,7 @@ pub enum Sign {
 }
 
 /// What was seen of a session.
-#[derive(Clone, Copy, Debug, PartialEq, Eq)]
+#[derive(Clone, Copy)]
 pub struct Signs {
     /// The receiver asked by C.
     pub asked: bool,

@@ -8,7 +8,7 @@ use crate::told::{FrameKind, SendPlace};
 use ym_frame::Control;
 
 /// What became of the last frame of the sender.
-#[derive(Clone, Copy, Debug, PartialEq, Eq)]
+#[derive(Clone, Copy)]
 pub enum Fate {
     /// No frame was sent.
     Start,
@@ -23,7 +23,7 @@ pub enum Fate {
 }
 
 /// How a frame of the sender follows what the receiver answered.
-#[derive(Clone, Copy, Debug, PartialEq, Eq)]
+#[derive(Clone, Copy)]
 pub enum Footing {
     /// The next frame, behind an acknowledgement or at the start.
     InTurn,
@@ -44,7 +44,7 @@ pub enum Footing {
 }
 
 /// What an answer means to the sender, by its table.
-#[derive(Clone, Copy, Debug, PartialEq, Eq)]
+#[derive(Clone, Copy)]
 pub enum Meaning {
     /// The receiver asks for the first file.
     Asks,

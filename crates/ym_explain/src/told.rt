@@ -7,7 +7,7 @@ ghost use Rattle.ym_explain.specs.Telling.{told_of, eot_told, block_kind, number
 use ym_frame::ItemRef;
 
 /// Where the sender of the files stands, by its last frame that was no copy.
-#[derive(Clone, Copy, Debug, PartialEq, Eq)]
+#[derive(Clone, Copy)]
 pub enum SendPlace {
     /// No frame came.
     Before,
@@ -25,7 +25,7 @@ pub enum SendPlace {
 }
 
 /// What a frame is to its session, told by its number alone.
-#[derive(Clone, Copy, Debug, PartialEq, Eq)]
+#[derive(Clone, Copy, PartialEq, Eq)]
 pub enum FrameKind {
     /// The block 0 that begins a file.
     Name,
@@ -44,7 +44,7 @@ pub enum FrameKind {
 }
 
 /// What a frame is, and where the sender stands behind it.
-#[derive(Clone, Copy, Debug, PartialEq, Eq)]
+#[derive(Clone, Copy)]
 pub struct Told {
     /// What the frame is.
     pub kind: FrameKind,

@@ -7,7 +7,7 @@ use crate::signs::Signs;
 use std::fmt;
 
 /// What went wrong, or that nothing did.
-#[derive(Clone, Copy, Debug, PartialEq, Eq)]
+#[derive(Clone, Copy)]
 pub enum Verdict {
     /// The end of the batch was acknowledged, and no frame came damaged.
     Whole,
@@ -114,7 +114,7 @@ pub const ORDER_BACK: [Verdict; 9] = [
 ];
 
 /// Which ways of a line are known.
-#[derive(Clone, Copy, Debug, PartialEq, Eq)]
+#[derive(Clone, Copy)]
 pub enum Ways {
     /// Both.
     Both,
@@ -181,6 +181,75 @@ impl Verdict {
     }
 }
 
+impl Verdict {
+    ghost use Rattle.ym_explain.specs.VerdictText.{verdict_text};
+
+    /// What went wrong, and what to try.
+    fn sentence(self) -> &'static str
+        ensures { result.now ≡ verdict_text self }
+    {
+        match self {
+            Verdict::Whole => "the session is whole: nothing went wrong",
+            Verdict::Mended => "the session is whole: what came damaged was sent again",
+            Verdict::SenderDone => {
+                "the sender wrote its whole batch: what the receiver answered is not in the file"
+            }
+            Verdict::Zmodem => "an end speaks ZMODEM: start it with sb or rb in place of sz or rz",
+            Verdict::Echo => {
+                "what the sender wrote came back: start the receiver at the other end first"
+            }
+            Verdict::SevenBits => {
+                "only seven bits of each byte came: set the line to eight bits and no parity"
+            }
+            Verdict::Noise => "bytes came, no text and no frame: set both ends to the same speed",
+            Verdict::Xmodem => {
+                "the sender names no file, as XMODEM does: start it as a sender of YMODEM"
+            }
+            Verdict::XmodemReceiver => {
+                "the receiver asks by NAK, as XMODEM does: start it as a receiver of YMODEM"
+            }
+            Verdict::NobodyAsked => {
+                "no receiver asked for a file: start one, and see that its line is connected"
+            }
+            Verdict::NobodyAnswered => "the receiver asked and no frame came: start the sender",
+            Verdict::FlowControl => {
+                "frames came short, and no 11 or 13 in them: turn XON/XOFF off at both ends and between them"
+            }
+            Verdict::SubEaten => {
+                "frames came short, and no 1A in them: set the line to raw, so that it carries every byte"
+            }
+            Verdict::EatenBytes => {
+                "frames came short, with no 11 and 13 and no 1A: turn flow control off and set the line to raw"
+            }
+            Verdict::NoRoom => {
+                "block 0 had no room for the whole length: send the file under a shorter name"
+            }
+            Verdict::CutLength => {
+                "a file ended before its stated length: see whether it changed while it was sent"
+            }
+            Verdict::TooManyErrors => {
+                "ten frames in a row were refused: try a lower speed or a better line"
+            }
+            Verdict::Damage => {
+                "a frame came damaged and never whole: try a lower speed or a better line"
+            }
+            Verdict::SenderCancelled => "the sender cancelled: see what it says",
+            Verdict::ReceiverCancelled => {
+                "the receiver cancelled: see what it says, and whether it can write the file"
+            }
+            Verdict::ReplyAhead => {
+                "the receiver acknowledged what was not sent yet: start both ends again"
+            }
+            Verdict::Stopped => {
+                "the session stopped before its end: see whether the line was cut or an end was closed"
+            }
+            Verdict::Unheard => {
+                "nothing wrong is seen one way: record both ways to see what was answered"
+            }
+        }
+    }
+}
+
 impl fmt::Display for Verdict {
     ghost use Rattle.std.specs.Prelude.{Some};
     ghost use Rattle.ym_explain.specs.VerdictText.{verdict_text};
@@ -188,90 +257,6 @@ impl fmt::Display for Verdict {
     ghost output = { λ verdict. Some (verdict_text verdict) };
 
     fn fmt<W: fmt::Write>(&self, f: &mut fmt::Formatter<W>) -> fmt::Result {
-        match self {
-            Verdict::Whole => write!(f, "the session is whole: nothing went wrong"),
-            Verdict::Mended => write!(f, "the session is whole: what came damaged was sent again"),
-            Verdict::SenderDone => write!(
-                f,
-                "the sender wrote its whole batch: what the receiver answered is not in the file"
-            ),
-            Verdict::Zmodem => write!(
-                f,
-                "an end speaks ZMODEM: start it with sb or rb in place of sz or rz"
-            ),
-            Verdict::Echo => write!(
-                f,
-                "what the sender wrote came back: start the receiver at the other end first"
-            ),
-            Verdict::SevenBits => write!(
-                f,
-                "only seven bits of each byte came: set the line to eight bits and no parity"
-            ),
-            Verdict::Noise => write!(
-                f,
-                "bytes came, no text and no frame: set both ends to the same speed"
-            ),
-            Verdict::Xmodem => write!(
-                f,
-                "the sender names no file, as XMODEM does: start it as a sender of YMODEM"
-            ),
-            Verdict::XmodemReceiver => write!(
-                f,
-                "the receiver asks by NAK, as XMODEM does: start it as a receiver of YMODEM"
-            ),
-            Verdict::NobodyAsked => write!(
-                f,
-                "no receiver asked for a file: start one, and see that its line is connected"
-            ),
-            Verdict::NobodyAnswered => write!(
-                f,
-                "the receiver asked and no frame came: start the sender"
-            ),
-            Verdict::FlowControl => write!(
-                f,
-                "frames came short, and no 11 or 13 in them: turn XON/XOFF off at both ends and between them"
-            ),
-            Verdict::SubEaten => write!(
-                f,
-                "frames came short, and no 1A in them: set the line to raw, so that it carries every byte"
-            ),
-            Verdict::EatenBytes => write!(
-                f,
-                "frames came short, with no 11 and 13 and no 1A: turn flow control off and set the line to raw"
-            ),
-            Verdict::NoRoom => write!(
-                f,
-                "block 0 had no room for the whole length: send the file under a shorter name"
-            ),
-            Verdict::CutLength => write!(
-                f,
-                "a file ended before its stated length: see whether it changed while it was sent"
-            ),
-            Verdict::TooManyErrors => write!(
-                f,
-                "ten frames in a row were refused: try a lower speed or a better line"
-            ),
-            Verdict::Damage => write!(
-                f,
-                "a frame came damaged and never whole: try a lower speed or a better line"
-            ),
-            Verdict::SenderCancelled => write!(f, "the sender cancelled: see what it says"),
-            Verdict::ReceiverCancelled => write!(
-                f,
-                "the receiver cancelled: see what it says, and whether it can write the file"
-            ),
-            Verdict::ReplyAhead => write!(
-                f,
-                "the receiver acknowledged what was not sent yet: start both ends again"
-            ),
-            Verdict::Stopped => write!(
-                f,
-                "the session stopped before its end: see whether the line was cut or an end was closed"
-            ),
-            Verdict::Unheard => write!(
-                f,
-                "nothing wrong is seen one way: record both ways to see what was answered"
-            ),
-        }
+        f.write_str(self.sentence())
     }
 }

@@ -1,2 +1,1 @@
-mod PutSoFarLemmas
 mod StandsInLemmas

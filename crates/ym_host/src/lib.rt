@@ -1,33 +1,28 @@
 //! Sockets, terminals and files of the host: a connection and a terminal as lines with a clock, a
-//! carrier over TCP, a source that reads a file, and a sink that stores files in a folder.
+//! carrier over TCP, a source that reads a file, and the folders that a sink stores files in.
 #![tactic(auto)]
 
-mod append;
-mod dir_sink;
 mod drip;
 mod file_id;
 mod file_source;
 mod moments;
-mod part;
 mod read_ahead;
 mod read_at;
 mod read_source;
 mod socket_carrier;
 mod socket_wire;
+mod system_folder;
 mod ticks;
 mod tty;
 mod tty_wire;
-mod write_behind;
 
-pub use append::Append;
-pub use dir_sink::{DirSink, Durability, Leftover, StoreFault};
 pub use drip::{Drip, LONGEST_OF_FRAME, LONGEST_OF_REPLY};
 pub use file_source::{FileSource, RegularFile};
-pub use part::part_name;
 pub use read_at::ReadAt;
 pub use read_source::{Opens, ReadSource};
 pub use socket_carrier::SocketCarrier;
 pub use socket_wire::SocketWire;
+pub use system_folder::SystemFolder;
 pub use ticks::{EARLY_MS, ENDLESS_MS, HUNG_UP_READS, TICK_MS, Tick, Ticks};
 pub use tty::{OpenFault, open_tty};
 pub use tty_wire::{TtyFault, TtyWire};

@@ -1,2 +1,4 @@
+mod PairLemmas
+mod PcapLemmas
 mod RecordLemmas
 mod TellLemmas

@@ -351,3 +351,23 @@ pub says_so :
     (state : InLine) (number : ℕ) (text : List ℕ) (much : Result SoMuch InspectFault) → state ≡ line.Start → number ≡ 1
     → and_chars (Ok (so_much state number [])) text ≡ much → recorded text ≡ at_record_end much
 says_so state number text much s n e = ap at_record_end (begins state number text s n ∙ e)
+
+-- ---- A text of which the first characters were read before
+
+pub in_two :
+    (start : Result SoMuch InspectFault) (front rest text : List ℕ) (mid last : Result SoMuch InspectFault) → text ≡ front ++ rest → and_chars start front ≡ mid
+    → and_chars mid rest ≡ last → and_chars start text ≡ last
+in_two start front rest text mid last split first behind =
+    ap (λ (xs : List ℕ). and_chars start xs) split ∙ chars_append start front rest ∙ ap (λ (m : Result SoMuch InspectFault). and_chars m rest) first ∙ behind
+
+pub wrong_in_front :
+    (start : Result SoMuch InspectFault) (front rest text : List ℕ) (fault : InspectFault) → text ≡ front ++ rest → SaysLine fault (and_chars start front)
+    → SaysLine fault (and_chars start text)
+wrong_in_front start front rest text fault split says = λ n why e.
+    in_two start front rest text (Err fault) (Err fault) split (says n why e) (fault_stays fault rest)
+
+pub wrong_behind :
+    (start : Result SoMuch InspectFault) (front rest text : List ℕ) (mid : Result SoMuch InspectFault) (fault : InspectFault) → text ≡ front ++ rest
+    → and_chars start front ≡ mid → SaysLine fault (and_chars mid rest) → SaysLine fault (and_chars start text)
+wrong_behind start front rest text mid fault split first says = λ n why e.
+    in_two start front rest text mid (Err fault) split first (says n why e)

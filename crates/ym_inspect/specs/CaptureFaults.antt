@@ -1,8 +1,10 @@
 -- Why a capture is not told to its end, in words.
 use Rattle.std.specs.Prelude.{◌≡◌, ◌≢◌, ℕ, List, ◌++◌, codes, decimal, Result, Err}
+use Rattle.ym_capture.specs.CaptureWords.{capture_words}
+use Rattle.ym_capture.specs.declared.fault.CaptureFault.{CaptureFault}
 use Rattle.ym_file.specs.Counts.{Rose}
 use Rattle.ym_inspect.specs.declared.fault.InspectFault.{InspectFault}
-use Rattle.ym_inspect.specs.declared.fault.InspectFault.TheVariants.{Memory, Read, Write, Endless, Line}
+use Rattle.ym_inspect.specs.declared.fault.InspectFault.TheVariants.{Memory, Read, Write, Endless, Line, Pcapng, Packet}
 use Rattle.ym_inspect.specs.declared.fault.RecordFault.{RecordFault}
 use Rattle.ym_inspect.specs.declared.fault.RecordFault.TheVariants.{Seconds, Way, Digit, HalfByte}
 
@@ -19,6 +21,9 @@ fault_words Write = codes "a write failed"
 fault_words Endless = codes "the capture has no end"
 fault_words (Line number why) =
     codes "line " ++ (decimal number ++ (codes ": " ++ record_words why))
+fault_words Pcapng = codes "it is a pcapng capture, which is not read"
+fault_words (Packet place why) =
+    codes "byte " ++ (decimal place ++ (codes ": " ++ capture_words why))
 
 -- A write failed only where that is the fault: so the count of failed writes goes on.
 abbrev pub CountsWrites : {A : Type 0} → Result A InspectFault → ℕ → ℕ → Type 0
@@ -30,7 +35,14 @@ abbrev pub CountsReads : {A : Type 0} → Result A InspectFault → ℕ → ℕ 
 CountsReads {A} told old new =
     (told ≡ Err Read → Rose old new) × (told ≢ Err Read → new ≡ old)
 
--- Where something is told nothing is read, and no line is refused.
+-- Where something is told nothing is read, and no line and no packet is refused.
 abbrev pub IsOfTelling : {A : Type 0} → Result A InspectFault → Type 0
 IsOfTelling {A} told =
     (told ≢ Err Read) × ((number : ℕ) (why : RecordFault) → told ≢ Err (Line number why))
+    × ((place : ℕ) (why : CaptureFault) → told ≢ Err (Packet place why))
+
+-- Where a file is read nothing is written, and nothing that it has is refused.
+abbrev pub IsOfReading : {A : Type 0} → Result A InspectFault → Type 0
+IsOfReading {A} told =
+    (told ≢ Err Write) × ((number : ℕ) (why : RecordFault) → told ≢ Err (Line number why))
+    × ((place : ℕ) (why : CaptureFault) → told ≢ Err (Packet place why))

@@ -1,6 +1,9 @@
 pub mod CaptureFaults
 pub mod CaptureTold
 pub mod EndWords
+pub mod FirstBytes
 pub mod Inspecting
+pub mod PairTold
+pub mod PcapRead
 pub mod RecordRead
 pub mod Recorded

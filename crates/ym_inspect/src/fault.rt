@@ -2,6 +2,7 @@
 
 use std::alloc::AllocError;
 use std::fmt;
+use ym_capture::CaptureFault;
 
 /// What is wrong with a line of a record.
 #[derive(Clone, Copy, Debug, PartialEq, Eq)]
@@ -50,6 +51,15 @@ pub enum InspectFault {
         /// What is wrong with it.
         why: RecordFault,
     },
+    /// It is a capture of packets in the form that is not read.
+    Pcapng,
+    /// A capture of packets cannot be read on.
+    Packet {
+        /// The place of the first byte of what is wrong, from 0 on.
+        place: u64,
+        /// What is wrong there.
+        why: CaptureFault,
+    },
 }
 
 impl fmt::Display for InspectFault {
@@ -65,6 +75,8 @@ impl fmt::Display for InspectFault {
             InspectFault::Write => write!(f, "a write failed"),
             InspectFault::Endless => write!(f, "the capture has no end"),
             InspectFault::Line { number, why } => write!(f, "line {number}: {why}"),
+            InspectFault::Pcapng => write!(f, "it is a pcapng capture, which is not read"),
+            InspectFault::Packet { place, why } => write!(f, "byte {place}: {why}"),
         }
     }
 }

@@ -10,7 +10,7 @@ use ym_told::Direction;
 
 /// How much of a line is read.
 #[derive(Clone, Copy)]
-pub(crate) enum InLine {
+pub enum InLine {
     /// Nothing.
     Start,
     /// A comment, which goes to the end of the line.
@@ -29,9 +29,11 @@ pub(crate) enum InLine {
 
 /// What a character leaves: how much of a line is read, and the byte that it completes.
 #[derive(Clone, Copy)]
-pub(crate) struct Stepped {
-    pub(crate) state: InLine,
-    pub(crate) byte: Option<u8>,
+pub struct Stepped {
+    /// How much of a line is read behind it.
+    pub state: InLine,
+    /// The byte that it completes.
+    pub byte: Option<u8>,
 }
 
 /// The value of a hexadecimal digit.

@@ -5,7 +5,7 @@ ghost use Rattle.std.specs.Io.KnownBytes.{Appends};
 ghost use Rattle.ym_file.specs.Counts.{Rose};
 ghost use Rattle.ym_file.specs.Kept.{IsNew};
 ghost use Rattle.ym_file.specs.declared.sink.SinkFault.{SinkFault as Shut};
-ghost use Rattle.ym_host.specs.DirSink.{kept_of};
+ghost use Rattle.ym_folder.specs.DirSink.{kept_of};
 ghost use Rattle.ym_link.specs.ReceiverInto.{ReceiverParts};
 ghost use Rattle.ym_link.specs.declared.end_fault.EndFault.{EndFault as Why};
 ghost use Rattle.ym_jobs.specs.Lines.{file_lines, receiver_lines};
@@ -27,14 +27,15 @@ use std::io::Write;
 use std::net::TcpStream;
 use std::time::Clock;
 use ym_file::SinkFault;
+use ym_folder::{DirSink, Durability, Leftover, StoreFault, check_folder};
 use ym_header::Header;
-use ym_host::{DirSink, Durability, Leftover, SocketWire, StoreFault};
+use ym_host::{SocketWire, SystemFolder};
 use ym_line::ReceiverLine;
 use ym_link::{Confirm, EndFault, Port, ReceiverInto, RecvState, receive_over};
 use ym_pair::laws::a_receiver_commits_what_it_heard;
 use ym_play::{Output, StreamFault};
 use ym_port::{InStep, Role, TimedPort};
-use ym_show::{Eager, Meter, ReceiveWatch, Receiving, Teller, WatchedPort, check_folder};
+use ym_show::{Eager, Meter, ReceiveWatch, Receiving, Teller, WatchedPort};
 use ym_text::{EndMessage, FileMessage, Lately, Reason};
 
 /// After so many seconds without a byte it gives up: ten deliveries, each waited for so long.
@@ -107,10 +108,11 @@ fn open_sink<'a, R: Files<File = File>>(
     rt: &'a R,
     alloc: Global,
     order: Order<'_>,
-) -> Result<DirSink<&'a R>, AllocError>
+) -> Result<DirSink<SystemFolder<&'a R>>, AllocError>
     ensures { IfOk result (λ sink. IsNew (kept_of sink)) }
 {
-    DirSink::new(rt, alloc, order.dir, order.durability, order.leftover)
+    let folder = SystemFolder::new(rt);
+    DirSink::new(folder, alloc, order.dir, order.durability, order.leftover)
 }
 
 /// Runs a receiver over a port, lets its sink go of what is open, also after a fault, and prints the files that were committed and how the
@@ -142,7 +144,7 @@ pub(crate) fn look_at<R: Files<File = File>, E: Write + Drop>(
     dir: &str,
     teller: &mut Teller<E>,
 ) -> io::Result<()> {
-    let looked = check_folder(rt, alloc, dir);
+    let looked = check_folder(&mut SystemFolder::new(rt), alloc, dir);
     if let Err(error) = &looked {
         teller.tell(FileMessage::CannotStoreIn(dir, Reason::of(error)));
     }

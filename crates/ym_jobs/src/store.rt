@@ -3,10 +3,9 @@
 ghost use Rattle.std.specs.Prelude.{◌≡◌, ℕ, List, Option, option_map};
 ghost use Rattle.ym_jobs.specs.Receiving.{Closes};
 
-use std::fs::{File, Files};
 use ym_file::{Sink, SinkFault};
+use ym_folder::{DirSink, Folder};
 use ym_header::Header;
-use ym_host::DirSink;
 
 /// A sink whose files have names, and which can be closed.
 pub trait Store: Sink {
@@ -26,7 +25,7 @@ pub trait Store: Sink {
         ensures { Closes (Self.kept self.old) (Self.failures self.old) result (Self.kept self.new) (Self.failures self.new) };
 }
 
-impl<R: Files<File = File> + Drop> Store for DirSink<R> {
+impl<D: Folder + Drop> Store for DirSink<D> {
     ghost replaced = { λ s. s.replaced };
 
     fn headers(&self) -> &[Header] {

@@ -4,7 +4,7 @@ use crate::command_fault::CommandFault;
 use crate::told_line::LineWords;
 use std::alloc::Global;
 use std::io::Write;
-use ym_host::{Leftover, StoreFault, part_name};
+use ym_folder::{Leftover, StoreFault, part_name};
 use ym_show::Teller;
 use ym_text::{EndMessage, FileMessage, Reason};
 

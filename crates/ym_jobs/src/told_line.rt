@@ -11,7 +11,7 @@ use ym_show::Eager;
 use ym_text::{EndMessage, Reason};
 
 /// What the faults of a line are told as.
-#[derive(Clone, Copy, Debug, PartialEq, Eq)]
+#[derive(Clone, Copy)]
 pub struct LineWords {
     /// That nothing will come any more.
     pub closed: EndMessage,

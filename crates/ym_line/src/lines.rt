@@ -69,7 +69,7 @@ impl fmt::Display for RecvWords {
 }
 
 /// How many files a sender reports as done, and how it has ended: `sender done D STATE`.
-#[derive(Clone, Copy, Debug, PartialEq, Eq)]
+#[derive(Clone, Copy)]
 pub struct SenderLine {
     /// Files acknowledged.
     pub done: usize,
@@ -88,7 +88,7 @@ impl fmt::Display for SenderLine {
 }
 
 /// How many files a receiver has committed, and how it has ended: `receiver files M STATE`.
-#[derive(Clone, Copy, Debug, PartialEq, Eq)]
+#[derive(Clone, Copy)]
 pub struct ReceiverLine {
     /// Files committed.
     pub files: usize,

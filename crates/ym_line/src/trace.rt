@@ -13,7 +13,7 @@ use ym_frame::{CAN, EOT, Reply, SOH, STX};
 use ym_link::{RecvState, SendState};
 
 /// What a sender had to send.
-#[derive(Clone, Copy, Debug, PartialEq, Eq)]
+#[derive(Clone, Copy)]
 pub enum What {
     /// Nothing: it waits, or has ended.
     Nothing,
@@ -61,7 +61,7 @@ impl fmt::Display for What {
 }
 
 /// How a delivery was given.
-#[derive(Clone, Copy, Debug, PartialEq, Eq)]
+#[derive(Clone, Copy)]
 pub enum How {
     Whole,
     Lost,
@@ -95,7 +95,7 @@ impl fmt::Display for How {
 
 /// What was seen of one round: what the sender had to send and what the receiver replied, as they
 /// were before loss and damage, and how both deliveries were given.
-#[derive(Clone, Copy, Debug, PartialEq, Eq)]
+#[derive(Clone, Copy)]
 pub struct Seen {
     /// What the sender had to send.
     pub what: What,

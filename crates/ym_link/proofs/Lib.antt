@@ -1,13 +1,9 @@
 mod Names
 pub mod Courses
-pub mod AnsweredCalls
 pub mod Follows
 pub mod Framed
-pub mod Fresh
 pub mod Keeping
-pub mod LateAnswersDropped
 pub mod OneStep
-pub mod Passing
 pub mod Planned
 pub mod Positions
 pub mod ReceiverMoves
@@ -28,4 +24,3 @@ pub mod Moving
 pub mod Steps
 pub mod TableRows
 pub mod Taking
-pub mod Sweeping

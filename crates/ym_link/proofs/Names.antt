@@ -46,37 +46,20 @@ pub use Rattle.ym_core.specs.declared.state.RecvState.{RecvState}
 pub use Rattle.ym_core.specs.declared.state.SendState.{SendState}
 pub use Rattle.ym_core.specs.declared.state.SendState.TheVariants.{Running}
 pub use Rattle.ym_link.specs.Bound.{progress_at, progress_in, receiver_progress, sender_progress_at, steps_taken}
-pub use Rattle.ym_link.specs.Clearing.{IsRead, cleared, event_of, said}
-unfoldable pub use Rattle.ym_link.specs.Clearing.{fresh}
 pub use Rattle.ym_link.specs.Course.{Asks, ReceiverHears, SenderHears, receiver_more, receiver_none, sender_more, sender_none}
 pub use Rattle.ym_link.specs.Deliveries.{receiver_deliveries, receiver_steps, sender_deliveries}
 pub use Rattle.ym_link.specs.Delivery.{Taken}
 unfoldable pub use Rattle.ym_link.specs.Delivery.{taken}
-pub use Rattle.ym_link.specs.Exchange.{after_seen, front_of, is_stale}
 pub use Rattle.ym_link.specs.FrameAt.{IsFrameAt, IsItemAt}
-pub use Rattle.ym_link.specs.LateAnswers.{AreLate, late_and_quiet}
-pub use Rattle.ym_link.specs.Port.{Data, Failed, Seen, Tape, after_write, read_gives, read_leaves, seen_of}
+pub use Rattle.ym_link.specs.Port.{Data, Failed, Seen, Tape, after_write, read_gives, read_leaves}
 pub use Rattle.ym_link.specs.ReceiveOver.{Outcome, Receives, ended, heard_in, unheard, unread, unwritten}
 pub use Rattle.ym_link.specs.ReceiverInto.{HearsGives, IsOpenFile, IsReceiver, ReceiverParts, called, outcome}
 pub use Rattle.ym_link.specs.ReceiverRefines.{Goes, IsSent, KeepsFirst, KeepsOpen, ReceiverRefines, bytes_of, item_of, kept_after, open_at, receiver_at}
 pub use Rattle.ym_link.specs.SendOver.{Sends, heard}
 pub use Rattle.ym_link.specs.Sender.{IsFilled, IsSender, IsStep, SenderParts, counts, spoken}
 pub use Rattle.ym_link.specs.SenderRefines.{Batch, counts_in, cancel_pending_of, mode_of, place_at, place_from, state_of}
-pub use Rattle.ym_link.specs.Sweep.{Swept, heeds_all, is_over}
-unfoldable pub use Rattle.ym_link.specs.Sweep.{swept}
-pub use Rattle.ym_link.specs.declared.clearing.Talk.{Talk}
-pub use Rattle.ym_link.specs.declared.clearing.TheConstants.{STALE_READS}
 pub use Rattle.ym_link.specs.declared.end_fault.EndFault.{EndFault}
 pub use Rattle.ym_link.specs.declared.event.Event.{Event}
-pub use Rattle.ym_link.specs.Withdrawn.{brings, heeded_bytes, withdrawn}
-pub use Rattle.ym_link.specs.declared.exchange.Exchange.{Exchange}
-pub use Rattle.ym_link.specs.declared.exchange.Role.{Role}
-pub use Rattle.ym_link.specs.declared.exchange.Role.TheVariants.{Sender}
-pub use Rattle.ym_link.specs.declared.port.Got.{Got}
-pub use Rattle.ym_link.specs.declared.port.PortFault.{PortFault}
 pub use Rattle.ym_link.specs.declared.port.TheConstants.{DELIVERY_LIMIT}
 pub use Rattle.ym_link.specs.declared.port.Wait.{Wait}
 pub use Rattle.ym_link.specs.declared.port.Wait.TheVariants.{Within}
-pub use Rattle.ym_link.specs.declared.sweep.Held.{Held}
-pub use Rattle.ym_link.specs.declared.sweep.Sweep.{Sweep}
-pub use Rattle.ym_link.specs.declared.sweep.TheConstants.{MOST_READS}

@@ -6,12 +6,6 @@ pub mod Moves
 pub mod Port
 pub mod ScriptPort
 pub mod Delivery
-pub mod Clearing
-pub mod Exchange
-pub mod LateAnswers
-pub mod LateExamples
-pub mod Sweep
-pub mod Withdrawn
 pub mod Deliveries
 pub mod ReceiveOver
 pub mod SendOver

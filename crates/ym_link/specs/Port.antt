@@ -24,6 +24,13 @@ seen_of (Ok got.Quiet) buf = Silence
 seen_of (Ok got.Closed) buf = End
 seen_of (Err e) buf = Failed
 
+-- the same as an event
+abbrev pub event_of : Seen → Event
+event_of (Data bytes) = event.Piece bytes
+event_of Silence = event.Quiet
+event_of End = event.Closed
+event_of Failed = event.Fault
+
 -- what a read into a buffer of this length gives: a longer piece comes in parts
 abbrev pub read_gives : ℕ → List Event → Seen
 read_gives room [] = End

@@ -1,14 +1,12 @@
 //! Laws of the definitions: each is the promise of a function that does nothing.
 
 mod deliveries;
-mod late_answers;
 mod receiver;
 mod sender;
 
 pub use deliveries::{
     a_delivery_is_short, a_receiver_hears_few_deliveries, a_sender_hears_few_deliveries,
 };
-pub use late_answers::{answered_calls_are_rounds, late_answers_are_dropped};
 pub use receiver::{
     Headers, a_block_zero_means_one_thing, a_delivery_has_one_step, a_planned_file_is_sent,
     a_standing_receiver_follows_the_machine,

@@ -2,7 +2,7 @@
 use Rattle.std.proofs.Common.{◌≡◌, ◌<◌, ◌≤◌, ◌-◌, ◌+◌, ℕ, zero, suc, List, length, get_or, drop, true, false, Result, Ok, Err, refl, sym, ◌∙◌, ap, arith, add-one}
 use Rattle.std.proofs.Math.Seq.{drop-cons}
 use Rattle.ym_link.specs.declared.port.PortFault.{PortFault}
-use Rattle.ym_link.specs.declared.sweep.TheConstants.{MOST_READS}
+use Rattle.ym_port.specs.declared.line.TheConstants.{MOST_READS}
 use Rattle.ym_port.specs.TimedPort.{Cleared, Dropped, clears_for, looked, clear_on, clear_once, dropped, dropped_of, drops_byte, is_clear, over}
 unfoldable use Rattle.ym_port.specs.TimedPort.{cleared}
 use Rattle.ym_port.specs.Wire.{Tape, moment_of, after_moment}

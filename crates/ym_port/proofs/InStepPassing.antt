@@ -1,7 +1,6 @@
 -- What passes a port that keeps a receiver in step, read by read and reply by reply.
 use Rattle.std.proofs.Common.{◌≡◌, ℕ, Bool, true, false, List, ◌∷◌, sym, ◌∙◌, ap}
-use Rattle.ym_link.specs.Clearing.{event_of}
-use Rattle.ym_link.specs.Port.{Tape, Seen, read_gives, read_leaves, after_write}
+use Rattle.ym_link.specs.Port.{Tape, Seen, read_gives, read_leaves, after_write, event_of}
 use Rattle.ym_link.specs.declared.event.Event.{Event}
 use Rattle.ym_link.specs.declared.port.Wait.{Wait as Asked}
 use Rattle.ym_port.proofs.Passing.{FitsIn, gives-event, tape_of}

@@ -5,3 +5,4 @@ pub mod InStepPassing
 pub mod Moments
 pub mod Passing
 pub mod Reading
+pub mod Walks

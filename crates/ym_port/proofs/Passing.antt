@@ -3,8 +3,7 @@ use Rattle.std.proofs.Common.{◌≡◌, ◌<◌, ◌≤◌, ◌-◌, ℕ, zero,
 use Rattle.std.proofs.Common.{Result, Option, Some, None, Ok, Err, is_ok, refl, sym, ◌∙◌, ap, arith, append_assoc, if◌then◌else◌}
 use Rattle.std.proofs.lemmas.Bool.{le-ltb}
 use Rattle.std.proofs.lemmas.List.{append-nil, length-take-le}
-use Rattle.ym_link.specs.Clearing.{event_of}
-use Rattle.ym_link.specs.Port.{Seen, Data, Silence, End, Failed, seen_of, read_gives, read_leaves}
+use Rattle.ym_link.specs.Port.{Seen, Data, Silence, End, Failed, seen_of, read_gives, read_leaves, event_of}
 use Rattle.ym_link.specs.Port as port
 use Rattle.ym_link.specs.declared.event.Event.{Event}
 use Rattle.ym_link.specs.declared.port.Got.{Got}
@@ -12,7 +11,7 @@ use Rattle.ym_link.specs.declared.port.Got.TheVariants as got
 use Rattle.ym_link.specs.declared.port.PortFault.{PortFault}
 use Rattle.ym_link.specs.declared.port.Wait.{Wait as Asked}
 use Rattle.ym_link.specs.declared.port.Wait.TheVariants as asked
-use Rattle.ym_link.specs.declared.sweep.TheConstants.{MOST_READS}
+use Rattle.ym_port.specs.declared.line.TheConstants.{MOST_READS}
 use Rattle.ym_port.specs.Passing.{bytes_in, written_of, Passes}
 use Rattle.ym_port.specs.Passing.{reads as passes-read, writes as passes-write, fails as passes-fail}
 use Rattle.ym_port.specs.TimedPort as table

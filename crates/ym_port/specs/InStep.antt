@@ -2,9 +2,8 @@
 -- below (this profile).
 use Rattle.std.specs.Prelude.{ℕ, nat_eq, ◌&&◌, Bool, false, List, [], ◌∷◌, take, Result, Ok, Err}
 use Rattle.std.specs.Prelude.{if◌then◌else◌}
-use Rattle.ym_link.specs.Clearing.{event_of}
 use Rattle.ym_link.specs.Delivery.{taken}
-use Rattle.ym_link.specs.Port.{Seen, Data, Silence, End, Failed, read_gives, read_leaves}
+use Rattle.ym_link.specs.Port.{Seen, Data, Silence, End, Failed, read_gives, read_leaves, event_of}
 use Rattle.ym_link.specs.ReceiveOver.{has_item}
 use Rattle.ym_link.specs.declared.end_fault.EndFault.{EndFault}
 use Rattle.ym_link.specs.declared.end_fault.EndFault.TheVariants as fault

@@ -1,6 +1,6 @@
 -- What an end may come to hear of a line through its port, as it reads and writes (this profile).
 use Rattle.std.specs.Prelude.{◌≡◌, ℕ, Bool, List, [], ◌∷◌, ◌++◌, Ok, Err}
-use Rattle.ym_link.specs.Clearing.{event_of}
+use Rattle.ym_link.specs.Port.{event_of}
 use Rattle.ym_link.specs.declared.event.Event.{Event}
 use Rattle.ym_link.specs.declared.port.PortFault.{PortFault}
 use Rattle.ym_link.specs.declared.port.Wait.{Wait}

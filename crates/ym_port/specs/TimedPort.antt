@@ -8,10 +8,9 @@ use Rattle.ym_link.specs.declared.port.Got.{Got}
 use Rattle.ym_link.specs.declared.port.PortFault.{PortFault}
 use Rattle.ym_link.specs.declared.port.Wait.{Wait as Asked}
 use Rattle.ym_link.specs.declared.port.Wait.TheVariants as asked
-use Rattle.ym_link.specs.declared.sweep.TheConstants.{MOST_READS}
 use Rattle.ym_port.specs.Wire.{Tape, moment_of, after_moment, after_read, after_write}
 use Rattle.ym_port.specs.declared.line.Line.{Line}
-use Rattle.ym_port.specs.declared.line.TheConstants.{CLEAR_PIECE, PIECE}
+use Rattle.ym_port.specs.declared.line.TheConstants.{CLEAR_PIECE, MOST_READS, PIECE}
 use Rattle.ym_port.specs.declared.written.TheConstants.{LONGEST_FRAME}
 use Rattle.ym_timing.specs.ByteRows.{heard_of, after_bytes}
 use Rattle.ym_timing.specs.Cancel.{cancels}

@@ -1,7 +1,7 @@
 //! A port that keeps a receiver in step with its sender.
 
-ghost use Rattle.std.specs.Prelude.{◌≡◌, ◌≢◌, ◌<◌, ◌≤◌, ℕ, [], Ok, Err, IfOk, OnOk, OnErr, length};
-ghost use Rattle.std.specs.Prelude.{is_ok};
+ghost use Rattle.std.specs.Prelude.{◌≡◌, ◌≢◌, ◌<◌, ◌≤◌, ◌++◌, ◌∷◌, [], ℕ, Ok, Err, IfOk, OnOk};
+ghost use Rattle.std.specs.Prelude.{OnErr, length, is_ok};
 ghost use Rattle.ym_file.specs.Counts.{Rose};
 ghost use Rattle.ym_link.specs.Delivery.{taken};
 ghost use Rattle.ym_link.specs.Port.{Tape, seen_of, read_gives, read_leaves, after_write};
@@ -12,6 +12,7 @@ ghost use Rattle.ym_port.specs.Turn.{new_turn, replied};
 
 use crate::learned::Learned;
 use crate::turn::Turn;
+use crate::waits::Waits;
 use ym_frame::has_frame;
 use ym_link::{DELIVERY_LIMIT, EndFault, Got, Port, PortFault, Wait};
 
@@ -48,13 +49,14 @@ fn gather<P: Port>(port: &mut P, buf: &mut [u8]) -> Result<usize, EndFault>
 
 /// A port of a receiver. Where only a repeat of block 0 can come, another block 0 is handed on as a
 /// block out of turn, so that the receiver ends by its own table: it cancels, and stores nothing
-/// for it. All else is what the port below brings.
+/// for it. All else is what the port below brings. It tells the waits that its reads were given.
 #[derive(Drop)]
 pub struct InStep<P: Port + Drop> {
     /// The port below.
     pub port: P,
     /// Where the receiver is in its batch.
     pub turn: Turn,
+    waits: Waits,
 }
 
 impl<P: Port + Drop> InStep<P> {
@@ -62,10 +64,12 @@ impl<P: Port + Drop> InStep<P> {
     pub fn new(port: P) -> InStep<P>
         ensures port { result.port ≡ port }
         ensures turn { result.turn ≡ new_turn }
+        ensures waits { result.waits.asked ≡ [] }
     {
         InStep {
             port,
             turn: Turn::new(),
+            waits: Waits::new(),
         }
     }
 
@@ -88,6 +92,7 @@ impl<P: Port + Drop> InStep<P> {
             × (table.hands_on (taken has_item [] t.coming).delivery self.old.turn
             (taken has_item [] t.coming).rest
             ≡ table.gives (seen_of result buf.new) self.new.turn u.coming) }
+        ensures waits { self.new.waits ≡ self.old.waits }
         ensures ok { OnOk result (P.failures self.new.port ≡ P.failures self.old.port) }
         ensures failed { OnErr result (Rose (P.failures self.old.port) (P.failures self.new.port)) }
     {
@@ -110,6 +115,7 @@ impl<P: Port + Drop> InStep<P> {
             × (u.written ≡ t.written)
             × (table.read_of wait (length buf.old) self.old.turn t.coming
             ≡ table.gives (seen_of result buf.new) self.new.turn u.coming) }
+        ensures waits { self.new.waits ≡ self.old.waits }
         ensures ok { OnOk result (P.failures self.new.port ≡ P.failures self.old.port) }
         ensures failed { OnErr result (Rose (P.failures self.old.port) (P.failures self.new.port)) }
     {
@@ -130,7 +136,7 @@ impl<P: Port + Drop> Port for InStep<P> {
     ghost tells = { λ p u. (t : Tape) × P.tells p.port t × (u.written ≡ t.written)
         × Passes p.turn t.coming u.coming };
 
-    ghost asked = { λ _ _. ⊥ };
+    ghost asked = { λ p w. w ≡ p.waits.asked };
 
     ghost failures = { λ p. P.failures p.port };
 
@@ -141,6 +147,7 @@ impl<P: Port + Drop> Port for InStep<P> {
             × (u.written ≡ t.written)
             × (read_of wait (length buf.old) self.old.turn t.coming
             ≡ gives (seen_of result buf.new) self.new.turn u.coming) }
+        ensures waits { self.new.waits.asked ≡ self.old.waits.asked ++ wait ∷ [] }
         ensures told { (u : Tape) → ((t : Tape) × P.tells self.new.port t × (u.written ≡ t.written)
             × Passes self.new.turn t.coming u.coming)
             → (x : Tape) × ((t : Tape) × P.tells self.old.port t × (x.written ≡ t.written)
@@ -150,12 +157,14 @@ impl<P: Port + Drop> Port for InStep<P> {
         ensures ok { OnOk result (P.failures self.new.port ≡ P.failures self.old.port) }
         ensures failed { OnErr result (Rose (P.failures self.old.port) (P.failures self.new.port)) }
     {
+        self.waits = self.waits.then(&wait);
         self.read_next(wait, buf)
     }
 
     #[inline(always)]
     fn write(&mut self, bytes: &[u8]) -> Result<(), PortFault>
         ensures turn { self.new.turn ≡ replied bytes.now self.old.turn }
+        ensures waits { self.new.waits ≡ self.old.waits }
         ensures exact { (u : Tape) → P.tells self.new.port u → (t : Tape) × P.tells self.old.port t
             × (u ≡ after_write (is_ok result) t bytes.now) }
         ensures told { (u : Tape) → ((t : Tape) × P.tells self.new.port t × (u.written ≡ t.written)

@@ -19,6 +19,10 @@ pub const CAN: u8 = 0x18;
 /// How many bytes a sender reads at once: replies are short.
 pub const PIECE: usize = 64;
 
+/// By how many reads a wait is made up at most, and for how many a line is let clear. One that
+/// never falls quiet may hand on each byte in a read of its own.
+pub const MOST_READS: u32 = 65_536;
+
 /// How many bytes are dropped at once.
 pub const CLEAR_PIECE: usize = 256;
 

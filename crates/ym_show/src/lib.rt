@@ -3,7 +3,6 @@
 #![tactic(auto)]
 
 mod eager;
-mod folder;
 mod meter;
 mod receive_watch;
 mod send_watch;
@@ -12,7 +11,6 @@ mod teller;
 mod watched_port;
 
 pub use eager::Eager;
-pub use folder::check_folder;
 pub use meter::Meter;
 pub use receive_watch::{ReceiveWatch, Receiving};
 pub use send_watch::{SendWatch, Sending};

@@ -7,7 +7,7 @@ ghost use Rattle.ym_text.specs.Readable.{IsAsk, IsTextByte};
 const ASK: u8 = b'C';
 
 /// What came since an end last got on.
-#[derive(Clone, Copy, Debug, PartialEq, Eq)]
+#[derive(Clone, Copy, PartialEq, Eq)]
 pub enum Came {
     /// No byte.
     Nothing,
@@ -69,7 +69,7 @@ impl Came {
 pub const SLOW_MS: u64 = 10_000;
 
 /// What came since an end last got on, and for how many seconds nothing did.
-#[derive(Clone, Copy, Debug, PartialEq, Eq)]
+#[derive(Clone, Copy)]
 pub struct Lately {
     /// What came.
     pub came: Came,

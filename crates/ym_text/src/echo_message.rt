@@ -6,7 +6,7 @@ use std::fmt;
 
 /// That a line sends back what is written to it, as an end tells it. Its `Display` is the line that
 /// tells it, without its end.
-#[derive(Clone, Copy, Debug, PartialEq, Eq)]
+#[derive(Clone, Copy)]
 pub enum EchoMessage {
     /// A sender tells it.
     ToSender,

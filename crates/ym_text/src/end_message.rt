@@ -10,7 +10,7 @@ use ym_header::HeaderFault;
 use ym_link::{RecvState, SendState};
 
 /// Why an end has ended before its batch was whole. Its `Display` is the line that tells it, without its end.
-#[derive(Clone, Copy, Debug, PartialEq, Eq)]
+#[derive(Clone, Copy)]
 pub enum EndMessage {
     /// The other end cancelled.
     PeerCancelled,

@@ -7,7 +7,7 @@ use ym_header::HeaderFault;
 
 /// Why a file is not sent or not stored, and what was removed for one. Its `Display` is the line
 /// that tells it, without its end; names in it are made safe for a terminal.
-#[derive(Clone, Copy, Debug, PartialEq, Eq)]
+#[derive(Clone, Copy)]
 pub enum FileMessage<'a> {
     /// The file at this path cannot be opened.
     CannotOpen(&'a str, Reason),

@@ -8,7 +8,7 @@ use std::io::ErrorKind;
 use std::{fmt, io};
 
 /// What the program does to be connected, or why it is not. Its `Display` is the line that tells it, without its end.
-#[derive(Clone, Copy, Debug, PartialEq, Eq)]
+#[derive(Clone, Copy)]
 pub enum LineMessage {
     /// It waits for a connection at this port of 127.0.0.1.
     Listening(u16),

@@ -13,7 +13,7 @@ pub const DAY_SECONDS: u64 = 86_400;
 
 /// A date and a time of day in UTC, which has no leap seconds here, as times of files have none.
 /// Its `Display` is as `2026-11-25 14:03:07 UTC`.
-#[derive(Clone, Copy, Debug)]
+#[derive(Clone, Copy)]
 pub struct Moment {
     /// The day, by the calendar of today.
     pub date: Date,

@@ -7,7 +7,7 @@ use crate::shown::Shown;
 use std::fmt;
 
 /// How far a file is.
-#[derive(Clone, Copy, Debug, PartialEq, Eq)]
+#[derive(Clone, Copy)]
 pub struct Progress {
     /// Bytes that the other end has.
     pub done: u64,
@@ -109,7 +109,7 @@ impl fmt::Display for Progress {
 }
 
 /// How much of it a line tells, the most first.
-#[derive(Clone, Copy, Debug, PartialEq, Eq)]
+#[derive(Clone, Copy)]
 pub enum Detail {
     /// All of it.
     All,
@@ -124,7 +124,7 @@ pub enum Detail {
 }
 
 /// How far a file is, in so much detail.
-#[derive(Clone, Copy, Debug, PartialEq, Eq)]
+#[derive(Clone, Copy)]
 pub struct Brief {
     /// How far it is.
     pub progress: Progress,
@@ -155,7 +155,7 @@ impl fmt::Display for Brief {
 }
 
 /// How long a file took that is whole.
-#[derive(Clone, Copy, Debug, PartialEq, Eq)]
+#[derive(Clone, Copy)]
 pub struct Took {
     /// Its bytes.
     pub length: u64,
@@ -179,7 +179,7 @@ impl fmt::Display for Took {
 }
 
 /// A file that is whole.
-#[derive(Clone, Copy, Debug, PartialEq, Eq)]
+#[derive(Clone, Copy)]
 pub struct Whole<'a> {
     /// Its name.
     pub name: &'a str,

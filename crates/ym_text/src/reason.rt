@@ -7,7 +7,7 @@ use std::io::ErrorKind;
 use std::{fmt, io};
 
 /// Why the system refused a call. Its `Display` is that, in words.
-#[derive(Clone, Copy, Debug, PartialEq, Eq)]
+#[derive(Clone, Copy)]
 pub enum Reason {
     /// Nothing is there.
     Absent,

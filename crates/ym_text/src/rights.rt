@@ -7,7 +7,7 @@ use std::fmt;
 
 /// What a mode lets the owner of a file, its group and all others do: read, write and run it. Its
 /// `Display` is as `rw-r--r--`. What else a mode says is not told.
-#[derive(Clone, Copy, Debug, PartialEq, Eq)]
+#[derive(Clone, Copy)]
 pub struct Rights(pub u32);
 
 /// What one of these three may do.

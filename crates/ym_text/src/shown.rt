@@ -4,7 +4,7 @@ use std::fmt;
 
 /// A text in which control characters, and marks that turn the direction of text, are written as escapes: shown on a terminal it moves nothing and hides
 /// nothing.
-#[derive(Clone, Copy, Debug)]
+#[derive(Clone, Copy)]
 pub struct Shown<'a>(pub &'a str);
 
 /// Whether a character could change what a terminal shows of its neighbours: the controls below space, DEL, the controls of C1, the ends of lines and
@@ -23,7 +23,7 @@ pub(crate) fn is_plain(text: &str) -> bool {
 }
 
 /// The same of a text of several lines: their ends stay.
-#[derive(Clone, Copy, Debug)]
+#[derive(Clone, Copy)]
 pub(crate) struct ShownLines<'a>(pub(crate) &'a str);
 
 /// Writes a character, or its escape.

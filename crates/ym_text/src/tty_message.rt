@@ -6,7 +6,7 @@ use std::fmt;
 
 /// That a terminal is the line, or why it is not. Its `Display` is the line that tells it, without
 /// its end; paths in it are made safe for a terminal.
-#[derive(Clone, Copy, Debug, PartialEq, Eq)]
+#[derive(Clone, Copy)]
 pub enum TtyMessage<'a> {
     /// The terminal at this path is the line.
     Opened(&'a str),

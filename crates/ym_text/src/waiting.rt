@@ -10,7 +10,7 @@ use std::fmt;
 use unicode_width::UnicodeWidthStr;
 
 /// What an end waits for.
-#[derive(Clone, Copy, Debug, PartialEq, Eq)]
+#[derive(Clone, Copy, PartialEq, Eq)]
 pub enum Awaited {
     /// A sender: that the receiver asks for the first file.
     Asking,
@@ -26,7 +26,7 @@ pub enum Awaited {
 
 /// What an end waits for, and for how long nothing has come. Its `Display` is the line that tells
 /// it, without its end.
-#[derive(Clone, Copy, Debug, PartialEq, Eq)]
+#[derive(Clone, Copy)]
 pub struct Waiting {
     /// What it waits for.
     pub awaited: Awaited,

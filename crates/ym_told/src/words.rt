@@ -1,6 +1,6 @@
 //! What frames and answers are, in words.
 
-ghost use Rattle.std.specs.Prelude.{Some};
+ghost use Rattle.std.specs.Prelude.{◌≡◌, Some};
 ghost use Rattle.ym_told.specs.LineWords.{kind_words, footing_words, meaning_words, control_words};
 
 use std::fmt;
@@ -11,19 +11,27 @@ use ym_frame::Control;
 #[derive(Clone, Copy)]
 pub(crate) struct KindWords(pub(crate) FrameKind);
 
+impl KindWords {
+    fn text(self) -> &'static str
+        ensures { result.now ≡ kind_words self.0 }
+    {
+        match self.0 {
+            FrameKind::Name => "begins a file",
+            FrameKind::End => "ends the batch",
+            FrameKind::Data => "the next",
+            FrameKind::Eot => "ends the file",
+            FrameKind::Copy => "once more",
+            FrameKind::OutOfTurn => "cannot come next",
+            FrameKind::Cancel => "cancels",
+        }
+    }
+}
+
 impl fmt::Display for KindWords {
     ghost output = { λ kind. Some (kind_words kind.0) };
 
     fn fmt<W: fmt::Write>(&self, f: &mut fmt::Formatter<W>) -> fmt::Result {
-        match self.0 {
-            FrameKind::Name => write!(f, "begins a file"),
-            FrameKind::End => write!(f, "ends the batch"),
-            FrameKind::Data => write!(f, "the next"),
-            FrameKind::Eot => write!(f, "ends the file"),
-            FrameKind::Copy => write!(f, "once more"),
-            FrameKind::OutOfTurn => write!(f, "cannot come next"),
-            FrameKind::Cancel => write!(f, "cancels"),
-        }
+        f.write_str(self.text())
     }
 }
 
@@ -31,20 +39,28 @@ impl fmt::Display for KindWords {
 #[derive(Clone, Copy)]
 pub(crate) struct FootingWords(pub(crate) Footing);
 
+impl FootingWords {
+    fn text(self) -> &'static str
+        ensures { result.now ≡ footing_words self.0 }
+    {
+        match self.0 {
+            Footing::InTurn => "",
+            Footing::AsAsked => ", as asked",
+            Footing::Mended => ", and whole now",
+            Footing::Unanswered => ", for no answer came",
+            Footing::AckUnheard => ", though it was acknowledged",
+            Footing::WentOn => ", though the one before it was not acknowledged",
+            Footing::Astray => ": one before it is missing",
+            Footing::Leaving => "",
+        }
+    }
+}
+
 impl fmt::Display for FootingWords {
     ghost output = { λ footing. Some (footing_words footing.0) };
 
     fn fmt<W: fmt::Write>(&self, f: &mut fmt::Formatter<W>) -> fmt::Result {
-        match self.0 {
-            Footing::InTurn => write!(f, ""),
-            Footing::AsAsked => write!(f, ", as asked"),
-            Footing::Mended => write!(f, ", and whole now"),
-            Footing::Unanswered => write!(f, ", for no answer came"),
-            Footing::AckUnheard => write!(f, ", though it was acknowledged"),
-            Footing::WentOn => write!(f, ", though the one before it was not acknowledged"),
-            Footing::Astray => write!(f, ": one before it is missing"),
-            Footing::Leaving => write!(f, ""),
-        }
+        f.write_str(self.text())
     }
 }
 
@@ -52,26 +68,31 @@ impl fmt::Display for FootingWords {
 #[derive(Clone, Copy)]
 pub(crate) struct MeaningWords(pub(crate) Meaning);
 
+impl MeaningWords {
+    fn text(self) -> &'static str
+        ensures { result.now ≡ meaning_words self.0 }
+    {
+        match self.0 {
+            Meaning::Asks => "asks for a file",
+            Meaning::AsksOn => "asks for what comes next",
+            Meaning::AsksAgain => "asks once more, and has not heard the frame that is out",
+            Meaning::AsksByNak => "asks as XMODEM does",
+            Meaning::Takes => "took it",
+            Meaning::TakesCopy => "took a copy",
+            Meaning::Ahead => "acknowledges, and nothing is out",
+            Meaning::Refuses => "wants it once more",
+            Meaning::WantsEotAgain => "wants the EOT once more, as of each first one",
+            Meaning::RefusesAgain => "wants a frame once more, and none is out",
+            Meaning::LoneCan => "stands alone, and means nothing",
+        }
+    }
+}
+
 impl fmt::Display for MeaningWords {
     ghost output = { λ meaning. Some (meaning_words meaning.0) };
 
     fn fmt<W: fmt::Write>(&self, f: &mut fmt::Formatter<W>) -> fmt::Result {
-        match self.0 {
-            Meaning::Asks => write!(f, "asks for a file"),
-            Meaning::AsksOn => write!(f, "asks for what comes next"),
-            Meaning::AsksAgain => write!(
-                f,
-                "asks once more, and has not heard the frame that is out"
-            ),
-            Meaning::AsksByNak => write!(f, "asks as XMODEM does"),
-            Meaning::Takes => write!(f, "took it"),
-            Meaning::TakesCopy => write!(f, "took a copy"),
-            Meaning::Ahead => write!(f, "acknowledges, and nothing is out"),
-            Meaning::Refuses => write!(f, "wants it once more"),
-            Meaning::WantsEotAgain => write!(f, "wants the EOT once more, as of each first one"),
-            Meaning::RefusesAgain => write!(f, "wants a frame once more, and none is out"),
-            Meaning::LoneCan => write!(f, "stands alone, and means nothing"),
-        }
+        f.write_str(self.text())
     }
 }
 
@@ -79,15 +100,23 @@ impl fmt::Display for MeaningWords {
 #[derive(Clone, Copy)]
 pub(crate) struct ControlWords(pub(crate) Control);
 
+impl ControlWords {
+    fn text(self) -> &'static str
+        ensures { result.now ≡ control_words self.0 }
+    {
+        match self.0 {
+            Control::Ack => "ACK",
+            Control::Nak => "NAK",
+            Control::Start => "C",
+            Control::Can => "CAN",
+        }
+    }
+}
+
 impl fmt::Display for ControlWords {
     ghost output = { λ control. Some (control_words control.0) };
 
     fn fmt<W: fmt::Write>(&self, f: &mut fmt::Formatter<W>) -> fmt::Result {
-        match self.0 {
-            Control::Ack => write!(f, "ACK"),
-            Control::Nak => write!(f, "NAK"),
-            Control::Start => write!(f, "C"),
-            Control::Can => write!(f, "CAN"),
-        }
+        f.write_str(self.text())
     }
 }

@@ -96,6 +96,9 @@ back_rule = record (value_rule (codes "back")) { long = Some (codes "back") }
 abbrev pub record_rule : Rule
 record_rule = value_rule (codes "record")
 
+abbrev pub turned_rule : Rule
+turned_rule = flag (codes "turned") (codes "turned")
+
 -- and how much is told
 abbrev pub with_telling : App → App
 with_telling app = with_rule (with_rule app verbose_rule) quiet_rule
@@ -145,7 +148,8 @@ rb_app =
 
 abbrev pub explain_app : App
 explain_app =
-    with_rule (with_rule (with_rule (new_app (codes "explain")) there_rule) back_rule) record_rule
+    with_rule (with_rule (with_rule (with_rule (new_app (codes "explain")) there_rule) back_rule)
+    turned_rule) record_rule
 
 -- the whole command, serial lines first
 unfoldable pub the_app : App

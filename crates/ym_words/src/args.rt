@@ -13,11 +13,11 @@ use std::alloc::{AllocError, Global};
 /// A flag.
 #[derive(Clone, Copy)]
 pub(crate) struct Flag {
-    id: &'static str,
+    pub(crate) id: &'static str,
     /// Its word, behind two dashes.
-    long: &'static str,
+    pub(crate) long: &'static str,
     /// What help says of it.
-    help: &'static str,
+    pub(crate) help: &'static str,
 }
 
 pub(crate) const SHORT: Flag = Flag {
@@ -162,15 +162,15 @@ pub(crate) fn back_arg<'a>(alloc: Global) -> Arg<'a>
     .long("back")
 }
 
-/// The record of both ways, of `explain`.
+/// The record or capture of both ways, of `explain`.
 pub(crate) fn record_arg<'a>(alloc: Global) -> Arg<'a>
     ensures { HasRule result record_rule }
 {
     value_arg(
         alloc,
         "record",
-        "RECORD",
-        "A record of both ways (else standard input)",
+        "CAPTURE",
+        "A record of both ways, or a pcap capture (else standard input)",
     )
 }
 

@@ -3,15 +3,23 @@
 ghost use Rattle.std.specs.Prelude.{IfOk};
 ghost use Rattle.ym_words.specs.CommandLine.{HasApp, explain_app};
 
-use crate::args::{back_arg, record_arg, there_arg};
+use crate::args::{Flag, back_arg, record_arg, there_arg, with_words};
 use crate::help::bare_explain;
 use clap::Command;
 use std::alloc::{AllocError, Global};
+
+/// That the ways of a capture are the other way round.
+const TURNED: Flag = Flag {
+    id: "turned",
+    long: "turned",
+    help: "Takes the sender of a capture of TCP for the receiver",
+};
 
 pub(crate) fn explain_command<'a>(alloc: Global) -> Result<Command<'a>, AllocError>
     ensures { IfOk result (λ c. HasApp c explain_app) }
 {
     let with_there = bare_explain(alloc).arg(there_arg(alloc))?;
-    let with_back = with_there.arg(back_arg(alloc))?;
+    let turning = [TURNED];
+    let with_back = with_words(alloc, with_there, back_arg(alloc), &turning)?;
     with_back.arg(record_arg(alloc))
 }

@@ -112,6 +112,10 @@ sender of the files wrote or `<` for what their receiver wrote, and the bytes as
 hexadecimal digits. Or give one file of bytes for each way, or for one alone.
 `-` is standard input, where one file is read.
 
+A capture of one TCP connection, as `tcpdump -w` writes it, is told too. Who
+begins with C, NAK or G receives the files, and who begins with a block sends
+them. Else who opened the connection does. With --turned it is the other way.
+
 It prints a line for each frame and each answer, and a last one that says what
 went wrong, and what to try.
 
@@ -121,6 +125,7 @@ memory.
 
 Examples:
   ymodem explain session.record
+  ymodem explain session.pcap
   ymodem explain --there sent.bin --back answered.bin";
 
 const PLAY_ABOUT: &str = "Plays the session of a script, and prints what was seen";

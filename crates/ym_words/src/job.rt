@@ -86,11 +86,13 @@ pub enum Job<'a> {
         dir: &'a str,
         tell: TellFlags,
     },
-    /// Tell what passed on a line: what the files of each way say, or a record of both.
+    /// Tell what passed on a line: what the files of each way say, or a capture of both, whose ways
+    /// may be turned.
     Explain {
         there: Option<&'a str>,
         back: Option<&'a str>,
         both: Option<&'a str>,
+        turned: bool,
     },
 }
 
@@ -208,6 +210,7 @@ fn explain_in<'a>(matches: &ArgMatches<'a>) -> Job<'a>
         there: matches.get_str("there"),
         back: matches.get_str("back"),
         both: matches.get_str("record"),
+        turned: flag_in(matches, "turned"),
     }
 }
 

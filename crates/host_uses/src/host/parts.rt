@@ -2,7 +2,7 @@
 
 use super::acts::Act;
 use super::steps::{Room, Step, Why, comes, is_left, new_room};
-use ym_host::{Leftover, part_name};
+use ym_folder::{Leftover, part_name};
 
 /// What is done in a folder.
 #[derive(Clone, Copy)]

@@ -6,9 +6,9 @@ use super::steps::new_sink;
 use std::alloc::{AllocError, Global};
 use std::path::PathBuf;
 use std::test::Fail;
+use ym_folder::Leftover;
 use ym_frame::{Bytes, Item, encode};
 use ym_header::{Header, Stamp, write};
-use ym_host::Leftover;
 use ym_link::{Confirm, EndFault, Event, ReceiverInto, RecvState, ScriptPort, receive_over};
 
 /// A port to which these bytes come.

@@ -7,7 +7,7 @@ use std::alloc::{AllocError, Global};
 use std::io::ErrorKind;
 use std::path::PathBuf;
 use std::test::Fail;
-use ym_host::Leftover;
+use ym_folder::Leftover;
 
 /// What is done in a folder.
 #[derive(Clone, Copy)]

@@ -3,7 +3,7 @@
 
 ghost use Rattle.std.specs.Prelude.{◌≡◌, None, IfOk, OnOk, length};
 ghost use Rattle.ym_file.specs.Kept.{IsCoveredFile, IsNew};
-ghost use Rattle.ym_host.specs.DirSink.{kept_of};
+ghost use Rattle.ym_folder.specs.DirSink.{kept_of};
 
 use super::acts::{Act, all_hold, path_of};
 use super::folders::{folder, is_removed};
@@ -13,8 +13,9 @@ use std::io;
 use std::io::ErrorKind;
 use std::path::PathBuf;
 use ym_file::{Sink, SinkFault};
+use ym_folder::{DirSink, Durability, Leftover, StoreFault};
 use ym_header::{Header, Stamp};
-use ym_host::{DirSink, Durability, Leftover, StoreFault};
+use ym_host::SystemFolder;
 
 /// Why a sink failed first.
 #[derive(Clone, Copy)]
@@ -57,10 +58,11 @@ pub(super) fn new_sink<'r>(
     rt: &'r HostRuntime,
     dir: &PathBuf,
     leftover: Leftover,
-) -> Result<DirSink<&'r HostRuntime>, AllocError>
+) -> Result<DirSink<SystemFolder<&'r HostRuntime>>, AllocError>
     ensures { IfOk result (λ sink. IsNew (kept_of sink)) }
 {
-    DirSink::new(rt, rt.alloc(), dir.as_str(), Durability::Disk, leftover)
+    let folder = SystemFolder::new(rt);
+    DirSink::new(folder, rt.alloc(), dir.as_str(), Durability::Disk, leftover)
 }
 
 /// The header of a file of this name and length.
@@ -74,7 +76,7 @@ fn header(rt: &HostRuntime, name: &str, length: u64) -> Result<Header, SinkFault
 }
 
 /// Lets go of what is open: of nothing, before a file is begun.
-fn clear(sink: &mut DirSink<&HostRuntime>) -> Result<(), SinkFault>
+fn clear(sink: &mut DirSink<SystemFolder<&HostRuntime>>) -> Result<(), SinkFault>
     ensures { sink.new.opened ≡ None }
 {
     sink.close()
@@ -121,7 +123,7 @@ fn take_two<S: Sink>(sink: &mut S, header: Header) -> Result<(), SinkFault>
 fn stores(
     rt: &HostRuntime,
     dir: &PathBuf,
-    sink: &mut DirSink<&HostRuntime>,
+    sink: &mut DirSink<SystemFolder<&HostRuntime>>,
     (name, bytes, acts): (&str, &[u8], &[Act<'_>]),
 ) -> Result<bool, SinkFault> {
     clear(sink)?;
@@ -136,7 +138,7 @@ fn stores(
 fn lets_go(
     rt: &HostRuntime,
     dir: &PathBuf,
-    sink: &mut DirSink<&HostRuntime>,
+    sink: &mut DirSink<SystemFolder<&HostRuntime>>,
     (name, acts): (&str, &[Act<'_>]),
 ) -> Result<bool, SinkFault> {
     clear(sink)?;
@@ -150,7 +152,7 @@ fn lets_go(
 /// Whether this part was removed, or none, for a file of this name that is begun.
 fn replaces(
     rt: &HostRuntime,
-    sink: &mut DirSink<&HostRuntime>,
+    sink: &mut DirSink<SystemFolder<&HostRuntime>>,
     (name, part): (&str, Option<&str>),
 ) -> Result<bool, SinkFault> {
     clear(sink)?;
@@ -161,7 +163,7 @@ fn replaces(
 /// Whether no file of this name is begun.
 fn refuses(
     rt: &HostRuntime,
-    sink: &mut DirSink<&HostRuntime>,
+    sink: &mut DirSink<SystemFolder<&HostRuntime>>,
     name: &str,
 ) -> Result<bool, SinkFault> {
     clear(sink)?;
@@ -179,7 +181,7 @@ fn locked(rt: &HostRuntime, dir: &PathBuf, name: &str) -> io::Result<File> {
 fn refuses_locked(
     rt: &HostRuntime,
     dir: &PathBuf,
-    sink: &mut DirSink<&HostRuntime>,
+    sink: &mut DirSink<SystemFolder<&HostRuntime>>,
     name: &str,
 ) -> bool {
     match locked(rt, dir, name) {
@@ -192,7 +194,7 @@ fn refuses_locked(
 /// them, and the third are more than ever wait.
 fn stores_so(
     rt: &HostRuntime,
-    sink: &mut DirSink<&HostRuntime>,
+    sink: &mut DirSink<SystemFolder<&HostRuntime>>,
     all: &[u8],
 ) -> Result<bool, SinkFault> {
     if all.len() != 200_000 {
@@ -222,7 +224,7 @@ pub(super) fn other_refuses(rt: &HostRuntime, dir: &PathBuf, name: &str) -> bool
 /// Whether a file is stored, or is not, with nothing done meanwhile.
 fn stores_at_once(
     rt: &HostRuntime,
-    sink: &mut DirSink<&HostRuntime>,
+    sink: &mut DirSink<SystemFolder<&HostRuntime>>,
     name: &str,
     bytes: &[u8],
 ) -> Result<bool, SinkFault> {
@@ -240,7 +242,7 @@ pub(super) fn other_stores(rt: &HostRuntime, dir: &PathBuf, name: &str, bytes: &
 }
 
 /// Whether the files of these names are told as stored, in this order.
-fn tells(sink: &DirSink<&HostRuntime>, names: &[&str]) -> bool {
+fn tells(sink: &DirSink<SystemFolder<&HostRuntime>>, names: &[&str]) -> bool {
     let headers = sink.headers();
     headers.len() == names.len()
         && headers
@@ -250,7 +252,7 @@ fn tells(sink: &DirSink<&HostRuntime>, names: &[&str]) -> bool {
 }
 
 /// Whether this is why a sink failed first.
-fn failed_by(sink: &DirSink<&HostRuntime>, why: Why) -> bool {
+fn failed_by(sink: &DirSink<SystemFolder<&HostRuntime>>, why: Why) -> bool {
     match (sink.first_fault(), why) {
         (Some(StoreFault::IsThere), Why::IsThere)
         | (Some(StoreFault::PartIsThere), Why::PartIsThere)
@@ -264,7 +266,7 @@ fn failed_by(sink: &DirSink<&HostRuntime>, why: Why) -> bool {
 fn holds(
     rt: &HostRuntime,
     dir: &PathBuf,
-    sink: &mut DirSink<&HostRuntime>,
+    sink: &mut DirSink<SystemFolder<&HostRuntime>>,
     step: &Step<'_>,
 ) -> bool {
     match *step {
@@ -287,7 +289,7 @@ fn holds(
 pub(super) struct Room<'r> {
     rt: &'r HostRuntime,
     dir: PathBuf,
-    sink: DirSink<&'r HostRuntime>,
+    sink: DirSink<SystemFolder<&'r HostRuntime>>,
 }
 
 /// A new folder of this name, and a new sink there, where both could be made.

@@ -1,6 +1,6 @@
 //! What is told, in words.
 
-use super::{same, shows};
+use super::shows;
 use std::io;
 use std::io::ErrorKind;
 use ym_header::{Header, HeaderFault, Stamp};
@@ -34,9 +34,9 @@ fn tell_connections(rt: &HostRuntime) -> bool {
 /// Whether an error of a connection that was refused is told as that.
 fn is_of_error() -> bool {
     let error = io::Error::from(ErrorKind::ConnectionRefused);
-    same(
-        &LineMessage::of_error(4000, &error),
-        &LineMessage::Refused(4000),
+    matches!(
+        LineMessage::of_error(4000, &error),
+        LineMessage::Refused(4000)
     )
 }
 
@@ -90,7 +90,7 @@ fn tell_files(rt: &HostRuntime) -> bool {
 /// Whether the reason of an error of the system is that a file is absent.
 fn is_reason_of_error() -> bool {
     let error = io::Error::from(ErrorKind::NotFound);
-    same(&Reason::of(&error), &Reason::Absent)
+    matches!(Reason::of(&error), Reason::Absent)
 }
 
 #[test]

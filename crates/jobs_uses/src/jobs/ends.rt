@@ -4,7 +4,7 @@
 
 ghost use Rattle.std.specs.Prelude.{IfOk};
 ghost use Rattle.ym_file.specs.Kept.{IsNew};
-ghost use Rattle.ym_host.specs.DirSink.{kept_of};
+ghost use Rattle.ym_folder.specs.DirSink.{kept_of};
 
 use super::frames::Frames;
 use std::alloc::{AllocError, Global};
@@ -13,9 +13,10 @@ use std::path::PathBuf;
 use std::test::Fail;
 use std::{env, fs, io, process};
 use ym_file::{MemSource, Shape};
+use ym_folder::{DirSink, Durability, Leftover};
 use ym_frame::Bytes;
 use ym_header::Stamp;
-use ym_host::{DirSink, Durability, Leftover};
+use ym_host::SystemFolder;
 use ym_jobs::{CommandFault, receive_batch, send_batch};
 use ym_link::{Confirm, Event, ReceiverInto, ScriptPort, SendFile, SenderFrom};
 
@@ -184,11 +185,14 @@ fn folder(rt: &HostRuntime, name: &str) -> io::Result<PathBuf> {
 }
 
 /// A sink that stores files in this folder.
-fn sink_in<'r>(rt: &'r HostRuntime, dir: &PathBuf) -> Result<DirSink<&'r HostRuntime>, AllocError>
+fn sink_in<'r>(
+    rt: &'r HostRuntime,
+    dir: &PathBuf,
+) -> Result<DirSink<SystemFolder<&'r HostRuntime>>, AllocError>
     ensures { IfOk result (λ sink. IsNew (kept_of sink)) }
 {
     DirSink::new(
-        rt,
+        SystemFolder::new(rt),
         rt.alloc(),
         dir.as_str(),
         Durability::System,
@@ -200,7 +204,7 @@ fn sink_in<'r>(rt: &'r HostRuntime, dir: &PathBuf) -> Result<DirSink<&'r HostRun
 fn ends_so(
     alloc: Global,
     mut port: ScriptPort,
-    sink: DirSink<&HostRuntime>,
+    sink: DirSink<SystemFolder<&HostRuntime>>,
     mut out: Page,
     want: End<'_>,
 ) -> bool

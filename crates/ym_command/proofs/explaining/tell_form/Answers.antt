@@ -2,11 +2,11 @@
 use Rattle.ym_command.proofs.ExplainLemmas.{of_any_fault}
 use Rattle.ym_command.proofs.explaining.tell_form.Goals as goal
 
-pub returns-in-Record : goal.returns-in-Record
-returns-in-Record g c =
-    let it = c.explain_record.ensures in
-    rw c.in-Record.is
-    (record { last = it.last; all = it.told; fault_is = it.line; reads = it.reads; writes = it.wrote })
+pub returns-in-Capture : goal.returns-in-Capture
+returns-in-Capture g c =
+    let it = c.explain_capture.ensures in
+    rw c.in-Capture.is
+    (record { last = it.last; all = it.told; fault_is = it.fault; reads = it.reads; writes = it.wrote })
 
 pub returns-in-OneWay : goal.returns-in-OneWay
 returns-in-OneWay g c =

@@ -1,5 +1,5 @@
 use Rattle.std.proofs.Common.{◌≡◌, ◌≤◌, ◌⊎◌, ◌∙◌, inl, inr, ℕ, min, max, List, Ok, refl, ap, subst, arith}
-use Rattle.ym_link.specs.declared.sweep.TheConstants.{MOST_READS}
+use Rattle.ym_port.specs.declared.line.TheConstants.{MOST_READS}
 use Rattle.ym_port.specs.TimedPort.{Cleared, clears_for, looked}
 use Rattle.ym_port.specs.Wire.{Tape, after_moment, moment_of}
 use Rattle.ym_port.specs.declared.deed.Deed.TheVariants.{Looked}

@@ -1,7 +1,7 @@
 use Rattle.std.proofs.Common.{◌≡◌, ◌≤◌, ◌⊎◌, inl, inr, ℕ, refl, arith}
 use Rattle.ym_link.specs.Port.{Silence}
 use Rattle.ym_link.specs.declared.port.Wait.TheVariants as asked
-use Rattle.ym_link.specs.declared.sweep.TheConstants.{MOST_READS}
+use Rattle.ym_port.specs.declared.line.TheConstants.{MOST_READS}
 use Rattle.ym_port.specs.TimedPort.{Read, has_no_room, looked, room_for, waits}
 use Rattle.ym_port.specs.Wire.{Tape, after_moment, moment_of}
 use Rattle.ym_port.specs.declared.deed.Deed.TheVariants.{Looked}

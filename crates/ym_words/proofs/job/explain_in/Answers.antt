@@ -11,4 +11,5 @@ returns c =
       first_found matches (codes "there") _ (sym c.get_str.ensures),
       first_found matches (codes "back") _ (sym c.get_str-2.ensures),
       first_found matches (codes "record") _ (sym c.get_str-3.ensures),
+      sym c.flag_in.ensures,
     ) refl

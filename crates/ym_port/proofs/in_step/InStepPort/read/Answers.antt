@@ -1,7 +1,6 @@
 -- What a read gives is an event that passes.
 use Rattle.std.proofs.Common.{◌≡◌, ◌∷◌, ◌∙◌, List, ap, length, rules}
-use Rattle.ym_link.specs.Clearing.{event_of}
-use Rattle.ym_link.specs.Port.{seen_of}
+use Rattle.ym_link.specs.Port.{seen_of, event_of}
 use Rattle.ym_link.specs.declared.event.Event.{Event}
 use Rattle.ym_port.proofs.InStepPassing.{read-passes}
 use Rattle.ym_port.proofs.Passing.{fits-seen, tape_of}

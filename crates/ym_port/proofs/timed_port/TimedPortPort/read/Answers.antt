@@ -1,7 +1,6 @@
 -- What a read gives is an event that passes.
 use Rattle.std.proofs.Common.{◌≡◌, ◌∷◌, length, rules}
-use Rattle.ym_link.specs.Clearing.{event_of}
-use Rattle.ym_link.specs.Port.{seen_of}
+use Rattle.ym_link.specs.Port.{seen_of, event_of}
 use Rattle.ym_port.proofs.Passing.{read-passes, fits-seen, tape_of}
 use Rattle.ym_port.proofs.timed_port.TimedPortPort.read.Goals as goal
 

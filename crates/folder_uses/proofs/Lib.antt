@@ -1,0 +1,2 @@
+mod MemFolderLemmas
+mod StoredLemmas

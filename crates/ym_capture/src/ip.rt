@@ -1,0 +1,117 @@
+//! What a packet carries of the internet protocol, and that of TCP.
+
+ghost use Rattle.std.specs.Prelude.{◌≡◌, ◌≤◌};
+ghost use Rattle.ym_capture.specs.PacketParts.{ip_in as ip_of, ip_by as ip_for, version as version_by};
+ghost use Rattle.ym_capture.specs.PacketParts.{is_tcp as has_tcp, header_len as header_of};
+ghost use Rattle.ym_capture.specs.PacketParts.{total_len as total_of, tcp_in as tcp_of};
+ghost use Rattle.ym_capture.specs.PacketParts.{is_fragment as is_part};
+
+use crate::head::Link;
+use crate::numbers::{behind, byte_at, front, two};
+
+/// Which internet protocol it is.
+#[derive(Clone, Copy, PartialEq, Eq)]
+pub(crate) enum Version {
+    /// That of addresses of four bytes.
+    Four,
+    /// That of addresses of sixteen.
+    Six,
+    /// None.
+    Other,
+}
+
+/// The bytes of the internet protocol, where this is its number.
+fn ip_by(protocol: u16, body: &[u8]) -> &[u8]
+    ensures { result.now ≡ ip_for protocol body.entry.now }
+{
+    match protocol {
+        0x0800 | 0x86dd => body,
+        _ => &[],
+    }
+}
+
+/// The bytes of the internet protocol in a packet; none where it carries another.
+#[tactic(auto, unfolding(crate::specs::PacketParts::ip_in))]
+pub(crate) fn ip_in(link: Link, packet: &[u8]) -> &[u8]
+    ensures { result.now ≡ ip_of link packet.entry.now }
+{
+    match link {
+        Link::Loopback => behind(packet, 4),
+        Link::Ethernet => ip_by(two(behind(packet, 12)), behind(packet, 14)),
+        Link::Raw => packet,
+        Link::Cooked => ip_by(two(behind(packet, 14)), behind(packet, 16)),
+        Link::CookedAgain => ip_by(two(packet), behind(packet, 20)),
+    }
+}
+
+/// Which one it is, by its first byte.
+pub(crate) fn version_of(ip: &[u8]) -> Version
+    ensures { result ≡ version_by ip.now }
+{
+    match byte_at(ip, 0) / 16 {
+        4 => Version::Four,
+        6 => Version::Six,
+        _ => Version::Other,
+    }
+}
+
+/// Whether TCP follows.
+#[tactic(auto, unfolding(crate::specs::PacketParts::is_tcp))]
+pub(crate) fn is_tcp(ip: &[u8]) -> bool
+    ensures { result ≡ has_tcp ip.now }
+{
+    match version_of(ip) {
+        Version::Four => byte_at(ip, 9) == 6,
+        Version::Six => byte_at(ip, 6) == 6,
+        Version::Other => false,
+    }
+}
+
+/// Whether it is a part of a larger packet.
+#[tactic(auto, unfolding(crate::specs::PacketParts::is_fragment))]
+pub(crate) fn is_fragment(ip: &[u8]) -> bool
+    ensures { result ≡ is_part ip.now }
+{
+    match version_of(ip) {
+        Version::Four => two(behind(ip, 6)) % 0x4000 != 0,
+        Version::Six | Version::Other => false,
+    }
+}
+
+/// How many bytes stand before those of TCP.
+#[tactic(auto, unfolding(crate::specs::PacketParts::header_len))]
+fn header_len(ip: &[u8]) -> usize
+    ensures { result ≡ header_of ip.now }
+{
+    match version_of(ip) {
+        Version::Four => usize::from(byte_at(ip, 0) % 16) * 4,
+        Version::Six => 40,
+        Version::Other => 0,
+    }
+}
+
+/// How many bytes it states to have. A card that cuts for its system leaves 0 there: then it has
+/// all that were kept.
+#[tactic(auto, unfolding(crate::specs::PacketParts::total_len))]
+pub(crate) fn total_len(ip: &[u8]) -> usize
+    ensures { result ≡ total_of ip.now }
+{
+    let (stated, before) = match version_of(ip) {
+        Version::Four => (usize::from(two(behind(ip, 2))), 0),
+        Version::Six => (usize::from(two(behind(ip, 4))), 40),
+        Version::Other => (0, 0),
+    };
+    if stated == 0 {
+        ip.len()
+    } else {
+        before + stated
+    }
+}
+
+/// The bytes of TCP. What stands behind its end fills the packet up.
+#[tactic(auto, unfolding(crate::specs::PacketParts::tcp_in))]
+pub(crate) fn tcp_in(ip: &[u8]) -> &[u8]
+    ensures { result.now ≡ tcp_of ip.entry.now }
+{
+    behind(front(ip, total_len(ip)), header_len(ip))
+}

@@ -1,0 +1,20 @@
+//! Reads what a `pcap` capture says of one TCP connection: how it is written, what each packet
+//! brings, and which of its two ends receives files. It reads no file.
+#![tactic(auto)]
+
+mod connection;
+mod fault;
+mod flow;
+mod head;
+mod ip;
+mod numbers;
+mod sides;
+mod tcp;
+
+pub use connection::Connection;
+pub use fault::CaptureFault;
+pub use head::{
+    Form, HEAD, Kind, Link, MOST_PACKET, Order, PACKET_HEAD, PacketHead, Part, form_of, kind_of,
+    packet_head,
+};
+pub use sides::{End, Sides};

@@ -1,0 +1,4 @@
+mod FolderLemmas
+mod PlacedLemmas
+mod PutSoFarLemmas
+mod SinkLemmas

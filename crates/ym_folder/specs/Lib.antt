@@ -1,0 +1,9 @@
+pub mod DirSink
+pub mod FilePlace
+pub mod Folder
+pub mod FolderExamples
+pub mod OpenPart
+pub mod Part
+pub mod SinkCalls
+pub mod Storing
+pub mod WriteBehind

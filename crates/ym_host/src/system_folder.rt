@@ -1,0 +1,84 @@
+//! A folder of the system.
+
+ghost use Rattle.std.specs.Prelude.{None};
+
+use crate::file_id::stands_at;
+use std::fs::{File, Files};
+use std::io::Write;
+use std::{fs, io};
+use ym_folder::{Folder, Place};
+
+/// The folders of the system. Nobody knows what stands in them.
+#[derive(Drop)]
+pub struct SystemFolder<R: Files<File = File> + Drop> {
+    rt: R,
+}
+
+impl<R: Files<File = File> + Drop> SystemFolder<R> {
+    /// The folders that these files stand in.
+    pub fn new(rt: R) -> SystemFolder<R> {
+        SystemFolder { rt }
+    }
+}
+
+impl<R: Files<File = File> + Drop> Folder for SystemFolder<R> {
+    type File = File;
+
+    ghost seen = { λ _. None };
+
+    ghost is_of = { λ _ _. Unit {0} };
+
+    fn is_regular(&self, at: &Place) -> io::Result<bool> {
+        Ok(fs::symlink_metadata(&self.rt, at.path())?.is_file())
+    }
+
+    fn open(&self, at: &Place) -> io::Result<File> {
+        File::options()
+            .read(true)
+            .write(true)
+            .open(&self.rt, at.path())
+    }
+
+    fn open_itself(&self, dir: &str) -> io::Result<File> {
+        // An empty path is the folder that the program runs in.
+        File::open(&self.rt, if dir.is_empty() { "." } else { dir })
+    }
+
+    fn lock(&self, file: &File) -> io::Result<()> {
+        file.try_lock()?;
+        Ok(())
+    }
+
+    fn stands_at(&self, file: &File, at: &Place) -> bool {
+        stands_at(&self.rt, file, at.path())
+    }
+
+    fn sync(&self, file: &File) -> io::Result<()> {
+        file.sync_all()
+    }
+
+    #[tactic(auto, unfolding(ym_folder::specs::Folder::under, ym_folder::specs::Folder::empty_in, ym_folder::specs::Folder::has_links))]
+    fn create_new(&mut self, at: &Place) -> io::Result<File> {
+        File::create_new(&self.rt, at.path())
+    }
+
+    #[tactic(auto, unfolding(ym_folder::specs::Folder::under, ym_folder::specs::Folder::has_links))]
+    fn append(&mut self, file: &mut File, _at: &Place, bytes: &[u8]) -> io::Result<()> {
+        file.write_all(bytes)
+    }
+
+    #[tactic(auto, unfolding(ym_folder::specs::Folder::under, ym_folder::specs::Folder::has_links))]
+    fn link(&mut self, from: &Place, to: &Place) -> io::Result<()> {
+        fs::hard_link(&self.rt, from.path(), to.path())
+    }
+
+    #[tactic(auto, unfolding(ym_folder::specs::Folder::under, ym_folder::specs::Folder::has_links))]
+    fn rename(&mut self, from: &Place, to: &Place) -> io::Result<()> {
+        fs::rename(&self.rt, from.path(), to.path())
+    }
+
+    #[tactic(auto, unfolding(ym_folder::specs::Folder::under, ym_folder::specs::Folder::has_links, ym_folder::specs::Folder::has_refused))]
+    fn remove(&mut self, at: &Place) -> io::Result<()> {
+        fs::remove_file(&self.rt, at.path())
+    }
+}

@@ -1,0 +1,96 @@
+//! A file of either kind: a record of both ways, or a capture of packets. Its first bytes tell.
+
+ghost use Rattle.std.specs.Prelude.{◌≡◌, ◌≢◌, ◌≤◌, ℕ, Bool, List, Option, Some, Ok, Err, IfOk, IfErr, length};
+ghost use Rattle.ym_capture.specs.CaptureHead.{form_of as form_by};
+ghost use Rattle.ym_inspect.specs.CaptureFaults.{CountsReads, CountsWrites, IsOfReading};
+ghost use Rattle.ym_inspect.specs.CaptureTold.{TellsLast};
+ghost use Rattle.ym_inspect.specs.FirstBytes.{Begins};
+ghost use Rattle.ym_inspect.specs.PcapRead.{FaultOfCapture, SaysPlace, TellsCapture};
+
+use crate::fault::InspectFault;
+use crate::pcap::Packets;
+use crate::reading::read_some;
+use crate::record::tell_record;
+use std::alloc::Global;
+use ym_capture::{CaptureFault, Form, HEAD, Kind, Order, Part, form_of, kind_of};
+use ym_explain::{Verdict, Ways};
+use ym_play::{Input, Output};
+
+/// The first bytes of a file: as many as stand before the first packet of a capture, or all where
+/// it has fewer.
+fn first_bytes<I: Input>(alloc: Global, input: &mut I) -> Result<Vec<u8>, InspectFault>
+    ensures begins { IfOk result (λ front. (text : List ℕ) → I.remaining input.old ≡ Some text
+        → Begins front.items text (I.remaining input.new)) }
+    ensures reads { CountsReads result (I.failures input.old) (I.failures input.new) }
+    ensures why { IsOfReading result }
+{
+    let mut front = Vec::new(alloc);
+    let mut one = [0u8; 1];
+    while front.len() < HEAD {
+        let count = read_some(input, &mut one)?;
+        if count == 0 {
+            return Ok(front);
+        }
+        front.extend_from_slice(&one[..count])?;
+    }
+    Ok(front)
+}
+
+/// How a capture that begins so is written.
+fn form_at(order: Order, part: Part, front: &[u8]) -> Result<Form, InspectFault>
+    ensures there { IfOk result (λ _. HEAD ≤ length front.now) }
+    ensures form { IfOk result (λ form. form_by order part front.now ≡ Ok form) }
+    ensures place { IfErr result (λ fault.
+        (turned : Bool) (text : List ℕ) (left : Option (List ℕ)) → Begins front.now text left
+        → SaysPlace turned order part fault text) }
+    ensures read { result ≢ Err InspectFault.Read }
+    ensures write { result ≢ Err InspectFault.Write }
+{
+    if front.len() < HEAD {
+        return Err(InspectFault::Packet {
+            place: 0,
+            why: CaptureFault::Cut,
+        });
+    }
+    match form_of(order, part, front) {
+        Ok(form) => Ok(form),
+        Err(why) => Err(InspectFault::Packet { place: 0, why }),
+    }
+}
+
+/// Tells a record, or a capture of packets, and answers what went wrong in its session. If it is
+/// turned, the ways of a capture are the other way round.
+///
+/// # Errors
+///
+/// Where it cannot be read on from a line or from a packet, behind all that stands before that; or
+/// where a read or a write failed, or memory ran out.
+pub fn explain_capture<I: Input, O: Output>(
+    alloc: Global,
+    input: &mut I,
+    turned: bool,
+    out: &mut O,
+) -> Result<Verdict, InspectFault>
+    // All that it says is told in its order, and nothing else.
+    ensures told { IfOk result (λ verdict. (text : List ℕ) → I.remaining input.old ≡ Some text
+        → TellsCapture turned text (O.contents out.old) verdict (O.contents out.new)) }
+    // A line that cannot be read is the first such line, and a packet the first such packet.
+    ensures fault { IfErr result (λ fault. (text : List ℕ) → I.remaining input.old ≡ Some text
+        → FaultOfCapture turned fault text) }
+    // The last of what is told is this verdict.
+    ensures last { IfOk result (λ verdict. TellsLast Ways.Both verdict (O.contents out.new)) }
+    ensures reads { CountsReads result (I.failures input.old) (I.failures input.new) }
+    ensures wrote { CountsWrites result (O.failures out.old) (O.failures out.new) }
+{
+    let front = first_bytes(alloc, input)?;
+    let front = front.as_slice();
+    match kind_of(front) {
+        Kind::Other => tell_record(alloc, front, input, out),
+        Kind::Pcapng => Err(InspectFault::Pcapng),
+        Kind::Pcap(order, part) => {
+            let form = form_at(order, part, front)?;
+            let mut packets = Packets::new(alloc, form, turned);
+            packets.explain(input, out)
+        }
+    }
+}

@@ -1,0 +1,11 @@
+pub mod Acts
+pub mod AnswerBytes
+pub mod Carriage
+pub mod Cases
+pub mod Claiming
+pub mod JudgeExamples
+pub mod JudgeText
+pub mod Judging
+pub mod Noted
+pub mod Reporting
+pub mod TwinSender

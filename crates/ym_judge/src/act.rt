@@ -1,0 +1,163 @@
+//! What an end does in its turn.
+
+ghost use Rattle.std.specs.Prelude.{◌≡◌, MatchOption, None, Some};
+ghost use Rattle.ym_core.specs.Hearing.{heard_of};
+ghost use Rattle.ym_judge.specs.Acts.{act_at, act_of, act_heard, answer_in, front_answer};
+
+use std::fmt;
+use ym_core::{HeardRef, Mode, Place, SendState, Standing, heard_in};
+use ym_frame::{ItemRef, Reply};
+
+/// What an end does in its turn.
+#[derive(Clone, Copy, Debug, PartialEq, Eq)]
+pub enum Act {
+    /// It writes nothing.
+    Nothing,
+    /// It sends the block 0 of a file.
+    Header,
+    /// It sends the data block with this number, modulo 256.
+    Block(u8),
+    /// It sends an EOT.
+    Eot,
+    /// It sends the end block.
+    End,
+    /// It sends CAN CAN.
+    Cancel,
+    /// It writes what is no frame, or no answer.
+    Noise,
+    /// It answers so.
+    Answer(Reply),
+    /// It answers so, and then so.
+    Answers(Reply, Reply),
+}
+
+/// The frame of a place.
+fn act_at(place: Place) -> Act
+    ensures { result ≡ act_at place }
+{
+    match place {
+        Place::Header { .. } => Act::Header,
+        Place::Block { number, .. } => Act::Block((number % 256) as u8),
+        Place::Eot { .. } => Act::Eot,
+        Place::End => Act::End,
+    }
+}
+
+/// What a sender of the reference does that stands there.
+pub fn asked_of_sender(standing: Standing) -> Act
+    ensures { result ≡ act_of standing }
+{
+    match standing.state {
+        SendState::Running if standing.mode == Mode::Sent => act_at(standing.place),
+        SendState::NoReply | SendState::SourceFailed if standing.cancel_pending => Act::Cancel,
+        _ => Act::Nothing,
+    }
+}
+
+/// What a sender did that wrote these bytes, in the middle of a file or not.
+pub fn delivered(in_file: bool, bytes: &[u8]) -> Act
+    ensures { result ≡ act_heard in_file bytes.now (heard_of bytes.now) }
+{
+    match heard_in(bytes) {
+        HeardRef::Item(ItemRef::Block(block)) => {
+            if in_file || block.number() != 0 {
+                Act::Block(block.number())
+            } else if block.body()[0] == 0 {
+                Act::End
+            } else {
+                Act::Header
+            }
+        }
+        HeardRef::Item(ItemRef::Eot) => Act::Eot,
+        HeardRef::Item(ItemRef::Cancel) => Act::Cancel,
+        HeardRef::Bad => {
+            if bytes.is_empty() {
+                Act::Nothing
+            } else {
+                Act::Noise
+            }
+        }
+    }
+}
+
+/// The answer that stands at the front of these bytes, and what stands behind it.
+fn front_answer(bytes: &[u8]) -> Option<(Reply, &[u8])>
+    ensures { MatchOption result (front_answer bytes.entry.now ≡ None) (λ front.
+        front_answer bytes.entry.now ≡ Some (front.0, front.1.now)) }
+{
+    match bytes {
+        [0x06, 0x43, rest @ ..] => Some((Reply::AckStart, rest)),
+        [0x18, 0x18, rest @ ..] => Some((Reply::Cancel, rest)),
+        [0x06, rest @ ..] => Some((Reply::Ack, rest)),
+        [0x15, rest @ ..] => Some((Reply::Nak, rest)),
+        [0x43, rest @ ..] => Some((Reply::Start, rest)),
+        _ => None,
+    }
+}
+
+/// What a receiver did that wrote these bytes.
+pub fn answered(bytes: &[u8]) -> Act
+    ensures { result ≡ answer_in bytes.now }
+{
+    if bytes.is_empty() {
+        return Act::Nothing;
+    }
+    match front_answer(bytes) {
+        None => Act::Noise,
+        Some((first, [])) => Act::Answer(first),
+        Some((first, rest)) => match front_answer(rest) {
+            Some((second, [])) => Act::Answers(first, second),
+            _ => Act::Noise,
+        },
+    }
+}
+
+/// An answer, by its name.
+#[derive(Clone, Copy)]
+struct AnswerWords(Reply);
+
+impl fmt::Display for AnswerWords {
+    ghost use Rattle.std.specs.Prelude.{Some};
+    ghost use Rattle.ym_judge.specs.JudgeText.{answer_text};
+
+    ghost output = { λ answer. Some (answer_text answer.0) };
+
+    fn fmt<W: fmt::Write>(&self, f: &mut fmt::Formatter<W>) -> fmt::Result {
+        match self.0 {
+            Reply::Silence => write!(f, "nothing"),
+            Reply::Start => write!(f, "C"),
+            Reply::Ack => write!(f, "ACK"),
+            Reply::AckStart => write!(f, "ACK C"),
+            Reply::Nak => write!(f, "NAK"),
+            Reply::Cancel => write!(f, "CAN CAN"),
+        }
+    }
+}
+
+impl fmt::Display for Act {
+    ghost use Rattle.std.specs.Prelude.{Some};
+    ghost use Rattle.ym_judge.specs.JudgeText.{act_text};
+
+    ghost output = { λ act. Some (act_text act) };
+
+    fn fmt<W: fmt::Write>(&self, f: &mut fmt::Formatter<W>) -> fmt::Result {
+        match *self {
+            Act::Nothing => write!(f, "nothing"),
+            Act::Header => write!(f, "block 0"),
+            Act::Block(number) => write!(f, "data block {number}"),
+            Act::Eot => write!(f, "EOT"),
+            Act::End => write!(f, "the end block"),
+            Act::Cancel => write!(f, "CAN CAN"),
+            Act::Noise => write!(f, "other bytes"),
+            Act::Answer(reply) => {
+                let words = AnswerWords(reply);
+                write!(f, "{words}")
+            }
+            Act::Answers(first, second) => {
+                let one = AnswerWords(first);
+                let other = AnswerWords(second);
+                write!(f, "{one}, {other}")
+            }
+        }
+    }
+}

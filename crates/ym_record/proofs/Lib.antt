@@ -1,0 +1,2 @@
+mod HexText
+mod ReadBackLemmas

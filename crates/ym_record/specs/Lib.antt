@@ -1,0 +1,3 @@
+pub mod RecordExamples
+pub mod RecordGrowth
+pub mod RecordText

@@ -1,0 +1,20 @@
+-- Worked examples of records.
+use Rattle.std.specs.Prelude.{◌≡◌, refl, [], ◌∷◌, codes, Ok}
+use Rattle.std.specs.Fmt.{digits}
+use Rattle.hex.specs.Hex.{encode_with}
+use Rattle.ym_inspect.specs.RecordRead.{recorded}
+use Rattle.ym_told.specs.declared.way.Direction.TheVariants.{There, Back}
+use Rattle.ym_record.specs.RecordText.{line_of}
+
+an_ask : line_of 0 Back (0x43 ∷ []) ≡ codes "0.000000 < 43\n"
+unfolding line_of digits encode_with
+an_ask = refl
+
+a_front : line_of 12004112 There (0x01 ∷ 0x00 ∷ 0xff ∷ 0x61 ∷ []) ≡ codes "12.004112 > 0100ff61\n"
+unfolding line_of digits encode_with
+a_front = refl
+
+is_read :
+    recorded (line_of 4655 There (0x31 ∷ 0x30 ∷ [])) ≡ Ok ((There, 0x31) ∷ (There, 0x30) ∷ [])
+unfolding line_of digits encode_with
+is_read = refl

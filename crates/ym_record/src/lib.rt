@@ -1,0 +1,17 @@
+//! Records what passes on a line while files are sent or received, in the form that `ym_inspect`
+//! reads: a line for each piece that was read or written, with its moment.
+#![tactic(auto)]
+
+mod append;
+pub mod laws;
+mod lines;
+mod opening;
+mod recorded_wire;
+mod recorder;
+mod text;
+
+pub use append::Append;
+pub use opening::{RecordRefusal, open_record};
+pub use recorded_wire::RecordedWire;
+pub use recorder::Recorder;
+pub use text::push_line;
