@@ -21,7 +21,7 @@ import threading
 import time
 
 ROOT = os.path.dirname(os.path.dirname(os.path.abspath(__file__)))
-KINDS = ("proof", "tests", "edits", "runs")
+KINDS = ("proof", "tests", "seeds", "edits", "runs")
 TICKS = os.sysconf("SC_CLK_TCK")
 EVERY = 0.5
 # So many of the dearest edits, and of the longest stretches, are told.
@@ -60,6 +60,8 @@ class Process:
         except OSError:
             folder = ""
         edit = re.search(r"/rt-edit-[^/]*", folder)
+        if edit and any(it.endswith("/seed") for it in words):
+            return crate, "seeds", None
         return crate, "edits" if edit else "tests" if "--test" in words else "proof", edit[0] if edit else None
 
 

@@ -22,7 +22,7 @@ sys.path.insert(0, HERE)
 
 from module import REFUSALS, made
 
-LIBRARY = ("codes", "errors", "engine", "alarm", "line", "timed", "log", "receiving", "sending", "websocket", "ymodem")
+LIBRARY = ("codes", "errors", "engine", "alarm", "line", "timed", "driving", "log", "receiving", "sending", "websocket", "ymodem")
 PAGE = ("words", "remembered", "terminal", "chart", "progress", "ports", "page")
 STYLES = ("controls", "line", "page")
 

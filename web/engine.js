@@ -3,6 +3,8 @@
 import { YmodemError } from "./errors.js";
 
 const PAGE = 65536;
+// Room for pieces that are written, as much as is taken at once.
+const PIECES = 65536;
 
 // A module that copies memory and extends a sign: the newest of what ymodem.wasm has.
 const PROBE = Uint8Array.of(
@@ -44,6 +46,8 @@ const rounded = (size) => Math.ceil(size / 16) * 16;
 /** One instance of the module, for one transfer, with room behind its own memory for what the transfer needs. */
 export class Engine {
   #next;
+  // Where the next piece for a stream stands.
+  #room = new Uint8Array(0);
 
   constructor(instance) {
     // an object as others are: a call of it is found sooner than one of the exports
@@ -76,8 +80,18 @@ export class Engine {
     return this.number(at) + this.number(at + 4) * 2 ** 32;
   }
 
-  /** A copy, since a stream may keep what it is given. */
+  /** A copy with a buffer of its own: for who may keep it, or hand it on. */
   copy(at, size) {
     return this.bytes.slice(at, at + size);
+  }
+
+  /** A copy for a stream, which may keep it. Many have one buffer: one for each would cost more
+   *  than all else of a block. A stream that takes the buffer away leaves no room in it. */
+  piece(at, size) {
+    if (this.#room.length < size) this.#room = new Uint8Array(Math.max(PIECES, size));
+    const piece = this.#room.subarray(0, size);
+    piece.set(this.bytes.subarray(at, at + size));
+    this.#room = this.#room.subarray(size);
+    return piece;
   }
 }

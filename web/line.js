@@ -46,9 +46,15 @@ export class Line {
     else if (value.length) this.#came.push(value);
     this.#goOn();
   };
-  #onFault = (fault) => {
+  #onFault = (cause) => {
     this.#coming = null;
-    this.#fault = fault;
+    this.#fault = failed("read", cause);
+    this.#goOn();
+  };
+  // The write that began last, and what is heard of one that is not waited for.
+  #writing = null;
+  #onUnwritten = (cause) => {
+    this.#fault ??= failed("written", cause);
     this.#goOn();
   };
 
@@ -119,9 +125,8 @@ export class Line {
   }
 
   #isClosed() {
-    const cause = this.#fault;
     if (this.#ended) this.closed = new YmodemError("closed", "the line was closed");
-    else if (cause) this.closed = failed("read", cause);
+    else this.closed = this.#fault;
     return this.closed !== null;
   }
 
@@ -144,13 +149,24 @@ export class Line {
     return first.subarray(0, most);
   }
 
-  /** Writes all of it, or fails where the line takes nothing for long from now on. */
+  /** Writes all of it. A line that has room for more is not waited for; for another there is a
+   *  promise, as `written` has it. */
   write(now, bytes) {
     this.#pieces = 0;
+    this.#writing = this.#writer.write(bytes);
+    if (!(this.#writer.desiredSize > 0)) return this.written(now);
+    this.#writing.then(undefined, this.#onUnwritten);
+    return null;
+  }
+
+  /** Waits until the line has taken what was written last, or fails where it takes nothing for
+   *  long from now on. */
+  written(now) {
+    if (this.#writing === null) return null;
     return new Promise((resolve, reject) => {
       const fails = (cause) => reject(failed("written", cause));
       this.#alarm.set(now + WRITES_WITHIN, () => fails(new Error("the line takes no bytes")));
-      this.#writer.write(bytes).then(resolve, fails);
+      this.#writing.then(resolve, fails);
     });
   }
 

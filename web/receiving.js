@@ -1,6 +1,7 @@
 /* The receiving end over a line. */
 
 import { ASKED, FAULTS, LAYOUT, RECEIVED, WAIT } from "./codes.js";
+import { drive } from "./driving.js";
 import { MESSAGES, YmodemError } from "./errors.js";
 import { DELIVERY } from "./line.js";
 import { Log } from "./log.js";
@@ -63,6 +64,8 @@ export class Receiving {
   #answered = false;
   // The first question goes out after the shorter wait: somebody is watching.
   #hasAsked = false;
+  // Bytes of the delivery under way.
+  #came = 0;
   // The length and the check of the block 0 of the file under way.
   #opening = "";
   #isOtherFile = false;
@@ -119,32 +122,52 @@ export class Receiving {
     this.#calls.ym_receiver_hear(this.#receiver, this.#ask);
   }
 
-  /** Reads one delivery: to the end of a frame, until the line is quiet, or 2048 bytes. What is left of the last piece is dropped. */
-  async #deliver() {
-    let came = 0;
-    while (came < DELIVERY) {
-      const wait = came === 0 && this.#hasAsked ? WAIT.first : WAIT.more;
-      const count = await this.#port.read(wait, DELIVERY - came);
-      this.#hasAsked = true;
-      if (count === 0) break;
-      came += count;
-      this.#feed(count);
-      if (this.#wants()) continue;
-      this.#hear();
-      if (!this.#asked("bad")) return;
-    }
-    this.#hear();
+  get isRunning() {
+    return this.#state === "running";
   }
 
-  async run() {
-    while (this.#state === "running") {
-      await this.#deliver();
-      if (this.#options.onFrame) this.#tell();
-      this.#open();
-      const done = this.#isOtherFile ? false : this.#act();
-      await this.#answer(isLater(done) ? await done : done);
-      if (this.#line.isStopped && this.#state === "host-failed") await this.#line.settle();
+  get wait() {
+    return this.#came === 0 && this.#hasAsked ? WAIT.first : WAIT.more;
+  }
+
+  get most() {
+    return DELIVERY - this.#came;
+  }
+
+  /** Takes so many bytes, and tells whether they end a delivery: with a frame, since the line is
+   *  quiet, or with 2048 bytes. What is left of the last piece is dropped. */
+  hears(count) {
+    this.#hasAsked = true;
+    if (count > 0) {
+      this.#came += count;
+      this.#feed(count);
+      if (!this.#wants()) {
+        this.#hear();
+        if (!this.#asked("bad")) return true;
+      }
+      if (this.#came < DELIVERY) return false;
     }
+    this.#hear();
+    return true;
+  }
+
+  /** Does what a delivery asks, and answers it: a promise of that, where it takes its time. */
+  replies() {
+    this.#came = 0;
+    if (this.#options.onFrame) this.#tell();
+    this.#open();
+    const done = this.#isOtherFile ? false : this.#act();
+    return isLater(done) ? done.then(this.#onDone) : this.#onDone(done);
+  }
+
+  #onDone = (done) => {
+    const written = this.#answer(done);
+    const settles = this.#line.isStopped && this.#state === "host-failed";
+    return settles ? Promise.resolve(written).then(() => this.#line.settle()) : written;
+  };
+
+  async run() {
+    await drive(this, this.#port);
     if (this.#state !== "finished") throw this.#failed();
   }
 

@@ -1,6 +1,7 @@
 /* The sending end over a line. */
 
 import { CANCEL, FAULTS, FILL, LAYOUT, OUT, PLACE_END, SENT, WAIT } from "./codes.js";
+import { drive } from "./driving.js";
 import { MESSAGES, YmodemError } from "./errors.js";
 import { DELIVERY } from "./line.js";
 import { Log } from "./log.js";
@@ -86,6 +87,8 @@ export class Sending {
   #about = null;
   #cause;
   #answered = false;
+  // Bytes of the delivery under way.
+  #held = 0;
   #onFault = (cause) => {
     this.#cause = cause;
     this.#fail();
@@ -119,38 +122,50 @@ export class Sending {
     return this.#engine.number(this.#sender + LAYOUT.ym_sender[field]);
   }
 
-  #isSettled(held) {
-    return (
-      this.#calls.ym_sender_settled(this.#sender, this.#batch, this.#total, this.#heard, held) > 0
-    );
+  #isSettled() {
+    const [batch, held] = [this.#batch, this.#held];
+    return this.#calls.ym_sender_settled(this.#sender, batch, this.#total, this.#heard, held) > 0;
   }
 
-  /** Reads one delivery, and answers how many bytes it has. */
-  async #deliver() {
-    const [port, engine] = [this.#port, this.#engine];
-    let held = 0;
-    // a byte of the line may make two
-    while (held + 2 <= DELIVERY) {
-      const most = Math.min(PIECE, (DELIVERY - held) >> 1);
-      const count = await port.read(held === 0 ? WAIT.first : WAIT.more, most);
-      if (count === 0) break;
-      engine.bytes.copyWithin(this.#heard + held, port.heard, port.heard + count);
-      held += count;
-      if (this.#isSettled(held)) break;
-    }
-    return held;
+  get isRunning() {
+    return this.#state === "running";
   }
+
+  get wait() {
+    return this.#held === 0 ? WAIT.first : WAIT.more;
+  }
+
+  get most() {
+    // a byte of the line may make two
+    return Math.min(PIECE, (DELIVERY - this.#held) >> 1);
+  }
+
+  /** Takes so many bytes, and tells whether they end a delivery. */
+  hears(count) {
+    if (count === 0) return true;
+    const { heard } = this.#port;
+    this.#engine.bytes.copyWithin(this.#heard + this.#held, heard, heard + count);
+    this.#held += count;
+    return this.#isSettled() || this.#held + 2 > DELIVERY;
+  }
+
+  /** Fills what a delivery asks for, and sends it: a promise of that, where it takes its time. */
+  replies() {
+    const held = this.#held;
+    this.#held = 0;
+    this.#tell(held);
+    this.#hear(held);
+    const filled = this.#fill();
+    return filled ? filled.then(this.#onFilled) : this.#onFilled();
+  }
+
+  #onFilled = () => {
+    if (this.#line.isStopped) this.#fail();
+    return this.#out();
+  };
 
   async run() {
-    while (this.#state === "running") {
-      const held = await this.#deliver();
-      this.#tell(held);
-      this.#hear(held);
-      const filled = this.#fill();
-      if (filled) await filled;
-      if (this.#line.isStopped) this.#fail();
-      await this.#out();
-    }
+    await drive(this, this.#port);
     if (this.#state !== "finished") throw this.#failed();
   }
 

@@ -13,6 +13,9 @@ const MOST_READS = 65536;
 const FRAME = 1029;
 // Of a byte that came two may be heard.
 const ROOM = 2 * DELIVERY;
+/** What a wait answers that is not over. */
+export const GOES_ON = -1;
+
 // Pieces that are kept for whoever has the line next.
 const MOST_KEPT = 4096;
 
@@ -32,6 +35,10 @@ export class TimedLine {
   #looked = 0;
   #millis = 0;
   #now = 0n;
+  // The wait under way: which it is, when it began, and how many reads it made.
+  #wait = 0;
+  #start = 0n;
+  #reads = 0;
   // Until when the last read waited.
   #until = 0n;
   #mayCancel = false;
@@ -72,31 +79,46 @@ export class TimedLine {
     return before;
   }
 
-  /** Reads what is to be heard of at most so many bytes, and answers how many bytes that is: 0
-   *  where the line was quiet. */
-  async read(wait, most) {
+  /** Begins a wait. It answers how many bytes are heard at once, or GOES_ON. */
+  begin(wait) {
     if (this.#hasCancel()) return this.#hears(CANCEL);
     if (this.#line.closed) throw this.#line.closed;
     if (wait === WAIT.first) this.#look();
-    const start = this.#now;
-    for (let reads = 0; reads < MOST_READS; reads++) {
-      const piece = this.#line.there(most) ?? (await this.#comes(this.#end(wait, start), most));
-      this.#stops(piece);
-      const count = piece === QUIET ? 0 : this.#take(piece);
-      if (count > 0 || this.#line.isStopped) return count;
-      // where nothing of it is heard, a wait goes on, for as long as one for a reply
-      if (piece !== QUIET && this.#end(WAIT.first, start) > this.#now) continue;
-      const vain = this.#calls.ym_line_expired(this.#state, wait, this.#now);
+    this.#wait = wait;
+    this.#start = this.#now;
+    this.#reads = 0;
+    return GOES_ON;
+  }
+
+  /** What is there already of at most so many bytes, or QUIET. */
+  there(most) {
+    return this.#line.there(most);
+  }
+
+  /** What comes, at most so many bytes, until the wait is over: a promise of it, or QUIET. */
+  comes(most) {
+    return this.#comes(this.#end(this.#wait), most);
+  }
+
+  /** Takes what came, or QUIET. It answers how many bytes of it are heard, which is 0 where the
+   *  line was quiet, or GOES_ON. */
+  take(piece) {
+    this.#stops(piece);
+    const count = piece === QUIET ? 0 : this.#hear(piece);
+    if (count > 0 || this.#line.isStopped) return count;
+    // where nothing of it is heard, a wait goes on, for as long as one for a reply
+    if (piece === QUIET || this.#end(WAIT.first) <= this.#now) {
+      const vain = this.#calls.ym_line_expired(this.#state, this.#wait, this.#now);
       if (vain === VAIN.ack) return this.#hears(ACK);
       if (this.#line.closed) throw this.#line.closed;
       if (vain === VAIN.quiet) return 0;
     }
-    return 0;
+    return ++this.#reads < MOST_READS ? GOES_ON : 0;
   }
 
-  /** When a wait is over: one for a reply that began then, or one for more, which begins now. */
-  #end(wait, start) {
-    const since = wait === WAIT.first ? start : this.#now;
+  /** When the wait is over, as one for a reply, or as one for more, which begins now. */
+  #end(wait) {
+    const since = wait === WAIT.first ? this.#start : this.#now;
     return this.#calls.ym_line_until(this.#state, wait, since);
   }
 
@@ -127,9 +149,9 @@ export class TimedLine {
     return bytes.length;
   }
 
-  /** Takes what came, and answers how many bytes of it are heard. A sender hears no reply behind
-   *  which its peer cancels. */
-  #take(piece) {
+  /** How many bytes of what came are heard. A sender hears no reply behind which its peer
+   *  cancels. */
+  #hear(piece) {
     if (this.#since.length < MOST_KEPT) this.#since.push(piece);
     this.#engine.bytes.set(piece, this.#came);
     const count = this.#calls.ym_line_hear(
@@ -160,7 +182,12 @@ export class TimedLine {
     this.#engine.bytes.copyWithin(this.#written, at, at + length);
     this.#writtenLength = length;
     this.#since = [];
-    return this.#line.write(this.#looked, this.#engine.copy(at, length));
+    return this.#line.write(this.#looked, this.#engine.piece(at, length));
+  }
+
+  /** Waits until the line has taken all that was written. */
+  written() {
+    return this.#line.written(moment());
   }
 
   #clearAt() {
