@@ -25,8 +25,12 @@ LIMITS = os.path.join(ROOT, "tools", "house.json")
 COLUMNS = 100
 PROOF_LINES = 400
 EDITS = 50
-# Every contract there is one equation that fixes the result, as of texts and words.
-EQUATIONS = {"ym_text", "ym_told", "ym_words"}
+# Crates of which the gate tries no edit: a try costs the crate's whole proof once more, and the main
+# theorems do not stand on what these tell, record, draw or ask of a system. `make edits` tries theirs.
+UNTRIED = {
+    *("ym_c", "ym_capture", "ym_explain", "ym_host", "ym_inspect", "ym_jobs", "ym_judge", "ym_play"),
+    *("ym_record", "ym_show", "ym_text", "ym_told", "ym_words"),
+}
 README, README_LINES = "README.md", 80
 MAP = "docs/map.md"
 # The two pages that say what is promised and how to believe it, and the words of both together.
@@ -114,7 +118,7 @@ def edits_of_the_gate():
     for crate, count in tried.items():
         if not 2 <= count <= 4:
             yield "%s has %d, not two to four" % (crate, count)
-    for crate in sorted(set(edits_in("edits")) - set(tried) - EQUATIONS):
+    for crate in sorted(set(edits_in("edits")) - set(tried) - UNTRIED):
         if not TRIES.fullmatch(crate):
             yield "%s has none in must-fail/" % crate
     if sum(tried.values()) > EDITS:
