@@ -17,7 +17,7 @@
 # make charts            draws the charts of docs/pictures from the traces that the program prints
 # make recording         records a transfer anew, and draws it: docs/pictures/transfer.svg, which the README shows
 # make bench             measures the program
-# All need the toolchain: `rt` on the path, and Python 3.
+# All need the toolchain: `rt` on the path, and Python 3. Tests need pytest (tools/packages.sh).
 
 PREFIX ?= /usr/local
 PROGRAM = crates/ymodem/out/ymodem

@@ -65,11 +65,11 @@ def steadily(check):
     """The check, made again where it failed and the machine stretched a round: that shows
     nothing."""
 
-    def steady():
+    def steady(**given):
         for left in reversed(range(TRIES)):
             ROUNDS.longest = 0.0
             try:
-                return check()
+                return check(**given)
             except AssertionError:
                 if not left or ROUNDS.longest < LONGEST_ROUND:
                     raise
