@@ -8,7 +8,10 @@ import pytest
 sys.dont_write_bytecode = True
 
 from support.program import PROGRAM
-from support.side_by_side import SideBySide
+from support.side_by_side import SideBySide, folder_of
+
+# The folders whose tests try other things than the program.
+WITHOUT_PROGRAM = ("house", "memory", "portable")
 
 
 def pytest_addoption(parser):
@@ -27,3 +30,10 @@ def program():
     """The program that is tried: what YMODEM names, else what a build leaves."""
     assert os.access(PROGRAM, os.X_OK), "there is no %s" % PROGRAM
     return PROGRAM
+
+
+@pytest.fixture(autouse=True)
+def there_is_a_program(request):
+    """Without the program its tests fail."""
+    if folder_of(request.node) not in WITHOUT_PROGRAM:
+        request.getfixturevalue("program")

@@ -1,4 +1,4 @@
-"""Without the library for 64-bit ARM and the program nothing is tried here."""
+"""Without the library for 64-bit ARM nothing is tried here."""
 
 import os
 
@@ -7,5 +7,5 @@ from support.example_boards import ARCHIVE
 
 
 @pytest.fixture(autouse=True, scope="session")
-def there_is_a_library(program):
+def there_is_a_library():
     assert os.access(ARCHIVE, os.R_OK), "there is no %s" % ARCHIVE

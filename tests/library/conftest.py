@@ -1,4 +1,4 @@
-"""Without the library and the program nothing is tried here."""
+"""Without the library nothing is tried here."""
 
 import os
 
@@ -7,5 +7,5 @@ from support.library import LIBRARY
 
 
 @pytest.fixture(autouse=True, scope="session")
-def there_is_a_library(program):
+def there_is_a_library():
     assert os.access(LIBRARY, os.R_OK), "there is no %s" % LIBRARY

@@ -10,7 +10,7 @@ from support.skipping import needs
 
 
 @pytest.fixture(autouse=True, scope="session")
-def rooms(program, request):
+def rooms(request):
     """The browsers, which are closed at the end."""
     if not os.path.isdir(WEB):
         needs("wasm-opt")
