@@ -17,7 +17,7 @@
 # make charts            draws the charts of docs/pictures from the traces that the program prints
 # make recording         records a transfer anew, and draws it: docs/pictures/transfer.svg, which the README shows
 # make bench             measures the program
-# All need the toolchain: `rt` on the path, and Python 3.
+# All need the toolchain: `rt` on the path, and Python 3. Tests need pytest (tools/packages.sh).
 
 PREFIX ?= /usr/local
 PROGRAM = crates/ymodem/out/ymodem
@@ -45,13 +45,13 @@ layout:
 test: layout
 	@tools/gate.py
 
-# The programs that play cases to both ends, and recorded lines for tests/transfer.py.
+# The programs that play cases to both ends, and recorded lines for tests/line.
 cases:
 	cd crates/line_cases && rt run < stdin
 	cd crates/port_cases && rt run < stdin
 
 memory:
-	tests/memory.py
+	@tools/checks.py memory
 
 edits:
 	@tools/edits.py $(if $(ANEW),--anew) $(if $(JOBS),--jobs $(JOBS)) $(CRATES)
@@ -60,7 +60,8 @@ plants:
 	@tools/plants.py $(if $(TESTS),--tests) $(if $(JOBS),--jobs $(JOBS)) $(CRATES)
 
 interop: build
-	tests/transfer.py --interop
+	@command -v sb > /dev/null && command -v rb > /dev/null || { echo "lrzsz is not installed" >&2; exit 1; }
+	@tools/checks.py peers -k test_lrzsz
 
 install: build
 	tools/install.sh $(PROGRAM) "$(DESTDIR)$(PREFIX)"
@@ -111,9 +112,8 @@ lib:
 
 test-lib: build
 	@$(MAKE) --no-print-directory lib
-	tests/library.py
-	tests/bare.py
-	tests/uboot.py
+	@tools/checks.py library uboot
+	@tools/checks.py boards -k test_loader
 
 portable:
 	@$(MAKE) --no-print-directory lib TARGETS=$(WASM)
@@ -121,8 +121,8 @@ portable:
 
 test-portable: build portable
 	@$(MAKE) --no-print-directory lib TARGETS="$(TARGET) aarch64-unknown-linux-gnu"
-	tests/portable.py --long
-	tests/boards.py --long
+	@tools/checks.py portable -m "long or not long"
+	@tools/checks.py boards -k test_boards -m "long or not long"
 
 install-lib: lib
 	install -D -m 644 out/lib/$(TARGET)/libymodem.a "$(DESTDIR)$(PREFIX)/lib/libymodem.a"
@@ -156,4 +156,4 @@ web-picture: web
 	docs/pictures/web.py
 
 test-web: build web
-	tests/web.py
+	@tools/checks.py web

@@ -8,7 +8,7 @@ blocks.elf tells how many milliseconds its blocks took. The stack is painted whe
 and what is told is how far it was written when a batch had come from `ymodem send`, and had gone to
 `ymodem receive`.
 
-usage: blocks.py       it needs valgrind, and for each board what tests/boards.py needs
+usage: blocks.py       it needs valgrind, and for each board what tests/boards needs
 """
 
 import os
@@ -21,12 +21,12 @@ sys.dont_write_bytecode = True
 ROOT = os.path.dirname(os.path.dirname(os.path.abspath(__file__)))
 sys.path.insert(0, os.path.join(ROOT, "tests"))
 
-from bare_board import from_program
-from boards import AGAIN, BOARDS, READY, SENT, few, summed, to_program
-from library_built import INCLUDE, LIBRARY, STRICT
-from program import folders, write_files
-from skipping import Skipped
-from wanting import command, wants
+from support.commands import command
+from support.example_boards import AGAIN, BOARDS, READY, SENT, few, summed, to_program
+from support.library import INCLUDE, LIBRARY, STRICT
+from support.program import folders, write_files
+from support.qemu import from_program
+from support.skipping import Skipped
 
 WAYS = {"bulk": "receiver, fed in bulk", "bytes": "receiver, fed byte by byte", "sender": "sender"}
 COUNTED = re.compile(r"refs:\s+([\d,]+)")
@@ -70,7 +70,7 @@ def sizes_on(name, board):
             port.sees(AGAIN)
             to_program()(port, there, batch)
             found = port.sees(SENT)
-            wants(found[1] == b"done", "it tells %s" % found[1].decode())
+            assert found[1] == b"done", "it tells %s" % found[1].decode()
             told = (*board.sizes("back.elf"), int(found[2]))
             print("%s: both ends: text %d, data %d, stack %d" % (name, *told))
 

@@ -2,10 +2,14 @@
 """Runs the gate, `rt ci`, and beside it all that is tried before a change lands.
 
 The gate proves every crate, tries the edits that have to be refused, and runs the crates' tests.
-Beside it come want of memory (tests/memory.py), the library for C with the page, made in a copy
-of the tree since the gate holds the crates' folders, over the crates that the gate proved, and, as soon as the gate has proved and built
-the program, the tests of that very program. So nothing of the program is proved twice, and most
-tests wait for lines and peers while the gate needs the processors.
+Beside it come want of memory (tests/memory), the library for C with the page, made in a copy of the
+tree since the gate holds the crates' folders, over the crates that the gate proved, and, as soon as
+the gate has proved and built the program, the tests of that very program, folder by folder of
+tests/. So nothing of the program is proved twice, and most tests wait for lines and peers while the
+gate needs the processors.
+
+Of each folder a line tells how many tests passed, failed and were skipped, and others why they were
+skipped; where one fails, all that pytest said is told.
 
 What the gate does is told in a line each as it comes. All that it says stands in out/gate.log and
 is written last, so that the last line is its verdict. Where anything else fails the gate is
@@ -26,32 +30,44 @@ import threading
 import time
 
 sys.dont_write_bytecode = True
+import checks
 import proved
+from shown import RUNNING, ran, reaped, shown, tell
 
 ROOT = proved.ROOT
 OUT = os.path.join(ROOT, "out")
 LOG = os.path.join(OUT, "gate.log")
-# Copies, since the gate is at work in the crates' own folders, by the variables that name them to the tests.
+# Copies, since the gate is at work in the crates' own folders, by the variables that name them to
+# the tests.
 TRIED = {"YMODEM": "ymodem", "CASES": "port_cases", "LINE_CASES": "line_cases"}
-# The tests side by side, those of a row in turn: most of them wait for lines and peers.
-ROWS = (("transfer", "shipped"), ("lines",), ("library", "bare", "web"), ("uboot", "boards", "portable"))
+# The folders of tests side by side, those of a row in turn: most tests wait for lines and peers.
+# What depends on how soon its process answers begins a row.
+ROWS = (
+    ("line", "disk", "words"),
+    ("peers", "explain", "serial", "package", "house"),
+    ("sessions",),
+    ("library", "web"),
+    ("uboot", "boards", "portable"),
+)
 # These need the library or the page, which are made meanwhile.
-TESTS_OF_LIBRARY = {"library", "bare", "web", "uboot", "boards", "portable"}
+TESTS_OF_LIBRARY = {"library", "web", "uboot", "boards", "portable"}
 # The crate of the library for C.
 LIBRARY = "ym_c"
 # What the library as files for every processor is made of, and by.
 WASM = os.path.join(OUT, "lib", "wasm64-unknown-unknown", "libymodem.a")
-# It comes last, and tells what was skipped in the others.
-LAST = "counts"
 # What has time until the program is proved leaves the processors to the gate, whose longest row of
 # crates is what all wait for. Linux shares them out by sessions, each of which has a nice value of
 # its own, where it knows of such groups. Without leave to set that, the other one has to do.
 GROUP = "/proc/self/autogroup"
-YIELDS = "[ ! -w %s ] || echo 10 > %s || :; exec nice -n 5 \"$@\"" % (GROUP, GROUP)
+YIELDS = '[ ! -w %s ] || echo 10 > %s || :; exec nice -n 5 "$@"' % (GROUP, GROUP)
 LATER = ["/bin/sh", "-c", YIELDS, "later"]
 
-# The lines that are passed on as they come, and the one of a crate that is proved, by which time its program is built.
-TOLD = re.compile(r"rt: \w+(: its tests are)? (proved|NOT PROVED)|rt: \w+ is kept|rt: \w+: trying its must-fail edits")
+# The lines that are passed on as they come, and the one of a crate that is proved, by which time
+# its program is built.
+TOLD = re.compile(
+    r"rt: \w+(: its tests are)? (proved|NOT PROVED)|rt: \w+ is kept|rt: \w+: trying its must-fail"
+    r" edits"
+)
 PROVED = re.compile(r"rt: (\w+) (proved|is kept: .*)\n")
 
 
@@ -59,8 +75,19 @@ class Gate:
     """`rt ci` while it runs."""
 
     def __init__(self):
-        self.began, self.lines, self.proved, self.changed = time.monotonic(), [], set(), threading.Condition()
-        how = {"stdin": subprocess.DEVNULL, "stdout": subprocess.PIPE, "stderr": subprocess.STDOUT, "text": True, "errors": "replace"}
+        self.began, self.lines, self.proved, self.changed = (
+            time.monotonic(),
+            [],
+            set(),
+            threading.Condition(),
+        )
+        how = {
+            "stdin": subprocess.DEVNULL,
+            "stdout": subprocess.PIPE,
+            "stderr": subprocess.STDOUT,
+            "text": True,
+            "errors": "replace",
+        }
         # a group of its own, so that all that it started can be stopped
         self.child = subprocess.Popen(["rt", "ci"], cwd=ROOT, start_new_session=True, **how)
         self.is_over = self.is_given_up = False
@@ -71,7 +98,10 @@ class Gate:
             for line in self.child.stdout:
                 kept.write(line)
                 if TOLD.match(line.rstrip("\n")):
-                    tell("gate, %d:%02d min: %s" % (*divmod(time.monotonic() - self.began, 60), line.rstrip("\n")))
+                    tell(
+                        "gate, %d:%02d min: %s"
+                        % (*divmod(time.monotonic() - self.began, 60), line.rstrip("\n"))
+                    )
                 found = PROVED.fullmatch(line)
                 with self.changed:
                     self.lines.append(line)
@@ -85,7 +115,9 @@ class Gate:
     def has_proved(self, *names):
         """Waits until these crates are proved. Gives whether they are: it may end before."""
         with self.changed:
-            self.changed.wait_for(lambda: self.is_over or self.is_given_up or self.proved.issuperset(names))
+            self.changed.wait_for(
+                lambda: self.is_over or self.is_given_up or self.proved.issuperset(names)
+            )
             return self.proved.issuperset(names)
 
     def give_up(self):
@@ -133,39 +165,6 @@ class Beside:
         return not self.has_failed
 
 
-PRINTING = threading.Lock()
-# What runs beside the gate, so that it can be stopped.
-RUNNING = set()
-
-
-def tell(text):
-    with PRINTING:
-        print(text, flush=True)
-
-
-def reaped(child):
-    """Waits for the end of a child that this program alone waits for. Gives the processor minutes that it and its children used."""
-    _, status, used = os.wait4(child.pid, 0)
-    child.returncode = os.waitstatus_to_exitcode(status)
-    return (used.ru_utime + used.ru_stime) / 60
-
-
-def shown(title, words, folder=ROOT, env=None):
-    """Runs a command, and tells what it said, and what it took, when it has ended. Gives its status."""
-    began = time.monotonic()
-    how = {"stdin": subprocess.DEVNULL, "stdout": subprocess.PIPE, "stderr": subprocess.STDOUT, "text": True, "errors": "replace"}
-    child = subprocess.Popen(words, cwd=folder, env=env, start_new_session=True, **how)
-    RUNNING.add(child)
-    with child.stdout as out:
-        said = out.read()
-    used = reaped(child)
-    RUNNING.discard(child)
-    minutes = (time.monotonic() - began) / 60
-    tell("%s\n%s" % (title, said.rstrip("\n")))
-    tell("%s took %.1f minutes, and %.1f processor minutes" % (title, minutes, used))
-    return child.returncode
-
-
 def stop_all(gate, beside):
     gate.stop()
     for child in list(RUNNING):
@@ -175,15 +174,42 @@ def stop_all(gate, beside):
 
 
 def packages():
-    shown("packages of the tests", [os.path.join(ROOT, "tools", "packages.sh"), *os.environ.get("INSTALL", "").split()])
+    shown(
+        "packages of the tests",
+        [os.path.join(ROOT, "tools", "packages.sh"), *os.environ.get("INSTALL", "").split()],
+    )
 
 
-def memory():
-    return shown("tests/memory.py", [*LATER, os.path.join(ROOT, "tests", "memory.py")])
+# How the tests of each folder came out.
+COUNTS = {}
+
+
+def made(name, environment=None, ahead=()):
+    """Makes the tests of a folder, and tells how they came out. Gives the status."""
+    began = time.monotonic()
+    words = [*ahead, *checks.words_of(os.path.join(checks.TESTS, name))]
+    status, said, used = ran(words, env=environment)
+    counts = COUNTS[name] = checks.counts_of(said) or (0, 1, 0)
+    took = (time.monotonic() - began) / 60, used
+    lines = checks.skipped_of(said) if status == 0 else [said.rstrip("\n")]
+    line = "tests/%s: %s; %%.1f minutes, %%.1f processor minutes" % (name, checks.told(counts))
+    tell("\n".join([line % took, *lines]))
+    return status
+
+
+def in_all():
+    """How the tests of all folders came out."""
+    return checks.told(map(sum, zip(*COUNTS.values())))
+
+
+def memory(installed):
+    installed.thread.join()
+    return made("memory", ahead=LATER)
 
 
 def library_and_page(installed, gate):
-    """Makes the library for C and the page in a copy of the tree, where no gate holds the crates' folders.
+    """Makes the library for C and the page in a copy of the tree, where no gate holds the crates'
+    folders.
 
     It waits for the crates below the library, and takes them as the gate proved and built them."""
     below = [name for name in proved.made_of(LIBRARY) if name != LIBRARY]
@@ -191,7 +217,13 @@ def library_and_page(installed, gate):
         return 0
     with tempfile.TemporaryDirectory(prefix="ymodem-lib-") as top:
         copy = os.path.join(top, "tree")
-        shutil.copytree(ROOT, copy, ignore=shutil.ignore_patterns("out", ".git", "must-fail", "edits", "plants", "__pycache__"))
+        shutil.copytree(
+            ROOT,
+            copy,
+            ignore=shutil.ignore_patterns(
+                "out", ".git", "must-fail", "edits", "plants", "__pycache__"
+            ),
+        )
         for name in below:
             made = os.path.join("crates", name, "out", "rlib")
             shutil.copytree(os.path.join(ROOT, made), os.path.join(copy, made))
@@ -210,7 +242,8 @@ def brought(copy, part):
 
 
 def cannot_make(what, part, *makers):
-    """Whether one of these programs is missing. Then nothing is left there, and the tests of it are skipped."""
+    """Whether one of these programs is missing. Then nothing is left there, and the tests of it are
+    skipped."""
     if all(map(shutil.which, makers)):
         return False
     shutil.rmtree(os.path.join(OUT, part), ignore_errors=True)
@@ -232,11 +265,14 @@ def portable():
     """Makes the library as files for every processor, of the archive for wasm64."""
     if cannot_make("the library as files for every processor is", "portable", "wasm-opt", "wasm2c"):
         return 0
-    return shown("the library as files for every processor", [os.path.join(ROOT, "tools", "portable.py"), WASM, os.path.join(OUT, "portable")])
+    return shown(
+        "the library as files for every processor",
+        [os.path.join(ROOT, "tools", "portable.py"), WASM, os.path.join(OUT, "portable")],
+    )
 
 
 class Row:
-    """Tests that are made in turn, beside those of other rows."""
+    """Folders of tests that are made in turn, beside those of other rows."""
 
     def __init__(self, names, gate, library, environment):
         self.names, self.gate, self.library, self.environment = names, gate, library, environment
@@ -246,15 +282,15 @@ class Row:
 
     def run(self):
         for name in self.names:
-            if name in TESTS_OF_LIBRARY and not self.library.has_ended_well() or self.gate.is_given_up:
+            if (
+                name in TESTS_OF_LIBRARY
+                and not self.library.has_ended_well()
+                or self.gate.is_given_up
+            ):
                 return
             if made(name, self.environment):
-                self.failed = "tests/%s.py" % name
+                self.failed = "tests/" + name
                 return
-
-
-def made(name, environment):
-    return shown("tests/%s.py" % name, [os.path.join(ROOT, "tests", name + ".py")], env=environment)
 
 
 def copies():
@@ -263,11 +299,15 @@ def copies():
     os.makedirs(there, exist_ok=True)
     for name in TRIED.values():
         shutil.copy2(os.path.join(ROOT, "crates", name, "out", name), there)
-    return {**os.environ, **{variable: os.path.join(there, name) for variable, name in TRIED.items()}}
+    return {
+        **os.environ,
+        **{variable: os.path.join(there, name) for variable, name in TRIED.items()},
+    }
 
 
 def tried(gate, before, library):
-    """The tests, of copies of the programs that the gate built. Gives the name of the first that fails."""
+    """The tests, of copies of the programs that the gate built. Gives the name of the first that
+    fails."""
     if not gate.has_proved(*TRIED.values()):
         return None
     environment = copies()
@@ -275,20 +315,23 @@ def tried(gate, before, library):
     rows = [Row(names, gate, library, environment) for names in ROWS]
     while any(row.thread.is_alive() for row in rows) and not any(row.failed for row in rows):
         time.sleep(0.2)
-    failed = next((row.failed for row in rows if row.failed), None)
-    if failed or gate.is_given_up:
-        return failed
-    return "tests/%s.py" % LAST if made(LAST, environment) else None
+    return next((row.failed for row in rows if row.failed), None)
 
 
 def judged(gate, beside):
-    """Begins all that goes on beside the gate, and waits for its end. Gives the gate's status, or the name of what failed."""
+    """Begins all that goes on beside the gate, and waits for its end. Gives the gate's status, or
+    the name of what failed."""
     installed = Beside("packages", packages, gate)
-    works = (("the library for C and the page", lambda: library_and_page(installed, gate)), ("tests/memory.py", memory))
-    beside += [installed, *(Beside(name, work, gate) for name, work in works)]
+    works = {
+        "the library for C and the page": lambda: library_and_page(installed, gate),
+        "tests/memory": lambda: memory(installed),
+    }
+    beside += [installed, *(Beside(name, work, gate) for name, work in works.items())]
     failed = tried(gate, *beside[:2])
     for it in beside:
         failed = failed or (None if it.has_ended_well() else it.name)
+    if COUNTS:
+        tell("the tests of all folders: %s" % in_all())
     return failed or gate.ended()
 
 

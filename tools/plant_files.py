@@ -4,7 +4,8 @@ A plant is a file NAME.edit of a folder plants/: of a crate, of share/, of inclu
 is an edit as those of must-fail/ are, with a line `by: CATCHER` more. A catcher is one of these:
 
   CRATE::MODULE::TEST      a test of a crate of tests, tried without proofs
-  tests/FILE.py CHECK      a check of the program, or of what is shipped beside it
+  tests/FOLDER CHECK       tests of the program, or of what is shipped beside it, by the words that
+                           their sentences begin with
   nothing: WHY             nobody catches it, for this reason
 """
 
@@ -39,12 +40,12 @@ class Plant(Edit):
 
     @property
     def catcher(self):
-        """Who tries it: a crate of tests, or a file of tests/; and what it tries there."""
+        """Who tries it: a crate of tests, or a folder of tests/; and what it tries there."""
         if self.by.startswith(NOTHING):
             return None, self.by.removeprefix(NOTHING)
         if self.by.startswith("tests/"):
-            file, _, check = self.by.partition(" ")
-            return file, check
+            folder, _, check = self.by.partition(" ")
+            return folder, check
         crate, _, test = self.by.partition("::")
         return crate, test
 
@@ -95,15 +96,13 @@ def test_is_there(crate, test):
     return bool(modules) and os.path.isfile(file) and TESTS % name in text_of(file)
 
 
-def check_is_there(file, check):
-    """Whether a file of tests/, or one of its books, has a check of this name."""
-    path = os.path.join(ROOT, file)
-    if not check or not os.path.isfile(path):
+def check_is_there(folder, check):
+    """Whether a folder of tests/ has a test whose sentence begins so."""
+    there = os.path.join(ROOT, folder)
+    if not check or not os.path.isdir(there):
         return False
-    books = [path]
-    for name in re.findall(r"^import (\w+)$", text_of(path), re.M):
-        books.append(os.path.join(ROOT, "tests", name + ".py"))
-    return any('"%s' % check in text_of(it) for it in books if os.path.isfile(it))
+    names = [it for it in os.listdir(there) if it.startswith("test_") and it.endswith(".py")]
+    return any('"%s' % check in text_of(os.path.join(there, it)) for it in names)
 
 
 def wrong_with(plant):

@@ -30,6 +30,7 @@ from concurrent.futures import ThreadPoolExecutor
 
 sys.dont_write_bytecode = True
 
+import checks
 import edits
 import plant_table
 import plant_trees
@@ -99,7 +100,7 @@ class Tests:
 
 
 class Checks:
-    """The checks of tests/, over the program with plants, and over copies in which what is shipped
+    """The tests of tests/, over the program with plants, and over copies in which what is shipped
     beside it has one."""
 
     def __init__(self, _, numbered, made):
@@ -133,16 +134,17 @@ class Checks:
 
     def fails(self, by, number):
         """Whether a check fails with the plant of this number, and what it said."""
-        file, _, check = by.partition(" ")
+        folder, _, check = by.partition(" ")
         plant, top = self.plants.get(number), self.top
         if plant and not plant.is_of_a_crate:
             top, number = self.with_plant_beside(plant, number), 0
         more = {"YMODEM": self.program, "LIMIT": str(CHECK_WAITS)}
-        words = [os.path.join(top, file), check]
+        words = checks.words_of(os.path.join(top, folder), "--check", check, "-rA")
         status, said = status_of(words, top, number, CHECK_TAKES, **more)
-        if status is None or re.search(r"^FAILED +%s" % re.escape(check), said, re.M):
+        told = r"^%%s \S+\[%s" % re.escape(check)
+        if status is None or re.search(told % "(FAILED|ERROR)", said, re.M):
             return True, said
-        if not re.search(r"^ok +%s" % re.escape(check), said, re.M):
+        if not re.search(told % "PASSED", said, re.M):
             raise NotBuilt("it is not made here: %s" % said.strip()[-300:])
         return False, said
 
@@ -167,7 +169,7 @@ def asked_of(plant):
 
 
 def judged(who, kind, plants, made):
-    """Tries plants that one crate of tests, or checks of tests/, have to catch. Gives each, and why
+    """Tries plants that one crate of tests, or tests of tests/, have to catch. Gives each, and why
     it is not caught."""
     numbered = list(enumerate(plants, 1))
     try:

@@ -101,7 +101,7 @@ def versions():
             found[tool] == known,
             "%s says %r, and this script was tried with %r (Debian 12). Another version may write "
             "C of another shape: add it to KNOWN in tools/portable.py, and keep it if "
-            "tests/portable.py --long passes" % (tool, found[tool], known),
+            "make test-portable passes" % (tool, found[tool], known),
         )
     return "%s, wasm2c %s,\n   toolchain %s" % (*found.values(), said("rt", "--version"))
 

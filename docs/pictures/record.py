@@ -40,8 +40,8 @@ INK, PAPER, FAINT = "#e6edf3", "#161b22", "#8b949e"
 def recorded(program):
     """What a terminal gets of the transfer: pairs of seconds since the start and text."""
     sys.path.insert(0, os.path.join(ROOT, "tests"))
-    from cable import cable
-    from terminal import joined
+    from support.cable import cable
+    from support.terminal import joined
 
     pipe = subprocess.PIPE
     with tempfile.TemporaryDirectory(prefix="ymodem-") as top, cable(baud=BAUD) as line:

@@ -15,11 +15,11 @@ sys.dont_write_bytecode = True
 HERE = os.path.dirname(os.path.abspath(__file__))
 sys.path.insert(0, os.path.join(HERE, "..", "..", "tests"))
 
-from program import folders, write_files
-from web_browser import Chromium
-from web_peers import Loader, Paced
-from web_serial_checks import RATE, SERIAL, at_serial_port
-from web_shown import PAGE, begin, click, firmware, text, until_share
+from support.chromium import Chromium
+from support.page import PAGE, begin, click, firmware, text, until_share
+from support.program import folders, write_files
+from support.serial_port import RATE, SERIAL, at_serial_port
+from support.web_peers import Loader, Paced
 
 SHARE = 0.4
 

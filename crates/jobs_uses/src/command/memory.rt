@@ -1,4 +1,4 @@
-//! Commands that meet want of memory. `tests/memory.py` refuses each growth in turn.
+//! Commands that meet want of memory. `tests/memory` refuses each growth in turn.
 
 use super::fixtures::with_file;
 use std::io::Cursor;

@@ -1,5 +1,5 @@
 //! Calls that can meet want of memory, each in a test that succeeds where no growth is refused. Where one of the call is, the test
-//! answers so in these words, and it holds that nothing else came of it. `tests/memory.py` refuses each growth in turn.
+//! answers so in these words, and it holds that nothing else came of it. `tests/memory` refuses each growth in turn.
 
 use super::calls::{played, same};
 use super::memory::ONE_FILE;

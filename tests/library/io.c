@@ -1,0 +1,271 @@
+/* ym_receive and ym_send over a line that is played: how each way to end is told, with a clock
+   that runs and with one that stands still. One line for each that is told otherwise. usage:
+   io */
+#include "ymodem_io.h"
+
+#include <stdio.h>
+#include <string.h>
+
+static int broken;
+
+static void wants(int holds, const char *what) {
+    if (holds) return;
+    fprintf(stderr, "io: %s\n", what);
+    broken = 1;
+}
+
+/* What comes, each piece at one read, an empty one for a quiet line; behind it the line is quiet,
+   or drips one byte each so many milliseconds, or is closed. What was written. */
+struct played {
+    const char *const *comes;
+    const size_t *sizes;
+    size_t count, at, written, closed_behind;
+    uint64_t now, drips;
+    int stands_still;
+    uint8_t last[1029];
+};
+
+static struct played played_of(const char *const *comes, const size_t *sizes, size_t count) {
+    struct played it;
+    memset(&it, 0, sizeof it);
+    it.comes = comes;
+    it.sizes = sizes;
+    it.count = count;
+    return it;
+}
+
+static void again(struct played *it) {
+    it->at = it->written = 0;
+    it->now = 0;
+}
+
+static void passes(struct played *it, uint64_t milliseconds) {
+    if (!it->stands_still) it->now += milliseconds;
+}
+
+static int plays(void *user, uint8_t *bytes, size_t len, uint32_t milliseconds) {
+    struct played *it = user;
+    size_t at = it->at++, size = at < it->count ? it->sizes[at] : 0;
+    wants(size <= len && milliseconds <= 60000, "a read asks for a piece, a minute at most");
+    if (it->closed_behind && at >= it->closed_behind) return -1;
+    if (at >= it->count && it->drips && it->drips <= milliseconds) {
+        passes(it, it->drips);
+        bytes[0] = 'y';
+        return 1;
+    }
+    if (!size) passes(it, milliseconds);
+    if (size) memcpy(bytes, it->comes[at], size);
+    return (int)size;
+}
+
+static int writes(void *user, const uint8_t *bytes, size_t len) {
+    struct played *it = user;
+    if (!len || len > sizeof it->last) return -1;
+    memcpy(it->last, bytes, len);
+    it->written++;
+    return 0;
+}
+
+static uint64_t tells(void *user) { return ((struct played *)user)->now; }
+
+static int begins(void *user, const ym_file *file) {
+    *(uint64_t *)user = file->length;
+    return file->length != 7;
+}
+
+static int adds(void *user, const uint8_t *bytes, size_t len) {
+    (void)user;
+    return bytes[0] == 'x' && len > 0;
+}
+
+static int commits(void *user) {
+    (void)user;
+    return 1;
+}
+
+static ym_error receives(struct played *it, int stands_still) {
+    uint64_t length = 0;
+    ym_io io = { it, plays, writes, tells };
+    ym_sink sink = { &length, begins, adds, commits };
+    it->stands_still = stands_still;
+    return ym_receive(&io, &sink);
+}
+
+static int about(void *user, size_t file, ym_file *about) {
+    const char *name = user;
+    memset(about, 0, sizeof *about);
+    about->name = (const uint8_t *)name;
+    about->name_len = strlen(name);
+    about->length = 3;
+    return file == 0;
+}
+
+static int fills(void *user, size_t file, uint64_t start, uint8_t *bytes, size_t len) {
+    (void)user;
+    memset(bytes, 'x', len);
+    return file == 0 && start == 0 && len == 3;
+}
+
+static ym_error sends(struct played *it, char *name, size_t files) {
+    uint64_t blocks[2];
+    ym_io io = { it, plays, writes, tells };
+    ym_source source = { name, files, blocks, about, fills };
+    return ym_send(&io, &source);
+}
+
+#define COUNT(of) (sizeof(of) / sizeof *(of))
+
+static void nobody(int stands_still) {
+    struct played it = played_of(NULL, NULL, 0);
+    wants(receives(&it, stands_still) == YM_ERROR_TOO_MANY, "a receiver without a sender");
+    wants(it.written == 10 && it.last[0] == 0x18, "it asks nine times, and cancels");
+    wants(stands_still || (it.now > 20000 && it.now < 40000), "it waits three seconds each time");
+    again(&it);
+    wants(sends(&it, "name", 1) == YM_ERROR_NO_REPLY, "a sender without a receiver");
+    wants(it.written == 1 && it.last[0] == 0x18, "it cancels");
+}
+
+/* What begins as a block and is none is not heard, nor what comes behind it within a second. */
+static void drips(int stands_still) {
+    static const char *const comes[] = { "\x01x\x87" };
+    static const size_t sizes[] = { 3 };
+    struct played it = played_of(comes, sizes, COUNT(sizes));
+    it.drips = 300;
+    it.stands_still = stands_still;
+    wants(sends(&it, "name", 1) == YM_ERROR_NO_REPLY, "a sender on a line that drips");
+    wants(it.written == 1 && it.last[0] == 0x18, "it cancels");
+    wants(stands_still || (it.now > 90000 && it.now < 130000), "its waits are over by the clock");
+}
+
+static void cancelled(void) {
+    static const char *const comes[] = { "\x18\x18" };
+    static const size_t sizes[] = { 2 };
+    struct played it = played_of(comes, sizes, COUNT(sizes));
+    wants(receives(&it, 0) == YM_ERROR_CANCELLED && !it.written, "a sender that cancels");
+    again(&it);
+    wants(sends(&it, "name", 1) == YM_ERROR_CANCELLED && !it.written, "a receiver that cancels");
+}
+
+static void line_fails(void) {
+    struct played it = played_of(NULL, NULL, 0);
+    it.closed_behind = 2;
+    wants(receives(&it, 0) == YM_ERROR_LINE && it.written == 2, "a line that fails");
+    again(&it);
+    wants(sends(&it, "name", 1) == YM_ERROR_LINE, "a line that fails a sender");
+}
+
+/* A batch of one file: C, ACK C, ACK, NAK, ACK C, ACK; the last is heard when no more comes. */
+static const char *const replies[] = { "C", "\x06" "C", "\x06", "\x15", "\x06" "C", "\x06" };
+static const size_t reply_sizes[] = { 1, 2, 1, 1, 2, 1 };
+
+static void sent(void) {
+    char name[257] = { 0 };
+    struct played it = played_of(replies, reply_sizes, COUNT(reply_sizes));
+    wants(sends(&it, "name", 1) == YM_DONE, "a batch");
+    wants(it.written == 5 && it.last[0] == 1 && it.last[3] == 0, "five frames, the end block last");
+    wants(it.now == 100, "a tenth of a second is waited for, behind the last ACK");
+    again(&it);
+    wants(sends(&it, "a/b", 1) == YM_ERROR_NAME_UNSAFE, "a name with a slash");
+    wants(it.written == 1 && it.last[0] == 0x18, "CAN CAN in place of its header");
+    again(&it);
+    wants(sends(&it, "", 1) == YM_ERROR_NAME_EMPTY && it.written == 1, "no name");
+    again(&it);
+    memset(name, 'n', 256);
+    wants(sends(&it, name, 1) == YM_ERROR_NAME_LONG && it.written == 1, "a name of 256 bytes");
+    again(&it);
+    wants(sends(&it, "name", 2) == YM_ERROR_FILES, "a file of which nothing is told");
+    again(&it);
+    wants(sends(&it, "name", 65536) == YM_ERROR_MOST_FILES, "too many files");
+}
+
+/* Who answers the end block may close the line behind its ACK; behind any other that is no end. */
+static void closed(void) {
+    struct played it = played_of(replies, reply_sizes, COUNT(reply_sizes));
+    it.closed_behind = COUNT(reply_sizes);
+    wants(sends(&it, "name", 1) == YM_DONE && it.written == 5, "closed behind the last ACK");
+    while (--it.closed_behind) {
+        again(&it);
+        wants(sends(&it, "name", 1) == YM_ERROR_LINE, "closed behind another one");
+    }
+}
+
+static size_t frame_of(uint32_t number, const char *text, size_t len, uint8_t *frame) {
+    uint8_t bytes[128] = { 0 };
+    memcpy(bytes, text, len);
+    return ym_frame_write(number, bytes, 128, frame, 133);
+}
+
+/* Its own echo stands before what comes, and noise. */
+static void received(void) {
+    uint8_t zero[134], one[133], end[133];
+    const char *comes[] = {
+        "", (char *)zero, (char *)one, "\x04", "\x04", "noise", "", (char *)end
+    };
+    size_t sizes[] = { 0, 134, 133, 1, 1, 5, 0, 133 };
+    struct played it = played_of(comes, sizes, COUNT(sizes));
+    zero[0] = 0x43;
+    frame_of(0, "f\0" "3", 3, zero + 1);
+    frame_of(1, "xyz", 3, one);
+    frame_of(0, "", 0, end);
+    wants(receives(&it, 0) == YM_DONE && it.last[0] == 0x06, "a batch behind an echo and noise");
+    frame_of(0, "f\0" "7", 3, zero + 1);
+    again(&it);
+    wants(receives(&it, 0) == YM_ERROR_FILES && it.last[0] == 0x18, "a file that is refused");
+    frame_of(0, "f\0x", 3, zero + 1);
+    again(&it);
+    wants(receives(&it, 0) == YM_ERROR_NO_LENGTH && it.last[0] == 0x18, "no length");
+    frame_of(0, "f/g\0" "7", 5, zero + 1);
+    again(&it);
+    wants(receives(&it, 0) == YM_ERROR_NAME_UNSAFE && it.last[0] == 0x18, "a path");
+    frame_of(0, "f\0" "9223372036854775808", 21, zero + 1);
+    again(&it);
+    wants(receives(&it, 0) == YM_ERROR_LENGTH_LARGE && it.last[0] == 0x18, "a length of 2^63");
+    frame_of(9, "f\0" "3", 3, zero + 1);
+    again(&it);
+    wants(receives(&it, 0) == YM_ERROR_OUT_OF_STEP && it.last[0] == 0x18, "block 9 at first");
+}
+
+/* Block 0 once more is a repeat, and another one is out of step: it begins another file. */
+static void repeated(void) {
+    uint8_t zero[133], other[133], one[133], end[133];
+    const char *comes[] = { (char *)zero, (char *)zero, (char *)one, "\x04", "\x04", (char *)end };
+    size_t sizes[] = { 133, 133, 133, 1, 1, 133 };
+    struct played it = played_of(comes, sizes, COUNT(sizes));
+    frame_of(0, "f\0" "3", 3, zero);
+    frame_of(0, "g\0" "3", 3, other);
+    frame_of(1, "xyz", 3, one);
+    frame_of(0, "", 0, end);
+    wants(receives(&it, 0) == YM_DONE, "block 0 twice");
+    comes[1] = (char *)other;
+    again(&it);
+    wants(receives(&it, 0) == YM_ERROR_OUT_OF_STEP, "another block 0");
+    wants(it.written == 2 && it.last[0] == 0x18, "it is cancelled");
+}
+
+/* Each error has a name of its own. */
+static void texts(void) {
+    wants(!strcmp(ym_text(YM_DONE), "done"), "the text of a batch that is through");
+    wants(!strcmp(ym_text(YM_ERROR_NO_LENGTH), "a file has no length"), "that of a fault");
+    for (int one = YM_DONE; one <= YM_ERROR_LENGTH_LARGE + 1; one++) {
+        int known = one <= YM_ERROR_LENGTH_LARGE;
+        wants(!strcmp(ym_text((ym_error)one), "unknown") == !known, "an error without a text");
+        for (int other = YM_DONE; other < one; other++) {
+            wants(strcmp(ym_text((ym_error)one), ym_text((ym_error)other)), "two of one text");
+        }
+    }
+}
+
+int main(void) {
+    nobody(0);
+    nobody(1);
+    drips(0);
+    drips(1);
+    cancelled();
+    line_fails();
+    sent();
+    closed();
+    received();
+    repeated();
+    texts();
+    return broken;
+}

@@ -1,0 +1,317 @@
+"""What `make play`, `make build`, `make check` and the gate show, with a stand-in for `rt` that
+proves nothing and says what `rt` says."""
+
+import contextlib
+import os
+import shlex
+
+from support.cases import sentence
+from support.program import ROOT
+from support.terminal import UnderTerminal
+from support.tree import session, tree
+
+
+NOT_PROVED = "this run is not proved: make build proves it (minutes the first time)\n"
+
+
+def crates_of_program():
+    """How many crates the program is made of, with its own."""
+    with open(os.path.join(ROOT, "crates.txt"), encoding="utf-8") as it:
+        lines = dict(line.partition(":")[::2] for line in it if line.strip())
+    used = {name.split()[0]: line.split() for name, line in lines.items()}
+    found, left = set(), ["ymodem"]
+    while left:
+        name = left.pop()
+        if name in used and name not in found:
+            found.add(name)
+            left += used[name]
+    return len(found)
+
+
+def has(text, *wanted):
+    for it in wanted:
+        assert it in text, "%r is not in %r" % (it, text)
+
+
+@sentence("make play, before and after a build")
+def test_play():
+    """It plays without proofs where nothing is built or a source has changed, and by the program
+    else."""
+    with tree() as it:
+        status, out, err = it.make("play")
+        assert (status, out, it.called()) == (0, session(), ["try -- play"]), "the first play"
+        has(err, NOT_PROVED)
+        assert it.make("build")[0] == 0, "the build"
+        assert it.called() == ["ci"], "its calls"
+        assert (*it.make("play"), it.called()) == (0, session(), "", []), "play where it is built"
+        os.utime(
+            os.path.join(it.top, "crates", "ym_check", "src", "check.rt"),
+            (2**32 - 1, 2**32 - 1),
+        )
+        status, out, err = it.make("play")
+        assert (status, out, it.called()) == (0, session(), ["try -- play"]), "play behind an edit"
+        has(err, NOT_PROVED)
+
+
+@sentence("make play of a tree that is wrong")
+def test_play_that_fails():
+    with tree() as it:
+        it.mark("wrong")
+        status, out, err = it.make("play")
+        assert (status, out) == (2, ""), "its status and output"
+        has(err, "error: not so")
+
+
+@sentence("make build shows which crate it proves")
+def test_build():
+    """A line a crate where there is no terminal; what was proved is taken as it lies here; all that
+    rt said is kept, and shown where it fails."""
+    with tree() as it:
+        status, out, err = it.make("build")
+        assert (status, out, it.called()) == (0, "", ["ci"]), "its status, output and calls"
+        count = crates_of_program()
+        has(
+            err,
+            "proving %d crates (0:" % count,
+            "proved 1 of %d crates, the last one ymodem (" % count,
+            "is proved and built (",
+        )
+        assert err.count("\n") == 3, "the lines"
+        assert (it.make("build")[0], it.called()) == (0, []), "a second build"
+        it.edit("ym_check")
+        it.mark("wrong")
+        status, out, err = it.make("build")
+        assert (status, out, it.called()) == (2, "", ["ci"]), "its status, output and calls"
+        has(err, "FAILED: ym_check", "out/build.log")
+
+
+@sentence("make build over what stands here")
+def test_build_over_what_stands_here():
+    """Where crates were proved in this tree, what changed is proved over that; where it fails, what
+    was said of that crate is shown."""
+    with tree() as it:
+        os.makedirs(os.path.join(it.top, "crates", "ym_check", "out", "incremental"))
+        status, out, err = it.make("build")
+        assert (status, out, it.called()) == (0, "", ["run"]), "its status, output and calls"
+        count = crates_of_program()
+        has(
+            err,
+            "proving crate 1 of %d, ym_check (0:" % count,
+            "proving crate %d of %d, ymodem (" % (count, count),
+            "is proved and built",
+        )
+        assert err.count("\n") == 4, "the lines"
+        it.edit("ym_check")
+        it.mark("wrong")
+        status, out, err = it.make("build")
+        assert (status, out) == (2, ""), "its status and output"
+        has(err, "error: not so", "out/build.log")
+        assert "proved\n" not in err, "it shows what went well: %r" % err
+
+
+@sentence("make build under a terminal, and interrupted")
+def test_build_under_terminal():
+    """One line, rewritten; an interrupt ends rt too, and it says how to go on."""
+    with tree() as it:
+        it.mark("slow")
+        shown = UnderTerminal([*it.words, "build"], cwd=it.top, env=it.environment)
+        try:
+            shown.sees(
+                b"\r\x1b[Kproved 1 of %d crates, the last one ymodem, 0:" % crates_of_program()
+            )
+            shown.type(b"\x03")
+            shown.sees(b"interrupted: the next build goes on where this one was")
+            shown.ended()
+        finally:
+            shown.stop()
+        it.wants_ended()
+
+
+@sentence("make check tries what changed")
+def test_check():
+    """The tests of the crates that changed since the last green run, where they stand, and no
+    others."""
+    with tree() as it:
+        assert it.make("check")[0] == 0, "the first check"
+        has(it.called(), "run", "try --test", "try")
+        assert (it.make("check")[0], it.called()) == (0, []), "the second check"
+        for crate, *calls in (
+            ("ym_command", "run", "try --test"),
+            ("ym_words", "run", "try"),
+            ("host_uses", "check", "try --test"),
+        ):
+            it.edit(crate)
+            assert it.make("check")[0] == 0, "a check behind an edit of " + crate
+            assert it.called() == calls, "its calls"
+
+
+@sentence("make check where a case is answered otherwise")
+def test_check_that_fails():
+    """What a crate of tests finds of another one is found again, until that is mended."""
+    with tree() as it:
+        assert it.make("check")[0] == 0, "the first check"
+        it.edit("ym_words")
+        it.mark("else")
+        for _ in range(2):
+            status, _, err = it.make("check")
+            assert status == 2, "its status"
+            has(
+                err,
+                "-ymodem play: play\n",
+                "+else\n",
+                "changed since the last green run: ym_words; failed: words_cases",
+            )
+        it.unmark("else")
+        assert it.make("check")[0] == 0, "a check behind the mend"
+        it.called()
+        assert (it.make("check")[0], it.called()) == (0, []), "the last check"
+
+
+@sentence("make layout of sources that are not laid out")
+def test_layout():
+    """What the gate would refuse for its layout is told before anything is proved."""
+    with tree() as it:
+        assert it.make("layout") == (0, "", ""), "make layout"
+        it.mark("loose")
+        for goal in "layout", "check":
+            status, out, err = it.make(goal)
+            assert status == 2, "its status"
+            has(err, " is not in the layout", "run rt fmt in the folder of its crate")
+        assert it.called() == [], "calls of rt"
+
+
+@sentence("the version in one place")
+def test_version():
+    """The version is set in all files that spell it, and one that spells another is told before
+    anything is proved."""
+    with tree() as it:
+        assert it.run("tools/version.py", "set", "3.20.1") == (0, "", ""), "another version"
+        assert it.run("tools/version.py") == (0, "3.20.1\n", ""), "what it is then"
+        assert it.make("layout") == (0, "", ""), "make layout"
+        page = os.path.join(it.top, "share", "man", "ymodem.1")
+        with open(page, encoding="utf-8") as read:
+            text = read.read()
+        with open(page, "w", encoding="utf-8") as edited:
+            edited.write(text.replace("3.20.1", "3.20.2"))
+        status, out, _ = it.make("layout")
+        assert status == 2, "its status"
+        has(
+            out,
+            (
+                "share/man/ymodem.1 spells 3.20.2, and the version is 3.20.1: tools/version.py set"
+                " 3.20.1"
+            ),
+        )
+        assert it.called() == [], "calls of rt"
+
+
+# In place of pytest: it tells the folder and the program that it was given. Where the folder stands
+# in the file `fails` a test of it fails.
+TEST = """#!/bin/sh
+for folder in "$@"; do :; done
+name=$(basename "$folder")
+echo "$name $YMODEM" >> "$CALLED/called"
+if grep -qx "$name" "$CALLED/fails" 2> /dev/null; then
+    echo "1 failed, 2 passed in 0.01s"
+    exit 1
+fi
+echo "SKIPPED [1] a_test.py:1: what the $name need: not installed"
+echo "2 passed, 1 skipped in 0.01s"
+"""
+ROWS = (
+    ("line", "disk", "words"),
+    ("peers", "explain", "serial", "package", "house"),
+    ("sessions",),
+    ("library", "web"),
+    ("uboot", "boards", "portable"),
+)
+TESTS = [name for row in ROWS for name in row]
+# The page is made of one of the archives once more.
+TARGETS = [
+    "x86_64-unknown-linux-gnu",
+    "aarch64-unknown-linux-gnu",
+    "wasm64-unknown-unknown",
+    "wasm64-unknown-unknown",
+]
+
+
+@contextlib.contextmanager
+def tree_with_gate():
+    with tree() as it:
+        stand_in = os.path.join(it.calls, "pytest")
+        it.write(stand_in, TEST)
+        it.environment["PYTEST"] = shlex.quote(stand_in)
+        it.write("web/build.py", '#!/bin/sh\nmkdir -p "$2"\n')
+        it.write("tools/portable.py", "#!/bin/sh\n")
+        it.mark("below", "ym_check ym_frame ym_header ym_machine ym_core ym_timing ym_line_c")
+        yield it
+
+
+@sentence("the gate, and beside it the tests of what it proved")
+def test_gate():
+    """Memory, library and page go on beside the gate, the tests get the program that it has built,
+    and what it said comes last."""
+    with tree_with_gate() as it:
+        status, out, err = it.run("tools/gate.py")
+        assert (status, err) == (0, ""), "its status"
+        called = it.called()
+        tests = ["%s %s/out/tried/ymodem" % (name, it.top) for name in TESTS]
+        made = [call for call in called if call in tests]
+        assert sorted(made) == sorted(tests), "its tests"
+        for row in ROWS:
+            places = [made.index(tests[TESTS.index(name)]) for name in row]
+            assert places == sorted(places), "%s in turn" % ", ".join(row)
+        beside = [
+            "ci",
+            "memory " + it.environment["YMODEM"],
+            *("lib --target " + name for name in TARGETS),
+        ]
+        assert sorted(call for call in called if call not in tests) == sorted(
+            beside
+        ), "its other calls"
+        assert out.splitlines()[-1] == "18 passed, 0 failed", "its last line"
+        has(
+            out,
+            "gate, 0:0",
+            " min: rt: ymodem proved\n",
+            "tests/line: 2 passed, 0 failed, 1 skipped; 0.",
+        )
+        has(out, "SKIPPED [1] a_test.py:1: what the line need: not installed\n")
+        count = len(TESTS) + 1
+        told = "the tests of all folders: %d passed, 0 failed, %d skipped\n" % (2 * count, count)
+        has(out, told)
+        assert (it.make("build")[0], it.called()) == (0, []), "a build behind it"
+
+
+@sentence("the gate where an edit is not refused")
+def test_gate_that_refuses():
+    with tree_with_gate() as it:
+        it.mark("wrong")
+        status, out, _ = it.run("tools/gate.py")
+        assert (status, out.splitlines()[-1]) == (
+            1,
+            "17 passed, 1 failed",
+        ), "its status and its last line"
+
+
+def gate_where(name, failed):
+    """The gate is stopped, with all that it started, and the last line is no verdict."""
+    with tree_with_gate() as it:
+        it.mark("fails", name)
+        it.mark("slow")
+        status, out, _ = it.run("tools/gate.py")
+        assert (status, out.splitlines()[-1]) == (
+            1,
+            failed + " failed",
+        ), "its status and its last line"
+        it.wants_ended()
+
+
+@sentence("the gate where a test fails")
+def test_gate_behind_a_test_that_fails():
+    gate_where("line", "tests/line")
+
+
+@sentence("the gate where memory is not told")
+def test_gate_behind_memory_that_fails():
+    gate_where("memory", "tests/memory")

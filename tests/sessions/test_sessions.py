@@ -1,0 +1,228 @@
+"""`send` and `receive`, `ymodem sb` and `ymodem rb` on terminals, and lrzsz's `sb` and `rb`, over
+lines with delay, jitter, echo, noise, late starts and stalls, in real time.
+
+In every session what the ends say has to be so: each file that a sender counts is stored, a
+receiver counts what is stored, and nobody says that it finished while a file is missing. Where the
+counts allow, the batch has to be there whole.
+
+The short form has 3 seeds a row of noise, and the long one (-m long) has every row, and 20. The
+environment variable SEEDS names another number. What is printed of a row, which -rP shows, is its
+sessions, whole ones, false reports, and the median and longest seconds of the whole ones.
+"""
+
+import asyncio
+import os
+import random
+import statistics
+import threading
+import time
+
+import pytest
+from support.cases import case, cases
+from support.pulse import TRIES, beating
+from support.sessions import SOCKETS, TERMINALS, Line, Shape, session
+from support.skipping import needs
+
+SIZES = (("a", 1), ("b", 300), ("c", 3000), ("d", 9000), ("e", 20000))
+FILES = [(name, random.Random(name).randbytes(size)) for name, size in SIZES]
+FEW = [("a", b""), ("b", random.Random(5).randbytes(300)), ("c", random.Random(6).randbytes(1500))]
+
+PAIRS = (("send", "receive"), ("send", "rb"), ("sb", "receive"), ("sb", "rb"))
+PAIRS_ON_TERMINALS = (TERMINALS, ("ymodem sb", "rb"), ("sb", "ymodem rb"))
+
+
+class Row:
+    """Sessions of one kind, of these ends. `wants` says whether each of them has to be whole; else
+    only that nothing false is said."""
+
+    def __init__(self, name, make, ends=SOCKETS, wants=True, seeds=1):
+        self.name = name + (", over terminals" if ends == TERMINALS else "")
+        self.make, self.wants, self.seeds = make, wants, seeds
+        self.needs_lrzsz = "sb" in ends or "rb" in ends
+
+    def is_right(self, it):
+        return not it.fault and (it.is_whole or not self.wants)
+
+
+def pair_name(ends):
+    return "%s to %s" % ends
+
+
+def delay_rows(ends, steps, jitter, wants):
+    for delay in steps:
+        for how, flags in (
+            ("", ((), ())),
+            (", --short", (("--short",), ())),
+            (", --single", ((), ("--single",))),
+        ):
+
+            def make(seed, delay=delay, flags=flags):
+                line = Line(Shape(delay, jitter), seed=seed)
+                return session(FEW, line, ends, flags)
+
+            name = "delay %.2f s each way%s" % (delay, jitter and ", jitter %g s" % jitter or "")
+            yield Row(name + how, make, ends, wants)
+
+
+def late_rows(ends, seconds, delays):
+    for delay in delays:
+        for late in seconds:
+            for who in ("sender", "receiver"):
+
+                def make(seed, delay=delay, late=late, who=who):
+                    return session(FEW, Line(Shape(delay), seed=seed), ends, late=(who, late))
+
+                # a receiver gives up after 30 s alone, a sender after 100
+                wants = who == "receiver" and late < 60 or late <= 21
+                yield Row("the %s %d s late, delay %g s" % (who, late, delay), make, ends, wants)
+
+
+def stall_rows(ends, seconds, delays, places):
+    for delay in delays:
+        for long in seconds:
+            for who in ("sender", "receiver"):
+                for at in places:
+
+                    def make(seed, delay=delay, stall=(who, at, long)):
+                        return session(FEW, Line(Shape(delay), seed=seed, stall=stall), ends)
+
+                    name = "the %s stalls %d s at its write %d, delay %g s" % (who, long, at, delay)
+                    yield Row(name, make, ends, long <= 12)
+
+
+def echo_rows(both, sender_with_rb):
+    for ends, sides in ((both, ("there", "back", "there back")), (sender_with_rb, ("there",))):
+        for echo in sides:
+            for delay in (0, 0.3):
+
+                def make(seed, ends=ends, echo=echo, delay=delay):
+                    return session(FEW, Line(Shape(delay), seed=seed, echo=echo), ends)
+
+                # a receiver whose own C comes back to it takes it for noise; see docs/serial.md
+                name = "echo (%s), %s, delay %g s" % (echo, pair_name(ends), delay)
+                yield Row(name, make, ends, "there" == echo)
+    for cut in (2, 3, 40):
+
+        def make(seed, cut=cut):
+            return session(FEW, Line(seed=seed, echo="there", cut=cut), both)
+
+        yield Row("an echo of the first %d bytes" % cut, make, both, False)
+
+
+NOISE = (
+    ("lost, 0.02%", dict(lost=0.0002)),
+    ("lost, 0.05%", dict(lost=0.0005)),
+    ("lost, 0.1%", dict(lost=0.001)),
+    ("flipped, 0.01%", dict(flipped=0.0001)),
+    ("flipped, 0.05%", dict(flipped=0.0005)),
+    ("doubled, 0.05%", dict(doubled=0.0005)),
+    ("all three, 0.03%", dict(lost=0.0003, flipped=0.0003, doubled=0.0003)),
+)
+
+
+def noise_rows(pairs, seeds):
+    for name, how in NOISE:
+        for ends in pairs:
+
+            def make(seed, how=how, ends=ends):
+                return session(FILES, Line(Shape(rate=11520, **how), seed=seed), ends)
+
+            yield Row("noise: %s, %s" % (name, pair_name(ends)), make, ends, False, seeds)
+
+
+def steps(first, last, step=0.25):
+    return [first + step * at for at in range(int((last - first) / step) + 1)]
+
+
+def long_rows(seeds):
+    rows = []
+    for ends, pairs in ((SOCKETS, PAIRS), (TERMINALS, PAIRS_ON_TERMINALS)):
+        rows += [
+            *delay_rows(ends, steps(0, 4), 0, True),
+            *delay_rows(ends, steps(0, 4), 1, True),
+            *delay_rows(ends, steps(4.25, 12), 0, False),
+            *delay_rows(ends, steps(4.25, 12, 1), 1, False),
+            *late_rows(ends, (0, 1, 3, 5, 10, 20, 29, 45, 60), (0, 0.5, 2)),
+            *stall_rows(ends, (1, 3, 6, 9, 12, 21, 30), (0, 0.5, 2), range(1, 9)),
+            *echo_rows(ends, pairs[1]),
+            *noise_rows(pairs, seeds),
+        ]
+    return rows
+
+
+def short_rows(seeds):
+    return [
+        *delay_rows(SOCKETS, (0.5, 1.5, 2, 3), 0, True),
+        *delay_rows(SOCKETS, (1.5,), 1, True),
+        *late_rows(SOCKETS, (5, 20), (0.5,)),
+        *stall_rows(SOCKETS, (6, 12), (0, 0.5), (1, 2, 3, 5)),
+        *echo_rows(SOCKETS, PAIRS[1]),
+        *delay_rows(TERMINALS, (0.5, 2), 0, True),
+        *delay_rows(TERMINALS, (1.5,), 1, True),
+        *late_rows(TERMINALS, (5, 20), (0.5,)),
+        *stall_rows(TERMINALS, (6, 12), (0.5,), (1, 2, 5)),
+        *echo_rows(TERMINALS, PAIRS_ON_TERMINALS[1]),
+        *[
+            it
+            for it in noise_rows(PAIRS + PAIRS_ON_TERMINALS, seeds)
+            if "flipped, 0.05%" in it.name
+        ],
+    ]
+
+
+def running():
+    """A loop for all sessions, in a thread of its own: they mostly wait."""
+    loop = asyncio.new_event_loop()
+    threading.Thread(target=loop.run_forever, daemon=True).start()
+    return loop
+
+
+LOOP = running()
+# So many sessions go on at once.
+AT_ONCE = asyncio.Semaphore(150)
+
+
+async def made(row, seed):
+    """A session of a row, by its seed. One that is not as it has to be is made again where this
+    machine did not keep time: the line stood still then, at any place."""
+    async with AT_ONCE:
+        for _ in range(TRIES):
+            began = time.monotonic()
+            it = await row.make(seed)
+            if row.is_right(it) or not beating().was_late(began):
+                break
+    return seed, it
+
+
+async def all_made(row):
+    return await asyncio.gather(*(made(row, seed) for seed in range(row.seeds)))
+
+
+def is_as_it_has_to_be(row):
+    """No report is false, and each session is whole that has to be."""
+    if row.needs_lrzsz:
+        needs("sb", "rb")
+    came = asyncio.run_coroutine_threadsafe(all_made(row), LOOP).result()
+    whole = sorted(it.seconds for _, it in came if it.is_whole)
+    false = [(seed, it) for seed, it in came if it.fault]
+    lacking = [(seed, it) for seed, it in came if row.wants and not it.is_whole and not it.fault]
+    median = "none whole"
+    if whole:
+        median = "median %.1f s, longest %.1f s" % (statistics.median(whole), whole[-1])
+    counts = (len(came), len(whole), len(false), median)
+    why = "%d sessions, %d whole, %d false; %s" % counts
+    for seed, it in false + lacking:
+        why += "\n         seed %d: %s (%s)" % (seed, it.fault or "not whole", it.told)
+    print("%s: %s" % (row.name, why))
+    assert not false and not lacking, why
+
+
+@cases(*(case(it.name, it) for it in short_rows(int(os.environ.get("SEEDS", "3")))))
+def test_of_short_form(row):
+    is_as_it_has_to_be(row)
+
+
+@pytest.mark.long
+@cases(*(case(it.name, it) for it in long_rows(int(os.environ.get("SEEDS", "20")))))
+def test_of_long_form(row):
+    is_as_it_has_to_be(row)

@@ -1,0 +1,51 @@
+"""`ymodem send` and `ymodem receive` for a peer of the check's own, each on a line that may be
+damaged."""
+
+import contextlib
+import socket
+
+from support.program import LIMIT, free_port, running
+from support.relay import Relay
+
+
+@contextlib.contextmanager
+def relayed(port, line):
+    """The port to call in place of this one: that of a relay, where there is a line to damage. Such
+    a line has to have done its damage at the end."""
+    if line is None:
+        yield port
+        return
+    relay = Relay(line, port)
+    relay.start()
+    yield relay.port
+    relay.join(LIMIT)
+    assert not relay.fault, "the relay: %r" % relay.fault
+    assert (
+        line.bad_frames + line.bad_replies >= line.most
+    ), "only %d frames and %d replies were damaged" % (line.bad_frames, line.bad_replies)
+
+
+@contextlib.contextmanager
+def sending(paths, line=None):
+    """`ymodem send`, and what gives the connection that it makes."""
+    with socket.create_server(("127.0.0.1", 0)) as listener:
+        listener.settimeout(LIMIT)
+        with relayed(listener.getsockname()[1], line) as port, running(
+            "send", "--port", port, *paths
+        ) as child:
+
+            def called():
+                end, _ = listener.accept()
+                end.setsockopt(socket.IPPROTO_TCP, socket.TCP_NODELAY, 1)
+                end.settimeout(None)
+                return end
+
+            yield child, called
+
+
+@contextlib.contextmanager
+def receiving(folder, line=None):
+    """`ymodem receive`, and the port to connect to."""
+    last = free_port()
+    with relayed(last, line) as port, running("receive", "--port", last, folder) as child:
+        yield child, port

@@ -1,0 +1,162 @@
+"""A copy of the tree, where a stand-in for `rt` proves nothing and says what `rt` says."""
+
+import contextlib
+import os
+import shutil
+import subprocess
+import tempfile
+
+from support.program import PROGRAM, ROOT
+from support.skipping import needs
+from support.waits import wait_until
+
+
+# It tells what it was called with in the file `called`. Where the file `slow` is there, `rt run`
+# and `rt ci` wait for their end, and where `else` is there, a program for tests prints something
+# else than its cases want. `below` has the crates that `rt ci` proves first.
+STAND_IN = r"""#!/bin/sh
+[ "$1" = version ] || echo "$*" >> "$CALLED/called"
+case $1 in
+version)
+    echo "a toolchain"
+    ;;
+run)
+    echo "logic: read"
+    echo "rt: chose --jobs 4 for ym_check"
+    echo "so far: 40 of 91 functions checked"
+    echo "fn ym_check::check16: proved"
+    [ ! -e "$CALLED/slow" ] || { echo $$ > "$CALLED/process"; exec sleep 1000; }
+    [ ! -e "$CALLED/wrong" ] || { echo "src/check.rt:1:1: error: not so"; exit 1; }
+    echo "rt: chose --jobs 4 for ymodem"
+    cmp -s "$YMODEM" out/ymodem || { mkdir -p out && cp "$YMODEM" out/ymodem; }
+    ;;
+lib)
+    mkdir -p out && echo "$*" > out/libym_c.a
+    ;;
+ci)
+    [ ! -e "$CALLED/slow" ] || echo $$ > "$CALLED/process"
+    for name in $(cat "$CALLED/below" 2> /dev/null); do
+        mkdir -p "crates/$name/out/rlib"
+        echo "rt: $name proved"
+    done
+    for name in explain_cases line_cases port_cases ymodem; do
+        mkdir -p "crates/$name/out" && cp "$YMODEM" "crates/$name/out/$name"
+        echo "rt: $name proved"
+    done
+    [ ! -e "$CALLED/slow" ] || exec sleep 1000
+    [ ! -e "$CALLED/wrong" ] || { echo "rt: FAILED: ym_check/check.add.byte_shifted_in.edit"; echo "17 passed, 1 failed"; exit 1; }
+    echo "18 passed, 0 failed"
+    ;;
+try)
+    [ ! -e "$CALLED/wrong" ] || { echo "src/check.rt:1:1: error: not so" >&2; exit 2; }
+    [ "$2" != -- ] || "$YMODEM" play
+    [ -n "$2" ] || { [ -e "$CALLED/else" ] && echo else || cat stdout; }
+    echo "checked: ended status=0" >&2
+    echo "run=ended status=0 runners=1 proved=no" >&2
+    ;;
+esac
+"""
+
+
+# The one for `rattle`, which lies beside `rt`. Where the file `loose` is there, a source is not
+# laid out.
+STAND_IN_BESIDE = r"""#!/bin/sh
+[ ! -e "$CALLED/loose" ] || { echo "$3 is not in the layout" >&2; exit 1; }
+"""
+
+
+class Tree:
+    """A fresh copy of the tree, in a folder with a space in its name, with the stand-ins on the
+    path."""
+
+    def __init__(self, top):
+        self.top, self.calls = os.path.join(top, "a tree"), os.path.join(top, "calls")
+        os.makedirs(self.calls)
+        names = [it for it in os.listdir(ROOT) if it not in ("out", ".git")]
+        for name in names:
+            source, to = os.path.join(ROOT, name), os.path.join(self.top, name)
+            if os.path.isdir(source):
+                shutil.copytree(
+                    source, to, ignore=shutil.ignore_patterns("out", "proofs", "__pycache__")
+                )
+            else:
+                os.makedirs(self.top, exist_ok=True)
+                shutil.copy2(source, to)
+        # What it is a copy of may be one that can only be read.
+        subprocess.run(["chmod", "-R", "u+w", self.top], check=True)
+        for name, text in ("rt", STAND_IN), ("rattle", STAND_IN_BESIDE):
+            with open(os.path.join(self.calls, name), "w", encoding="utf-8") as it:
+                it.write(text)
+            os.chmod(it.name, 0o755)
+        self.environment = {
+            **os.environ,
+            "PATH": self.calls + ":" + os.environ["PATH"],
+            "CALLED": self.calls,
+            "YMODEM": PROGRAM,
+        }
+        self.words = ["make", "--no-print-directory"]
+        self.how = {}
+
+    def make(self, *words):
+        return self.run(*self.words, *words)
+
+    def run(self, *words):
+        """A command in the tree: its status, and what it wrote."""
+        ran = subprocess.run(
+            words,
+            cwd=self.top,
+            env=self.environment,
+            capture_output=True,
+            text=True,
+            check=False,
+            **self.how
+        )
+        return ran.returncode, ran.stdout, ran.stderr
+
+    def write(self, name, text):
+        """A script of the tree, in place of the one that is there."""
+        with open(os.path.join(self.top, name), "w", encoding="utf-8") as it:
+            it.write(text)
+        os.chmod(it.name, 0o755)
+
+    def edit(self, crate):
+        """Adds a comment to a crate's source."""
+        with open(
+            os.path.join(self.top, "crates", crate, "src", "lib.rt"), "a", encoding="utf-8"
+        ) as edited:
+            edited.write("// edited\n")
+
+    def mark(self, name, text=""):
+        with open(os.path.join(self.calls, name), "w", encoding="utf-8") as it:
+            it.write(text)
+
+    def wants_ended(self):
+        """The stand-in that waited for its end has to be gone."""
+        with open(os.path.join(self.calls, "process"), encoding="utf-8") as told:
+            process = "/proc/" + told.read().strip()
+        wait_until(lambda: not os.path.exists(process), "rt had ended")
+
+    def unmark(self, name):
+        os.remove(os.path.join(self.calls, name))
+
+    def called(self):
+        """The calls of rt since the last time."""
+        file = os.path.join(self.calls, "called")
+        if not os.path.exists(file):
+            return []
+        with open(file, encoding="utf-8") as it:
+            found = it.read().splitlines()
+        os.remove(file)
+        return found
+
+
+@contextlib.contextmanager
+def tree():
+    needs("make")
+    with tempfile.TemporaryDirectory(prefix="ymodem-") as top:
+        yield Tree(top)
+
+
+def session():
+    with open(os.path.join(ROOT, "crates", "ymodem", "stdout"), encoding="utf-8") as it:
+        return it.read()

@@ -1,0 +1,51 @@
+"""Waiting for what a check needs to see."""
+
+import contextlib
+import fcntl
+import struct
+import termios
+import time
+
+from support.program import LIMIT
+
+
+# The state of a socket that listens, in the tables of the system.
+LISTENS = "0A"
+
+
+def waiting(end):
+    """How many bytes have come and were not taken."""
+    return struct.unpack("i", fcntl.ioctl(end, termios.FIONREAD, bytes(4)))[0]
+
+
+def wait_for(end, count):
+    """Waits until so many bytes have come, without taking them."""
+    until = time.monotonic() + LIMIT
+    while waiting(end) < count:
+        assert time.monotonic() <= until, "the program did not write %d bytes more" % count
+        time.sleep(0.02)
+
+
+def wait_until(is_so, what, child=None):
+    """Waits until this is so, or the child that has to bring it about has ended, where one is
+    named."""
+    until = time.monotonic() + LIMIT
+    while not is_so():
+        assert not child or child.child.poll() is None, "it has ended before %s: %r" % (
+            what,
+            child.ended().err,
+        )
+        assert time.monotonic() <= until, "it never came that " + what
+        time.sleep(0.02)
+
+
+def listeners(port):
+    """The addresses at which somebody listens at this port, as the system writes them."""
+    found = []
+    for table in ("/proc/net/tcp", "/proc/net/tcp6"):
+        with contextlib.suppress(FileNotFoundError), open(table, encoding="ascii") as lines:
+            for line in list(lines)[1:]:
+                address, state = line.split()[1:4:2]
+                if state == LISTENS and int(address.split(":")[1], 16) == port:
+                    found.append(address.split(":")[0])
+    return found

@@ -1,0 +1,141 @@
+"""U-Boot on its boards, over lines that flip bits: `ymodem send` beside lrzsz's `sb`, over the same
+seeds."""
+
+import contextlib
+import os
+import random
+import shutil
+import socket
+import statistics
+import subprocess
+import tempfile
+import time
+from concurrent.futures import ThreadPoolExecutor
+
+import pytest
+from support.cases import case, cases
+from support.flips import FRAMES, REPLIES, Flips, recovers
+from support.one_end import relayed, sending
+from support.program import LIMIT, connected, write_files
+from support.uboot_boards import BOARDS
+
+
+SIZE = 20_000
+KINDS = (FRAMES, REPLIES)
+
+
+# ---- Seeds
+
+
+class Session:
+    """How one came out: its seconds, whether the file is there, and whether its end said what is
+    not so."""
+
+    def __init__(self, seconds, is_whole, is_false, told):
+        self.seconds, self.is_whole, self.is_false, self.told = seconds, is_whole, is_false, told
+
+
+@contextlib.contextmanager
+def sb_sending(paths, line):
+    """`sb` of lrzsz, as `calls.sending` has `send`: how it ends is asked of it."""
+    with socket.create_server(("127.0.0.1", 0)) as listener:
+        listener.settimeout(LIMIT)
+        with relayed(listener.getsockname()[1], line) as port, connected(port) as end:
+            end.settimeout(None)
+            how = {"stdin": end, "stdout": end, "stderr": subprocess.DEVNULL}
+            child = subprocess.Popen(["sb", "-q", *paths], **how)
+            end.close()
+            try:
+                yield child, lambda: listener.accept()[0]
+            finally:
+                child.kill()
+                child.wait()
+
+
+def by_send(paths, line, port):
+    """Whether `ymodem send` says that it has finished, and what it tells."""
+    with sending(paths, line) as (sender, called):
+        port.carry(called())
+        ran = sender.ended()
+        return ran.status == 0, ran.out.strip()
+
+
+def by_sb(paths, line, port):
+    with sb_sending(paths, line) as (child, called):
+        port.carry(called())
+        return child.wait(LIMIT) == 0, "status %d" % child.returncode
+
+
+SENDERS = {"send": by_send, "sb": by_sb}
+
+
+def session(board, sender, which, seed):
+    data = random.Random(seed).randbytes(SIZE)
+    with board.started() as port, tempfile.TemporaryDirectory(prefix="ymodem-") as here:
+        start = board.ready(port, data)
+        paths = write_files(here, [("image.bin", data)])
+        began = time.monotonic()
+        try:
+            says_finished, told = SENDERS[sender](paths, Flips(seed, which), port)
+        except AssertionError as fault:  # it ended before all the damage was done
+            says_finished, told = False, str(fault)
+        seconds = time.monotonic() - began
+        is_whole = False
+        if says_finished:
+            with contextlib.suppress(AssertionError):
+                board.wants_loaded(port, data, start)
+                is_whole = True
+    return Session(seconds, is_whole, says_finished and not is_whole, told)
+
+
+def told_of(sender, sessions):
+    whole = [it.seconds for it in sessions if it.is_whole]
+    times = "none"
+    if whole:
+        times = "median %.1f s, longest %.1f s" % (statistics.median(whole), max(whole))
+    false = sum(it.is_false for it in sessions)
+    return "%s: %d of %d whole, %d false, %s" % (sender, len(whole), len(sessions), false, times)
+
+
+SEEDS = int(os.environ.get("SEEDS", "20"))
+POOL = ThreadPoolExecutor(2)
+
+
+def across_seeds(board, which):
+    """Sessions by each sender that is here, seed by seed in turns: `send` says nothing that is not
+    so, and takes no longer than `sb`."""
+    senders = [it for it in SENDERS if it == "send" or shutil.which(it)]
+    begun = [
+        (sender, POOL.submit(session, board, sender, which, seed))
+        for seed in range(1, SEEDS + 1)
+        for sender in senders
+    ]
+    came = {sender: [] for sender in senders}
+    for sender, it in begun:
+        came[sender].append(it.result())
+    told = "; ".join(told_of(sender, sessions) for sender, sessions in came.items())
+    print(told)
+    both = [[it.seconds for it in came.get(sender, []) if it.is_whole] for sender in SENDERS]
+    is_slow = all(both) and statistics.median(both[0]) > statistics.median(both[1])
+    assert not any(it.is_false for it in came["send"]) and not is_slow, told
+
+
+@cases(
+    *(
+        case("%s, %s flipped" % (it.name, which), it, which, marks=pytest.mark.long)
+        for it in BOARDS
+        for which in KINDS
+    )
+)
+def test_check_of_seeds(board, which):
+    across_seeds(board, which)
+
+
+@cases(
+    *(
+        case("%s, at full speed behind a damaged block" % it.name, it, marks=pytest.mark.long)
+        for it in BOARDS
+    )
+)
+def test_recovers_at_length(board):
+    recovers(board)

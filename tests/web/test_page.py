@@ -1,0 +1,252 @@
+"""The page itself: used as somebody would use it, from a disk, and looked at. Pictures of its
+states are left in out/pictures."""
+
+import contextlib
+import json
+import os
+import random
+
+from support.cases import NEEDS_LRZSZ, case, cases_in
+from support.page import (
+    SIZE,
+    Loud,
+    Shown,
+    begin,
+    begin_receiving,
+    choose,
+    click,
+    dial,
+    firmware,
+    picture,
+    text,
+    until_ended,
+    until_says,
+    until_share,
+    wants_result,
+)
+from support.program import folders, stored, wants_same, wants_stored, write_files
+from support.relay import Seeded
+from support.rooms import BROWSERS
+from support.waits import wait_until
+from support.web_peers import Held, Loader, lrzsz, program_receives, program_sends
+
+
+@cases_in(BROWSERS, case("page: a whole update", marks=NEEDS_LRZSZ))
+def test_update(room):
+    """A whole update on one page: the prompt, the command, the file, and what the loader says of
+    it."""
+    with folders() as (here, there), Shown(room) as page:
+        picture(page, "1-start")
+        batch, line = firmware(), Held(SIZE // 2)
+        loader = Loader(there, line)
+        dial(page, loader.bridge.address)
+        until_says(page, "#screen", "=>")
+        choose(page, write_files(here, batch), "loady")
+        picture(page, "2-ready")
+        click(page, "#send")
+        until_share(page, 0.4)
+        # the line stands still, and how fast it went can still be seen
+        until_says(page, "#figures", "standing still for")
+        told = text(page, "#figures")
+        assert "/s" in told and " left" in told, "while the line stands still the page says " + told
+        picture(page, "3-sending")
+        page.scheme("dark")
+        picture(page, "3-sending-dark")
+        page.scheme("light")
+        line.go_on()
+        until_ended(page)
+        until_says(page, "#screen", "## Total Size")
+        until_says(page, "#screen", "=>")
+        picture(page, "4-sent")
+        wants_result(page, "1 file, 781 KiB")
+        wants_stored(there, batch)
+        # the line is the terminal's again
+        page.run("document.getElementById('screen').focus()")
+        for sign in "help":
+            page.key(sign)
+        page.key("Enter")
+        until_says(page, "#screen", "Unknown command 'help'")
+        loader.close()
+
+
+def save(page, folder):
+    """Presses each button that saves a file, as the browser keeps it."""
+    page.downloads_into(folder)
+    names = page.run("[...document.querySelectorAll('#received a')].map((it) => it.download)")
+    for at, name in enumerate(names):
+        page.run("document.querySelectorAll('#received a')[%d].click()" % at)
+        # one that is being saved may have another name beside its own
+        is_saved = lambda: name in os.listdir(folder) and not any(
+            it.endswith(".part") for it in os.listdir(folder)
+        )
+        wait_until(is_saved, "the browser has saved " + name)
+
+
+@cases_in(BROWSERS, case("page: receives, and saves", marks=NEEDS_LRZSZ))
+def test_receives(room):
+    with folders() as (here, there), Shown(room) as page:
+        chance = random.Random(3)
+        batch = [
+            ("notes.txt", b"hello\n" * 400),
+            ("empty", b""),
+            ("log.bin", chance.randbytes(70000)),
+        ]
+        write_files(here, batch)
+        with lrzsz(["sb", "-q", *(name for name, _ in batch)], here) as (bridge, status):
+            dial(page, bridge.address)
+            picture(page, "5-receive")
+            begin_receiving(page)
+            until_ended(page)
+            assert status() == 0, "sb failed"
+        page.until("document.querySelectorAll('#received a').length === 3")
+        picture(page, "6-received")
+        save(page, there)
+        wants_same(stored(there), dict(batch))
+
+
+def thirty():
+    chance = random.Random(19)
+    return [("file %02d.bin" % at, chance.randbytes(at * at * 17)) for at in range(30)]
+
+
+@cases_in(BROWSERS, case("page: sends thirty files, four deliveries damaged"))
+def test_sends_thirty(room):
+    """By the page, on a line that is damaged."""
+    with folders() as (here, there), Shown(room) as page:
+        with program_receives(there, Seeded(53, 0.05, 4)) as (bridge, ended):
+            dial(page, bridge.address)
+            begin(page, write_files(here, thirty()))
+            until_ended(page)
+            wants_result(page, "30 files")
+            assert ended().status == 0, "ymodem receive failed"
+        wants_stored(there, thirty())
+
+
+# A folder that the user chose, which keeps what is written as hexadecimal digits.
+FOLDER = """
+globalThis.kept = {};
+const digits = (bytes) => Array.from(bytes, (byte) => byte.toString(16).padStart(2, '0')).join('');
+const writable = (name) => { kept[name] = ''; return new WritableStream({ write: (bytes) => { kept[name] += digits(bytes); } }); };
+globalThis.showDirectoryPicker = async () => ({ getFileHandle: async (name) => ({ createWritable: async () => writable(name) }) });
+"""
+
+
+@cases_in(BROWSERS, case("page: receives thirty files, four deliveries damaged, and saves them"))
+def test_receives_thirty(room):
+    with folders() as (here, _), Shown(room, FOLDER) as page:
+        with program_sends(write_files(here, thirty()), Seeded(54, 0.05, 4)) as (bridge, ended):
+            dial(page, bridge.address)
+            begin_receiving(page)
+            until_ended(page)
+            wants_result(page, "Received", "30 files")
+            assert ended().status == 0, "ymodem send failed"
+        click(page, "#save-all")
+        page.until("document.getElementById('save-all').innerText === 'Saved'")
+        wants_same(
+            {name: bytes.fromhex(data) for name, data in page.run("kept").items()}, dict(thirty())
+        )
+
+
+@contextlib.contextmanager
+def sending_firmware(room):
+    """The page in the middle of a transfer, on a line that stands still: the page, the loader at
+    its other end, and the line."""
+    with folders() as (here, there), Shown(room) as page:
+        line = Held(SIZE // 3)
+        loader = Loader(there, line)
+        dial(page, loader.bridge.address)
+        begin(page, write_files(here, firmware()), "loady")
+        until_share(page, 0.2)
+        try:
+            yield page, loader, line
+        finally:
+            loader.close()
+            line.go_on()
+
+
+@cases_in(BROWSERS, case("page: cancelled while it sends", marks=NEEDS_LRZSZ))
+def test_cancels_sending(room):
+    with sending_firmware(room) as (page, _, line):
+        click(page, "#cancel")
+        line.go_on()
+        until_ended(page)
+        wants_result(page, "You cancelled")
+        until_says(page, "#screen", "download aborted")
+        picture(page, "7-cancelled")
+
+
+@cases_in(BROWSERS, case("page: cancelled while it receives"))
+def test_cancels_receiving(room):
+    with folders() as (here, _), Shown(room) as page:
+        line = Held(SIZE // 3)
+        with program_sends(write_files(here, [("a", b"first"), *firmware()]), damage=line) as (
+            bridge,
+            ended,
+        ):
+            dial(page, bridge.address)
+            begin_receiving(page)
+            until_says(page, "#now-file", "firmware.bin")
+            until_share(page, 0.2)
+            click(page, "#cancel")
+            line.go_on()
+            until_ended(page)
+            wants_result(page, "You cancelled", "1 file is whole")
+            assert (
+                page.run("document.querySelector('#received a').download") == "a"
+            ), "the file that came whole is not there"
+            last = ended()
+            assert "cancelled" in last.out, "ymodem send says %r" % last.out
+
+
+@cases_in(BROWSERS, case("page: the line vanishes in a transfer", marks=NEEDS_LRZSZ))
+def test_vanishes(room):
+    """The port is gone in the middle of a transfer."""
+    with sending_firmware(room) as (page, loader, line):
+        loader.close()
+        line.go_on()
+        until_ended(page)
+        wants_result(page, "The connection is gone")
+        assert page.run(
+            "!document.getElementById('connect').hidden"
+        ), "the page does not offer to connect anew"
+        picture(page, "8-gone")
+
+
+@cases_in(BROWSERS, case("page: the line vanishes while nothing goes on"))
+def test_vanishes_idle(room):
+    with folders() as (_, there), Shown(room) as page:
+        loader = Loader(there)
+        dial(page, loader.bridge.address)
+        until_says(page, "#screen", "=>")
+        loader.close()
+        page.until(
+            "!document.getElementById('result').hidden &&"
+            " !document.getElementById('connect').hidden"
+        )
+        wants_result(page, "The connection is gone")
+
+
+@cases_in(BROWSERS, case("page: no connection"))
+def test_no_connection(room):
+    with Loud(room) as page:
+        click(page, "[name=way][value=socket]")
+        page.run("document.getElementById('address').value = %s" % json.dumps("ws://127.0.0.1:1"))
+        click(page, "#dial")
+        until_says(page, "#result", "Nobody answered at ws://127.0.0.1:1")
+        picture(page, "9-no-connection")
+
+
+@cases_in(BROWSERS, case("page: nobody asks"))
+def test_nobody_asks(room):
+    """A sender that is never asked: what the page says after a hundred seconds."""
+    with folders() as (here, there), Shown(room) as page:
+        loader = Loader(there)
+        dial(page, loader.bridge.address)
+        until_says(page, "#screen", "=>")
+        begin(page, write_files(here, firmware()))
+        page.until("document.getElementById('now-file').innerText.includes('Waiting')")
+        picture(page, "10-waiting")
+        until_ended(page)
+        wants_result(page, "never asked for a file")
+        picture(page, "11-never-asked")
+        loader.close()

@@ -1,0 +1,115 @@
+"""The page at a serial port of the check's own, whose line is a WebSocket."""
+
+import contextlib
+import json
+import re
+
+from support.cases import NEEDS_LRZSZ, case, cases_in
+from support.page import (
+    SIZE,
+    Shown,
+    begin,
+    click,
+    dial,
+    firmware,
+    picture,
+    text,
+    until_ended,
+    until_says,
+    until_share,
+    wants_result,
+)
+from support.program import folders, wants_stored, write_files
+from support.rooms import BROWSERS
+from support.serial_port import RATE, SERIAL, at_serial_port
+from support.web_peers import Flips, Held, Loader, Paced
+
+
+@cases_in(BROWSERS, case("page: a serial port with errors", marks=NEEDS_LRZSZ))
+def test_serial(room):
+    """By a serial port, over a line that has errors."""
+    with folders() as (here, there), Shown(room, SERIAL) as page:
+        click(page, "#choose")
+        until_says(page, "#result", "No port was chosen")
+        picture(page, "12-no-port")
+        line = Held(SIZE // 3, Flips(71, 3))
+        loader = Loader(there, line)
+        page.run("document.getElementById('speed').value = 921600")
+        at_serial_port(page, loader.bridge.address)
+        assert page.run("fake.opened[0].baudRate") == 921600, "the speed is another one"
+        page.run("fake.fault()")
+        begin(page, write_files(here, firmware()), "loady")
+        until_share(page, 0.2)
+        page.run("fake.fault()")
+        line.go_on()
+        until_ended(page)
+        wants_result(page, "Sent")
+        wants_stored(there, firmware())
+        click(page, "#disconnect")
+        page.until("fake.closed === 1")
+        loader.close()
+
+
+@cases_in(BROWSERS, case("page: a serial port with a pace", marks=NEEDS_LRZSZ))
+def test_paced(room):
+    """By a serial port whose line has a pace: the page tells a rate that it can have."""
+    with folders() as (here, there), Shown(room, SERIAL) as page:
+        loader = Loader(there, Paced(RATE))
+        at_serial_port(page, loader.bridge.address)
+        begin(page, write_files(here, [("a.bin", bytes(40000))]), "loady")
+        until_share(page, 0.5)
+        told = text(page, "#figures")
+        rate = re.search(r"([\d.]+) KiB/s", told)
+        assert rate and 0 < float(rate[1]) * 1024 <= RATE, "the page says " + told
+        assert " left" in told, "the page says " + told
+        until_ended(page)
+        wants_result(page, "Sent")
+        wants_stored(there, [("a.bin", bytes(40000))])
+        loader.close()
+
+
+@cases_in(BROWSERS, case("page: what it remembers"))
+def test_remembers(room):
+    """The port, the speed and the address are those of the last time."""
+    storage = room.browser.storage()
+    shown = lambda: Shown(room, SERIAL, storage=storage)
+    value = lambda page, of: page.run("document.querySelector('%s').value" % of)
+    with folders() as (_, there), contextlib.ExitStack() as pages:
+        loaders = [Loader(there) for _ in range(3)]
+        first = pages.enter_context(shown())
+        is_offered = not first.run("document.getElementById('again').hidden")
+        assert not is_offered, "a port is offered that was never chosen"
+        first.run("document.getElementById('speed').value = 921600")
+        at_serial_port(first, loaders[0].bridge.address)
+
+        second = pages.enter_context(shown())
+        second.until("!document.getElementById('again').hidden")
+        offered = text(second, "#again")
+        assert offered == "Connect to USB 0403:6001", "it offers " + offered
+        picture(second, "16-again")
+        second.run("fake.address = %s" % json.dumps(loaders[1].bridge.address))
+        click(second, "#again")
+        until_says(second, "#screen", "=>")
+        assert second.run("fake.opened[0].baudRate") == 921600, "the speed is another one"
+
+        dial(pages.enter_context(shown()), loaders[2].bridge.address)
+        last = pages.enter_context(shown())
+        assert value(last, "[name=way]:checked") == "socket", "another way"
+        assert value(last, "#address") == loaders[2].bridge.address, "another address"
+        assert value(last, "#speed") == "921600", "another speed"
+        for it in loaders:
+            it.close()
+
+
+@cases_in(BROWSERS, case("page: the serial port vanishes", marks=NEEDS_LRZSZ))
+def test_vanishes(room):
+    with folders() as (here, there), Shown(room, SERIAL) as page:
+        line = Held(SIZE // 3)
+        loader = Loader(there, line)
+        at_serial_port(page, loader.bridge.address)
+        begin(page, write_files(here, firmware()), "loady")
+        until_share(page, 0.2)
+        loader.close()
+        line.go_on()
+        until_ended(page)
+        wants_result(page, "The port failed")
