@@ -107,14 +107,25 @@ impl<E: Write + Drop> Teller<E> {
         write!(self.err, "{before}\r{:width$}\r{behind}", "")
     }
 
-    /// Tells a line. Where it cannot be written it is lost: it is no part of what the program is asked to do.
+    /// Tells a line whoever looks: that what somebody asked for by a word is not done. Where it
+    /// cannot be written it is lost: it is no part of what the program is asked to do.
+    pub fn warn<D: Display + Drop>(&mut self, text: D)
+        ensures loud { self.new.is_loud ≡ self.old.is_loud }
+        ensures look { self.new.look ≡ self.old.look }
+    {
+        if self.clear().is_ok() {
+            let _ = writeln!(self.err, "{text}").and_then(|()| self.err.flush());
+        }
+    }
+
+    /// Tells a line to somebody who looks.
     pub fn tell<D: Display + Drop>(&mut self, text: D)
         ensures quiet { self.old.is_loud ≡ false → self.new ≡ self.old }
         ensures loud { self.new.is_loud ≡ self.old.is_loud }
         ensures look { self.new.look ≡ self.old.look }
     {
-        if self.is_loud && self.clear().is_ok() {
-            let _ = writeln!(self.err, "{text}").and_then(|()| self.err.flush());
+        if self.is_loud {
+            self.warn(text);
         }
     }
 

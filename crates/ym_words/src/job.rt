@@ -47,7 +47,8 @@ pub struct TellFlags {
     pub quiet: bool,
 }
 
-/// What the program is asked to do. Ports are from 1 to 65535, on 127.0.0.1.
+/// What the program is asked to do. Ports are from 1 to 65535, on 127.0.0.1. Who sends or receives
+/// records what passes in the file at the path `record_path`, where there is one.
 #[derive(Drop)]
 pub enum Job<'a> {
     /// Play the session of a script from standard input.
@@ -62,6 +63,7 @@ pub enum Job<'a> {
         port: u16,
         short: bool,
         files: Vec<&'a str>,
+        record_path: Option<&'a str>,
         tell: TellFlags,
     },
     /// Receive files into a folder, in the way that the flags say.
@@ -69,6 +71,7 @@ pub enum Job<'a> {
         port: u16,
         flags: ReceiveFlags,
         dir: &'a str,
+        record_path: Option<&'a str>,
         tell: TellFlags,
     },
     /// Send files as `Send` does, over the terminal at this path, or over standard input and
@@ -77,6 +80,7 @@ pub enum Job<'a> {
         line: Option<&'a str>,
         short: bool,
         files: Vec<&'a str>,
+        record_path: Option<&'a str>,
         tell: TellFlags,
     },
     /// Receive files over such a line.
@@ -84,6 +88,7 @@ pub enum Job<'a> {
         line: Option<&'a str>,
         flags: StoreFlags,
         dir: &'a str,
+        record_path: Option<&'a str>,
         tell: TellFlags,
     },
     /// Tell what passed on a line: what the files of each way say, or a capture of both, whose ways
@@ -174,6 +179,7 @@ fn send_line_in<'a>(alloc: Global, matches: &ArgMatches<'a>) -> Result<Job<'a>, 
             line: matches.get_str("line"),
             short: flag_in(matches, "short"),
             files,
+            record_path: matches.get_str("record"),
             tell: tell_flags_in(matches),
         }),
         Err(_) => Err(JobFault::Memory),
@@ -198,6 +204,7 @@ fn receive_line_in<'a>(matches: &ArgMatches<'a>) -> Job<'a>
         line: matches.get_str("line"),
         flags: store_flags_in(matches),
         dir: folder_in(matches),
+        record_path: matches.get_str("record"),
         tell: tell_flags_in(matches),
     }
 }
@@ -229,6 +236,7 @@ fn send_in<'a>(alloc: Global, port: u16, matches: &ArgMatches<'a>) -> Result<Job
             port,
             short: flag_in(matches, "short"),
             files,
+            record_path: matches.get_str("record"),
             tell: tell_flags_in(matches),
         }),
         Err(_) => Err(JobFault::Memory),
@@ -247,6 +255,7 @@ fn receive_in<'a>(port: u16, matches: &ArgMatches<'a>) -> Result<Job<'a>, JobFau
             port,
             flags: receive_flags_in(matches),
             dir,
+            record_path: matches.get_str("record"),
             tell: tell_flags_in(matches),
         }),
         None => Err(JobFault::Value),
