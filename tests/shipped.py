@@ -26,6 +26,7 @@ import make_checks
 import package_checks
 import pasted_checks
 import readme_checks
+import record_checks
 import recording_checks
 import screen_checks
 import screen_tty_checks
@@ -55,6 +56,7 @@ BOOKS = (
     words_checks,
     help_checks,
     chart_checks,
+    record_checks,
     recording_checks,
     make_checks,
     user_checks,

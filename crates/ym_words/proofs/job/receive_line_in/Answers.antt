@@ -7,11 +7,10 @@ use Rattle.ym_words.proofs.job.receive_line_in.Goals as goal
 pub returns : goal.returns
 returns c =
     let line = first_found (found_of c.args.matches.now) (codes "line") _ (sym c.get_str.ensures) in
-    let to = first_found (found_of c.args.matches.now) (codes "record") _ (sym c.get_str-2.ensures) in
     rw (
       line,
       sym c.folder_in.ensures,
       sym c.store_flags_in.ensures,
-      to,
+      sym c.record_in.ensures,
       sym c.tell_flags_in.ensures,
     ) refl
