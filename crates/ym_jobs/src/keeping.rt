@@ -98,7 +98,16 @@ where
     let records = &mut records;
     let mut connections = listen(rt, port, teller)?;
     if order.keep {
-        receive_each(rt, alloc, &mut connections, order, records, out, err, teller)
+        receive_each(
+            rt,
+            alloc,
+            &mut connections,
+            order,
+            records,
+            out,
+            err,
+            teller,
+        )
     } else {
         let stream = take_told(&mut connections, teller)?;
         let wire = SocketWire::new(rt, stream, Role::Receiver);

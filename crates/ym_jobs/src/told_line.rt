@@ -71,8 +71,7 @@ pub(crate) trait ToldLine: Learned {
 }
 
 impl<'r, W: ToldWire + Drop, C: Clock + Drop, A: Append + Drop> ToldLine
-    for TimedPort<RecordedWire<'r, W, C, A>>
-{
+    for TimedPort<RecordedWire<'r, W, C, A>> {
     fn words(&self) -> LineWords {
         self.wire().wire().words()
     }
