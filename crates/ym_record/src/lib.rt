@@ -5,6 +5,7 @@
 mod append;
 pub mod laws;
 mod lines;
+mod message;
 mod opening;
 mod recorded_wire;
 mod recorder;

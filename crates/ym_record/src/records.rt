@@ -3,14 +3,16 @@
 ghost use Rattle.std.specs.Prelude.{◌≡◌, [], true, false, None, IfOk, is_some, string_bytes};
 ghost use Rattle.ym_record.specs.RecordNames.{name_of};
 
+use crate::message::RecordMessage;
 use crate::opening::{RecordRefusal, open_record};
 use crate::recorder::Recorder;
 use std::alloc::{AllocError, Global};
+use std::fmt::Display;
 use std::fs::{File, Files};
 use std::io;
 use std::io::{ErrorKind, Write};
 use ym_show::Teller;
-use ym_text::{Reason, RecordMessage};
+use ym_text::Reason;
 
 /// The records that a command makes: none, or one for each of its connections, as far as the files
 /// for them can be written.
@@ -57,6 +59,16 @@ fn error_of(refusal: RecordRefusal) -> io::Error {
     }
 }
 
+/// Tells a line also where nobody looks: that what the words ask for beside a transfer is not done.
+fn warn<E: Write + Drop, D: Display + Drop>(teller: &mut Teller<E>, text: D)
+    ensures { teller.new.is_loud ≡ teller.old.is_loud }
+{
+    let is_loud = teller.is_loud;
+    teller.is_loud = true;
+    teller.tell(text);
+    teller.is_loud = is_loud;
+}
+
 /// A recorder of the file at this path, or why there is none told.
 fn recorder_at<R: Files<File = File>, E: Write + Drop>(
     rt: &R,
@@ -71,7 +83,7 @@ fn recorder_at<R: Files<File = File>, E: Write + Drop>(
     match open_record(rt, path, sent) {
         Ok(file) => Ok(Recorder::new(alloc, file)?),
         Err(refusal) => {
-            teller.warn(message_of(path, &refusal));
+            warn(teller, message_of(path, &refusal));
             Err(error_of(refusal))
         }
     }
@@ -175,7 +187,7 @@ impl<'a> Records<'a> {
         }
         let name = self.name.as_str();
         if let Some(error) = self.recorder.fault() {
-            teller.warn(RecordMessage::Ended(name, Reason::of(&error)));
+            warn(teller, RecordMessage::Ended(name, Reason::of(&error)));
         }
         if !is_whole {
             teller.tell(RecordMessage::Explain(name));

@@ -107,33 +107,14 @@ impl<E: Write + Drop> Teller<E> {
         write!(self.err, "{before}\r{:width$}\r{behind}", "")
     }
 
-    /// Writes a line. Where it cannot be written it is lost: it is no part of what the program is
-    /// asked to do.
-    fn put_line<D: Display + Drop>(&mut self, text: D)
-        ensures { self.new ≡ record self.old { err = self.new.err } }
-    {
-        let _ = writeln!(self.err, "{text}").and_then(|()| self.err.flush());
-    }
-
-    /// Tells a line whoever looks, or nobody: that what the words ask for beside a transfer is not
-    /// done.
-    pub fn warn<D: Display + Drop>(&mut self, text: D)
-        ensures loud { self.new.is_loud ≡ self.old.is_loud }
-        ensures look { self.new.look ≡ self.old.look }
-    {
-        if self.clear().is_ok() {
-            self.put_line(text);
-        }
-    }
-
-    /// Tells a line to somebody who looks.
+    /// Tells a line. Where it cannot be written it is lost: it is no part of what the program is asked to do.
     pub fn tell<D: Display + Drop>(&mut self, text: D)
         ensures quiet { self.old.is_loud ≡ false → self.new ≡ self.old }
         ensures loud { self.new.is_loud ≡ self.old.is_loud }
         ensures look { self.new.look ≡ self.old.look }
     {
         if self.is_loud && self.clear().is_ok() {
-            self.put_line(text);
+            let _ = writeln!(self.err, "{text}").and_then(|()| self.err.flush());
         }
     }
 

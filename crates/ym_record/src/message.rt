@@ -1,13 +1,12 @@
 //! What is told of a record of what passes on a line.
 
-use crate::reason::Reason;
-use crate::shown::Shown;
 use std::fmt;
+use ym_text::{Reason, Shown};
 
 /// Why no record is made, or not to the end, and who tells what it says. Its `Display` is the line
 /// that tells it, without its end; paths in it are made safe for a terminal.
 #[derive(Clone, Copy)]
-pub enum RecordMessage<'a> {
+pub(crate) enum RecordMessage<'a> {
     /// `-` names no file.
     Dash,
     /// At this path is one of the files that are sent.
