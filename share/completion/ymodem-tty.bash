@@ -1,7 +1,7 @@
 # bash completion of ymodem-tty(1)
 
 _ymodem_tty() {
-    local cur=${COMP_WORDS[COMP_CWORD]} command= words
+    local cur=${COMP_WORDS[COMP_CWORD]} prev=${COMP_WORDS[COMP_CWORD - 1]} command= words
     local at=1
     # what the words say of the line stands before the command
     while [ "$at" -lt "$COMP_CWORD" ]; do
@@ -11,10 +11,13 @@ _ymodem_tty() {
         *) command=${COMP_WORDS[at]}; break ;;
         esac
     done
+    case $prev in
+    --record) compopt -o filenames; COMPREPLY=($(compgen -f -- "$cur")); return ;;
+    esac
     case $command in
     '') words='send receive --device --speed --flow --help -h' ;;
-    send) words='--short --verbose --quiet --help -h' ;;
-    receive) words='--single --no-sync --discard-parts --verbose --quiet --help -h' ;;
+    send) words='--short --record --verbose --quiet --help -h' ;;
+    receive) words='--single --no-sync --discard-parts --record --verbose --quiet --help -h' ;;
     *) words= ;;
     esac
     local IFS=$'\n'

@@ -4,17 +4,17 @@ _ymodem() {
     local cur=${COMP_WORDS[COMP_CWORD]} prev=${COMP_WORDS[COMP_CWORD - 1]} command= words
     case $prev in
     -p | --port) COMPREPLY=(); return ;;
-    --line | --there | --back) compopt -o filenames; COMPREPLY=($(compgen -f -- "$cur")); return ;;
+    --line | --record | --there | --back) compopt -o filenames; COMPREPLY=($(compgen -f -- "$cur")); return ;;
     esac
     [ "$COMP_CWORD" -gt 1 ] && command=${COMP_WORDS[1]}
     case $command in
     '') words='sb rb send receive play loop explain help --help -h --version -V' ;;
     play) words='--help -h' ;;
     loop) words='--port -p --verbose --quiet --help -h' ;;
-    send) words='--port -p --short --verbose --quiet --help -h' ;;
-    receive) words='--port -p --single --eager --keep --no-sync --discard-parts --verbose --quiet --help -h' ;;
-    sb) words='--line --short --verbose --quiet --help -h' ;;
-    rb) words='--line --single --no-sync --discard-parts --verbose --quiet --help -h' ;;
+    send) words='--port -p --short --record --verbose --quiet --help -h' ;;
+    receive) words='--port -p --single --eager --keep --no-sync --discard-parts --record --verbose --quiet --help -h' ;;
+    sb) words='--line --short --record --verbose --quiet --help -h' ;;
+    rb) words='--line --single --no-sync --discard-parts --record --verbose --quiet --help -h' ;;
     explain) words='--there --back --turned --help -h' ;;
     help) words='sb rb send receive play loop explain help' ;;
     *) words= ;;

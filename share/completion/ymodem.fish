@@ -24,6 +24,7 @@ complete -c ymodem -n '__fish_seen_subcommand_from receive' -l keep -d 'Takes on
 complete -c ymodem -n '__fish_seen_subcommand_from receive rb' -l no-sync -d 'Acknowledges a file before it has reached the disk'
 complete -c ymodem -n '__fish_seen_subcommand_from receive rb' -l discard-parts -d 'Removes a NAME.part that was left, when NAME comes'
 complete -c ymodem -n '__fish_seen_subcommand_from sb rb' -r -l line -d 'The terminal of the line (else standard input and output)'
+complete -c ymodem -n '__fish_seen_subcommand_from send receive sb rb' -r -F -l record -d 'Records what passes on the line, for `ymodem explain`'
 complete -c ymodem -n '__fish_seen_subcommand_from receive rb' -a '(__fish_complete_directories)' -d 'The folder to receive into'
 complete -c ymodem -n '__fish_seen_subcommand_from explain' -r -F -l there -d 'A file of the bytes that the sender wrote'
 complete -c ymodem -n '__fish_seen_subcommand_from explain' -r -F -l back -d 'A file of the bytes that the receiver wrote'

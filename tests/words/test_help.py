@@ -15,6 +15,7 @@ SCRIPT = os.path.join("share", "ymodem-tty")
 # What has lines for people: the sources of their texts, but for those of how far a file is, and of
 # how names are shown.
 SOURCES = ("crates/ym_text/src", "crates/ym_header/src/fault.rt", "crates/ym_play/src/fault.rt")
+SOURCES += ("crates/ym_record/src/message.rt",)
 FAULTS = ("crates/ym_jobs/src/command_fault.rt", "crates/ym_command/src", "crates/ymodem/src")
 NO_MESSAGES = ("progress.rt", "cells.rt", "shown.rt", "shown_out.rt")
 TEXT = r'"((?:[^"\\]|\\.)*)"'

@@ -29,6 +29,16 @@ fn push_receive(text: &mut String, flags: ReceiveFlags) -> Result<(), AllocError
     push_flag(text, flags.keep, "keep")
 }
 
+fn push_record(text: &mut String, path: Option<&str>) -> Result<(), AllocError> {
+    match path {
+        Some(path) => {
+            text.push_str(", recorded in ")?;
+            text.push_str(path)
+        }
+        None => Ok(()),
+    }
+}
+
 /// A job, its values and the flags that are set.
 fn job_text(alloc: Global, job: &Job<'_>) -> Result<String, AllocError> {
     match job {
@@ -42,6 +52,7 @@ fn job_text(alloc: Global, job: &Job<'_>) -> Result<String, AllocError> {
             port,
             short,
             files,
+            record_path,
             tell,
         } => {
             let mut text = format!(in alloc; "send {port}")?;
@@ -50,24 +61,28 @@ fn job_text(alloc: Global, job: &Job<'_>) -> Result<String, AllocError> {
             for file in files.as_slice() {
                 push_flag(&mut text, true, file)?;
             }
+            push_record(&mut text, *record_path)?;
             Ok(text)
         }
         Job::Receive {
             port,
             flags,
             dir,
+            record_path,
             tell,
         } => {
             let mut text = format!(in alloc; "receive {port}")?;
             push_receive(&mut text, *flags)?;
             push_tell(&mut text, *tell)?;
             push_flag(&mut text, true, dir)?;
+            push_record(&mut text, *record_path)?;
             Ok(text)
         }
         Job::SendLine {
             line,
             short,
             files,
+            record_path,
             tell,
         } => {
             let line = line.unwrap_or("-");
@@ -77,12 +92,14 @@ fn job_text(alloc: Global, job: &Job<'_>) -> Result<String, AllocError> {
             for file in files.as_slice() {
                 push_flag(&mut text, true, file)?;
             }
+            push_record(&mut text, *record_path)?;
             Ok(text)
         }
         Job::ReceiveLine {
             line,
             flags,
             dir,
+            record_path,
             tell,
         } => {
             let line = line.unwrap_or("-");
@@ -90,6 +107,7 @@ fn job_text(alloc: Global, job: &Job<'_>) -> Result<String, AllocError> {
             push_store(&mut text, *flags)?;
             push_tell(&mut text, *tell)?;
             push_flag(&mut text, true, dir)?;
+            push_record(&mut text, *record_path)?;
             Ok(text)
         }
         Job::Explain {

@@ -79,13 +79,14 @@ PrintsBeside None gives old answer new = gives old.err answer new.err × OnlyRep
 abbrev pub JobGives : Asked → Desk → Result ℕ CommandFault → Desk → Type 0
 JobGives job.Play old answer new = (status : ℕ) × (answer ≡ Ok status) × IsSession (Some []) old status new
 JobGives (job.Loop port tell) old answer new = LoopGives old answer new
-JobGives (job.Send port short files tell) old answer new = SendGives (shape_of short) files old.out answer new.out × OnlyPrints old new
-JobGives (job.Receive port flags dir tell) old answer new =
+JobGives (job.Send port short files to tell) old answer new =
+    SendGives (shape_of short) files old.out answer new.out × OnlyPrints old new
+JobGives (job.Receive port flags dir to tell) old answer new =
     ReceivesSo flags.keep (confirm_of flags.store.single) old.out old.err answer new.out new.err
     × ReadsNothing old new
-JobGives (job.SendLine line short files tell) old answer new =
+JobGives (job.SendLine line short files to tell) old answer new =
     PrintsBeside line (SendGives (shape_of short) files) old answer new
-JobGives (job.ReceiveLine line flags dir tell) old answer new =
+JobGives (job.ReceiveLine line flags dir to tell) old answer new =
     PrintsBeside line (ReceiveGives (confirm_of flags.single)) old answer new
 JobGives (job.Explain there back both turned) old answer new =
     ExplainGives there back both turned old answer new

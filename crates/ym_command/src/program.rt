@@ -19,7 +19,7 @@ use std::time::Clock;
 use ym_file::Shape;
 use ym_folder::{Durability, Leftover};
 use ym_jobs::{
-    CommandFault, Order, looped_session, receive_as_asked, receive_line, send, send_line,
+    CommandFault, Order, SendOrder, looped_session, receive_as_asked, receive_line, send, send_line,
 };
 use ym_line::Direct;
 use ym_machine::Confirm;
@@ -117,14 +117,32 @@ fn leftover_of(discards: bool) -> Leftover
     }
 }
 
+/// What a sender is asked for, by the flag `--short`, with these files.
+fn send_order_of<'a>(
+    is_short: bool,
+    paths: &'a [&'a str],
+    record_path: Option<&'a str>,
+) -> SendOrder<'a>
+    ensures shape { result.shape ≡ shape_of is_short }
+    ensures paths { result.paths.now ≡ paths.now }
+    ensures recorded { result.record_path ≡ record_path }
+{
+    SendOrder {
+        paths,
+        shape: shape_of(is_short),
+        record_path,
+    }
+}
+
 /// What a receiver is asked for, by the flags of `receive`, and where.
-fn order_of(flags: ReceiveFlags, dir: &str) -> Order<'_>
+fn order_of<'a>(flags: ReceiveFlags, dir: &'a str, record_path: Option<&'a str>) -> Order<'a>
     ensures confirm { result.confirm ≡ confirm_of flags.store.single }
     ensures durability { result.durability ≡ durability_of flags.store.no_sync }
     ensures leftover { result.leftover ≡ leftover_of flags.store.discard_parts }
     ensures eager { result.eager ≡ flags.eager }
     ensures keep { result.keep ≡ flags.keep }
     ensures dir { result.dir.now ≡ dir.now }
+    ensures recorded { result.record_path ≡ record_path }
 {
     Order {
         confirm: confirm_of(flags.store.single),
@@ -133,18 +151,20 @@ fn order_of(flags: ReceiveFlags, dir: &str) -> Order<'_>
         eager: flags.eager,
         keep: flags.keep,
         dir,
+        record_path,
     }
 }
 
 /// What a receiver is asked for by the flags of `rb`, and where: it removes the parts that earlier
 /// runs left, asks for the first file at once, and there is one line.
-fn line_order_of(store: StoreFlags, dir: &str) -> Order<'_>
+fn line_order_of<'a>(store: StoreFlags, dir: &'a str, record_path: Option<&'a str>) -> Order<'a>
     ensures confirm { result.confirm ≡ confirm_of store.single }
     ensures durability { result.durability ≡ durability_of store.no_sync }
     ensures leftover { result.leftover ≡ Leftover.Discarded }
     ensures eager { result.eager ≡ true }
     ensures keep { result.keep ≡ false }
     ensures dir { result.dir.now ≡ dir.now }
+    ensures recorded { result.record_path ≡ record_path }
 {
     let flags = ReceiveFlags {
         store,
@@ -153,7 +173,7 @@ fn line_order_of(store: StoreFlags, dir: &str) -> Order<'_>
     };
     Order {
         leftover: Leftover::Discarded,
-        ..order_of(flags, dir)
+        ..order_of(flags, dir, record_path)
     }
 }
 
@@ -203,43 +223,48 @@ where
             port,
             short,
             files,
+            record_path,
             ..
-        } => send(
-            rt,
-            alloc,
-            port,
-            shape_of(short),
-            files.as_slice(),
-            out,
-            teller,
-        ),
+        } => {
+            let order = send_order_of(short, files.as_slice(), record_path);
+            send(rt, alloc, port, order, out, teller)
+        }
         Job::Receive {
             port,
             flags,
             dir,
+            record_path,
             ..
-        } => receive_as_asked(rt, alloc, port, order_of(flags, dir), out, err, teller),
+        } => {
+            let order = order_of(flags, dir, record_path);
+            receive_as_asked(rt, alloc, port, order, out, err, teller)
+        }
         Job::SendLine {
             line,
             short,
             files,
+            record_path,
             ..
         } => {
-            let paths = files.as_slice();
+            let order = send_order_of(short, files.as_slice(), record_path);
             match line {
-                Some(_) => send_line(rt, alloc, line, shape_of(short), paths, out, teller),
-                None => send_line(rt, alloc, line, shape_of(short), paths, err, teller),
+                Some(_) => send_line(rt, alloc, line, order, out, teller),
+                None => send_line(rt, alloc, line, order, err, teller),
             }
         }
         Job::ReceiveLine {
             line,
             flags,
             dir,
+            record_path,
             ..
-        } => match line {
-            Some(_) => receive_line(rt, alloc, line, line_order_of(flags, dir), out, teller),
-            None => receive_line(rt, alloc, line, line_order_of(flags, dir), err, teller),
-        },
+        } => {
+            let order = line_order_of(flags, dir, record_path);
+            match line {
+                Some(_) => receive_line(rt, alloc, line, order, out, teller),
+                None => receive_line(rt, alloc, line, order, err, teller),
+            }
+        }
         Job::Explain {
             there,
             back,

@@ -20,6 +20,6 @@ pub use connections::Connections;
 pub use keeping::{receive_as_asked, receive_each};
 pub use looped::looped_session;
 pub use receiving::{Order, receive_batch};
-pub use sending::{send, send_batch};
+pub use sending::{SendOrder, send, send_batch};
 pub use serial::{receive_line, send_line};
 pub use store::Store;

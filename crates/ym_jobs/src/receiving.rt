@@ -17,24 +17,24 @@ use crate::command_fault::CommandFault;
 use crate::lines::FileLine;
 use crate::store::Store;
 use crate::telling::{tell_end, tell_not_stored};
-use crate::told_line::{LineWords, ToldLine};
+use crate::told_line::{LineWords, ToldLine, ToldWire};
 use crate::watched::Watched;
 use std::alloc::{AllocError, Global};
 use std::cell::RefCell;
 use std::fs::{File, Files};
 use std::io;
 use std::io::Write;
-use std::net::TcpStream;
 use std::time::Clock;
 use ym_file::SinkFault;
 use ym_folder::{DirSink, Durability, Leftover, StoreFault, check_folder};
 use ym_header::Header;
-use ym_host::{SocketWire, SystemFolder};
+use ym_host::SystemFolder;
 use ym_line::ReceiverLine;
 use ym_link::{Confirm, EndFault, Port, ReceiverInto, RecvState, receive_over};
 use ym_pair::laws::a_receiver_commits_what_it_heard;
 use ym_play::{Output, StreamFault};
 use ym_port::{InStep, Role, TimedPort};
+use ym_record::{RecordedWire, Records};
 use ym_show::{Eager, Meter, ReceiveWatch, Receiving, Teller, WatchedPort};
 use ym_text::{EndMessage, FileMessage, Lately, Reason};
 
@@ -101,6 +101,8 @@ pub struct Order<'a> {
     pub keep: bool,
     /// The folder that it stores in.
     pub dir: &'a str,
+    /// The file that what passes is recorded in, if any is.
+    pub record_path: Option<&'a str>,
 }
 
 /// The sink that is asked for, which stores files in a folder.
@@ -192,26 +194,32 @@ fn tell_outcome<E: Write + Drop>(
     }
 }
 
-/// Receives the files of one connection, as [`receive_on`] does.
-pub(crate) fn receive_from<R, O, E>(
+/// Receives the files that come over a line, as [`receive_on`] does. The line is recorded where
+/// that is wanted.
+pub(crate) fn receive_through<R, W, O, E>(
     rt: &R,
     alloc: Global,
-    stream: TcpStream,
+    wire: W,
+    records: &mut Records<'_>,
     order: Order<'_>,
     out: &mut O,
     teller: &mut Teller<E>,
 ) -> Result<u8, CommandFault>
 where
     R: Files<File = File> + Clock,
+    W: ToldWire + Drop,
     O: Output,
     E: Write + Drop,
     ensures { SessionGives order.entry.confirm
         (page (O.contents out.old) (O.failures out.old)) result
         (page (O.contents out.new) (O.failures out.new)) }
 {
-    let port = TimedPort::new(SocketWire::new(rt, stream, Role::Receiver), Role::Receiver);
-    let port = Eager::new(InStep::new(port), order.eager);
-    receive_on(rt, alloc, port, order, out, teller)
+    let wire = RecordedWire::new(wire, rt, Role::Receiver, &mut records.recorder);
+    let port = InStep::new(TimedPort::new(wire, Role::Receiver));
+    let port = Eager::new(port, order.eager);
+    let answer = receive_on(rt, alloc, port, order, out, teller);
+    records.end(matches!(answer, Ok(0)), teller);
+    answer
 }
 
 /// Who watches a receiver's sink or its port, and shows it so.

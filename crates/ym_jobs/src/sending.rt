@@ -12,7 +12,7 @@ ghost use Rattle.ym_jobs.specs.Status.{send_answer};
 
 use crate::command_fault::CommandFault;
 use crate::telling::tell_end;
-use crate::told_line::ToldLine;
+use crate::told_line::{ToldLine, ToldWire};
 use std::alloc::Global;
 use std::cell::RefCell;
 use std::fs::{File, Files};
@@ -30,6 +30,7 @@ use ym_link::{BatchFault, EndFault, Port, SendState, SenderFrom, SourceFile, sen
 use ym_pair::laws::a_sender_was_acknowledged;
 use ym_play::{Output, StreamFault};
 use ym_port::{Role, TimedPort};
+use ym_record::{RecordedWire, Records};
 use ym_show::{Meter, SendWatch, Sending, Teller, WatchedPort};
 use ym_text::{EndMessage, FileMessage, LineMessage, Reason};
 
@@ -281,13 +282,50 @@ pub(crate) fn send_on<P: ToldLine + Drop, S: Source, O: Output, C: Clock, E: Wri
     answer
 }
 
-/// Sends the files at these paths, in order, to whoever listens on 127.0.0.1 at this port, and prints how the sender has ended.
+/// The same over a line, which is recorded where that is wanted.
+pub(crate) fn send_through<R, W, S, O, E>(
+    rt: &R,
+    alloc: Global,
+    wire: W,
+    records: &mut Records<'_>,
+    sender: &mut SenderFrom<S>,
+    out: &mut O,
+    teller: &mut Teller<E>,
+) -> Result<u8, CommandFault>
+where
+    R: Clock,
+    W: ToldWire + Drop,
+    S: Source,
+    O: Output,
+    E: Write + Drop,
+    ensures { SendsOn sender.old sender.new
+        (page (O.contents out.old) (O.failures out.old)) result
+        (page (O.contents out.new) (O.failures out.new)) }
+{
+    let wire = RecordedWire::new(wire, rt, Role::Sender, &mut records.recorder);
+    let port = TimedPort::new(wire, Role::Sender);
+    let answer = send_on(rt, alloc, port, sender, out, teller);
+    records.end(matches!(answer, Ok(0)), teller);
+    answer
+}
+
+/// What a sender is asked for.
+#[derive(Clone, Copy)]
+pub struct SendOrder<'a> {
+    /// The paths of its files, in order.
+    pub paths: &'a [&'a str],
+    /// How they are cut.
+    pub shape: Shape,
+    /// The file that what passes is recorded in, if any is.
+    pub record_path: Option<&'a str>,
+}
+
+/// Sends files to whoever listens on 127.0.0.1 at this port, and prints how the sender has ended.
 pub fn send<R, O, E>(
     rt: &R,
     alloc: Global,
     port: u16,
-    shape: Shape,
-    paths: &[&str],
+    order: SendOrder<'_>,
     out: &mut O,
     teller: &mut Teller<E>,
 ) -> Result<u8, CommandFault>
@@ -295,11 +333,14 @@ where
     R: Files<File = File> + Net<Stream = TcpStream> + Clock,
     O: Output,
     E: Write + Drop,
-    ensures { SendGives shape (map (λ path. path.now) paths.now) (record { holds = O.contents out.old; failed = O.failures out.old }) result (record { holds = O.contents out.new; failed = O.failures out.new }) }
+    ensures { SendGives order.entry.shape (map (λ path. path.now) order.entry.paths.now)
+        (page (O.contents out.old) (O.failures out.old)) result
+        (page (O.contents out.new) (O.failures out.new)) }
 {
-    let batch = open_batch(rt, alloc, paths, teller)?;
-    let mut sender = sender_of(batch, shape)?;
+    let batch = open_batch(rt, alloc, order.paths, teller)?;
+    let mut sender = sender_of(batch, order.shape)?;
+    let mut records = Records::open(rt, alloc, order.record_path, order.paths, teller)?;
     let stream = connect_telling(rt, port, teller)?;
-    let port = TimedPort::new(SocketWire::new(rt, stream, Role::Sender), Role::Sender);
-    send_on(rt, alloc, port, &mut sender, out, teller)
+    let wire = SocketWire::new(rt, stream, Role::Sender);
+    send_through(rt, alloc, wire, &mut records, &mut sender, out, teller)
 }

@@ -2,24 +2,23 @@
 
 ghost use Rattle.std.specs.Prelude.{IfErr, map};
 ghost use Rattle.ym_jobs.specs.Page.{page};
-ghost use Rattle.ym_jobs.specs.Receiving.{SessionGives, ReceiveGives};
-ghost use Rattle.ym_jobs.specs.Sending.{SendsOn, SendGives};
+ghost use Rattle.ym_jobs.specs.Receiving.{ReceiveGives};
+ghost use Rattle.ym_jobs.specs.Sending.{SendGives};
 ghost use Rattle.ym_jobs.specs.Status.{IsHostFault};
 
 use crate::command_fault::CommandFault;
-use crate::receiving::{Order, look_at, receive_on};
-use crate::sending::{open_batch, send_on, sender_of};
+use crate::receiving::{Order, look_at, receive_through};
+use crate::sending::{SendOrder, open_batch, send_through, sender_of};
 use std::alloc::Global;
 use std::fs::{File, Files};
 use std::io;
-use std::io::{IsTerminal, Print, Read, Write};
+use std::io::{IsTerminal, Print, Write};
 use std::time::Clock;
-use ym_file::{Shape, Source};
 use ym_host::{OpenFault, TtyWire, open_tty};
-use ym_link::SenderFrom;
 use ym_play::Output;
-use ym_port::{InStep, Role, TimedPort};
-use ym_show::{Eager, Teller};
+use ym_port::Role;
+use ym_record::Records;
+use ym_show::Teller;
 use ym_text::{Reason, TtyMessage};
 
 /// Why the terminal at this path is not opened, as it is told.
@@ -53,38 +52,13 @@ fn open_line<R: Files<File = File>, E: Write + Drop>(
     }
 }
 
-/// Runs a sender over this line, prints how it has ended, and tells why.
-fn send_through<R, I, W, S, O, E>(
-    rt: &R,
-    alloc: Global,
-    wire: TtyWire<&R, I, W>,
-    sender: &mut SenderFrom<S>,
-    out: &mut O,
-    teller: &mut Teller<E>,
-) -> Result<u8, CommandFault>
-where
-    R: Clock,
-    I: Read + Drop,
-    W: Write + Drop,
-    S: Source,
-    O: Output,
-    E: Write + Drop,
-    ensures { SendsOn sender.old sender.new
-        (page (O.contents out.old) (O.failures out.old)) result
-        (page (O.contents out.new) (O.failures out.new)) }
-{
-    let port = TimedPort::new(wire, Role::Sender);
-    send_on(rt, alloc, port, sender, out, teller)
-}
-
-/// Sends the files at these paths, in order, over the terminal at the path `line`, or over
-/// standard input and output, and prints how the sender has ended.
+/// Sends files over the terminal at the path `line`, or over standard input and output, and prints
+/// how the sender has ended.
 pub fn send_line<R, O, E>(
     rt: &R,
     alloc: Global,
     line: Option<&str>,
-    shape: Shape,
-    paths: &[&str],
+    order: SendOrder<'_>,
     out: &mut O,
     teller: &mut Teller<E>,
 ) -> Result<u8, CommandFault>
@@ -93,50 +67,26 @@ where
     R::Reader: IsTerminal,
     O: Output,
     E: Write + Drop,
-    ensures { SendGives shape (map (λ path. path.now) paths.now)
+    ensures { SendGives order.entry.shape (map (λ path. path.now) order.entry.paths.now)
         (page (O.contents out.old) (O.failures out.old)) result
         (page (O.contents out.new) (O.failures out.new)) }
 {
-    let batch = open_batch(rt, alloc, paths, teller)?;
-    let mut sender = sender_of(batch, shape)?;
+    let batch = open_batch(rt, alloc, order.paths, teller)?;
+    let mut sender = sender_of(batch, order.shape)?;
+    let mut records = Records::open(rt, alloc, order.record_path, order.paths, teller)?;
     match line {
         Some(path) => {
             let file = open_line(rt, path, teller)?;
             let wire = TtyWire::new(rt, &file, &file, true, Role::Sender);
-            send_through(rt, alloc, wire, &mut sender, out, teller)
+            send_through(rt, alloc, wire, &mut records, &mut sender, out, teller)
         }
         None => {
             let reader = rt.reader();
             let is_terminal = reader.is_terminal();
             let wire = TtyWire::new(rt, reader, io::writer(rt), is_terminal, Role::Sender);
-            send_through(rt, alloc, wire, &mut sender, out, teller)
+            send_through(rt, alloc, wire, &mut records, &mut sender, out, teller)
         }
     }
-}
-
-/// Receives the files that come over this line, prints them and how the receiver has ended, and
-/// tells why.
-fn receive_through<R, I, W, O, E>(
-    rt: &R,
-    alloc: Global,
-    wire: TtyWire<&R, I, W>,
-    order: Order<'_>,
-    out: &mut O,
-    teller: &mut Teller<E>,
-) -> Result<u8, CommandFault>
-where
-    R: Files<File = File> + Clock,
-    I: Read + Drop,
-    W: Write + Drop,
-    O: Output,
-    E: Write + Drop,
-    ensures { SessionGives order.entry.confirm
-        (page (O.contents out.old) (O.failures out.old)) result
-        (page (O.contents out.new) (O.failures out.new)) }
-{
-    let port = InStep::new(TimedPort::new(wire, Role::Receiver));
-    let port = Eager::new(port, order.eager);
-    receive_on(rt, alloc, port, order, out, teller)
 }
 
 /// Receives files into a folder over the terminal at the path `line`, or over standard input and
@@ -159,17 +109,18 @@ where
         (page (O.contents out.new) (O.failures out.new)) }
 {
     look_at(rt, alloc, order.dir, teller)?;
+    let mut records = Records::open(rt, alloc, order.record_path, &[], teller)?;
     match line {
         Some(path) => {
             let file = open_line(rt, path, teller)?;
             let wire = TtyWire::new(rt, &file, &file, true, Role::Receiver);
-            receive_through(rt, alloc, wire, order, out, teller)
+            receive_through(rt, alloc, wire, &mut records, order, out, teller)
         }
         None => {
             let reader = rt.reader();
             let is_terminal = reader.is_terminal();
             let wire = TtyWire::new(rt, reader, io::writer(rt), is_terminal, Role::Receiver);
-            receive_through(rt, alloc, wire, order, out, teller)
+            receive_through(rt, alloc, wire, &mut records, order, out, teller)
         }
     }
 }

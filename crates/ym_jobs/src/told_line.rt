@@ -1,4 +1,4 @@
-//! Ports that say why they failed.
+//! Lines and ports that say why they failed.
 
 ghost use Rattle.std.specs.Prelude.{◌≡◌};
 ghost use Rattle.ym_jobs.specs.ToldLine.{connection_words, terminal_words};
@@ -6,7 +6,8 @@ ghost use Rattle.ym_jobs.specs.ToldLine.{connection_words, terminal_words};
 use std::io::{Read, Write};
 use std::time::Clock;
 use ym_host::{SocketWire, TtyFault, TtyWire};
-use ym_port::{InStep, Learned, TimedPort};
+use ym_port::{InStep, Learned, TimedPort, Wire};
+use ym_record::{Append, RecordedWire};
 use ym_show::Eager;
 use ym_text::{EndMessage, Reason};
 
@@ -47,20 +48,32 @@ impl LineWords {
     }
 }
 
-/// A port that says what its faults are told as.
-pub(crate) trait ToldLine: Learned {
+/// A line that says what its faults are told as.
+pub(crate) trait ToldWire: Wire {
     fn words(&self) -> LineWords;
 }
 
-impl<R: Clock + Drop> ToldLine for TimedPort<SocketWire<R>> {
+impl<R: Clock + Drop> ToldWire for SocketWire<R> {
     fn words(&self) -> LineWords {
         LineWords::of_connection()
     }
 }
 
-impl<R: Clock + Drop, I: Read + Drop, O: Write + Drop> ToldLine for TimedPort<TtyWire<R, I, O>> {
+impl<R: Clock + Drop, I: Read + Drop, O: Write + Drop> ToldWire for TtyWire<R, I, O> {
     fn words(&self) -> LineWords {
-        LineWords::of_terminal(self.wire().fault())
+        LineWords::of_terminal(self.fault())
+    }
+}
+
+/// A port that says what its faults are told as.
+pub(crate) trait ToldLine: Learned {
+    fn words(&self) -> LineWords;
+}
+
+impl<'r, W: ToldWire + Drop, C: Clock + Drop, A: Append + Drop> ToldLine
+    for TimedPort<RecordedWire<'r, W, C, A>> {
+    fn words(&self) -> LineWords {
+        self.wire().wire().words()
     }
 }
 

@@ -1,3 +1,4 @@
 pub mod RecordExamples
 pub mod RecordGrowth
+pub mod RecordNames
 pub mod RecordText

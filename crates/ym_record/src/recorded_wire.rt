@@ -67,7 +67,7 @@ fn read_way(role: Role) -> Direction
 }
 
 impl<'r, W: Wire + Drop, C: Clock + Drop, A: Append + Drop> RecordedWire<'r, W, C, A> {
-    /// This line, as the end of this role has it, of which a record is made from now on.
+    /// This line, as the end of this role has it, of which a record is made from now on, or none.
     pub fn new(
         wire: W,
         clock: C,
@@ -77,7 +77,12 @@ impl<'r, W: Wire + Drop, C: Clock + Drop, A: Append + Drop> RecordedWire<'r, W, 
         ensures wire { result.wire ≡ wire }
         ensures role { result.role ≡ role }
     {
-        let start = moment_or(&clock, 0);
+        // Where none is made the clock is not asked.
+        let start = if recorder.is_kept() {
+            moment_or(&clock, 0)
+        } else {
+            0
+        };
         RecordedWire {
             wire,
             clock,

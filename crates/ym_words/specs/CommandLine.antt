@@ -1,6 +1,6 @@
 -- The command line: `--version`, and seven optional subcommands, with `--port` (or `-p`) a required
--- text, `--line`, `--there` and `--back` ones that may be left out, DIR and RECORD one positional,
--- FILE the last positional with one or more values, and all else flags.
+-- text, `--line`, `--record`, `--there` and `--back` ones that may be left out, DIR and RECORD one
+-- positional, FILE the last positional with one or more values, and all else flags.
 use Rattle.std.specs.Prelude.{◌≡◌, false, true, List, [], ◌∷◌, Some, codes}
 use Rattle.clap.specs.Words.{App, Rule, Text, app_of, new_app, new_rule, rule_of}
 use Rattle.clap.specs.Words.{with_rule, with_subcommand}
@@ -99,6 +99,10 @@ record_rule = value_rule (codes "record")
 abbrev pub turned_rule : Rule
 turned_rule = flag (codes "turned") (codes "turned")
 
+-- and the file of a record, of who sends or receives
+abbrev pub recorded_rule : Rule
+recorded_rule = record (value_rule (codes "record")) { long = Some (codes "record") }
+
 -- and how much is told
 abbrev pub with_telling : App → App
 with_telling app = with_rule (with_rule app verbose_rule) quiet_rule
@@ -115,8 +119,8 @@ loop_app = with_telling (with_rule (new_app (codes "loop")) port_rule)
 
 abbrev pub send_app : App
 send_app =
-    with_telling (with_rule (with_rule (with_rule (new_app (codes "send")) port_rule) short_rule)
-    files_rule)
+    with_telling (with_rule (with_rule (with_rule (with_rule (new_app (codes "send")) port_rule)
+    short_rule) recorded_rule) files_rule)
 
 -- what the words of `receive` say of the line
 abbrev pub line_app : App
@@ -129,22 +133,22 @@ asking_app = with_rule (with_rule line_app eager_rule) keep_rule
 -- and what they say of the folder
 abbrev pub receive_app : App
 receive_app =
-    with_telling (with_rule (with_rule (with_rule asking_app no_sync_rule) discard_parts_rule)
-    dir_rule)
+    with_telling (with_rule (with_rule (with_rule (with_rule asking_app no_sync_rule)
+    discard_parts_rule) recorded_rule) dir_rule)
 
 -- the same over a serial line
 abbrev pub sb_app : App
 sb_app =
-    with_telling (with_rule (with_rule (with_rule (new_app (codes "sb")) line_rule) short_rule)
-    files_rule)
+    with_telling (with_rule (with_rule (with_rule (with_rule (new_app (codes "sb")) line_rule)
+    short_rule) recorded_rule) files_rule)
 
 abbrev pub rb_line_app : App
 rb_line_app = with_rule (with_rule (new_app (codes "rb")) line_rule) single_rule
 
 abbrev pub rb_app : App
 rb_app =
-    with_telling (with_rule (with_rule (with_rule rb_line_app no_sync_rule) discard_parts_rule)
-    folder_rule)
+    with_telling (with_rule (with_rule (with_rule (with_rule rb_line_app no_sync_rule)
+    discard_parts_rule) recorded_rule) folder_rule)
 
 abbrev pub explain_app : App
 explain_app =

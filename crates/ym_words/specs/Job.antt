@@ -16,10 +16,10 @@ use Rattle.ym_words.specs.declared.job.JobFault.TheVariants as fault
 pub data Asked : Type 0 where
   Play : Asked
   Loop : ℕ → TellFlags → Asked
-  Send : ℕ → Bool → List Text → TellFlags → Asked
-  Receive : ℕ → ReceiveFlags → Text → TellFlags → Asked
-  SendLine : Option Text → Bool → List Text → TellFlags → Asked
-  ReceiveLine : Option Text → StoreFlags → Text → TellFlags → Asked
+  Send : ℕ → Bool → List Text → Option Text → TellFlags → Asked
+  Receive : ℕ → ReceiveFlags → Text → Option Text → TellFlags → Asked
+  SendLine : Option Text → Bool → List Text → Option Text → TellFlags → Asked
+  ReceiveLine : Option Text → StoreFlags → Text → Option Text → TellFlags → Asked
   Explain : Option Text → Option Text → Option Text → Bool → Asked
 
 abbrev pub is_true_text : Option Text → Bool
@@ -48,22 +48,28 @@ abbrev pub tell_flags_of : List Row → TellFlags
 tell_flags_of rows =
     record { verbose = flag_of (codes "verbose") rows; quiet = flag_of (codes "quiet") rows }
 
+-- the file that what passes is recorded in, if there is one
+abbrev pub recorded_of : List Row → Option Text
+recorded_of rows = first_of (codes "record") rows
+
 -- over the connection of a port
-abbrev pub send_for : ℕ → Bool → Option (List Text) → TellFlags → Option Asked
-send_for port short None tell = None
-send_for port short (Some files) tell = Some (Send port short files tell)
+abbrev pub send_for : ℕ → Bool → Option (List Text) → Option Text → TellFlags → Option Asked
+send_for port short None to tell = None
+send_for port short (Some files) to tell = Some (Send port short files to tell)
 
 abbrev pub send_of : ℕ → List Row → Option Asked
 send_of port rows =
-    send_for port (flag_of (codes "short") rows) (all_of (codes "files") rows) (tell_flags_of rows)
+    send_for port (flag_of (codes "short") rows) (all_of (codes "files") rows) (recorded_of rows)
+    (tell_flags_of rows)
 
-abbrev pub receive_for : ℕ → ReceiveFlags → Option Text → TellFlags → Option Asked
-receive_for port flags None tell = None
-receive_for port flags (Some dir) tell = Some (Receive port flags dir tell)
+abbrev pub receive_for : ℕ → ReceiveFlags → Option Text → Option Text → TellFlags → Option Asked
+receive_for port flags None to tell = None
+receive_for port flags (Some dir) to tell = Some (Receive port flags dir to tell)
 
 abbrev pub receive_of : ℕ → List Row → Option Asked
 receive_of port rows =
-    receive_for port (receive_flags_of rows) (first_of (codes "dir") rows) (tell_flags_of rows)
+    receive_for port (receive_flags_of rows) (first_of (codes "dir") rows) (recorded_of rows)
+    (tell_flags_of rows)
 
 -- what a subcommand with a port asks for
 abbrev pub ported_for : Option ℕ → Text → List Row → Option Asked
@@ -75,14 +81,15 @@ ported_for (Some port) name rows =
     else None))
 
 -- without a line it is standard input and output
-abbrev pub send_line_for : Option Text → Bool → Option (List Text) → TellFlags → Option Asked
-send_line_for line short None tell = None
-send_line_for line short (Some files) tell = Some (SendLine line short files tell)
+abbrev pub send_line_for : Option Text → Bool → Option (List Text) → Option Text → TellFlags
+    → Option Asked
+send_line_for line short None to tell = None
+send_line_for line short (Some files) to tell = Some (SendLine line short files to tell)
 
 abbrev pub send_line_of : List Row → Option Asked
 send_line_of rows =
     send_line_for (first_of (codes "line") rows) (flag_of (codes "short") rows)
-    (all_of (codes "files") rows) (tell_flags_of rows)
+    (all_of (codes "files") rows) (recorded_of rows) (tell_flags_of rows)
 
 -- and without a folder it is the working one
 abbrev pub folder_of : List Row → Text
@@ -91,7 +98,7 @@ folder_of rows = unwrap_or (first_of (codes "dir") rows) (codes ".")
 abbrev pub receive_line_of : List Row → Asked
 receive_line_of rows =
     ReceiveLine (first_of (codes "line") rows) (store_flags_of rows) (folder_of rows)
-    (tell_flags_of rows)
+    (recorded_of rows) (tell_flags_of rows)
 
 abbrev pub explain_of : List Row → Asked
 explain_of rows =
@@ -114,12 +121,15 @@ asked (Some p) = asked_for p.0 p.1
 abbrev pub asked_of : Job → Asked
 asked_of job.Play = Play
 asked_of (job.Loop port tell) = Loop port tell
-asked_of (job.Send port short files tell) = Send port short (map (λ f. f.now) files.items) tell
-asked_of (job.Receive port flags dir tell) = Receive port flags dir.now tell
-asked_of (job.SendLine line short files tell) =
-    SendLine (option_map (λ l. l.now) line) short (map (λ f. f.now) files.items) tell
-asked_of (job.ReceiveLine line flags dir tell) =
-    ReceiveLine (option_map (λ l. l.now) line) flags dir.now tell
+asked_of (job.Send port short files to tell) =
+    Send port short (map (λ f. f.now) files.items) (option_map (λ r. r.now) to) tell
+asked_of (job.Receive port flags dir to tell) =
+    Receive port flags dir.now (option_map (λ r. r.now) to) tell
+asked_of (job.SendLine line short files to tell) =
+    SendLine (option_map (λ l. l.now) line) short (map (λ f. f.now) files.items)
+    (option_map (λ r. r.now) to) tell
+asked_of (job.ReceiveLine line flags dir to tell) =
+    ReceiveLine (option_map (λ l. l.now) line) flags dir.now (option_map (λ r. r.now) to) tell
 asked_of (job.Explain there back both turned) =
     Explain (option_map (λ f. f.now) there) (option_map (λ f. f.now) back)
     (option_map (λ f. f.now) both) turned

@@ -6,6 +6,7 @@ ghost use Rattle.ym_words.specs.CommandLine.{HasApp, HasRule, flag_rule, with_fl
 ghost use Rattle.ym_words.specs.CommandLine.{port_rule, files_rule, dir_rule, line_rule};
 ghost use Rattle.ym_words.specs.CommandLine.{folder_rule, value_rule};
 ghost use Rattle.ym_words.specs.CommandLine.{there_rule, back_rule, record_rule};
+ghost use Rattle.ym_words.specs.CommandLine.{recorded_rule};
 
 use clap::{Arg, ArgAction, Command};
 use std::alloc::{AllocError, Global};
@@ -172,6 +173,19 @@ pub(crate) fn record_arg<'a>(alloc: Global) -> Arg<'a>
         "CAPTURE",
         "A record of both ways, or a pcap capture (else standard input)",
     )
+}
+
+/// The file that what passes is recorded in, of who sends or receives. It may be left out.
+pub(crate) fn recorded_arg<'a>(alloc: Global) -> Arg<'a>
+    ensures { HasRule result recorded_rule }
+{
+    value_arg(
+        alloc,
+        "record",
+        "FILE",
+        "Records what passes on the line, for `ymodem explain`",
+    )
+    .long("record")
 }
 
 /// The command, with an argument more and flags behind it.

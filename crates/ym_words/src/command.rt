@@ -7,7 +7,7 @@ ghost use Rattle.ym_words.specs.CommandLine.{the_app};
 
 use crate::args::{
     DISCARD_PARTS, EAGER, KEEP, NO_SYNC, QUIET, SHORT, SINGLE, VERBOSE, dir_arg, files_arg,
-    port_arg, with_words,
+    port_arg, recorded_arg, with_words,
 };
 use crate::explain_command::explain_command;
 use crate::help::{bare_loop, bare_receive, bare_send, bare_top, play_command};
@@ -32,7 +32,8 @@ fn send_command<'a>(alloc: Global) -> Result<Command<'a>, AllocError>
     let sending = [SHORT];
     let telling = [VERBOSE, QUIET];
     let with_port = with_words(alloc, bare_send(alloc), port_arg(alloc), &sending)?;
-    with_words(alloc, with_port, files_arg(alloc), &telling)
+    let with_record = with_port.arg(recorded_arg(alloc))?;
+    with_words(alloc, with_record, files_arg(alloc), &telling)
 }
 
 fn receive_command<'a>(alloc: Global) -> Result<Command<'a>, AllocError>
@@ -41,7 +42,8 @@ fn receive_command<'a>(alloc: Global) -> Result<Command<'a>, AllocError>
     let storing = [SINGLE, EAGER, KEEP, NO_SYNC, DISCARD_PARTS];
     let telling = [VERBOSE, QUIET];
     let with_port = with_words(alloc, bare_receive(alloc), port_arg(alloc), &storing)?;
-    with_words(alloc, with_port, dir_arg(alloc), &telling)
+    let with_record = with_port.arg(recorded_arg(alloc))?;
+    with_words(alloc, with_record, dir_arg(alloc), &telling)
 }
 
 fn bare_command<'a>(alloc: Global) -> Command<'a>

@@ -1,14 +1,14 @@
 //! What the words of the command line ask for.
 
 ghost use Rattle.std.specs.Prelude.{◌≡◌, [], IfOk, IfErr, Some, None, true, map, codes};
-ghost use Rattle.std.specs.Prelude.{string_bytes};
+ghost use Rattle.std.specs.Prelude.{string_bytes, option_map};
 ghost use Rattle.clap.specs.Words.{takes, fault_of, subcommand_of, rows_of, found_of, first_of};
 ghost use Rattle.ym_words.specs.CommandLine.{the_app};
 ghost use Rattle.ym_words.specs.PortNumber.{port_value};
 ghost use Rattle.ym_words.specs.Job.{asked, asked_for, asked_of, FaultSays, IsKind};
 ghost use Rattle.ym_words.specs.Job.{flag_of, store_flags_of, receive_flags_of, tell_flags_of};
 ghost use Rattle.ym_words.specs.Job.{explain_of, folder_of, send_line_of, receive_line_of};
-ghost use Rattle.ym_words.specs.Job.{ported_for, send_of, receive_of};
+ghost use Rattle.ym_words.specs.Job.{ported_for, send_of, receive_of, recorded_of};
 
 use crate::command::the_command;
 use crate::port::port_number;
@@ -47,7 +47,8 @@ pub struct TellFlags {
     pub quiet: bool,
 }
 
-/// What the program is asked to do. Ports are from 1 to 65535, on 127.0.0.1.
+/// What the program is asked to do. Ports are from 1 to 65535, on 127.0.0.1. Who sends or receives
+/// records what passes in the file at the path `record_path`, where there is one.
 #[derive(Drop)]
 pub enum Job<'a> {
     /// Play the session of a script from standard input.
@@ -62,6 +63,7 @@ pub enum Job<'a> {
         port: u16,
         short: bool,
         files: Vec<&'a str>,
+        record_path: Option<&'a str>,
         tell: TellFlags,
     },
     /// Receive files into a folder, in the way that the flags say.
@@ -69,6 +71,7 @@ pub enum Job<'a> {
         port: u16,
         flags: ReceiveFlags,
         dir: &'a str,
+        record_path: Option<&'a str>,
         tell: TellFlags,
     },
     /// Send files as `Send` does, over the terminal at this path, or over standard input and
@@ -77,6 +80,7 @@ pub enum Job<'a> {
         line: Option<&'a str>,
         short: bool,
         files: Vec<&'a str>,
+        record_path: Option<&'a str>,
         tell: TellFlags,
     },
     /// Receive files over such a line.
@@ -84,6 +88,7 @@ pub enum Job<'a> {
         line: Option<&'a str>,
         flags: StoreFlags,
         dir: &'a str,
+        record_path: Option<&'a str>,
         tell: TellFlags,
     },
     /// Tell what passed on a line: what the files of each way say, or a capture of both, whose ways
@@ -159,6 +164,13 @@ fn tell_flags_in(matches: &ArgMatches<'_>) -> TellFlags
     }
 }
 
+/// The file that what passes is recorded in, where one is named.
+fn record_in<'a>(matches: &ArgMatches<'a>) -> Option<&'a str>
+    ensures { option_map (λ r. r.now) result ≡ recorded_of (rows_of (found_of matches.now)) }
+{
+    matches.get_str("record")
+}
+
 /// The job of the matches of `sb`.
 fn send_line_in<'a>(alloc: Global, matches: &ArgMatches<'a>) -> Result<Job<'a>, JobFault>
     ensures ok { let rows = rows_of (found_of matches.now) in
@@ -174,6 +186,7 @@ fn send_line_in<'a>(alloc: Global, matches: &ArgMatches<'a>) -> Result<Job<'a>, 
             line: matches.get_str("line"),
             short: flag_in(matches, "short"),
             files,
+            record_path: record_in(matches),
             tell: tell_flags_in(matches),
         }),
         Err(_) => Err(JobFault::Memory),
@@ -198,6 +211,7 @@ fn receive_line_in<'a>(matches: &ArgMatches<'a>) -> Job<'a>
         line: matches.get_str("line"),
         flags: store_flags_in(matches),
         dir: folder_in(matches),
+        record_path: record_in(matches),
         tell: tell_flags_in(matches),
     }
 }
@@ -229,6 +243,7 @@ fn send_in<'a>(alloc: Global, port: u16, matches: &ArgMatches<'a>) -> Result<Job
             port,
             short: flag_in(matches, "short"),
             files,
+            record_path: record_in(matches),
             tell: tell_flags_in(matches),
         }),
         Err(_) => Err(JobFault::Memory),
@@ -247,6 +262,7 @@ fn receive_in<'a>(port: u16, matches: &ArgMatches<'a>) -> Result<Job<'a>, JobFau
             port,
             flags: receive_flags_in(matches),
             dir,
+            record_path: record_in(matches),
             tell: tell_flags_in(matches),
         }),
         None => Err(JobFault::Value),

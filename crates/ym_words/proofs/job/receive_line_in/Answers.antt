@@ -11,5 +11,6 @@ returns c =
       line,
       sym c.folder_in.ensures,
       sym c.store_flags_in.ensures,
+      sym c.record_in.ensures,
       sym c.tell_flags_in.ensures,
     ) refl

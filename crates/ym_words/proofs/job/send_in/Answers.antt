@@ -16,4 +16,4 @@ returns-in-Ok-clause-ok c =
     let files : all_of (codes "files") (rows_of matches) ≡ Some (map (λ f. f.now) c.in-Ok.files.items)
     = sym (raw_values-rows matches (codes "files"))
     ∙ (sym (rw c.in-Some.is at c.get_strs.ensures) ∙ rw c.in-Ok.ensures.items refl) in
-    rw (sym c.flag_in.ensures, files, sym c.tell_flags_in.ensures) refl
+    rw (sym c.flag_in.ensures, files, sym c.record_in.ensures, sym c.tell_flags_in.ensures) refl
