@@ -5,6 +5,8 @@ ghost use Rattle.std.specs.Prelude.{◌≡◌, ◌≤◌, IfOk, option_map};
 ghost use Rattle.ym_jobs.specs.Page.{page};
 ghost use Rattle.ym_command.specs.Explaining.{desk, AnswersCapture, AnswersClosed, ExplainGives, FileGives, PairGives, Refuses, Told, untold_words};
 
+use crate::chart_file::{ChartFault, write_chart};
+use crate::charted::Charted;
 use crate::untold::Untold;
 use std::alloc::Global;
 use std::fs::{File, Files};
@@ -212,4 +214,48 @@ pub(crate) fn explain<R: Files<File = File>, I: Input, O: Output, E: Output>(
         }
         (None, Some(there), Some(back)) => explain_files(rt, alloc, there, back, out, err),
     }
+}
+
+/// The answer where a telling had this one, and the chart that it is drawn in was written so.
+fn answer_chart<E: Output>(
+    err: &mut E,
+    path: &str,
+    status: u8,
+    written: Result<(), ChartFault>,
+) -> Result<u8, CommandFault>
+{
+    match written {
+        Ok(()) => Ok(status),
+        Err(ChartFault::There) => refuse(err, Untold::ChartThere(path), UNTOLD),
+        Err(ChartFault::System(error)) => {
+            refuse(err, Untold::ChartUnwritten(path, Reason::of(&error)), UNTOLD)
+        }
+    }
+}
+
+/// Tells what passed on a line, as `explain` does, and draws it in a new file at this path, if one
+/// is given. Where the words are refused there is nothing to be drawn.
+pub(crate) fn explain_and_draw<R: Files<File = File>, I: Input, O: Output, E: Output>(
+    rt: &R,
+    alloc: Global,
+    there: Option<&str>,
+    back: Option<&str>,
+    both: Option<&str>,
+    turned: bool,
+    chart: Option<&str>,
+    input: &mut I,
+    out: &mut O,
+    err: &mut E,
+) -> Result<u8, CommandFault>
+{
+    let Some(path) = chart else {
+        return explain(rt, alloc, there, back, both, turned, input, out, err);
+    };
+    let mut charted = Charted::new(alloc, out);
+    let status = explain(rt, alloc, there, back, both, turned, input, &mut charted, err)?;
+    if status == REFUSED {
+        return Ok(status);
+    }
+    let picture = charted.picture()?;
+    answer_chart(err, path, status, write_chart(rt, path, picture.as_str()))
 }

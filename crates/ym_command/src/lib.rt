@@ -1,6 +1,8 @@
 //! The command: what the words of the command line ask for, done.
 #![tactic(auto)]
 
+mod chart_file;
+mod charted;
 mod explaining;
 mod program;
 mod untold;

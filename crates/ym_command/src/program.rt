@@ -7,7 +7,7 @@ ghost use Rattle.ym_words.specs.Job.{Asked, Play, asked_of};
 ghost use Rattle.ym_jobs.specs.Page.{TellsFault};
 ghost use Rattle.ym_command.specs.Program.{AsksFor, IsPlayed, JobGives, shape_of, confirm_of, durability_of, leftover_of, OnlyTells, Does, IsNoJob};
 
-use crate::explaining::explain;
+use crate::explaining::explain_and_draw;
 use clap::error::ErrorKind;
 use std::alloc::Global;
 use std::fmt::Display;
@@ -245,7 +245,10 @@ where
             back,
             both,
             turned,
-        } => explain(rt, alloc, there, back, both, turned, input, out, err),
+            chart,
+        } => explain_and_draw(
+            rt, alloc, there, back, both, turned, chart, input, out, err,
+        ),
     }
 }
 

@@ -1,0 +1,153 @@
+//! The picture of rows.
+
+ghost use Rattle.std.specs.Prelude.{◌≡◌, ◌<◌, ◌≤◌, ◌++◌, ℕ, Some, IfOk, OnOk, length, string_bytes};
+ghost use Rattle.ym_chart.specs.Drawing.{drawn_words, ends_words, opening_words, rows_words, row_top, end_top, end_words};
+
+use crate::row::{LeftOut, Placed, Row};
+use crate::text::Text;
+use std::alloc::{AllocError, Global};
+use std::fmt;
+
+/// How far down the first row is.
+const TOP: u64 = 76;
+
+/// How high a row is.
+const STEP: u64 = 28;
+
+/// How high a sentence at the end is.
+const END_STEP: u64 = 24;
+
+/// How everything looks, by day and by night.
+const STYLE: &str = "<style>
+.paper{fill:#ffffff}
+text{fill:#1f2328;font-size:13px}
+.name,.who,.head{text-anchor:middle}
+.when{text-anchor:end}
+.who,.end{font-size:14px;font-weight:bold}
+.head{font-size:16px;font-weight:bold}
+.when,.said,.run .name{fill:#59636e}
+.when,.said{font-size:12px}
+.way{stroke:#1f2328;stroke-width:1.8}
+.tip{fill:#1f2328}
+.life{stroke:#8b949e;stroke-width:1.4}
+.run rect{fill:#f6f8fa;stroke:#8b949e}
+.odd .way{stroke:#cf222e;stroke-dasharray:6 4}
+.odd .tip,.odd .name,.odd .said{fill:#cf222e}
+@media (prefers-color-scheme:dark){
+.paper{fill:#0d1117}
+text{fill:#e6edf3}
+.when,.said,.run .name{fill:#9198a1}
+.way{stroke:#e6edf3}
+.tip{fill:#e6edf3}
+.run rect{fill:#151b23}
+.odd .way{stroke:#ff7b72}
+.odd .tip,.odd .name,.odd .said{fill:#ff7b72}
+}
+</style>
+";
+
+/// What stands before the rows.
+#[derive(Clone, Copy)]
+struct Opening {
+    /// How high the picture is.
+    height: u64,
+    /// How far down the lines of both ends go.
+    foot: u64,
+}
+
+impl fmt::Display for Opening {
+    ghost output = { λ opening. Some (opening_words opening.height opening.foot) };
+
+    fn fmt<W: fmt::Write>(&self, f: &mut fmt::Formatter<W>) -> fmt::Result {
+        let Opening { height, foot } = *self;
+        let style = STYLE;
+        write!(
+            f,
+            "<svg xmlns=\"http://www.w3.org/2000/svg\" viewBox=\"0 0 960 {height}\" \
+             width=\"960\" height=\"{height}\" font-family=\"Helvetica, Arial, sans-serif\">\n\
+             <title>What passed on a line</title>\n{style}\
+             <rect class=\"paper\" width=\"960\" height=\"{height}\" rx=\"8\"/>\n\
+             <text class=\"head\" x=\"480\" y=\"30\">What passed on a line</text>\n\
+             <text class=\"who\" x=\"104\" y=\"62\">sender</text>\n\
+             <text class=\"who\" x=\"404\" y=\"62\">receiver</text>\n\
+             <path class=\"life\" d=\"M 104 70 V {foot}\"/>\n\
+             <path class=\"life\" d=\"M 404 70 V {foot}\"/>\n"
+        )
+    }
+}
+
+/// A sentence of the end, and how far down it stands.
+#[derive(Clone, Copy)]
+struct End<'a> {
+    at: u64,
+    text: &'a Text,
+}
+
+impl fmt::Display for End<'_> {
+    ghost output = { λ end. Some (end_words end.at end.text.now) };
+
+    fn fmt<W: fmt::Write>(&self, f: &mut fmt::Formatter<W>) -> fmt::Result {
+        let End { at, text } = *self;
+        write!(f, "<text class=\"end\" x=\"24\" y=\"{at}\">{text}</text>\n")
+    }
+}
+
+/// How far down the row of this number is.
+fn row_top(number: usize) -> u64
+    requires { number < 2 ^ 32 }
+    ensures { result ≡ row_top number }
+{
+    TOP + STEP * number as u64
+}
+
+/// Puts these rows behind a text.
+fn push_rows(alloc: Global, text: &mut String, rows: &[Row]) -> Result<(), AllocError>
+    requires { length rows.now < 2 ^ 32 }
+    ensures { OnOk result (string_bytes text.new ≡ string_bytes text.old ++ rows_words 0 rows.now) }
+{
+    for (number, row) in rows.iter().enumerate() {
+        let at = row_top(number);
+        let placed = Placed { at, row };
+        text.push_str(format!(in alloc; "{placed}")?.as_str())?;
+    }
+    Ok(())
+}
+
+/// Puts these sentences behind a text.
+fn push_ends(
+    alloc: Global,
+    text: &mut String,
+    foot: u64,
+    ends: &[Text],
+) -> Result<(), AllocError> {
+    let mut at = foot;
+    for end in ends {
+        at += END_STEP;
+        let end = End { at, text: end };
+        text.push_str(format!(in alloc; "{end}")?.as_str())?;
+    }
+    Ok(())
+}
+
+/// The picture of these rows, of so many that are left out, and of what is told at the end.
+pub(crate) fn drawn_of(
+    alloc: Global,
+    rows: &[Row],
+    left_out: u64,
+    ends: &[Text],
+) -> Result<String, AllocError> {
+    let at = row_top(rows.len());
+    let foot = at + STEP;
+    let height = foot + END_STEP * ends.len() as u64 + 24;
+    let opening = Opening { height, foot };
+    let mut text = format!(in alloc; "{opening}")?;
+    push_rows(alloc, &mut text, rows)?;
+    let left_out = LeftOut {
+        at,
+        count: left_out,
+    };
+    text.push_str(format!(in alloc; "{left_out}")?.as_str())?;
+    push_ends(alloc, &mut text, foot, ends)?;
+    text.push_str("</svg>\n")?;
+    Ok(text)
+}
