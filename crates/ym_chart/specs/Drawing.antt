@@ -99,10 +99,14 @@ end_words at text =
     codes "<text class=\"end\" x=\"24\" y=\"" ++ (decimal at ++ (codes "\">" ++ (text
     ++ (codes "</text>" ++ 10 ∷ []))))
 
--- sentences, one below the other
-abbrev pub ends_words : ℕ → List (List ℕ) → List ℕ
-ends_words at [] = []
-ends_words at (text ∷ more) = end_words (at + END_STEP) text ++ ends_words (at + END_STEP) more
+-- sentences stand one below the other, below the lines of both ends
+abbrev pub end_top : ℕ → ℕ → ℕ
+end_top foot number = foot + END_STEP * (number + 1)
+
+abbrev pub ends_words : ℕ → ℕ → List (List ℕ) → List ℕ
+ends_words foot number [] = []
+ends_words foot number (text ∷ more) =
+    end_words (end_top foot number) text ++ ends_words foot (number + 1) more
 
 abbrev pub life_words : ℕ → ℕ → List ℕ
 life_words at foot =
@@ -123,15 +127,15 @@ opening_words height foot =
     ++ (codes "<text class=\"who\" x=\"404\" y=\"62\">receiver</text>" ++ (10 ∷ []
     ++ (life_words 104 foot ++ life_words 404 foot)))))))))))))))))))
 
--- how far down the lines of both ends go
-abbrev pub foot_of : Kept → ℕ
-foot_of k = row_top (length k.rows) + STEP
+-- how far down the lines of both ends go, which leaves room for the count of what is left out
+abbrev pub foot_of : List Row → ℕ
+foot_of rows = row_top (length rows) + STEP
 
-abbrev pub height_of : Kept → ℕ
-height_of k = foot_of k + END_STEP * length k.ends + END_STEP
-
-abbrev pub picture_of : Kept → List ℕ
-picture_of k =
-    opening_words (height_of k) (foot_of k) ++ (rows_words 0 k.rows
-    ++ (left_out_words (row_top (length k.rows)) k.left_out ++ (ends_words (foot_of k) k.ends
+abbrev pub picture_words : List Row → ℕ → List (List ℕ) → List ℕ
+picture_words rows left_out ends =
+    opening_words (end_top (foot_of rows) (length ends)) (foot_of rows) ++ (rows_words 0 rows
+    ++ (left_out_words (row_top (length rows)) left_out ++ (ends_words (foot_of rows) 0 ends
     ++ (codes "</svg>" ++ 10 ∷ []))))
+
+abbrev pub chart_words : Kept → List ℕ
+chart_words k = picture_words k.rows k.left_out k.ends

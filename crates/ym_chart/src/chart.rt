@@ -2,11 +2,11 @@
 
 ghost use Rattle.std.specs.Prelude.{◌≡◌, ◌<◌, ◌++◌, [], ◌∷◌, Some, None, IfOk, OnOk, length};
 ghost use Rattle.ym_chart.specs.Rows as spec;
-ghost use Rattle.ym_chart.specs.Drawing.{picture_of};
+ghost use Rattle.ym_chart.specs.Drawing.{chart_words};
 
 use crate::arrow::{Arrow, Kind};
 use crate::parts::behind;
-use crate::picture::drawn_of;
+use crate::picture::picture_of;
 use crate::row::{Row, Run};
 use crate::text::Text;
 use std::alloc::{AllocError, Global};
@@ -40,7 +40,9 @@ pub struct Chart {
 }
 
 impl Model for Chart {
+    ghost use Rattle.std.specs.Prelude.{◌≤◌, ◌×◌, vec_len};
     ghost use Rattle.ym_chart.specs.Rows.{Kept};
+    ghost use Rattle.ym_chart.specs.declared.chart.TheConstants.{MOST_ENDS, MOST_ROWS};
 
     ghost Value = { Kept };
 
@@ -53,6 +55,8 @@ impl Model for Chart {
       block = c.block;
       ends = c.ends.items;
     } };
+
+    ghost invariant = { λ c. (vec_len c.rows ≤ MOST_ROWS) × (vec_len c.ends ≤ MOST_ENDS) };
 }
 
 impl Chart {
@@ -247,10 +251,10 @@ impl Chart {
     ///
     /// At want of memory.
     pub fn picture(mut self) -> Result<String, AllocError>
-        ensures { IfOk result (λ text. string_bytes text ≡ picture_of (spec.flushed self)) }
+        ensures { IfOk result (λ text. string_bytes text ≡ chart_words (spec.flushed self)) }
     {
         self.flush()?;
-        drawn_of(
+        picture_of(
             self.alloc,
             self.rows.as_slice(),
             self.left_out,

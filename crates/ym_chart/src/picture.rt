@@ -1,8 +1,9 @@
 //! The picture of rows.
 
-ghost use Rattle.std.specs.Prelude.{◌≡◌, ◌<◌, ◌≤◌, ◌++◌, ℕ, Some, IfOk, OnOk, length, string_bytes};
-ghost use Rattle.ym_chart.specs.Drawing.{drawn_words, ends_words, opening_words, rows_words, row_top, end_top, end_words};
+ghost use Rattle.std.specs.Prelude.{◌≡◌, ◌^◌, ◌≤◌, ◌++◌, Some, IfOk, OnOk, length, string_bytes};
+ghost use Rattle.ym_chart.specs.Drawing.{end_top, end_words, ends_words, opening_words, picture_words, row_top, rows_words};
 
+use crate::chart::{MOST_ENDS, MOST_ROWS};
 use crate::row::{LeftOut, Placed, Row};
 use crate::text::Text;
 use std::alloc::{AllocError, Global};
@@ -94,16 +95,26 @@ impl fmt::Display for End<'_> {
 
 /// How far down the row of this number is.
 fn row_top(number: usize) -> u64
-    requires { number < 2 ^ 32 }
+    requires { number ≤ MOST_ROWS }
     ensures { result ≡ row_top number }
 {
     TOP + STEP * number as u64
 }
 
+/// How far down the sentence of this number is, below the lines of both ends.
+fn end_top(foot: u64, number: usize) -> u64
+    requires foot { foot ≤ 2 ^ 32 }
+    requires number { number ≤ MOST_ENDS }
+    ensures { result ≡ end_top foot number }
+{
+    foot + END_STEP * (number as u64 + 1)
+}
+
 /// Puts these rows behind a text.
 fn push_rows(alloc: Global, text: &mut String, rows: &[Row]) -> Result<(), AllocError>
-    requires { length rows.now < 2 ^ 32 }
-    ensures { OnOk result (string_bytes text.new ≡ string_bytes text.old ++ rows_words 0 rows.now) }
+    requires { length rows.now ≤ MOST_ROWS }
+    ensures { OnOk result
+        (string_bytes text.new ≡ string_bytes text.old ++ rows_words 0 rows.now) }
 {
     for (number, row) in rows.iter().enumerate() {
         let at = row_top(number);
@@ -113,39 +124,48 @@ fn push_rows(alloc: Global, text: &mut String, rows: &[Row]) -> Result<(), Alloc
     Ok(())
 }
 
-/// Puts these sentences behind a text.
+/// Puts these sentences behind a text, below the lines of both ends.
 fn push_ends(
     alloc: Global,
     text: &mut String,
     foot: u64,
     ends: &[Text],
-) -> Result<(), AllocError> {
-    let mut at = foot;
-    for end in ends {
-        at += END_STEP;
-        let end = End { at, text: end };
+) -> Result<(), AllocError>
+    requires foot { foot ≤ 2 ^ 32 }
+    requires few { length ends.now ≤ MOST_ENDS }
+    ensures { OnOk result
+        (string_bytes text.new ≡ string_bytes text.old ++ ends_words foot 0 ends.now) }
+{
+    for (number, sentence) in ends.iter().enumerate() {
+        let at = end_top(foot, number);
+        let end = End { at, text: sentence };
         text.push_str(format!(in alloc; "{end}")?.as_str())?;
     }
     Ok(())
 }
 
 /// The picture of these rows, of so many that are left out, and of what is told at the end.
-pub(crate) fn drawn_of(
+pub(crate) fn picture_of(
     alloc: Global,
     rows: &[Row],
     left_out: u64,
     ends: &[Text],
-) -> Result<String, AllocError> {
+) -> Result<String, AllocError>
+    requires rows { length rows.now ≤ MOST_ROWS }
+    requires ends { length ends.now ≤ MOST_ENDS }
+    ensures { IfOk result (λ text.
+        string_bytes text ≡ picture_words rows.now left_out ends.now) }
+{
     let at = row_top(rows.len());
     let foot = at + STEP;
-    let height = foot + END_STEP * ends.len() as u64 + 24;
+    let height = end_top(foot, ends.len());
     let opening = Opening { height, foot };
-    let mut text = format!(in alloc; "{opening}")?;
-    push_rows(alloc, &mut text, rows)?;
     let left_out = LeftOut {
         at,
         count: left_out,
     };
+    let mut text = format!(in alloc; "{opening}")?;
+    push_rows(alloc, &mut text, rows)?;
     text.push_str(format!(in alloc; "{left_out}")?.as_str())?;
     push_ends(alloc, &mut text, foot, ends)?;
     text.push_str("</svg>\n")?;
