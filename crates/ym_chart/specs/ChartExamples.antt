@@ -41,21 +41,21 @@ block_and_answer number =
     codes "> block " ++ (number ++ (codes ", 133 bytes: the next" ++ (10 ∷ []
     ++ (codes "< ACK: took it" ++ 10 ∷ []))))
 
--- so many rows, and of how many blocks the first is a run
-abbrev pub run_count : Row → ℕ
-run_count (row.Arrow a) = 0
-run_count (row.Run r) = r.count
-run_count (row.Note text) = 0
+-- so many rows, and of how many blocks the first is a streak
+abbrev pub streak_count : Row → ℕ
+streak_count (row.Arrow a) = 0
+streak_count (row.Streak r) = r.count
+streak_count (row.Note text) = 0
 
 abbrev pub rows_of : List ℕ → List Row
 rows_of text = (flushed (after_bytes nothing_kept text)).rows
 
-three_blocks : map run_count (rows_of (block_and_answer (codes "1") ++ (block_and_answer (codes "2")
+three_blocks : map streak_count (rows_of (block_and_answer (codes "1") ++ (block_and_answer (codes "2")
     ++ block_and_answer (codes "3")))) ≡ 0 ∷ 0 ∷ 0 ∷ 0 ∷ 0 ∷ 0 ∷ []
 three_blocks = refl
 
 -- with a fourth they are one row, and what comes behind them stands behind that
-a_run : map run_count (rows_of (block_and_answer (codes "1") ++ (block_and_answer (codes "2")
+a_streak : map streak_count (rows_of (block_and_answer (codes "1") ++ (block_and_answer (codes "2")
     ++ (block_and_answer (codes "3") ++ (block_and_answer (codes "4")
     ++ (codes "> EOT: ends the file" ++ 10 ∷ [])))))) ≡ 4 ∷ 0 ∷ []
-a_run = refl
+a_streak = refl

@@ -10,7 +10,7 @@ use Rattle.ym_chart.specs.declared.arrow.Kind.TheVariants.{Next, Takes, Plain, O
 use Rattle.ym_chart.specs.declared.picture.TheConstants.{END_STEP, STEP, STYLE, TOP}
 use Rattle.ym_chart.specs.declared.row.Row.{Row}
 use Rattle.ym_chart.specs.declared.row.Row.TheVariants as row
-use Rattle.ym_chart.specs.declared.row.Run.{Run}
+use Rattle.ym_chart.specs.declared.row.Streak.{Streak}
 
 -- ---- An arrow
 
@@ -67,15 +67,15 @@ middle_words name = codes "<text class=\"name\" x=\"254\" y=\"22\">" ++ (name ++
 abbrev pub box : List ℕ
 box = codes "<rect x=\"118\" y=\"7\" width=\"272\" height=\"22\" rx=\"6\"/>"
 
-abbrev pub run_words : ℕ → Run → List ℕ
-run_words at r =
+abbrev pub streak_words : ℕ → Streak → List ℕ
+streak_words at r =
     group (codes "run") at (when_words r.first.moment ++ (box
     ++ (middle_words (codes "blocks " ++ (r.first.name ++ (codes " to " ++ (r.last.name
     ++ codes ", each acknowledged")))) ++ said_words (decimal r.count ++ codes " blocks"))))
 
 abbrev pub row_words : ℕ → Row → List ℕ
 row_words at (row.Arrow a) = arrow_words at a
-row_words at (row.Run r) = run_words at r
+row_words at (row.Streak r) = streak_words at r
 row_words at (row.Note text) = group (codes "note") at (said_words text)
 
 abbrev pub row_top : ℕ → ℕ
@@ -114,8 +114,8 @@ life_words at foot =
     ++ (codes "\"/>" ++ 10 ∷ []))))
 
 -- what stands before the rows
-abbrev pub opening_words : ℕ → ℕ → List ℕ
-opening_words height foot =
+abbrev pub head_words : ℕ → ℕ → List ℕ
+head_words height foot =
     codes "<svg xmlns=\"http://www.w3.org/2000/svg\" viewBox=\"0 0 960 " ++ (decimal height
     ++ (codes "\" width=\"960\" height=\"" ++ (decimal height
     ++ (codes "\" font-family=\"Helvetica, Arial, sans-serif\">" ++ (10 ∷ []
@@ -133,7 +133,7 @@ foot_of rows = row_top (length rows) + STEP
 
 abbrev pub picture_words : List Row → ℕ → List (List ℕ) → List ℕ
 picture_words rows left_out ends =
-    opening_words (end_top (foot_of rows) (length ends)) (foot_of rows) ++ (rows_words 0 rows
+    head_words (end_top (foot_of rows) (length ends)) (foot_of rows) ++ (rows_words 0 rows
     ++ (left_out_words (row_top (length rows)) left_out ++ (ends_words (foot_of rows) 0 ends
     ++ (codes "</svg>" ++ 10 ∷ []))))
 

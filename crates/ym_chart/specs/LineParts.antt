@@ -9,7 +9,7 @@ use Rattle.ym_chart.specs.declared.arrow.Kind.TheVariants.{Next, Takes, Plain, O
 
 -- a digit or the point
 abbrev pub is_of_moment : ℕ → Bool
-is_of_moment byte = nat_le 0x30 byte && nat_le byte 0x39 || byte == 0x2e
+is_of_moment byte = (nat_le 0x30 byte && nat_le byte 0x39) || byte == 0x2e
 
 abbrev pub moment_len : List ℕ → ℕ
 moment_len line = length (take_while is_of_moment line)

@@ -1,6 +1,6 @@
 -- The rows of a session: an arrow for each frame and answer, in the order in which they are told.
--- Blocks that come in their turn and are acknowledged one after another are a run, from the fourth
--- on, and a run is one row.
+-- Blocks that come in their turn and are acknowledged one after another are a streak, from the fourth
+-- on, and a streak is one row.
 use Rattle.std.specs.Prelude.{ℕ, ◌+◌, ◌^◌, ◌-◌, min, nat_lt, ◌==◌, if◌then◌else◌, List, [], ◌∷◌, ◌++◌, length, Option, Some, None}
 use Rattle.ym_chart.specs.Arrows.{arrow_of}
 use Rattle.ym_chart.specs.ChartText.{text_of}
@@ -10,17 +10,17 @@ use Rattle.ym_chart.specs.declared.arrow.Kind.TheVariants as kind
 use Rattle.ym_chart.specs.declared.chart.TheConstants.{FEW, MOST_ENDS, MOST_LINE, MOST_ROWS}
 use Rattle.ym_chart.specs.declared.row.Row.{Row}
 use Rattle.ym_chart.specs.declared.row.Row.TheVariants as row
-use Rattle.ym_chart.specs.declared.row.Run.{Run}
+use Rattle.ym_chart.specs.declared.row.Streak.{Streak}
 
 -- What is kept of a session: the line under way, the rows, and how many found no room. Behind them
--- wait a few blocks with their answers, or a run, and a block with no answer yet. Then what is told
+-- wait a few blocks with their answers, or a streak, and a block with no answer yet. Then what is told
 -- at the end.
 pub record Kept : Type 0 where
   pub line : List ℕ
   pub rows : List Row
   pub left_out : ℕ
   pub few : List Arrow
-  pub run : Option Run
+  pub streak : Option Streak
   pub block : Option Arrow
   pub ends : List (List ℕ)
 
@@ -30,7 +30,7 @@ nothing_kept = record {
   rows = [];
   left_out = 0;
   few = [];
-  run = None;
+  streak = None;
   block = None;
   ends = [];
 }
@@ -52,21 +52,21 @@ arrows_settled k (a ∷ more) = arrows_settled (settled k (row.Arrow a)) more
 abbrev pub few_settled : Kept → Kept
 few_settled k = arrows_settled (record k { few = [] }) k.few
 
-abbrev pub run_settled : Kept → Option Run → Kept
-run_settled k None = k
-run_settled k (Some r) = settled k (row.Run r)
+abbrev pub streak_settled : Kept → Option Streak → Kept
+streak_settled k None = k
+streak_settled k (Some r) = settled k (row.Streak r)
 
 abbrev pub block_settled : Kept → Option Arrow → Kept
 block_settled k None = k
 block_settled k (Some a) = settled k (row.Arrow a)
 
--- and a run does
-abbrev pub runs_settled : Kept → Kept
-runs_settled k = run_settled (record (few_settled k) { run = None }) k.run
+-- and a streak does
+abbrev pub streaks_settled : Kept → Kept
+streaks_settled k = streak_settled (record (few_settled k) { streak = None }) k.streak
 
 -- all that waits becomes rows
 abbrev pub flushed : Kept → Kept
-flushed k = block_settled (record (runs_settled k) { block = None }) k.block
+flushed k = block_settled (record (streaks_settled k) { block = None }) k.block
 
 -- a block in its turn waits for its answer
 abbrev pub with_block : Kept → Option Arrow → Arrow → Kept
@@ -76,26 +76,26 @@ with_block k (Some waits) a = record (flushed k) { block = Some a }
 abbrev pub after_block : Kept → Arrow → Kept
 after_block k a = with_block k k.block a
 
--- the fourth of a few begins a run
-abbrev pub run_begun : Kept → List Arrow → Arrow → Kept
-run_begun k [] last = k
-run_begun k (first ∷ more) last =
-    record k { few = []; run = Some (record { first = first; last = last; count = 4 }) }
+-- the fourth of a few begins a streak
+abbrev pub streak_begun : Kept → List Arrow → Arrow → Kept
+streak_begun k [] last = k
+streak_begun k (first ∷ more) last =
+    record k { few = []; streak = Some (record { first = first; last = last; count = 4 }) }
 
 abbrev pub after_few : Kept → Arrow → Arrow → Kept
 after_few k block answer =
     if nat_lt (length k.few) FEW then record k { few = k.few ++ block ∷ answer ∷ [] }
-    else run_begun k k.few block
+    else streak_begun k k.few block
 
-abbrev pub in_run : Kept → Option Run → Arrow → Arrow → Kept
-in_run k None block answer = after_few k block answer
-in_run k (Some r) block answer = record k {
-  run = Some (record { first = r.first; last = block; count = capped (r.count + 1) });
+abbrev pub in_streak : Kept → Option Streak → Arrow → Arrow → Kept
+in_streak k None block answer = after_few k block answer
+in_streak k (Some r) block answer = record k {
+  streak = Some (record { first = r.first; last = block; count = capped (r.count + 1) });
 }
 
 -- a block came and was acknowledged
 abbrev pub after_pair : Kept → Arrow → Arrow → Kept
-after_pair k block answer = in_run k k.run block answer
+after_pair k block answer = in_streak k k.streak block answer
 
 abbrev pub answered : Kept → Option Arrow → Arrow → Kept
 answered k None answer = settled (flushed k) (row.Arrow answer)

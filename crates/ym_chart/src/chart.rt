@@ -7,13 +7,13 @@ ghost use Rattle.ym_chart.specs.Drawing.{chart_words};
 use crate::arrow::{Arrow, Kind};
 use crate::parts::behind;
 use crate::picture::picture_of;
-use crate::row::{Row, Run};
+use crate::row::{Row, Streak};
 use crate::text::Text;
 use std::alloc::{AllocError, Global};
 use std::marker::Model;
 
 /// So many rows are drawn at most: some ten pages on paper, and less than half a megabyte. What
-/// goes wrong on a line goes wrong in the first of them, as runs of blocks are one row each.
+/// goes wrong on a line goes wrong in the first of them, as streaks of blocks are one row each.
 pub const MOST_ROWS: usize = 500;
 
 /// So many bytes of a line are read at most. No line that is told has more.
@@ -23,7 +23,7 @@ pub const MOST_LINE: usize = 512;
 pub const MOST_ENDS: usize = 4;
 
 /// So many arrows of blocks in their turn and of their answers are drawn one by one: three blocks.
-/// With a fourth they are a run, which is one row.
+/// With a fourth they are a streak, which is one row.
 const FEW: usize = 6;
 
 /// The chart of a session, of the lines that tell it. It takes the same memory however many come.
@@ -34,7 +34,7 @@ pub struct Chart {
     rows: Vec<Row>,
     left_out: u64,
     few: Vec<Arrow>,
-    run: Option<Run>,
+    streak: Option<Streak>,
     block: Option<Arrow>,
     ends: Vec<Text>,
 }
@@ -51,7 +51,7 @@ impl Model for Chart {
       rows = c.rows.items;
       left_out = c.left_out;
       few = c.few.items;
-      run = c.run;
+      streak = c.streak;
       block = c.block;
       ends = c.ends.items;
     } };
@@ -70,7 +70,7 @@ impl Chart {
             rows: Vec::new(alloc),
             left_out: 0,
             few: Vec::new(alloc),
-            run: None,
+            streak: None,
             block: None,
             ends: Vec::new(alloc),
         }
@@ -177,12 +177,12 @@ impl Chart {
     fn add_pair(&mut self, block: Arrow, answer: Arrow) -> Result<(), AllocError>
         ensures { OnOk result (self.new ≡ spec.after_pair self.old block answer) }
     {
-        match self.run.take() {
-            Some(run) => {
-                self.run = Some(Run {
-                    first: run.first,
+        match self.streak.take() {
+            Some(streak) => {
+                self.streak = Some(Streak {
+                    first: streak.first,
                     last: block,
-                    count: run.count.saturating_add(1),
+                    count: streak.count.saturating_add(1),
                 });
                 Ok(())
             }
@@ -190,7 +190,7 @@ impl Chart {
         }
     }
 
-    /// The same where no run is under way.
+    /// The same where no streak is under way.
     fn add_few(&mut self, block: Arrow, answer: Arrow) -> Result<(), AllocError>
         ensures { OnOk result (self.new ≡ spec.after_few self.old block answer) }
     {
@@ -199,7 +199,7 @@ impl Chart {
             self.few.push(answer)?;
             return Ok(());
         }
-        self.run = Some(Run {
+        self.streak = Some(Streak {
             first: self.few.remove(0),
             last: block,
             count: 4,
@@ -213,8 +213,8 @@ impl Chart {
         ensures { OnOk result (self.new ≡ spec.flushed self.old) }
     {
         self.settle_few()?;
-        if let Some(run) = self.run.take() {
-            self.settle(Row::Run(run))?;
+        if let Some(streak) = self.streak.take() {
+            self.settle(Row::Streak(streak))?;
         }
         if let Some(block) = self.block.take() {
             self.settle(Row::Arrow(block))?;

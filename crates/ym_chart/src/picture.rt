@@ -1,7 +1,7 @@
 //! The picture of rows.
 
 ghost use Rattle.std.specs.Prelude.{◌≡◌, ◌^◌, ◌≤◌, ◌++◌, Some, IfOk, OnOk, length, string_bytes};
-ghost use Rattle.ym_chart.specs.Drawing.{end_top, end_words, ends_words, opening_words, picture_words, row_top, rows_words};
+ghost use Rattle.ym_chart.specs.Drawing.{end_top, end_words, ends_words, head_words, picture_words, row_top, rows_words};
 
 use crate::chart::{MOST_ENDS, MOST_ROWS};
 use crate::row::{LeftOut, Placed, Row};
@@ -49,18 +49,18 @@ text{fill:#e6edf3}
 
 /// What stands before the rows.
 #[derive(Clone, Copy)]
-struct Opening {
+struct Head {
     /// How high the picture is.
     height: u64,
     /// How far down the lines of both ends go.
     foot: u64,
 }
 
-impl fmt::Display for Opening {
-    ghost output = { λ opening. Some (opening_words opening.height opening.foot) };
+impl fmt::Display for Head {
+    ghost output = { λ head. Some (head_words head.height head.foot) };
 
     fn fmt<W: fmt::Write>(&self, f: &mut fmt::Formatter<W>) -> fmt::Result {
-        let Opening { height, foot } = *self;
+        let Head { height, foot } = *self;
         let style = STYLE;
         write!(
             f,
@@ -79,16 +79,16 @@ impl fmt::Display for Opening {
 
 /// A sentence of the end, and how far down it stands.
 #[derive(Clone, Copy)]
-struct End<'a> {
+struct Sentence<'a> {
     at: u64,
     text: &'a Text,
 }
 
-impl fmt::Display for End<'_> {
+impl fmt::Display for Sentence<'_> {
     ghost output = { λ end. Some (end_words end.at end.text.now) };
 
     fn fmt<W: fmt::Write>(&self, f: &mut fmt::Formatter<W>) -> fmt::Result {
-        let End { at, text } = *self;
+        let Sentence { at, text } = *self;
         write!(f, "<text class=\"end\" x=\"24\" y=\"{at}\">{text}</text>\n")
     }
 }
@@ -136,10 +136,10 @@ fn push_ends(
     ensures { OnOk result
         (string_bytes text.new ≡ string_bytes text.old ++ ends_words foot 0 ends.now) }
 {
-    for (number, sentence) in ends.iter().enumerate() {
+    for (number, told) in ends.iter().enumerate() {
         let at = end_top(foot, number);
-        let end = End { at, text: sentence };
-        text.push_str(format!(in alloc; "{end}")?.as_str())?;
+        let sentence = Sentence { at, text: told };
+        text.push_str(format!(in alloc; "{sentence}")?.as_str())?;
     }
     Ok(())
 }
@@ -159,12 +159,12 @@ pub(crate) fn picture_of(
     let at = row_top(rows.len());
     let foot = at + STEP;
     let height = end_top(foot, ends.len());
-    let opening = Opening { height, foot };
+    let head = Head { height, foot };
     let left_out = LeftOut {
         at,
         count: left_out,
     };
-    let mut text = format!(in alloc; "{opening}")?;
+    let mut text = format!(in alloc; "{head}")?;
     push_rows(alloc, &mut text, rows)?;
     text.push_str(format!(in alloc; "{left_out}")?.as_str())?;
     push_ends(alloc, &mut text, foot, ends)?;

@@ -1,7 +1,7 @@
 //! The rows of a chart.
 
 ghost use Rattle.std.specs.Prelude.{◌≡◌, Some};
-ghost use Rattle.ym_chart.specs.Drawing.{row_words, run_words, note_words, left_out_words};
+ghost use Rattle.ym_chart.specs.Drawing.{row_words, streak_words, note_words, left_out_words};
 
 use crate::arrow::{Arrow, Drawn};
 use crate::text::Text;
@@ -9,7 +9,7 @@ use std::fmt;
 
 /// Blocks in their turn that were acknowledged one after another.
 #[derive(Drop)]
-pub(crate) struct Run {
+pub(crate) struct Streak {
     /// The first block.
     pub(crate) first: Arrow,
     /// The last.
@@ -24,7 +24,7 @@ pub(crate) enum Row {
     /// An arrow.
     Arrow(Arrow),
     /// Many blocks.
-    Run(Run),
+    Streak(Streak),
     /// What is told of a file.
     Note(Text),
 }
@@ -46,11 +46,11 @@ impl fmt::Display for Placed<'_> {
                 let drawn = Drawn { at, arrow };
                 write!(f, "{drawn}")
             }
-            Row::Run(run) => {
-                let moment = &run.first.moment;
-                let first = &run.first.name;
-                let last = &run.last.name;
-                let count = run.count;
+            Row::Streak(streak) => {
+                let moment = &streak.first.moment;
+                let first = &streak.first.name;
+                let last = &streak.last.name;
+                let count = streak.count;
                 write!(
                     f,
                     "<g class=\"run\" transform=\"translate(0 {at})\">\

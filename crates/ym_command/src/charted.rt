@@ -1,4 +1,4 @@
-//! An output whose lines are drawn.
+//! An output whose text can be drawn.
 
 ghost use Rattle.std.specs.Prelude.{◌≡◌};
 
@@ -7,72 +7,108 @@ use std::fmt::Display;
 use ym_chart::Chart;
 use ym_play::{Output, StreamFault};
 
-/// An output, and the chart of what went to it. It holds what the output holds, and fails where
-/// that fails.
+/// An output whose text can be drawn as a chart. Drawing changes nothing of what it holds.
+pub trait Draw: Output {
+    /// Draws from now on what goes there.
+    fn begin_chart(&mut self)
+        ensures holds { contents self.new ≡ contents self.old }
+        ensures failed { failures self.new ≡ failures self.old };
+
+    /// The picture of what went there since that began; none at want of memory, now or before.
+    fn end_chart(&mut self) -> Option<String>
+        ensures holds { contents self.new ≡ contents self.old }
+        ensures failed { failures self.new ≡ failures self.old };
+}
+
+/// An output, and the chart that is drawn of what goes to it. It holds what the output holds, and
+/// fails where that fails.
 #[derive(Drop)]
-pub(crate) struct Charted<'o, O: Output> {
+pub struct Charted<O: Output + Drop> {
     alloc: Global,
-    out: &'o mut O,
-    chart: Chart,
+    out: O,
+    chart: Option<Chart>,
+    /// Memory ran out for the chart.
     short: bool,
 }
 
-impl<'o, O: Output> Charted<'o, O> {
-    /// This output, of which nothing is drawn.
-    pub(crate) fn new(alloc: Global, out: &'o mut O) -> Charted<'o, O> {
+impl<O: Output + Drop> Charted<O> {
+    /// This output, of which nothing is drawn yet.
+    pub fn new(alloc: Global, out: O) -> Charted<O>
+        ensures { result.out ≡ out }
+    {
         Charted {
             alloc,
             out,
-            chart: Chart::new(alloc),
+            chart: None,
             short: false,
         }
     }
 
-    /// Draws what went to the output.
-    fn draw(&mut self, bytes: &[u8]) {
-        if self.chart.take(bytes).is_err() {
-            self.short = true;
+    /// The output.
+    pub fn into_out(self) -> O
+        ensures { result ≡ self.out }
+    {
+        self.out
+    }
+
+    /// Draws what goes to the output, where a chart is drawn.
+    fn draw(&mut self, bytes: &[u8])
+        ensures { self.new.out ≡ self.old.out }
+    {
+        if let Some(chart) = &mut self.chart {
+            if chart.take(bytes).is_err() {
+                self.short = true;
+            }
         }
     }
 
-    /// The picture of what went to the output.
-    ///
-    /// # Errors
-    ///
-    /// At want of memory, now or before.
-    pub(crate) fn picture(self) -> Result<String, AllocError> {
-        let Charted { chart, short, .. } = self;
-        if short {
-            return Err(AllocError);
+    /// Draws a text that goes to the output.
+    fn draw_text(&mut self, text: Result<String, AllocError>)
+        ensures { self.new.out ≡ self.old.out }
+    {
+        match text {
+            Ok(text) => self.draw(text.as_bytes()),
+            Err(_) => self.short = true,
         }
-        chart.picture()
     }
 }
 
-impl<O: Output> Output for Charted<'_, O> {
-    ghost contents = { λ c. O.contents c.out.now };
+impl<O: Output + Drop> Output for Charted<O> {
+    ghost contents = { λ c. O.contents c.out };
 
-    ghost failures = { λ c. O.failures c.out.now };
+    ghost failures = { λ c. O.failures c.out };
 
     fn put(&mut self, bytes: &[u8]) -> Result<(), StreamFault> {
-        self.out.put(bytes)?;
         self.draw(bytes);
-        Ok(())
+        self.out.put(bytes)
     }
 
     fn put_text<D: Display + Drop>(&mut self, text: D) -> Result<(), StreamFault> {
-        match format!(in self.alloc; "{text}") {
-            Ok(drawn) => self.draw(drawn.as_bytes()),
-            Err(_) => self.short = true,
+        if self.chart.is_some() {
+            self.draw_text(format!(in self.alloc; "{text}"));
         }
         self.out.put_text(text)
     }
 
     fn put_line<D: Display + Drop>(&mut self, text: D) -> Result<(), StreamFault> {
-        match format!(in self.alloc; "{text}\n") {
-            Ok(drawn) => self.draw(drawn.as_bytes()),
-            Err(_) => self.short = true,
+        if self.chart.is_some() {
+            self.draw_text(format!(in self.alloc; "{text}\n"));
         }
         self.out.put_line(text)
+    }
+}
+
+impl<O: Output + Drop> Draw for Charted<O> {
+    fn begin_chart(&mut self) {
+        self.chart = Some(Chart::new(self.alloc));
+        self.short = false;
+    }
+
+    fn end_chart(&mut self) -> Option<String> {
+        let chart = self.chart.take()?;
+        if self.short {
+            return None;
+        }
+        chart.picture().ok()
     }
 }

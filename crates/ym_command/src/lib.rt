@@ -7,4 +7,5 @@ mod explaining;
 mod program;
 mod untold;
 
+pub use charted::{Charted, Draw};
 pub use program::command;

@@ -7,6 +7,7 @@ ghost use Rattle.ym_words.specs.Job.{Asked, Play, asked_of};
 ghost use Rattle.ym_jobs.specs.Page.{TellsFault};
 ghost use Rattle.ym_command.specs.Program.{AsksFor, IsPlayed, JobGives, shape_of, confirm_of, durability_of, leftover_of, OnlyTells, Does, IsNoJob};
 
+use crate::charted::Draw;
 use crate::explaining::explain_and_draw;
 use clap::error::ErrorKind;
 use std::alloc::Global;
@@ -190,7 +191,7 @@ where
         + Print,
     R::Reader: IsTerminal,
     I: Input,
-    O: Output,
+    O: Draw,
     E: Output,
     T: Write + Drop,
     ensures gives { JobGives (asked_of job.entry) (record { text = I.remaining input.old; reads_failed = I.failures input.old; out = record { holds = O.contents out.old; failed = O.failures out.old }; err = record { holds = E.contents err.old; failed = E.failures err.old } }) result (record { text = I.remaining input.new; reads_failed = I.failures input.new; out = record { holds = O.contents out.new; failed = O.failures out.new }; err = record { holds = E.contents err.new; failed = E.failures err.new } }) }
@@ -274,7 +275,7 @@ where
         + Print,
     R::Reader: IsTerminal,
     I: Input,
-    O: Output,
+    O: Draw,
     E: Output,
     T: Write + Drop,
     // The job that the words ask for, unless there was no memory to read the words.
