@@ -1,5 +1,5 @@
 -- How bytes stand in a text of XML.
-use Rattle.std.specs.Prelude.{ℕ, ◌+◌, ◌/◌, ◌%◌, ◌==◌, nat_le, nat_lt, not, ◌&&◌, ◌≡◌, true, Bool, if◌then◌else◌, List, [], ◌∷◌, ◌++◌, length, take, flat_map, codes}
+use Rattle.std.specs.Prelude.{ℕ, ◌+◌, ◌/◌, ◌%◌, ◌==◌, nat_le, nat_lt, not, ◌&&◌, ◌≡◌, true, false, Bool, if◌then◌else◌, List, [], ◌∷◌, ◌++◌, length, take, flat_map, codes}
 use Rattle.ym_chart.specs.declared.text.TheConstants.{MOST_TEXT}
 
 abbrev pub is_printable : ℕ → Bool

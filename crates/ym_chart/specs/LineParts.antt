@@ -23,9 +23,13 @@ undated line = if moment_len line == 0 then line else drop (moment_len line + 1)
 
 -- `> ` is from the sender, and `< ` from the receiver
 abbrev pub way_of : List ℕ → Option Direction
-way_of (0x3e ∷ 0x20 ∷ words) = Some There
-way_of (0x3c ∷ 0x20 ∷ words) = Some Back
-way_of words = None
+way_of line =
+    if bytes_eq (take 2 line) (codes "> ") then Some There
+    else (if bytes_eq (take 2 line) (codes "< ") then Some Back else None)
+
+-- so is a line of a file
+abbrev pub is_indented : List ℕ → Bool
+is_indented line = bytes_eq (take 2 line) (codes "  ")
 
 -- a name ends at a comma or a colon, behind which a space stands
 abbrev pub name_len : List ℕ → ℕ

@@ -1,9 +1,10 @@
 -- The rows of a session: an arrow for each frame and answer, in the order in which they are told.
 -- Blocks that come in their turn and are acknowledged one after another are a streak, from the fourth
 -- on, and a streak is one row.
-use Rattle.std.specs.Prelude.{ℕ, ◌+◌, ◌^◌, ◌-◌, min, nat_lt, ◌==◌, if◌then◌else◌, List, [], ◌∷◌, ◌++◌, length, Option, Some, None}
+use Rattle.std.specs.Prelude.{ℕ, ◌+◌, ◌^◌, ◌-◌, min, nat_lt, ◌==◌, if◌then◌else◌, List, [], ◌∷◌, ◌++◌, length, drop, Option, Some, None}
 use Rattle.ym_chart.specs.Arrows.{arrow_of}
 use Rattle.ym_chart.specs.ChartText.{text_of}
+use Rattle.ym_chart.specs.LineParts.{is_indented}
 use Rattle.ym_chart.specs.declared.arrow.Arrow.{Arrow}
 use Rattle.ym_chart.specs.declared.arrow.Kind.{Kind}
 use Rattle.ym_chart.specs.declared.arrow.Kind.TheVariants as kind
@@ -117,13 +118,11 @@ abbrev pub with_end : Kept → List ℕ → Kept
 with_end k text =
     if nat_lt (length k.ends) MOST_ENDS then record k { ends = k.ends ++ text_of text ∷ [] } else k
 
--- a line of a file begins with two spaces, and any other is told at the end
-abbrev pub with_remark : Kept → List ℕ → Kept
-with_remark k (0x20 ∷ 0x20 ∷ file) = settled (flushed k) (row.Note (text_of file))
-with_remark k text = with_end k text
-
+-- a line of a file is indented, and any other is told at the end
 abbrev pub after_remark : Kept → Kept
-after_remark k = with_remark k k.line
+after_remark k =
+    if is_indented k.line then settled (flushed k) (row.Note (text_of (drop 2 k.line)))
+    else with_end k k.line
 
 abbrev pub told_line : Kept → Option Arrow → Kept
 told_line k None = after_remark k

@@ -1,11 +1,11 @@
 //! The rows of a session, as its lines come.
 
-ghost use Rattle.std.specs.Prelude.{◌≡◌, ◌<◌, ◌++◌, [], ◌∷◌, Some, None, IfOk, OnOk, length};
+ghost use Rattle.std.specs.Prelude.{◌≡◌, IfOk, OnOk, string_bytes};
 ghost use Rattle.ym_chart.specs.Rows as spec;
 ghost use Rattle.ym_chart.specs.Drawing.{chart_words};
 
 use crate::arrow::{Arrow, Kind};
-use crate::parts::behind;
+use crate::parts::{behind, is_indented};
 use crate::picture::picture_of;
 use crate::row::{Row, Streak};
 use crate::text::Text;
@@ -40,7 +40,7 @@ pub struct Chart {
 }
 
 impl Model for Chart {
-    ghost use Rattle.std.specs.Prelude.{◌≤◌, ◌×◌, vec_len};
+    ghost use Rattle.std.specs.Prelude.{◌≤◌, vec_len};
     ghost use Rattle.ym_chart.specs.Rows.{Kept};
     ghost use Rattle.ym_chart.specs.declared.chart.TheConstants.{MOST_ENDS, MOST_ROWS};
 
@@ -119,20 +119,17 @@ impl Chart {
     fn add_remark(&mut self) -> Result<(), AllocError>
         ensures { OnOk result (self.new ≡ spec.after_remark self.old) }
     {
-        match self.line.as_slice() {
-            [b' ', b' ', file @ ..] => {
-                let note = Text::of(self.alloc, file)?;
-                self.flush()?;
-                self.settle(Row::Note(note))
-            }
-            end => {
-                let end = Text::of(self.alloc, end)?;
-                if self.ends.len() < MOST_ENDS {
-                    self.ends.push(end)?;
-                }
-                Ok(())
-            }
+        let line = self.line.as_slice();
+        if is_indented(line) {
+            let note = Text::of(self.alloc, behind(line, 2))?;
+            self.flush()?;
+            return self.settle(Row::Note(note));
         }
+        if self.ends.len() < MOST_ENDS {
+            let end = Text::of(self.alloc, line)?;
+            self.ends.push(end)?;
+        }
+        Ok(())
     }
 
     /// Takes an arrow.

@@ -53,11 +53,21 @@ pub(crate) fn undated(line: &[u8]) -> &[u8]
 pub(crate) fn way_of(undated: &[u8]) -> Option<Direction>
     ensures { result ≡ spec.way_of undated.now }
 {
-    match undated {
-        [b'>', b' ', ..] => Some(Direction::There),
-        [b'<', b' ', ..] => Some(Direction::Back),
-        _ => None,
+    let mark = front_of(undated, 2);
+    if is(mark, "> ") {
+        return Some(Direction::There);
     }
+    if is(mark, "< ") {
+        return Some(Direction::Back);
+    }
+    None
+}
+
+/// Whether a line tells of a file: it is indented.
+pub(crate) fn is_indented(line: &[u8]) -> bool
+    ensures { result ≡ spec.is_indented line.now }
+{
+    is(front_of(line, 2), "  ")
 }
 
 /// How many bytes the name at the front has.

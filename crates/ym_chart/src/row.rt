@@ -1,7 +1,7 @@
 //! The rows of a chart.
 
-ghost use Rattle.std.specs.Prelude.{◌≡◌, Some};
-ghost use Rattle.ym_chart.specs.Drawing.{row_words, streak_words, note_words, left_out_words};
+ghost use Rattle.std.specs.Prelude.{Some};
+ghost use Rattle.ym_chart.specs.Drawing.{row_words, left_out_words};
 
 use crate::arrow::{Arrow, Drawn};
 use crate::text::Text;
