@@ -383,7 +383,7 @@ def two_files_are_drawn():
 
 def the_picture_is_of_today():
     """The picture that docs/explain.md shows is the chart of its session today."""
-    with drawn(os.path.join(DATA, "damage-mended.record")) as (_, chart):
+    with drawn(os.path.join(DATA, "receiver-cancels.record")) as (_, chart):
         with open(chart, "rb") as it:
             today = it.read()
     with open(os.path.join(ROOT, "docs", "pictures", "explained.svg"), "rb") as it:

@@ -62,10 +62,10 @@ arrow_words at a =
 
 -- a name in the middle of its row
 abbrev pub middle_words : List ℕ → List ℕ
-middle_words name = codes "<text class=\"name\" x=\"254\" y=\"22\">" ++ (name ++ codes "</text>")
+middle_words name = codes "<text class=\"name\" x=\"254\" y=\"21\">" ++ (name ++ codes "</text>")
 
 abbrev pub box : List ℕ
-box = codes "<rect x=\"118\" y=\"7\" width=\"272\" height=\"22\" rx=\"6\"/>"
+box = codes "<rect x=\"118\" y=\"8\" width=\"272\" height=\"18\" rx=\"6\"/>"
 
 abbrev pub streak_words : ℕ → Streak → List ℕ
 streak_words at r =

@@ -55,8 +55,8 @@ impl fmt::Display for Placed<'_> {
                     f,
                     "<g class=\"run\" transform=\"translate(0 {at})\">\
                      <text class=\"when\" x=\"84\" y=\"24\">{moment}</text>\
-                     <rect x=\"118\" y=\"7\" width=\"272\" height=\"22\" rx=\"6\"/>\
-                     <text class=\"name\" x=\"254\" y=\"22\">blocks {first} to {last}, \
+                     <rect x=\"118\" y=\"8\" width=\"272\" height=\"18\" rx=\"6\"/>\
+                     <text class=\"name\" x=\"254\" y=\"21\">blocks {first} to {last}, \
                      each acknowledged</text>\
                      <text class=\"said\" x=\"424\" y=\"24\">{count} blocks</text></g>\n"
                 )
@@ -87,7 +87,7 @@ impl fmt::Display for LeftOut {
             _ => write!(
                 f,
                 "<g class=\"run\" transform=\"translate(0 {at})\">\
-                 <text class=\"name\" x=\"254\" y=\"22\">{count} more are not drawn</text></g>\n"
+                 <text class=\"name\" x=\"254\" y=\"21\">{count} more are not drawn</text></g>\n"
             ),
         }
     }
