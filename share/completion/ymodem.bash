@@ -4,7 +4,7 @@ _ymodem() {
     local cur=${COMP_WORDS[COMP_CWORD]} prev=${COMP_WORDS[COMP_CWORD - 1]} command= words
     case $prev in
     -p | --port) COMPREPLY=(); return ;;
-    --line | --record | --there | --back) compopt -o filenames; COMPREPLY=($(compgen -f -- "$cur")); return ;;
+    --line | --record | --there | --back | --chart) compopt -o filenames; COMPREPLY=($(compgen -f -- "$cur")); return ;;
     esac
     [ "$COMP_CWORD" -gt 1 ] && command=${COMP_WORDS[1]}
     case $command in
@@ -15,7 +15,7 @@ _ymodem() {
     receive) words='--port -p --single --eager --keep --no-sync --discard-parts --record --verbose --quiet --help -h' ;;
     sb) words='--line --short --record --verbose --quiet --help -h' ;;
     rb) words='--line --single --no-sync --discard-parts --record --verbose --quiet --help -h' ;;
-    explain) words='--there --back --turned --help -h' ;;
+    explain) words='--there --back --turned --chart --help -h' ;;
     help) words='sb rb send receive play loop explain help' ;;
     *) words= ;;
     esac

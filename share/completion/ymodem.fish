@@ -29,4 +29,5 @@ complete -c ymodem -n '__fish_seen_subcommand_from receive rb' -a '(__fish_compl
 complete -c ymodem -n '__fish_seen_subcommand_from explain' -r -F -l there -d 'A file of the bytes that the sender wrote'
 complete -c ymodem -n '__fish_seen_subcommand_from explain' -r -F -l back -d 'A file of the bytes that the receiver wrote'
 complete -c ymodem -n '__fish_seen_subcommand_from explain' -l turned -d 'Takes the sender of a capture of TCP for the receiver'
+complete -c ymodem -n '__fish_seen_subcommand_from explain' -r -F -l chart -d 'Draws what it tells as a chart, in a new file (SVG)'
 complete -c ymodem -n '__fish_seen_subcommand_from explain' -F

@@ -115,6 +115,7 @@ fn job_text(alloc: Global, job: &Job<'_>) -> Result<String, AllocError> {
             back,
             both,
             turned,
+            chart,
         } => {
             let there = there.unwrap_or("nothing");
             let back = back.unwrap_or("nothing");
@@ -123,6 +124,9 @@ fn job_text(alloc: Global, job: &Job<'_>) -> Result<String, AllocError> {
                 "explain {there} there, {back} back, {both} both ways"
             )?;
             push_flag(&mut text, *turned, "turned")?;
+            if let Some(chart) = chart {
+                text.push_str(format!(in alloc; ", drawn in {chart}")?.as_str())?;
+            }
             Ok(text)
         }
     }

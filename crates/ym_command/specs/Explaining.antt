@@ -65,6 +65,13 @@ no_capture_words name place why =
 abbrev pub too_many_words : List ℕ
 too_many_words = codes "a record has both ways: give it alone, or else --there and --back"
 
+abbrev pub chart_there_words : Text → List ℕ
+chart_there_words path = codes "'" ++ (path ++ codes "' is there already: no chart is written")
+
+abbrev pub chart_unwritten_words : Text → Reason → List ℕ
+chart_unwritten_words path why =
+    codes "cannot write the chart '" ++ (path ++ (codes "': " ++ reason_text why))
+
 abbrev pub untold_words : Untold → List ℕ
 untold_words (untold.Closed path why) = closed_words path.now why
 untold_words (untold.Unread name) = unread_words name.now
@@ -74,6 +81,8 @@ untold_words (untold.NoRecord name number why) = no_record_words name.now number
 untold_words (untold.Pcapng name) = pcapng_words name.now
 untold_words (untold.NoCapture name place why) = no_capture_words name.now place why
 untold_words untold.TooMany = too_many_words
+untold_words (untold.ChartThere path) = chart_there_words path.now
+untold_words (untold.ChartUnwritten path why) = chart_unwritten_words path.now why
 
 -- ---- What is told
 
@@ -219,3 +228,33 @@ ExplainGives None (Some path) None turned old answer new =
     FileGives path (OneWay Back) old answer new
 ExplainGives (Some there) (Some back) None turned old answer new =
     PairGives there back old.out old.err answer new.out new.err × KeepsInput old new
+
+-- ---- The chart
+
+-- what was answered of the telling, or a line that says why no chart is written at this path
+abbrev pub AnswersChart : Text → ℕ → Page → Result ℕ CommandFault → Page → Type 0
+AnswersChart path status old answer new =
+    ((answer ≡ Ok status) × (new ≡ old))
+    ⊎ (Refuses (chart_there_words path) 1 old answer new
+    ⊎ ((why : Reason) × Refuses (chart_unwritten_words path why) 1 old answer new))
+
+abbrev pub ChartBehind :
+    Text → Result ℕ CommandFault → Page → Result ℕ CommandFault → Page → Type 0
+ChartBehind path (Ok status) old answer new =
+    AnswersChart path status old answer new ⊎ Fails fault.Memory old answer new
+ChartBehind path (Err why) old answer new = Fails why old answer new
+
+-- The same is told as without a chart. That is written behind it, or not.
+pub record Draws (path : Text) (there back both : Option Text) (turned : Bool) (old : Desk)
+    (answer : Result ℕ CommandFault) (new : Desk) : Type 0 where
+  pub told : Result ℕ CommandFault
+  pub between : Page
+  pub tells : ExplainGives there back both turned old told (record new { err = between })
+  pub answers : ChartBehind path told between answer new.err
+
+abbrev pub DrawsGives : Option Text → Option Text → Option Text → Option Text → Bool → Desk
+    → Result ℕ CommandFault → Desk → Type 0
+DrawsGives None there back both turned old answer new =
+    ExplainGives there back both turned old answer new
+DrawsGives (Some path) there back both turned old answer new =
+    Draws path there back both turned old answer new

@@ -22,7 +22,7 @@ use Rattle.ym_jobs.specs.Page.{Page, TellsFault}
 use Rattle.ym_jobs.specs.Receiving.{ReceiveGives}
 use Rattle.ym_jobs.specs.Sending.{SendGives}
 use Rattle.ym_jobs.specs.declared.command_fault.CommandFault.{CommandFault}
-use Rattle.ym_command.specs.Explaining.{ExplainGives}
+use Rattle.ym_command.specs.Explaining.{DrawsGives}
 
 -- the command line takes these words, and they ask for this job, or for none
 abbrev pub AsksFor : List Text → Option Asked → Type 0
@@ -88,8 +88,8 @@ JobGives (job.SendLine line short files to tell) old answer new =
     PrintsBeside line (SendGives (shape_of short) files) old answer new
 JobGives (job.ReceiveLine line flags dir to tell) old answer new =
     PrintsBeside line (ReceiveGives (confirm_of flags.single)) old answer new
-JobGives (job.Explain there back both turned) old answer new =
-    ExplainGives there back both turned old answer new
+JobGives (job.Explain there back both turned chart) old answer new =
+    DrawsGives chart there back both turned old answer new
 
 -- the line of a fault was written to err, and nothing else was done
 pub record OnlyTells (why : CommandFault) (old : Desk) (status : ℕ) (new : Desk) : Type 0 where

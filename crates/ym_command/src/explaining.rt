@@ -1,10 +1,12 @@
 //! `explain`: tells what passed on a line, as a record or a capture of both ways says it, or files
 //! of bytes.
 
-ghost use Rattle.std.specs.Prelude.{◌≡◌, ◌≤◌, IfOk, option_map};
+ghost use Rattle.std.specs.Prelude.{◌≡◌, ◌≤◌, ◌⊎◌, IfOk, Ok, option_map};
 ghost use Rattle.ym_jobs.specs.Page.{page};
-ghost use Rattle.ym_command.specs.Explaining.{desk, AnswersCapture, AnswersClosed, ExplainGives, FileGives, PairGives, Refuses, Told, untold_words};
+ghost use Rattle.ym_command.specs.Explaining.{desk, AnswersCapture, AnswersChart, AnswersClosed, ChartBehind, DrawsGives, ExplainGives, FileGives, PairGives, Refuses, Told, untold_words};
 
+use crate::chart_file::{ChartFault, write_chart};
+use crate::charted::Draw;
 use crate::untold::Untold;
 use std::alloc::Global;
 use std::fs::{File, Files};
@@ -211,5 +213,90 @@ pub(crate) fn explain<R: Files<File = File>, I: Input, O: Output, E: Output>(
             explain_file(rt, alloc, path, form, input, out, err)
         }
         (None, Some(there), Some(back)) => explain_files(rt, alloc, there, back, out, err),
+    }
+}
+
+/// The answer where a telling had this one, and its chart was written so at this path.
+fn answer_chart<E: Output>(
+    err: &mut E,
+    path: &str,
+    status: u8,
+    written: Result<(), ChartFault>,
+) -> Result<u8, CommandFault>
+    ensures gives { AnswersChart path.now status
+        (page (E.contents err.old) (E.failures err.old)) result
+        (page (E.contents err.new) (E.failures err.new)) }
+    ensures status { IfOk result (λ it. (it ≡ status) ⊎ (it ≡ 1)) }
+{
+    match written {
+        Ok(()) => Ok(status),
+        Err(ChartFault::There) => refuse(err, Untold::ChartThere(path), UNTOLD),
+        Err(ChartFault::System(error)) => {
+            let why = Reason::of(&error);
+            refuse(err, Untold::ChartUnwritten(path, why), UNTOLD)
+        }
+    }
+}
+
+/// Writes a picture at this path, behind a telling that had this answer.
+fn put_picture<R: Files<File = File>, E: Output>(
+    rt: &R,
+    path: &str,
+    status: u8,
+    picture: Option<String>,
+    err: &mut E,
+) -> Result<u8, CommandFault>
+    ensures gives { ChartBehind path.now (Ok status)
+        (page (E.contents err.old) (E.failures err.old)) result
+        (page (E.contents err.new) (E.failures err.new)) }
+    ensures status { IfOk result (λ it. (it ≡ status) ⊎ (it ≡ 1)) }
+{
+    // Where the words were refused, nothing was told.
+    if status == REFUSED {
+        return Ok(status);
+    }
+    match picture {
+        Some(text) => {
+            let written = write_chart(rt, path, text.as_str());
+            answer_chart(err, path, status, written)
+        }
+        None => Err(CommandFault::Memory),
+    }
+}
+
+/// Tells what passed on a line, as `explain` does, and draws it in a new file at this path, if one
+/// is given.
+pub(crate) fn explain_and_draw<R: Files<File = File>, I: Input, O: Draw, E: Output>(
+    rt: &R,
+    alloc: Global,
+    there: Option<&str>,
+    back: Option<&str>,
+    both: Option<&str>,
+    turned: bool,
+    chart: Option<&str>,
+    input: &mut I,
+    out: &mut O,
+    err: &mut E,
+) -> Result<u8, CommandFault>
+    ensures gives { DrawsGives (option_map (λ f. f.now) chart.entry)
+        (option_map (λ f. f.now) there.entry) (option_map (λ f. f.now) back.entry)
+        (option_map (λ f. f.now) both.entry) turned
+        (desk (I.remaining input.old) (I.failures input.old)
+        (page (O.contents out.old) (O.failures out.old))
+        (page (E.contents err.old) (E.failures err.old))) result
+        (desk (I.remaining input.new) (I.failures input.new)
+        (page (O.contents out.new) (O.failures out.new))
+        (page (E.contents err.new) (E.failures err.new))) }
+    ensures status { IfOk result (λ status. status ≤ 2) }
+{
+    let Some(path) = chart else {
+        return explain(rt, alloc, there, back, both, turned, input, out, err);
+    };
+    out.begin_chart();
+    let told = explain(rt, alloc, there, back, both, turned, input, out, err);
+    let picture = out.end_chart();
+    match told {
+        Ok(status) => put_picture(rt, path, status, picture, err),
+        Err(fault) => Err(fault),
     }
 }

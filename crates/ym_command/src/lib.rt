@@ -1,8 +1,11 @@
 //! The command: what the words of the command line ask for, done.
 #![tactic(auto)]
 
+mod chart_file;
+mod charted;
 mod explaining;
 mod program;
 mod untold;
 
+pub use charted::{Charted, Draw};
 pub use program::command;

@@ -7,7 +7,8 @@ ghost use Rattle.ym_words.specs.Job.{Asked, Play, asked_of};
 ghost use Rattle.ym_jobs.specs.Page.{TellsFault};
 ghost use Rattle.ym_command.specs.Program.{AsksFor, IsPlayed, JobGives, shape_of, confirm_of, durability_of, leftover_of, OnlyTells, Does, IsNoJob};
 
-use crate::explaining::explain;
+use crate::charted::Draw;
+use crate::explaining::explain_and_draw;
 use clap::error::ErrorKind;
 use std::alloc::Global;
 use std::fmt::Display;
@@ -210,7 +211,7 @@ where
         + Print,
     R::Reader: IsTerminal,
     I: Input,
-    O: Output,
+    O: Draw,
     E: Output,
     T: Write + Drop,
     ensures gives { JobGives (asked_of job.entry) (record { text = I.remaining input.old; reads_failed = I.failures input.old; out = record { holds = O.contents out.old; failed = O.failures out.old }; err = record { holds = E.contents err.old; failed = E.failures err.old } }) result (record { text = I.remaining input.new; reads_failed = I.failures input.new; out = record { holds = O.contents out.new; failed = O.failures out.new }; err = record { holds = E.contents err.new; failed = E.failures err.new } }) }
@@ -270,7 +271,10 @@ where
             back,
             both,
             turned,
-        } => explain(rt, alloc, there, back, both, turned, input, out, err),
+            chart,
+        } => explain_and_draw(
+            rt, alloc, there, back, both, turned, chart, input, out, err,
+        ),
     }
 }
 
@@ -296,7 +300,7 @@ where
         + Print,
     R::Reader: IsTerminal,
     I: Input,
-    O: Output,
+    O: Draw,
     E: Output,
     T: Write + Drop,
     // The job that the words ask for, unless there was no memory to read the words.

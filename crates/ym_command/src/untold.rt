@@ -26,6 +26,10 @@ pub(crate) enum Untold<'a> {
     NoCapture(&'a str, u64, CaptureFault),
     /// A record and files of one way were given.
     TooMany,
+    /// At this path, where a chart is to be, a file is already.
+    ChartThere(&'a str),
+    /// The chart cannot be written at this path.
+    ChartUnwritten(&'a str, Reason),
 }
 
 impl fmt::Display for Untold<'_> {
@@ -54,6 +58,12 @@ impl fmt::Display for Untold<'_> {
                 f,
                 "a record has both ways: give it alone, or else --there and --back"
             ),
+            Untold::ChartThere(path) => {
+                write!(f, "'{path}' is there already: no chart is written")
+            }
+            Untold::ChartUnwritten(path, why) => {
+                write!(f, "cannot write the chart '{path}': {why}")
+            }
         }
     }
 }

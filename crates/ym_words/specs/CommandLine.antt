@@ -1,6 +1,6 @@
 -- The command line: `--version`, and seven optional subcommands, with `--port` (or `-p`) a required
--- text, `--line`, `--record`, `--there` and `--back` ones that may be left out, DIR and RECORD one
--- positional, FILE the last positional with one or more values, and all else flags.
+-- text, `--line`, `--record`, `--there`, `--back` and `--chart` ones that may be left out, DIR and
+-- RECORD one positional, FILE the last positional with one or more values, and all else flags.
 use Rattle.std.specs.Prelude.{◌≡◌, false, true, List, [], ◌∷◌, Some, codes}
 use Rattle.clap.specs.Words.{App, Rule, Text, app_of, new_app, new_rule, rule_of}
 use Rattle.clap.specs.Words.{with_rule, with_subcommand}
@@ -86,12 +86,15 @@ line_rule = record (value_rule (codes "line")) { long = Some (codes "line") }
 abbrev pub folder_rule : Rule
 folder_rule = value_rule (codes "dir")
 
--- those of `explain`: a file for each way, or a record of both
+-- those of `explain`: a file for each way, or a record of both, and one for a chart
 abbrev pub there_rule : Rule
 there_rule = record (value_rule (codes "there")) { long = Some (codes "there") }
 
 abbrev pub back_rule : Rule
 back_rule = record (value_rule (codes "back")) { long = Some (codes "back") }
+
+abbrev pub chart_rule : Rule
+chart_rule = record (value_rule (codes "chart")) { long = Some (codes "chart") }
 
 abbrev pub record_rule : Rule
 record_rule = value_rule (codes "record")
@@ -152,8 +155,8 @@ rb_app =
 
 abbrev pub explain_app : App
 explain_app =
-    with_rule (with_rule (with_rule (with_rule (new_app (codes "explain")) there_rule) back_rule)
-    turned_rule) record_rule
+    with_rule (with_rule (with_rule (with_rule (with_rule (new_app (codes "explain")) there_rule)
+    back_rule) turned_rule) chart_rule) record_rule
 
 -- the whole command, serial lines first
 unfoldable pub the_app : App

@@ -20,7 +20,7 @@ pub data Asked : Type 0 where
   Receive : ℕ → ReceiveFlags → Text → Option Text → TellFlags → Asked
   SendLine : Option Text → Bool → List Text → Option Text → TellFlags → Asked
   ReceiveLine : Option Text → StoreFlags → Text → Option Text → TellFlags → Asked
-  Explain : Option Text → Option Text → Option Text → Bool → Asked
+  Explain : Option Text → Option Text → Option Text → Bool → Option Text → Asked
 
 abbrev pub is_true_text : Option Text → Bool
 is_true_text None = false
@@ -104,6 +104,7 @@ abbrev pub explain_of : List Row → Asked
 explain_of rows =
     Explain (first_of (codes "there") rows) (first_of (codes "back") rows)
     (first_of (codes "record") rows) (flag_of (codes "turned") rows)
+    (first_of (codes "chart") rows)
 
 -- the job that a subcommand and its matches ask for, unless a value is lacking
 abbrev pub asked_for : Text → List Row → Option Asked
@@ -130,9 +131,9 @@ asked_of (job.SendLine line short files to tell) =
     (option_map (λ r. r.now) to) tell
 asked_of (job.ReceiveLine line flags dir to tell) =
     ReceiveLine (option_map (λ l. l.now) line) flags dir.now (option_map (λ r. r.now) to) tell
-asked_of (job.Explain there back both turned) =
+asked_of (job.Explain there back both turned chart) =
     Explain (option_map (λ f. f.now) there) (option_map (λ f. f.now) back)
-    (option_map (λ f. f.now) both) turned
+    (option_map (λ f. f.now) both) turned (option_map (λ f. f.now) chart)
 
 -- what each fault says of the words
 abbrev pub FaultSays : JobFault → Option Asked → Bool → Type 0

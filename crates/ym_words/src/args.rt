@@ -5,7 +5,7 @@ ghost use Rattle.clap.specs.Words.{App, Rule, with_rule};
 ghost use Rattle.ym_words.specs.CommandLine.{HasApp, HasRule, flag_rule, with_flags};
 ghost use Rattle.ym_words.specs.CommandLine.{port_rule, files_rule, dir_rule, line_rule};
 ghost use Rattle.ym_words.specs.CommandLine.{folder_rule, value_rule};
-ghost use Rattle.ym_words.specs.CommandLine.{there_rule, back_rule, record_rule};
+ghost use Rattle.ym_words.specs.CommandLine.{there_rule, back_rule, chart_rule, record_rule};
 ghost use Rattle.ym_words.specs.CommandLine.{recorded_rule};
 
 use clap::{Arg, ArgAction, Command};
@@ -161,6 +161,19 @@ pub(crate) fn back_arg<'a>(alloc: Global) -> Arg<'a>
         "A file of the bytes that the receiver wrote",
     )
     .long("back")
+}
+
+/// The file that `explain` draws a chart in.
+pub(crate) fn chart_arg<'a>(alloc: Global) -> Arg<'a>
+    ensures { HasRule result chart_rule }
+{
+    value_arg(
+        alloc,
+        "chart",
+        "FILE",
+        "Draws what it tells as a chart, in a new file (SVG)",
+    )
+    .long("chart")
 }
 
 /// The record or capture of both ways, of `explain`.

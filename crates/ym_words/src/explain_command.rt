@@ -3,7 +3,7 @@
 ghost use Rattle.std.specs.Prelude.{IfOk};
 ghost use Rattle.ym_words.specs.CommandLine.{HasApp, explain_app};
 
-use crate::args::{Flag, back_arg, record_arg, there_arg, with_words};
+use crate::args::{Flag, back_arg, chart_arg, record_arg, there_arg, with_words};
 use crate::help::bare_explain;
 use clap::Command;
 use std::alloc::{AllocError, Global};
@@ -21,5 +21,6 @@ pub(crate) fn explain_command<'a>(alloc: Global) -> Result<Command<'a>, AllocErr
     let with_there = bare_explain(alloc).arg(there_arg(alloc))?;
     let turning = [TURNED];
     let with_back = with_words(alloc, with_there, back_arg(alloc), &turning)?;
-    with_back.arg(record_arg(alloc))
+    let with_chart = with_back.arg(chart_arg(alloc))?;
+    with_chart.arg(record_arg(alloc))
 }

@@ -117,14 +117,16 @@ begins with C, NAK or G receives the files, and who begins with a block sends
 them. Else who opened the connection does. With --turned it is the other way.
 
 It prints a line for each frame and each answer, and a last one that says what
-went wrong, and what to try.
+went wrong, and what to try. With --chart that is drawn too, as a picture in
+SVG. No file that is there is overwritten.
 
 Exit status: 0 where all of it was told, 1 where a file cannot be read or is no
-record, 2 where the words are refused, 3 where it cannot print, or at want of
-memory.
+record, or the chart cannot be written, 2 where the words are refused, 3 where
+it cannot print, or at want of memory.
 
 Examples:
   ymodem explain session.record
+  ymodem explain --chart session.svg session.record
   ymodem explain session.pcap
   ymodem explain --there sent.bin --back answered.bin";
 

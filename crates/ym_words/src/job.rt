@@ -92,12 +92,13 @@ pub enum Job<'a> {
         tell: TellFlags,
     },
     /// Tell what passed on a line: what the files of each way say, or a capture of both, whose ways
-    /// may be turned.
+    /// may be turned. It is drawn too, where a file for that is named.
     Explain {
         there: Option<&'a str>,
         back: Option<&'a str>,
         both: Option<&'a str>,
         turned: bool,
+        chart: Option<&'a str>,
     },
 }
 
@@ -225,6 +226,7 @@ fn explain_in<'a>(matches: &ArgMatches<'a>) -> Job<'a>
         back: matches.get_str("back"),
         both: matches.get_str("record"),
         turned: flag_in(matches, "turned"),
+        chart: matches.get_str("chart"),
     }
 }
 

@@ -5,7 +5,7 @@
 use std::io::{ErrorKind, IsTerminal, Write};
 use std::process::ExitCode;
 use std::{env, io};
-use ym_command::command;
+use ym_command::{Charted, command};
 use ym_show::{Look, Teller};
 use ym_text::ShownOut;
 
@@ -62,7 +62,8 @@ fn greet<E: Write + Drop>(rt: &HostRuntime, words: &[String], teller: &mut Telle
 fn run(rt: &HostRuntime) -> u8 {
     let look = look(rt);
     let mut teller = Teller::new(rt.stderr(), look);
-    let mut out = ShownOut::new(rt.alloc(), rt.stdout(), rt.stdout().is_terminal());
+    let shown = ShownOut::new(rt.alloc(), rt.stdout(), rt.stdout().is_terminal());
+    let mut out = Charted::new(rt.alloc(), shown);
     let mut err = ShownOut::new(rt.alloc(), rt.stderr(), look.at_err);
     let words = words(rt);
     if let Ok(words) = &words {

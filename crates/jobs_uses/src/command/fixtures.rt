@@ -3,7 +3,7 @@
 use std::alloc::{AllocError, Global};
 use std::fmt::Write;
 use std::test::Fail;
-use ym_command::command;
+use ym_command::{Charted, command};
 use ym_show::{Look, Teller};
 
 /// What a command did.
@@ -29,7 +29,7 @@ fn words_of(alloc: Global, line: &str) -> Result<Vec<String>, AllocError> {
 fn ran_words(rt: &HostRuntime, words: Vec<String>, input: &[u8]) -> Ending {
     let alloc = rt.alloc();
     let mut input = input;
-    let mut out = Vec::new(alloc);
+    let mut out = Charted::new(alloc, Vec::new(alloc));
     let mut err = Vec::new(alloc);
     let look = Look {
         at_err: false,
@@ -49,7 +49,7 @@ fn ran_words(rt: &HostRuntime, words: Vec<String>, input: &[u8]) -> Ending {
     let told = teller.err;
     Ending {
         status,
-        out,
+        out: out.into_out(),
         err,
         told,
     }

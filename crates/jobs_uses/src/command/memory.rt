@@ -3,7 +3,7 @@
 use super::fixtures::with_file;
 use std::io::Cursor;
 use std::test::Fail;
-use ym_command::command;
+use ym_command::{Charted, command};
 use ym_show::{Look, Teller};
 
 /// What a test answers whose command met want of memory.
@@ -30,7 +30,7 @@ fn run(rt: &HostRuntime, words: &[&str], input: &[u8], status: u8, line: &str) -
         list.push(String::from_str(alloc, word)?)?;
     }
     let mut input = input;
-    let mut out = page();
+    let mut out = Charted::new(alloc, page());
     let mut err = page();
     let look = Look {
         at_err: false,
@@ -43,7 +43,7 @@ fn run(rt: &HostRuntime, words: &[&str], input: &[u8], status: u8, line: &str) -
         return Ok(());
     }
     let told = text(&err) == b"fault: memory\n".as_slice();
-    if ended != 3 || !text(&out).is_empty() || !told {
+    if ended != 3 || !text(&out.into_out()).is_empty() || !told {
         return Err(Fail::from("another end"));
     }
     Err(Fail::from(WANT))

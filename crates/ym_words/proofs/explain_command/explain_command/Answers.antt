@@ -5,4 +5,5 @@ pub returns : goal.returns
 returns c =
     let with_there = with_arg c.in_ok-with_there.ensures c.bare_explain.ensures c.there_arg.ensures in
     let with_back = c.in_ok-with_back.ensures _ _ with_there c.back_arg.ensures in
-    with_last_arg c.arg-2.result c.arg-2.ensures with_back c.record_arg.ensures
+    let with_chart = with_arg c.in_ok-with_chart.ensures with_back c.chart_arg.ensures in
+    with_last_arg c.arg-3.result c.arg-3.ensures with_chart c.record_arg.ensures

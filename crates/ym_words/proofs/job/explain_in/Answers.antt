@@ -12,4 +12,5 @@ returns c =
       first_found matches (codes "back") _ (sym c.get_str-2.ensures),
       first_found matches (codes "record") _ (sym c.get_str-3.ensures),
       sym c.flag_in.ensures,
+      first_found matches (codes "chart") _ (sym c.get_str-4.ensures),
     ) refl

@@ -1,0 +1,6 @@
+pub mod Arrows
+pub mod ChartExamples
+pub mod ChartText
+pub mod Drawing
+pub mod LineParts
+pub mod Rows

@@ -1,0 +1,261 @@
+//! The rows of a session, as its lines come.
+
+ghost use Rattle.std.specs.Prelude.{◌≡◌, IfOk, OnOk, string_bytes};
+ghost use Rattle.ym_chart.specs.Rows as spec;
+ghost use Rattle.ym_chart.specs.Drawing.{chart_words};
+
+use crate::arrow::{Arrow, Kind};
+use crate::parts::{behind, is_indented};
+use crate::picture::picture_of;
+use crate::row::{Row, Streak};
+use crate::text::Text;
+use std::alloc::{AllocError, Global};
+use std::marker::Model;
+
+/// So many rows are drawn at most: some ten pages on paper, and less than half a megabyte. What
+/// goes wrong on a line goes wrong in the first of them, as streaks of blocks are one row each.
+pub const MOST_ROWS: usize = 500;
+
+/// So many bytes of a line are read at most. No line that is told has more.
+pub const MOST_LINE: usize = 512;
+
+/// So many sentences are kept at most of what is told at the end.
+pub const MOST_ENDS: usize = 4;
+
+/// So many arrows of blocks in their turn and of their answers are drawn one by one: three blocks.
+/// With a fourth they are a streak, which is one row.
+const FEW: usize = 6;
+
+/// The chart of a session, of the lines that tell it. It takes the same memory however many come.
+#[derive(Drop)]
+pub struct Chart {
+    alloc: Global,
+    line: Vec<u8>,
+    rows: Vec<Row>,
+    left_out: u64,
+    few: Vec<Arrow>,
+    streak: Option<Streak>,
+    block: Option<Arrow>,
+    ends: Vec<Text>,
+}
+
+impl Model for Chart {
+    ghost use Rattle.std.specs.Prelude.{◌≤◌, vec_len};
+    ghost use Rattle.ym_chart.specs.Rows.{Kept};
+    ghost use Rattle.ym_chart.specs.declared.chart.TheConstants.{MOST_ENDS, MOST_ROWS};
+
+    ghost Value = { Kept };
+
+    ghost view = { λ c. record {
+      line = c.line.items;
+      rows = c.rows.items;
+      left_out = c.left_out;
+      few = c.few.items;
+      streak = c.streak;
+      block = c.block;
+      ends = c.ends.items;
+    } };
+
+    ghost invariant = { λ c. (vec_len c.rows ≤ MOST_ROWS) × (vec_len c.ends ≤ MOST_ENDS) };
+}
+
+impl Chart {
+    /// One of which nothing is told.
+    pub fn new(alloc: Global) -> Chart
+        ensures { result ≡ spec.nothing_kept }
+    {
+        Chart {
+            alloc,
+            line: Vec::new(alloc),
+            rows: Vec::new(alloc),
+            left_out: 0,
+            few: Vec::new(alloc),
+            streak: None,
+            block: None,
+            ends: Vec::new(alloc),
+        }
+    }
+
+    /// Takes more of the text that tells the session, in whatever pieces it comes.
+    ///
+    /// # Errors
+    ///
+    /// At want of memory. Then the chart may lack rows.
+    pub fn take(&mut self, text: &[u8]) -> Result<(), AllocError>
+        ensures { OnOk result (self.new ≡ spec.after_bytes self.old text.now) }
+    {
+        for byte in text {
+            self.take_byte(*byte)?;
+        }
+        Ok(())
+    }
+
+    /// Takes a byte of the text.
+    fn take_byte(&mut self, byte: u8) -> Result<(), AllocError>
+        ensures { OnOk result (self.new ≡ spec.after_byte self.old byte) }
+    {
+        if byte == b'\n' {
+            return self.end_line();
+        }
+        if self.line.len() < MOST_LINE {
+            self.line.push(byte)?;
+        }
+        Ok(())
+    }
+
+    /// Takes the line that has come.
+    fn end_line(&mut self) -> Result<(), AllocError>
+        ensures { OnOk result (self.new ≡ spec.after_line self.old) }
+    {
+        match Arrow::of(self.alloc, self.line.as_slice())? {
+            Some(arrow) => self.add_arrow(arrow)?,
+            None => self.add_remark()?,
+        }
+        self.line.clear();
+        Ok(())
+    }
+
+    /// Takes a line that tells no frame and no answer.
+    fn add_remark(&mut self) -> Result<(), AllocError>
+        ensures { OnOk result (self.new ≡ spec.after_remark self.old) }
+    {
+        let line = self.line.as_slice();
+        if is_indented(line) {
+            let note = Text::of(self.alloc, behind(line, 2))?;
+            self.flush()?;
+            return self.settle(Row::Note(note));
+        }
+        if self.ends.len() < MOST_ENDS {
+            let end = Text::of(self.alloc, line)?;
+            self.ends.push(end)?;
+        }
+        Ok(())
+    }
+
+    /// Takes an arrow.
+    fn add_arrow(&mut self, arrow: Arrow) -> Result<(), AllocError>
+        ensures { OnOk result (self.new ≡ spec.after_arrow self.old arrow) }
+    {
+        match arrow.kind {
+            Kind::Next => self.add_block(arrow),
+            Kind::Takes => self.add_answer(arrow),
+            Kind::Plain | Kind::Odd => {
+                self.flush()?;
+                self.settle(Row::Arrow(arrow))
+            }
+        }
+    }
+
+    /// Takes a block in its turn, which waits for its answer.
+    fn add_block(&mut self, block: Arrow) -> Result<(), AllocError>
+        ensures { OnOk result (self.new ≡ spec.after_block self.old block) }
+    {
+        if self.block.is_some() {
+            self.flush()?;
+        }
+        self.block = Some(block);
+        Ok(())
+    }
+
+    /// Takes an answer that took what came.
+    fn add_answer(&mut self, answer: Arrow) -> Result<(), AllocError>
+        ensures { OnOk result (self.new ≡ spec.after_answer self.old answer) }
+    {
+        match self.block.take() {
+            Some(block) => self.add_pair(block, answer),
+            None => {
+                self.flush()?;
+                self.settle(Row::Arrow(answer))
+            }
+        }
+    }
+
+    /// Takes a block and its answer, where no block waits.
+    fn add_pair(&mut self, block: Arrow, answer: Arrow) -> Result<(), AllocError>
+        ensures { OnOk result (self.new ≡ spec.after_pair self.old block answer) }
+    {
+        match self.streak.take() {
+            Some(streak) => {
+                self.streak = Some(Streak {
+                    first: streak.first,
+                    last: block,
+                    count: streak.count.saturating_add(1),
+                });
+                Ok(())
+            }
+            None => self.add_few(block, answer),
+        }
+    }
+
+    /// The same where no streak is under way.
+    fn add_few(&mut self, block: Arrow, answer: Arrow) -> Result<(), AllocError>
+        ensures { OnOk result (self.new ≡ spec.after_few self.old block answer) }
+    {
+        if self.few.len() < FEW {
+            self.few.push(block)?;
+            self.few.push(answer)?;
+            return Ok(());
+        }
+        self.streak = Some(Streak {
+            first: self.few.remove(0),
+            last: block,
+            count: 4,
+        });
+        self.few.clear();
+        Ok(())
+    }
+
+    /// Makes rows of all that waits.
+    fn flush(&mut self) -> Result<(), AllocError>
+        ensures { OnOk result (self.new ≡ spec.flushed self.old) }
+    {
+        self.settle_few()?;
+        if let Some(streak) = self.streak.take() {
+            self.settle(Row::Streak(streak))?;
+        }
+        if let Some(block) = self.block.take() {
+            self.settle(Row::Arrow(block))?;
+        }
+        Ok(())
+    }
+
+    /// Makes rows of a few blocks and their answers.
+    fn settle_few(&mut self) -> Result<(), AllocError>
+        ensures { OnOk result (self.new ≡ spec.few_settled self.old) }
+    {
+        while !self.few.is_empty() {
+            let arrow = self.few.remove(0);
+            self.settle(Row::Arrow(arrow))?;
+        }
+        Ok(())
+    }
+
+    /// Puts a row behind the others, where there is room.
+    fn settle(&mut self, row: Row) -> Result<(), AllocError>
+        ensures { OnOk result (self.new ≡ spec.settled self.old row) }
+    {
+        if self.rows.len() < MOST_ROWS {
+            self.rows.push(row)?;
+        } else {
+            self.left_out = self.left_out.saturating_add(1);
+        }
+        Ok(())
+    }
+
+    /// Ends the chart, and answers its picture.
+    ///
+    /// # Errors
+    ///
+    /// At want of memory.
+    pub fn picture(mut self) -> Result<String, AllocError>
+        ensures { IfOk result (λ text. string_bytes text ≡ chart_words (spec.flushed self)) }
+    {
+        self.flush()?;
+        picture_of(
+            self.alloc,
+            self.rows.as_slice(),
+            self.left_out,
+            self.ends.as_slice(),
+        )
+    }
+}
