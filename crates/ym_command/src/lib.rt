@@ -2,6 +2,10 @@
 #![tactic(auto)]
 
 mod explaining;
+mod judge_message;
+mod judged_files;
+mod judged_peer;
+mod judging;
 mod program;
 mod untold;
 

@@ -8,6 +8,7 @@ ghost use Rattle.ym_jobs.specs.Page.{TellsFault};
 ghost use Rattle.ym_command.specs.Program.{AsksFor, IsPlayed, JobGives, shape_of, confirm_of, durability_of, leftover_of, OnlyTells, Does, IsNoJob};
 
 use crate::explaining::explain;
+use crate::judging::{JudgeOrder, judge};
 use clap::error::ErrorKind;
 use std::alloc::Global;
 use std::fmt::Display;
@@ -160,7 +161,7 @@ fn line_order_of(store: StoreFlags, dir: &str) -> Order<'_>
 /// How much is told, by the flags of a job.
 fn tell_flags(job: &Job<'_>) -> TellFlags {
     match job {
-        Job::Play | Job::Explain { .. } => TellFlags {
+        Job::Play | Job::Explain { .. } | Job::Judge { .. } => TellFlags {
             verbose: false,
             quiet: false,
         },
@@ -246,6 +247,26 @@ where
             both,
             turned,
         } => explain(rt, alloc, there, back, both, turned, input, out, err),
+        Job::Judge {
+            peer,
+            port,
+            line,
+            only,
+            stored,
+            list,
+            json,
+        } => {
+            let order = JudgeOrder {
+                peer,
+                port,
+                line,
+                only,
+                stored,
+                list,
+                json,
+            };
+            judge(rt, alloc, order, out, err)
+        }
     }
 }
 

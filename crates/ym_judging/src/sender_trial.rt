@@ -1,0 +1,256 @@
+//! A sender that is tried: what it sends is received.
+
+use crate::line::{ANSWER_MS, Ear, FIRST_MS, Line, STILL_MS};
+use crate::manner::{Manner, manner_of};
+use crate::outcome::Outcome;
+use crate::turn::{Heard, Turn};
+use crate::twisted::{answer_twist, is_everywhere, twisted};
+use crate::usual::{LONG_COUNTS, SHORT_COUNTS, usual};
+use std::alloc::{AllocError, Global};
+use ym_core::Heard as Delivery;
+use ym_frame::{CAN, Reply, SOH, verdict};
+use ym_judge::{Act, Case, Claims, Notes, Passage, SenderTwin, Spot, Twins, Twist, delivered, spot_of};
+use ym_link::Receiver;
+use ym_port::Wire;
+
+/// How many turns a case has at most.
+const MOST_TURNS: u32 = 64;
+
+/// A session with a sender that is tried.
+#[derive(Drop)]
+struct SenderTrial {
+    alloc: Global,
+    case: Case,
+    /// The senders of the reference, which hear what is answered: one that uses long blocks, and one
+    /// that uses short blocks alone.
+    long: SenderTwin<'static>,
+    short: SenderTwin<'static>,
+    /// The peer uses short blocks alone.
+    is_short: bool,
+    /// The receivers of the reference, which hear what is delivered.
+    twins: Twins,
+    /// Another one, which keeps the files.
+    store: Receiver,
+    claims: Claims,
+    /// What is answered now, and to what was sent where.
+    reply: Reply,
+    spot: Option<Spot>,
+    eots: u8,
+    is_used: bool,
+    notes: Notes,
+}
+
+/// How many bytes the frame has with which these begin. Where none does, all of them.
+fn front_length(bytes: &[u8]) -> usize {
+    match verdict(bytes) {
+        Ok((_, length)) => length,
+        Err(_) => bytes.len(),
+    }
+}
+
+/// The files of this receiver are all the one that was to be sent.
+fn is_exact(alloc: Global, store: &Receiver) -> Result<bool, AllocError> {
+    let wanted = usual(alloc)?;
+    for file in store.files() {
+        if file.bytes() != wanted.as_slice() {
+            return Ok(false);
+        }
+    }
+    Ok(true)
+}
+
+impl SenderTrial {
+    /// Nothing was received: it is asked for a file.
+    fn new(alloc: Global, case: Case) -> SenderTrial {
+        SenderTrial {
+            alloc,
+            case,
+            long: SenderTwin::new(&LONG_COUNTS),
+            short: SenderTwin::new(&SHORT_COUNTS),
+            is_short: false,
+            twins: Twins::new(),
+            store: Receiver::single(alloc),
+            claims: Claims::new(),
+            reply: Reply::Start,
+            spot: Some(Spot::Start),
+            eots: 0,
+            is_used: false,
+            notes: Notes::new(),
+        }
+    }
+
+    /// The sender of the reference that is like the peer.
+    fn twin(&self) -> &SenderTwin<'static> {
+        if self.is_short { &self.short } else { &self.long }
+    }
+
+    /// Whether the session has ended.
+    fn is_over(&self) -> bool {
+        self.twin().has_ended() || self.twins.has_stopped()
+    }
+
+    /// Whether it has ended as it does with the reference.
+    fn is_finished(&self) -> bool {
+        let twin = self.twin();
+        twin.has_ended() && twin.asked() != Act::Cancel && !self.twins.has_stopped()
+    }
+
+    /// What becomes of the answer that is due.
+    fn twist(&self) -> Option<Twist> {
+        if self.is_used {
+            None
+        } else {
+            answer_twist(self.case, self.spot)
+        }
+    }
+
+    /// How long a frame is waited for.
+    fn patience(&self) -> u64 {
+        if self.twin().asked() == Act::Nothing {
+            STILL_MS
+        } else if self.notes.answered {
+            ANSWER_MS
+        } else {
+            FIRST_MS
+        }
+    }
+
+    /// Has the senders of the reference hear this.
+    fn hear(&mut self, bytes: &[u8]) {
+        self.long.hear(bytes);
+        self.short.hear(bytes);
+    }
+
+    /// What is written now.
+    fn turn(&mut self) -> Result<Turn, AllocError> {
+        let twist = self.twist();
+        let manner = manner_of(self.spot, twist);
+        let answer = Vec::from_slice(self.alloc, self.reply.as_bytes())?;
+        let mut out = twisted(self.alloc, twist, answer)?;
+        if manner == Manner::Again {
+            out.extend_from_slice(self.reply.as_bytes())?;
+        }
+        Ok(Turn {
+            act: Act::Answer(self.reply),
+            twist,
+            out,
+            manner: if manner == Manner::Again {
+                Manner::Once
+            } else {
+                manner
+            },
+        })
+    }
+
+    /// Notes what it did, where the reference does this.
+    fn note(&mut self, asked: Act, did: Act, tenths: u64, here: bool) {
+        self.notes = self.notes.behind(Passage {
+            asked,
+            did,
+            tenths,
+            fits: asked == did,
+            here,
+        });
+    }
+
+    /// Takes what came in a pause.
+    fn take_before(&mut self, before: &[u8]) {
+        if !before.is_empty() {
+            self.hear(&[]);
+            let asked = self.twin().asked();
+            self.note(asked, delivered(false, before), 0, false);
+        }
+    }
+
+    /// Takes what it sent as a receiver hears it, and what that answers.
+    fn receive(&mut self, bytes: &[u8]) -> Result<(), AllocError> {
+        let (twins, answers) = self.twins.hear(bytes);
+        self.store.hear(&ym_core::heard(bytes))?;
+        self.twins = twins;
+        self.reply = answers.twice;
+        Ok(())
+    }
+
+    /// Takes where the session is behind this act.
+    fn go_on(&mut self, did: Act) {
+        self.claims = self.claims.behind(did);
+        if did == Act::Header {
+            self.eots = 0;
+        }
+        self.spot = spot_of(did, self.eots);
+        if did == Act::Eot {
+            self.eots = self.eots.saturating_add(1);
+        }
+    }
+
+    /// Takes what came in a turn.
+    fn take(&mut self, turn: &Turn, heard: &Heard) -> Result<(), AllocError> {
+        let bytes = heard.bytes.as_slice();
+        let did = delivered(false, bytes);
+        if did == Act::Block(1) {
+            self.is_short = bytes.first() == Some(&SOH);
+        }
+        let asked = self.twin().asked();
+        let here = turn.twist.is_some() || is_everywhere(self.case);
+        self.note(asked, did, heard.tenths, here);
+        let rest = &bytes[front_length(bytes)..];
+        if !rest.is_empty() && did != Act::Cancel {
+            self.note(Act::Nothing, delivered(false, rest), heard.tenths, false);
+        }
+        self.is_used = self.is_used || turn.twist.is_some();
+        self.go_on(did);
+        if self.twist() == Some(Twist::Unheard) {
+            self.receive(&[])
+        } else {
+            self.receive(bytes)
+        }
+    }
+
+    /// What the case has shown.
+    fn outcome(&self, has_failed: bool) -> Result<Outcome, AllocError> {
+        let is_exact = is_exact(self.alloc, &self.store)?;
+        Ok(Outcome {
+            notes: self.notes,
+            sent: &[],
+            told: self.claims.told,
+            held: self.twins.held(),
+            is_exact,
+            is_finished: self.is_finished(),
+            has_failed,
+        })
+    }
+}
+
+/// Plays a case to the sender on this line, which is to send the file that `seq 302` prints.
+pub fn try_sender<W: Wire>(alloc: Global, wire: &mut W, case: Case) -> Result<Outcome, AllocError> {
+    let mut line = Line::new(alloc, wire, Ear::Frames);
+    let mut trial = SenderTrial::new(alloc, case);
+    for _ in 0..MOST_TURNS {
+        if line.is_over() || trial.is_over() {
+            break;
+        }
+        let turn = trial.turn()?;
+        let before = line.before(&turn)?;
+        trial.take_before(before.as_slice());
+        trial.hear(turn.out.as_slice());
+        let heard = line.behind(&turn, before, trial.patience())?;
+        trial.take(&turn, &heard)?;
+    }
+    end_sender(&mut line, &mut trial)?;
+    trial.outcome(line.has_failed)
+}
+
+/// Hears what comes when the session is over, and brings the peer back to rest.
+fn end_sender<W: Wire>(
+    line: &mut Line<'_, W>,
+    trial: &mut SenderTrial,
+) -> Result<(), AllocError> {
+    if trial.is_over() && !line.is_closed {
+        let (said, tenths) = line.listen(STILL_MS)?;
+        trial.note(Act::Nothing, delivered(false, said.as_slice()), tenths, false);
+    }
+    if !trial.is_finished() {
+        line.write(&[CAN, CAN, CAN]);
+    }
+    Ok(())
+}
