@@ -14,8 +14,6 @@ pub(crate) enum JudgeMessage<'a> {
     NoPlace,
     /// The line at this path cannot be opened.
     NoLine(&'a str),
-    /// Nobody can connect at this port.
-    NoPort(u16),
     /// The line failed in this case.
     Failed(Case),
 }
@@ -36,7 +34,6 @@ impl fmt::Display for JudgeMessage<'_> {
             ),
             JudgeMessage::NoPlace => write!(f, "judge takes --port or --line, and one of them"),
             JudgeMessage::NoLine(path) => write!(f, "the line '{path}' cannot be opened"),
-            JudgeMessage::NoPort(port) => write!(f, "nobody can be waited for at port {port}"),
             JudgeMessage::Failed(case) => write!(f, "the line failed: {case}"),
         }
     }

@@ -29,7 +29,7 @@ pub(crate) enum Access {
 }
 
 /// The port that a receiver listens at, or where a sender is waited for.
-fn access_at<R: Net<Listener = TcpListener>>(
+fn access_at<R: Net<Listener = TcpListener, Stream = TcpStream>>(
     rt: &R,
     peer: Peer,
     port: u16,
@@ -46,7 +46,7 @@ fn access_at<R: Net<Listener = TcpListener>>(
 }
 
 /// The way to a peer that these words tell.
-pub(crate) fn access_of<R: Files<File = File> + Net<Listener = TcpListener>>(
+pub(crate) fn access_of<R: Files<File = File> + Net<Listener = TcpListener, Stream = TcpStream>>(
     rt: &R,
     peer: Peer,
     port: Option<&str>,

@@ -11,7 +11,7 @@ pub struct Payload {
     /// What stands behind the name there.
     pub fields: &'static str,
     /// How many bytes it has.
-    pub length: usize,
+    pub length: u16,
     /// Whether its block 0 is a long one.
     pub is_long: bool,
 }
@@ -163,11 +163,19 @@ pub(crate) fn parcel_of(case: Case) -> Parcel {
     }
 }
 
+/// The byte of a file that stands before so many others.
+fn byte_before(left: u16) -> u8 {
+    let byte = (u32::from(left) * 7 + 26) % 256;
+    byte as u8
+}
+
 /// The bytes of a file of this length. The last one is 1A, with which blocks are padded too.
-pub fn content(alloc: Global, length: usize) -> Result<Vec<u8>, AllocError> {
+pub fn content(alloc: Global, length: u16) -> Result<Vec<u8>, AllocError> {
     let mut bytes = Vec::new(alloc);
-    for left in (0..length).rev() {
-        bytes.push(((left % 256) * 7 + 26) as u8)?;
+    let mut left = length;
+    while left > 0 {
+        left -= 1;
+        bytes.push(byte_before(left))?;
     }
     Ok(bytes)
 }

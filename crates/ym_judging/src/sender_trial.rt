@@ -43,7 +43,7 @@ struct SenderTrial {
 /// How many bytes the frame has with which these begin. Where none does, all of them.
 fn front_length(bytes: &[u8]) -> usize {
     match verdict(bytes) {
-        Ok((_, length)) => length,
+        Ok((_, length)) => length.min(bytes.len()),
         Err(_) => bytes.len(),
     }
 }

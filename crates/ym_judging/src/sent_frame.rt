@@ -11,7 +11,7 @@ use ym_judge::Act;
 pub(crate) fn counts_of(alloc: Global, files: &[Payload]) -> Result<Vec<u64>, AllocError> {
     let mut counts = Vec::new(alloc);
     for file in files {
-        counts.push(block_count(file.length as u64, Shape::Mixed))?;
+        counts.push(block_count(u64::from(file.length), Shape::Mixed))?;
     }
     Ok(counts)
 }
@@ -42,11 +42,11 @@ fn header_frame(alloc: Global, file: &Payload) -> Result<Vec<u8>, AllocError> {
 
 /// The frame of a file's data block, counted from 1. A block that it has not has none.
 fn block_frame(alloc: Global, file: &Payload, number: u8) -> Result<Vec<u8>, AllocError> {
-    let bytes = content(alloc, file.length)?;
     let place = u64::from(number);
-    if place == 0 || place > block_count(bytes.len() as u64, Shape::Mixed) {
+    if place == 0 || place > block_count(u64::from(file.length), Shape::Mixed) {
         return Ok(Vec::new(alloc));
     }
+    let bytes = content(alloc, file.length)?;
     let block = block_at(bytes.as_slice(), Shape::Mixed, place);
     frame_of(alloc, &Item::Block(block))
 }

@@ -31,7 +31,7 @@ fn peer_arg<'a>(alloc: Global) -> Arg<'a>
         alloc,
         "peer",
         "PEER",
-        "What the peer does: `sender` or `receiver`",
+        "What the peer is, `sender` or `receiver`",
     )
     .required(true)
 }
@@ -78,7 +78,7 @@ fn stored_arg<'a>(alloc: Global) -> Arg<'a>
         alloc,
         "stored",
         "DIR",
-        "The folder that a receiver stores in: its files are compared",
+        "The folder of a receiver, whose files are compared",
     )
     .long("stored")
 }
