@@ -1,5 +1,8 @@
 //! What a case has shown.
 
+ghost use Rattle.std.specs.Prelude.{◌≡◌, false};
+ghost use Rattle.ym_judging.specs.Steps.{IsFound, IsStep, evidence_of};
+
 use crate::payload::Payload;
 use ym_judge::{Case, Evidence, Notes, Tried};
 
@@ -24,7 +27,9 @@ pub struct Outcome {
 
 impl Outcome {
     /// Nobody was there.
-    pub fn unanswered() -> Outcome {
+    pub fn unanswered() -> Outcome
+        ensures { result.notes.answered ≡ false }
+    {
         Outcome {
             notes: Notes::new(),
             sent: &[],
@@ -37,7 +42,9 @@ impl Outcome {
     }
 
     /// The evidence of the case.
-    pub fn evidence(&self) -> Evidence {
+    pub fn evidence(&self) -> Evidence
+        ensures { result ≡ evidence_of self.now }
+    {
         Evidence {
             tried: self.notes.tried,
             answered: self.notes.answered,
@@ -49,7 +56,12 @@ impl Outcome {
     }
 
     /// What the report says of the case.
-    pub fn tried(&self, case: Case) -> Tried {
+    pub fn tried(&self, case: Case) -> Tried
+        ensures case { result.case ≡ case }
+        ensures step { IsStep self.now.notes.shown result }
+        ensures finished { result.finished ≡ self.now.is_finished }
+        ensures found { IsFound self.now result.finding }
+    {
         let shown = self.notes.shown;
         Tried {
             case,

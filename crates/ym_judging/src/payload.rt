@@ -1,5 +1,8 @@
 //! The files that are sent to a receiver.
 
+ghost use Rattle.std.specs.Prelude.{◌≡◌, IfOk};
+ghost use Rattle.ym_judging.specs.Contents.{byte_before, content_of, parcel_in};
+
 use std::alloc::{AllocError, Global};
 use ym_judge::{Case, Parcel};
 
@@ -156,7 +159,9 @@ pub fn files_of(parcel: Parcel) -> &'static [Payload] {
 }
 
 /// What is sent in a case.
-pub(crate) fn parcel_of(case: Case) -> Parcel {
+pub(crate) fn parcel_of(case: Case) -> Parcel
+    ensures { result ≡ parcel_in case }
+{
     match case {
         Case::Sends(parcel) => parcel,
         Case::Plain | Case::Frame(_, _) | Case::Answer(_, _) => Parcel::Usual,
@@ -164,13 +169,17 @@ pub(crate) fn parcel_of(case: Case) -> Parcel {
 }
 
 /// The byte of a file that stands before so many others.
-fn byte_before(left: u16) -> u8 {
+fn byte_before(left: u16) -> u8
+    ensures { result ≡ byte_before left }
+{
     let byte = (u32::from(left) * 7 + 26) % 256;
     byte as u8
 }
 
 /// The bytes of a file of this length. The last one is 1A, with which blocks are padded too.
-pub fn content(alloc: Global, length: u16) -> Result<Vec<u8>, AllocError> {
+pub fn content(alloc: Global, length: u16) -> Result<Vec<u8>, AllocError>
+    ensures { IfOk result (λ bytes. bytes.items ≡ content_of length) }
+{
     let mut bytes = Vec::new(alloc);
     let mut left = length;
     while left > 0 {

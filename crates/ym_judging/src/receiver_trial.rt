@@ -1,5 +1,12 @@
 //! A receiver that is tried: files are sent to it.
 
+ghost use Rattle.std.specs.Prelude.{◌≡◌, ◌++◌, ◌+◌, ℕ, List, IfOk, OnOk, Some};
+ghost use Rattle.ym_judge.specs.Acts.{answer_in};
+ghost use Rattle.ym_judge.specs.Noted.{no_notes};
+ghost use Rattle.ym_judging.specs.Manners.{twisted_as};
+ghost use Rattle.ym_judging.specs.Steps.{GoesOn, IsNoted, has_acknowledged};
+ghost use Rattle.ym_judging.specs.declared.receiver_trial.TheConstants.{MOST_TURNS};
+
 use crate::line::{ANSWER_MS, Ear, FIRST_MS, Line, STILL_MS};
 use crate::manner::{Manner, manner_of};
 use crate::outcome::Outcome;
@@ -45,7 +52,9 @@ struct ReceiverTrial<'a> {
 }
 
 /// Whether a receiver that did this has acknowledged.
-fn is_acknowledged(did: Act) -> bool {
+fn is_acknowledged(did: Act) -> bool
+    ensures { result ≡ has_acknowledged did }
+{
     match did {
         Act::Answer(Reply::Ack | Reply::AckStart) => true,
         Act::Answers(Reply::Ack | Reply::AckStart, _) => true,
@@ -61,7 +70,10 @@ fn is_behind_others(twist: Option<Twist>) -> bool {
 
 impl<'a> ReceiverTrial<'a> {
     /// Nothing was sent.
-    fn new(case: Case, files: &'static [Payload], counts: &'a [u64]) -> ReceiverTrial<'a> {
+    fn new(case: Case, files: &'static [Payload], counts: &'a [u64]) -> ReceiverTrial<'a>
+        ensures notes { result.notes ≡ no_notes }
+        ensures case { result.case ≡ case }
+    {
         ReceiverTrial {
             case,
             files,
@@ -110,7 +122,14 @@ impl<'a> ReceiverTrial<'a> {
     }
 
     /// What is written now.
-    fn turn(&mut self, alloc: Global) -> Result<Turn, AllocError> {
+    fn turn(&mut self, alloc: Global) -> Result<Turn, AllocError>
+        ensures notes { self.new.notes ≡ self.old.notes }
+        ensures case { self.new.case ≡ self.old.case }
+        ensures out { IfOk result (λ turn. (frame : List ℕ)
+            × (turn.out.items ≡ twisted_as turn.twist frame)) }
+        ensures twist { IfOk result (λ turn. (twist : Twist) → turn.twist ≡ Some twist →
+            (spot : Spot) × (self.old.case ≡ Case.Frame spot twist)) }
+    {
         let act = self.sender.asked();
         self.claims = self.claims.behind(act);
         if act == Act::Header {
@@ -133,14 +152,20 @@ impl<'a> ReceiverTrial<'a> {
     }
 
     /// What the reference answers to these bytes, which are delivered.
-    fn deliver(&mut self, bytes: &[u8]) -> Answers {
+    fn deliver(&mut self, bytes: &[u8]) -> Answers
+        ensures notes { self.new.notes ≡ self.old.notes }
+        ensures case { self.new.case ≡ self.old.case }
+    {
         let (twins, answers) = self.twins.hear(bytes);
         self.twins = twins;
         answers
     }
 
     /// What it answers to what came before the turn's last writing.
-    fn deliver_before(&mut self, turn: &Turn, heard: &Heard) -> Answers {
+    fn deliver_before(&mut self, turn: &Turn, heard: &Heard) -> Answers
+        ensures notes { self.new.notes ≡ self.old.notes }
+        ensures case { self.new.case ≡ self.old.case }
+    {
         match turn.manner {
             Manner::Again => self.deliver(turn.out.as_slice()),
             Manner::Late | Manner::LateStart if !heard.before.is_empty() => self.deliver(&[]),
@@ -149,7 +174,10 @@ impl<'a> ReceiverTrial<'a> {
     }
 
     /// Has the keen ones hear what is delivered.
-    fn deliver_keenly(&mut self, alloc: Global, turn: &Turn) -> Result<(), AllocError> {
+    fn deliver_keenly(&mut self, alloc: Global, turn: &Turn) -> Result<(), AllocError>
+        ensures notes { self.new.notes ≡ self.old.notes }
+        ensures case { self.new.case ≡ self.old.case }
+    {
         let bytes = if is_behind_others(turn.twist) {
             sent_frame(alloc, self.file(), turn.act)?
         } else {
@@ -160,7 +188,10 @@ impl<'a> ReceiverTrial<'a> {
     }
 
     /// Notes what it did where the reference answers so.
-    fn note(&mut self, first: Answers, second: Answers, said: &[u8], turn: &Turn, tenths: u64) {
+    fn note(&mut self, first: Answers, second: Answers, said: &[u8], turn: &Turn, tenths: u64)
+        ensures noted { GoesOn (answer_in said.now) self.old.notes self.new.notes }
+        ensures case { self.new.case ≡ self.old.case }
+    {
         let was_twice = self.fits.twice;
         self.fits = self.fits.behind(
             gave(first.twice, second.twice, said),
@@ -181,14 +212,20 @@ impl<'a> ReceiverTrial<'a> {
     }
 
     /// Takes what it acknowledged of an EOT that was delivered.
-    fn take_claim(&mut self, turn: &Turn, did: Act) {
+    fn take_claim(&mut self, turn: &Turn, did: Act)
+        ensures notes { self.new.notes ≡ self.old.notes }
+        ensures case { self.new.case ≡ self.old.case }
+    {
         if delivered(false, turn.out.as_slice()) == Act::Eot && is_acknowledged(did) {
             self.claims = self.claims.behind(Act::End);
         }
     }
 
     /// Has the sender hear what it answered.
-    fn answer(&mut self, turn: &Turn, heard: &Heard) {
+    fn answer(&mut self, turn: &Turn, heard: &Heard)
+        ensures notes { self.new.notes ≡ self.old.notes }
+        ensures case { self.new.case ≡ self.old.case }
+    {
         if turn.twist == Some(Twist::AnswerLost) {
             self.sender.hear(&[]);
         } else if heard.before.is_empty() || turn.manner != Manner::Again {
@@ -199,7 +236,11 @@ impl<'a> ReceiverTrial<'a> {
     }
 
     /// Takes what came in a turn.
-    fn take(&mut self, alloc: Global, turn: &Turn, heard: &Heard) -> Result<(), AllocError> {
+    fn take(&mut self, alloc: Global, turn: &Turn, heard: &Heard) -> Result<(), AllocError>
+        ensures noted { OnOk result (GoesOn (answer_in (heard.now.before.items ++ heard.now.bytes.items))
+            self.old.notes self.new.notes) }
+        ensures case { self.new.case ≡ self.old.case }
+    {
         let first = self.deliver_before(turn, heard);
         let second = self.deliver(turn.out.as_slice());
         self.deliver_keenly(alloc, turn)?;
@@ -216,7 +257,9 @@ impl<'a> ReceiverTrial<'a> {
     }
 
     /// Takes what came when the session was over.
-    fn take_rest(&mut self, said: &[u8], tenths: u64) {
+    fn take_rest(&mut self, said: &[u8], tenths: u64)
+        ensures noted { GoesOn (answer_in said.now) self.old.notes self.new.notes }
+    {
         self.notes = self.notes.behind(Passage {
             asked: Act::Nothing,
             did: answered(said),
@@ -227,7 +270,10 @@ impl<'a> ReceiverTrial<'a> {
     }
 
     /// What the case has shown.
-    fn outcome(&self, has_failed: bool) -> Outcome {
+    fn outcome(&self, has_failed: bool) -> Outcome
+        ensures notes { result.notes ≡ self.now.notes }
+        ensures failed { result.has_failed ≡ has_failed }
+    {
         Outcome {
             notes: self.notes,
             sent: self.files,
@@ -240,13 +286,32 @@ impl<'a> ReceiverTrial<'a> {
     }
 }
 
+/// Hears what comes when the session is over, and brings the peer back to rest.
+fn end_receiver<W: Wire>(
+    line: &mut Line<'_, W>,
+    trial: &mut ReceiverTrial<'_>,
+) -> Result<(), AllocError>
+    ensures { (most : ℕ) → IsNoted most trial.old.notes → IsNoted (most + 1) trial.new.notes }
+{
+    if trial.is_over() && !line.is_closed {
+        let (said, tenths) = line.listen(STILL_MS)?;
+        trial.take_rest(said.as_slice(), tenths);
+    }
+    if !trial.sender.has_finished() {
+        line.write(&[CAN, CAN, CAN]);
+    }
+    Ok(())
+}
+
 /// Plays a case to the receiver on this line. Its files are in the outcome: whether they are stored
 /// as they were sent is not known here.
 pub fn try_receiver<W: Wire>(
     alloc: Global,
     wire: &mut W,
     case: Case,
-) -> Result<Outcome, AllocError> {
+) -> Result<Outcome, AllocError>
+    ensures { IfOk result (λ outcome. IsNoted (MOST_TURNS + 1) outcome.notes) }
+{
     let files = files_of(parcel_of(case));
     let counts = counts_of(alloc, files)?;
     let mut line = Line::new(alloc, wire, Ear::Answers);
@@ -263,19 +328,4 @@ pub fn try_receiver<W: Wire>(
     }
     end_receiver(&mut line, &mut trial)?;
     Ok(trial.outcome(line.has_failed))
-}
-
-/// Hears what comes when the session is over, and brings the peer back to rest.
-fn end_receiver<W: Wire>(
-    line: &mut Line<'_, W>,
-    trial: &mut ReceiverTrial<'_>,
-) -> Result<(), AllocError> {
-    if trial.is_over() && !line.is_closed {
-        let (said, tenths) = line.listen(STILL_MS)?;
-        trial.take_rest(said.as_slice(), tenths);
-    }
-    if !trial.sender.has_finished() {
-        line.write(&[CAN, CAN, CAN]);
-    }
-    Ok(())
 }

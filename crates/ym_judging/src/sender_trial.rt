@@ -1,5 +1,11 @@
 //! A sender that is tried: what it sends is received.
 
+ghost use Rattle.std.specs.Prelude.{◌≡◌, ◌≤◌, ◌+◌, ◌*◌, ℕ, List, IfOk, OnOk, Some, length};
+ghost use Rattle.ym_judge.specs.Noted.{no_notes};
+ghost use Rattle.ym_judging.specs.Manners.{twisted_as};
+ghost use Rattle.ym_judging.specs.Steps.{GoesOn, IsNoted};
+ghost use Rattle.ym_judging.specs.declared.sender_trial.TheConstants.{MOST_TURNS};
+
 use crate::line::{ANSWER_MS, Ear, FIRST_MS, Line, STILL_MS};
 use crate::manner::{Manner, manner_of};
 use crate::outcome::Outcome;
@@ -41,7 +47,9 @@ struct SenderTrial {
 }
 
 /// How many bytes the frame has with which these begin. Where none does, all of them.
-fn front_length(bytes: &[u8]) -> usize {
+fn front_length(bytes: &[u8]) -> usize
+    ensures { result ≤ length bytes.now }
+{
     match verdict(bytes) {
         Ok((_, length)) => length.min(bytes.len()),
         Err(_) => bytes.len(),
@@ -61,7 +69,10 @@ fn is_exact(alloc: Global, store: &Receiver) -> Result<bool, AllocError> {
 
 impl SenderTrial {
     /// Nothing was received: it is asked for a file.
-    fn new(alloc: Global, case: Case) -> SenderTrial {
+    fn new(alloc: Global, case: Case) -> SenderTrial
+        ensures notes { result.notes ≡ no_notes }
+        ensures case { result.case ≡ case }
+    {
         SenderTrial {
             alloc,
             case,
@@ -116,7 +127,10 @@ impl SenderTrial {
     }
 
     /// Has the senders of the reference hear this.
-    fn hear(&mut self, bytes: &[u8]) {
+    fn hear(&mut self, bytes: &[u8])
+        ensures notes { self.new.notes ≡ self.old.notes }
+        ensures case { self.new.case ≡ self.old.case }
+    {
         self.long.hear(bytes);
         self.short.hear(bytes);
     }
@@ -143,7 +157,10 @@ impl SenderTrial {
     }
 
     /// Notes what it did, where the reference does this.
-    fn note(&mut self, asked: Act, did: Act, tenths: u64, here: bool) {
+    fn note(&mut self, asked: Act, did: Act, tenths: u64, here: bool)
+        ensures noted { GoesOn did self.old.notes self.new.notes }
+        ensures case { self.new.case ≡ self.old.case }
+    {
         self.notes = self.notes.behind(Passage {
             asked,
             did,
@@ -163,7 +180,10 @@ impl SenderTrial {
     }
 
     /// Takes what it sent as a receiver hears it, and what that answers.
-    fn receive(&mut self, bytes: &[u8]) -> Result<(), AllocError> {
+    fn receive(&mut self, bytes: &[u8]) -> Result<(), AllocError>
+        ensures notes { self.new.notes ≡ self.old.notes }
+        ensures case { self.new.case ≡ self.old.case }
+    {
         let (twins, answers) = self.twins.hear(bytes);
         self.store.hear(&ym_core::heard(bytes))?;
         self.twins = twins;
@@ -172,7 +192,10 @@ impl SenderTrial {
     }
 
     /// Takes where the session is behind this act.
-    fn go_on(&mut self, did: Act) {
+    fn go_on(&mut self, did: Act)
+        ensures notes { self.new.notes ≡ self.old.notes }
+        ensures case { self.new.case ≡ self.old.case }
+    {
         self.claims = self.claims.behind(did);
         if did == Act::Header {
             self.eots = 0;
@@ -207,7 +230,10 @@ impl SenderTrial {
     }
 
     /// What the case has shown.
-    fn outcome(&self, has_failed: bool) -> Result<Outcome, AllocError> {
+    fn outcome(&self, has_failed: bool) -> Result<Outcome, AllocError>
+        ensures { IfOk result (λ outcome. (outcome.notes ≡ self.now.notes)
+            × (outcome.has_failed ≡ has_failed)) }
+    {
         let is_exact = is_exact(self.alloc, &self.store)?;
         Ok(Outcome {
             notes: self.notes,
@@ -219,6 +245,21 @@ impl SenderTrial {
             has_failed,
         })
     }
+}
+
+/// Hears what comes when the session is over, and brings the peer back to rest.
+fn end_sender<W: Wire>(
+    line: &mut Line<'_, W>,
+    trial: &mut SenderTrial,
+) -> Result<(), AllocError> {
+    if trial.is_over() && !line.is_closed {
+        let (said, tenths) = line.listen(STILL_MS)?;
+        trial.note(Act::Nothing, delivered(false, said.as_slice()), tenths, false);
+    }
+    if !trial.is_finished() {
+        line.write(&[CAN, CAN, CAN]);
+    }
+    Ok(())
 }
 
 /// Plays a case to the sender on this line, which is to send the file that `seq 302` prints.
@@ -238,19 +279,4 @@ pub fn try_sender<W: Wire>(alloc: Global, wire: &mut W, case: Case) -> Result<Ou
     }
     end_sender(&mut line, &mut trial)?;
     trial.outcome(line.has_failed)
-}
-
-/// Hears what comes when the session is over, and brings the peer back to rest.
-fn end_sender<W: Wire>(
-    line: &mut Line<'_, W>,
-    trial: &mut SenderTrial,
-) -> Result<(), AllocError> {
-    if trial.is_over() && !line.is_closed {
-        let (said, tenths) = line.listen(STILL_MS)?;
-        trial.note(Act::Nothing, delivered(false, said.as_slice()), tenths, false);
-    }
-    if !trial.is_finished() {
-        line.write(&[CAN, CAN, CAN]);
-    }
-    Ok(())
 }

@@ -1,10 +1,16 @@
 //! What becomes of what is written at a place of a case.
 
+ghost use Rattle.std.specs.Prelude.{◌≡◌, IfOk, IfSome, Some};
+ghost use Rattle.ym_judging.specs.Manners.{is_everywhere, twisted_as};
+
 use std::alloc::{AllocError, Global};
 use ym_judge::{Case, Spot, Twist, carried};
 
 /// What becomes of a frame at this place of a session, where the case has it so.
-pub(crate) fn frame_twist(case: Case, spot: Option<Spot>) -> Option<Twist> {
+pub(crate) fn frame_twist(case: Case, spot: Option<Spot>) -> Option<Twist>
+    ensures { IfSome result (λ twist. (there : Spot) × (spot ≡ Some there)
+        × (case ≡ Case.Frame there twist)) }
+{
     match (case, spot) {
         (Case::Frame(there, twist), Some(here)) if there == here => Some(twist),
         _ => None,
@@ -12,7 +18,10 @@ pub(crate) fn frame_twist(case: Case, spot: Option<Spot>) -> Option<Twist> {
 }
 
 /// What becomes of the answer to what was sent there.
-pub(crate) fn answer_twist(case: Case, spot: Option<Spot>) -> Option<Twist> {
+pub(crate) fn answer_twist(case: Case, spot: Option<Spot>) -> Option<Twist>
+    ensures { IfSome result (λ twist. (there : Spot) × (spot ≡ Some there)
+        × (case ≡ Case.Answer there twist)) }
+{
     match (case, spot) {
         (Case::Answer(there, twist), Some(here)) if there == here => Some(twist),
         _ => None,
@@ -20,7 +29,9 @@ pub(crate) fn answer_twist(case: Case, spot: Option<Spot>) -> Option<Twist> {
 }
 
 /// Whether each step is one of the case.
-pub(crate) fn is_everywhere(case: Case) -> bool {
+pub(crate) fn is_everywhere(case: Case) -> bool
+    ensures { result ≡ is_everywhere case }
+{
     matches!(case, Case::Plain | Case::Sends(_))
 }
 
@@ -29,7 +40,9 @@ pub(crate) fn twisted(
     alloc: Global,
     twist: Option<Twist>,
     bytes: Vec<u8>,
-) -> Result<Vec<u8>, AllocError> {
+) -> Result<Vec<u8>, AllocError>
+    ensures { IfOk result (λ out. out.items ≡ twisted_as twist bytes.entry.items) }
+{
     match twist {
         Some(twist) => carried(alloc, twist, bytes.as_slice()),
         None => Ok(bytes),
