@@ -193,17 +193,7 @@ where
 {
     let mut report = Report::new(alloc);
     for case in cases {
-        try_case(
-            rt,
-            alloc,
-            access,
-            order,
-            peer,
-            *case,
-            &mut report,
-            out,
-            err,
-        )?;
+        try_case(rt, alloc, access, order, peer, *case, &mut report, out, err)?;
     }
     if !order.json {
         print_end(out, &report)?;

@@ -1,1 +1,2 @@
 mod ContentLemmas
+mod StepLemmas

@@ -1,5 +1,5 @@
 -- What a report rests on: the steps that a session had, in order.
-use Rattle.std.specs.Prelude.{◌≡◌, ◌≤◌, ℕ, Bool, true, false, List, [], ◌∷◌, length}
+use Rattle.std.specs.Prelude.{◌≡◌, ◌≤◌, ◌+◌, ℕ, Bool, true, false, List, [], ◌∷◌, length}
 use Rattle.ym_frame.specs.declared.control.Reply.{Reply}
 use Rattle.ym_frame.specs.declared.control.Reply.TheVariants.{Silence, Start, Ack, AckStart, Nak, Cancel}
 use Rattle.ym_judge.specs.Noted.{no_notes, notes_behind}
@@ -24,6 +24,10 @@ pub record IsNoted (most : ℕ) (notes : Notes) : Type 0 where
   pub steps : List Passage
   pub few : length steps ≤ most
   pub are : notes ≡ notes_of steps
+
+-- so many steps more, at most
+abbrev pub GrowsBy : ℕ → Notes → Notes → Type 0
+GrowsBy count old new = (most : ℕ) → IsNoted most old → IsNoted (most + count) new
 
 -- one step more, at which the peer did this
 pub record GoesOn (did : Act) (old new : Notes) : Type 0 where

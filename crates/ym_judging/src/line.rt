@@ -165,6 +165,7 @@ impl<'w, W: Wire> Line<'w, W> {
             }
             Manner::Late => Ok(self.listen(LATE_MS)?.0),
             Manner::LateStart => self.linger(),
+            Manner::WhenAsked => Ok(self.listen(FIRST_MS)?.0),
         }
     }
 

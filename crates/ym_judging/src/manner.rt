@@ -13,6 +13,8 @@ pub(crate) enum Manner {
     Late,
     /// After a pause, whatever the peer says.
     LateStart,
+    /// When the peer has asked for something.
+    WhenAsked,
 }
 
 /// The manner in which this becomes of what is written there.
@@ -21,6 +23,7 @@ pub(crate) fn manner_of(spot: Option<Spot>, twist: Option<Twist>) -> Manner {
         (Some(Twist::Doubled), _) => Manner::Again,
         (Some(Twist::Late), Some(Spot::Start)) => Manner::LateStart,
         (Some(Twist::Late), _) => Manner::Late,
+        (Some(Twist::Cancel), Some(Spot::Start)) => Manner::WhenAsked,
         _ => Manner::Once,
     }
 }

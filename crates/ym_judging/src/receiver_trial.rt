@@ -4,7 +4,7 @@ ghost use Rattle.std.specs.Prelude.{◌≡◌, ◌++◌, ◌+◌, ℕ, List, IfO
 ghost use Rattle.ym_judge.specs.Acts.{answer_in};
 ghost use Rattle.ym_judge.specs.Noted.{no_notes};
 ghost use Rattle.ym_judging.specs.Manners.{twisted_as};
-ghost use Rattle.ym_judging.specs.Steps.{GoesOn, IsNoted, has_acknowledged};
+ghost use Rattle.ym_judging.specs.Steps.{GoesOn, GrowsBy, IsNoted, has_acknowledged};
 ghost use Rattle.ym_judging.specs.declared.receiver_trial.TheConstants.{MOST_TURNS};
 
 use crate::line::{ANSWER_MS, Ear, FIRST_MS, Line, STILL_MS};
@@ -168,8 +168,14 @@ impl<'a> ReceiverTrial<'a> {
     {
         match turn.manner {
             Manner::Again => self.deliver(turn.out.as_slice()),
-            Manner::Late | Manner::LateStart if !heard.before.is_empty() => self.deliver(&[]),
-            _ => NO_ANSWERS,
+            Manner::Once => NO_ANSWERS,
+            Manner::Late | Manner::LateStart | Manner::WhenAsked => {
+                if heard.before.is_empty() {
+                    NO_ANSWERS
+                } else {
+                    self.deliver(&[])
+                }
+            }
         }
     }
 
@@ -260,9 +266,10 @@ impl<'a> ReceiverTrial<'a> {
     fn take_rest(&mut self, said: &[u8], tenths: u64)
         ensures noted { GoesOn (answer_in said.now) self.old.notes self.new.notes }
     {
+        let did = answered(said);
         self.notes = self.notes.behind(Passage {
             asked: Act::Nothing,
-            did: answered(said),
+            did,
             tenths,
             fits: said.is_empty(),
             here: false,
@@ -291,7 +298,7 @@ fn end_receiver<W: Wire>(
     line: &mut Line<'_, W>,
     trial: &mut ReceiverTrial<'_>,
 ) -> Result<(), AllocError>
-    ensures { (most : ℕ) → IsNoted most trial.old.notes → IsNoted (most + 1) trial.new.notes }
+    ensures { GrowsBy 1 trial.old.notes trial.new.notes }
 {
     if trial.is_over() && !line.is_closed {
         let (said, tenths) = line.listen(STILL_MS)?;
@@ -305,11 +312,7 @@ fn end_receiver<W: Wire>(
 
 /// Plays a case to the receiver on this line. Its files are in the outcome: whether they are stored
 /// as they were sent is not known here.
-pub fn try_receiver<W: Wire>(
-    alloc: Global,
-    wire: &mut W,
-    case: Case,
-) -> Result<Outcome, AllocError>
+pub fn try_receiver<W: Wire>(alloc: Global, wire: &mut W, case: Case) -> Result<Outcome, AllocError>
     ensures { IfOk result (λ outcome. IsNoted (MOST_TURNS + 1) outcome.notes) }
 {
     let files = files_of(parcel_of(case));

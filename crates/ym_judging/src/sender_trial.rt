@@ -1,9 +1,9 @@
 //! A sender that is tried: what it sends is received.
 
-ghost use Rattle.std.specs.Prelude.{◌≡◌, ◌≤◌, ◌+◌, ◌*◌, ℕ, List, IfOk, OnOk, Some, length};
+ghost use Rattle.std.specs.Prelude.{◌≡◌, ◌≤◌, ◌+◌, ◌*◌, ℕ, List, IfOk, IfSome, Some, length};
 ghost use Rattle.ym_judge.specs.Noted.{no_notes};
 ghost use Rattle.ym_judging.specs.Manners.{twisted_as};
-ghost use Rattle.ym_judging.specs.Steps.{GoesOn, IsNoted};
+ghost use Rattle.ym_judging.specs.Steps.{GoesOn, GrowsBy, IsNoted};
 ghost use Rattle.ym_judging.specs.declared.sender_trial.TheConstants.{MOST_TURNS};
 
 use crate::line::{ANSWER_MS, Ear, FIRST_MS, Line, STILL_MS};
@@ -15,7 +15,9 @@ use crate::usual::{LONG_COUNTS, SHORT_COUNTS, usual};
 use std::alloc::{AllocError, Global};
 use ym_core::Heard as Delivery;
 use ym_frame::{CAN, Reply, SOH, verdict};
-use ym_judge::{Act, Case, Claims, Notes, Passage, SenderTwin, Spot, Twins, Twist, delivered, spot_of};
+use ym_judge::{
+    Act, Case, Claims, Notes, Passage, SenderTwin, Spot, Twins, Twist, delivered, spot_of,
+};
 use ym_link::Receiver;
 use ym_port::Wire;
 
@@ -43,6 +45,8 @@ struct SenderTrial {
     spot: Option<Spot>,
     eots: u8,
     is_used: bool,
+    /// The first EOT of a file is acknowledged from now on.
+    is_single: bool,
     notes: Notes,
 }
 
@@ -53,6 +57,14 @@ fn front_length(bytes: &[u8]) -> usize
     match verdict(bytes) {
         Ok((_, length)) => length.min(bytes.len()),
         Err(_) => bytes.len(),
+    }
+}
+
+/// The manner in which an answer is written: a second one goes out with the first.
+fn answer_manner(manner: Manner) -> Manner {
+    match manner {
+        Manner::Late | Manner::LateStart => manner,
+        Manner::Once | Manner::Again | Manner::WhenAsked => Manner::Once,
     }
 }
 
@@ -86,13 +98,18 @@ impl SenderTrial {
             spot: Some(Spot::Start),
             eots: 0,
             is_used: false,
+            is_single: false,
             notes: Notes::new(),
         }
     }
 
     /// The sender of the reference that is like the peer.
     fn twin(&self) -> &SenderTwin<'static> {
-        if self.is_short { &self.short } else { &self.long }
+        if self.is_short {
+            &self.short
+        } else {
+            &self.long
+        }
     }
 
     /// Whether the session has ended.
@@ -107,7 +124,9 @@ impl SenderTrial {
     }
 
     /// What becomes of the answer that is due.
-    fn twist(&self) -> Option<Twist> {
+    fn twist(&self) -> Option<Twist>
+        ensures { IfSome result (λ twist. (spot : Spot) × (self.now.case ≡ Case.Answer spot twist)) }
+    {
         if self.is_used {
             None
         } else {
@@ -136,7 +155,10 @@ impl SenderTrial {
     }
 
     /// What is written now.
-    fn turn(&mut self) -> Result<Turn, AllocError> {
+    fn turn(&self) -> Result<Turn, AllocError>
+        ensures { IfOk result (λ turn. (twist : Twist) → turn.twist ≡ Some twist →
+            (spot : Spot) × (self.now.case ≡ Case.Answer spot twist)) }
+    {
         let twist = self.twist();
         let manner = manner_of(self.spot, twist);
         let answer = Vec::from_slice(self.alloc, self.reply.as_bytes())?;
@@ -148,11 +170,7 @@ impl SenderTrial {
             act: Act::Answer(self.reply),
             twist,
             out,
-            manner: if manner == Manner::Again {
-                Manner::Once
-            } else {
-                manner
-            },
+            manner: answer_manner(manner),
         })
     }
 
@@ -171,7 +189,10 @@ impl SenderTrial {
     }
 
     /// Takes what came in a pause.
-    fn take_before(&mut self, before: &[u8]) {
+    fn take_before(&mut self, before: &[u8])
+        ensures noted { GrowsBy 1 self.old.notes self.new.notes }
+        ensures case { self.new.case ≡ self.old.case }
+    {
         if !before.is_empty() {
             self.hear(&[]);
             let asked = self.twin().asked();
@@ -187,7 +208,11 @@ impl SenderTrial {
         let (twins, answers) = self.twins.hear(bytes);
         self.store.hear(&ym_core::heard(bytes))?;
         self.twins = twins;
-        self.reply = answers.twice;
+        self.reply = if self.is_single {
+            answers.once
+        } else {
+            answers.twice
+        };
         Ok(())
     }
 
@@ -206,22 +231,42 @@ impl SenderTrial {
         }
     }
 
-    /// Takes what came in a turn.
-    fn take(&mut self, turn: &Turn, heard: &Heard) -> Result<(), AllocError> {
-        let bytes = heard.bytes.as_slice();
+    /// Takes the frame that came.
+    fn take_frame(&mut self, turn: &Turn, bytes: &[u8], tenths: u64)
+        ensures noted { GrowsBy 1 self.old.notes self.new.notes }
+        ensures case { self.new.case ≡ self.old.case }
+    {
         let did = delivered(false, bytes);
         if did == Act::Block(1) {
             self.is_short = bytes.first() == Some(&SOH);
         }
         let asked = self.twin().asked();
         let here = turn.twist.is_some() || is_everywhere(self.case);
-        self.note(asked, did, heard.tenths, here);
-        let rest = &bytes[front_length(bytes)..];
-        if !rest.is_empty() && did != Act::Cancel {
-            self.note(Act::Nothing, delivered(false, rest), heard.tenths, false);
-        }
+        self.note(asked, did, tenths, here);
         self.is_used = self.is_used || turn.twist.is_some();
-        self.go_on(did);
+        self.is_single = self.is_single || turn.twist == Some(Twist::Taken);
+    }
+
+    /// Takes what came behind the frame, where the reference waits for an answer.
+    fn take_behind(&mut self, bytes: &[u8], tenths: u64)
+        ensures noted { GrowsBy 1 self.old.notes self.new.notes }
+        ensures case { self.new.case ≡ self.old.case }
+    {
+        let rest = &bytes[front_length(bytes)..];
+        if !rest.is_empty() && delivered(false, bytes) != Act::Cancel {
+            self.note(Act::Nothing, delivered(false, rest), tenths, false);
+        }
+    }
+
+    /// Takes what came in a turn.
+    fn take(&mut self, turn: &Turn, heard: &Heard) -> Result<(), AllocError>
+        ensures noted { GrowsBy 2 self.old.notes self.new.notes }
+        ensures case { self.new.case ≡ self.old.case }
+    {
+        let bytes = heard.bytes.as_slice();
+        self.take_frame(turn, bytes, heard.tenths);
+        self.take_behind(bytes, heard.tenths);
+        self.go_on(delivered(false, bytes));
         if self.twist() == Some(Twist::Unheard) {
             self.receive(&[])
         } else {
@@ -248,13 +293,17 @@ impl SenderTrial {
 }
 
 /// Hears what comes when the session is over, and brings the peer back to rest.
-fn end_sender<W: Wire>(
-    line: &mut Line<'_, W>,
-    trial: &mut SenderTrial,
-) -> Result<(), AllocError> {
+fn end_sender<W: Wire>(line: &mut Line<'_, W>, trial: &mut SenderTrial) -> Result<(), AllocError>
+    ensures { GrowsBy 1 trial.old.notes trial.new.notes }
+{
     if trial.is_over() && !line.is_closed {
         let (said, tenths) = line.listen(STILL_MS)?;
-        trial.note(Act::Nothing, delivered(false, said.as_slice()), tenths, false);
+        trial.note(
+            Act::Nothing,
+            delivered(false, said.as_slice()),
+            tenths,
+            false,
+        );
     }
     if !trial.is_finished() {
         line.write(&[CAN, CAN, CAN]);
@@ -263,7 +312,9 @@ fn end_sender<W: Wire>(
 }
 
 /// Plays a case to the sender on this line, which is to send the file that `seq 302` prints.
-pub fn try_sender<W: Wire>(alloc: Global, wire: &mut W, case: Case) -> Result<Outcome, AllocError> {
+pub fn try_sender<W: Wire>(alloc: Global, wire: &mut W, case: Case) -> Result<Outcome, AllocError>
+    ensures { IfOk result (λ outcome. IsNoted (MOST_TURNS * 3 + 1) outcome.notes) }
+{
     let mut line = Line::new(alloc, wire, Ear::Frames);
     let mut trial = SenderTrial::new(alloc, case);
     for _ in 0..MOST_TURNS {

@@ -40,14 +40,9 @@ fn peer_arg<'a>(alloc: Global) -> Arg<'a>
 fn any_port_arg<'a>(alloc: Global) -> Arg<'a>
     ensures { HasRule result any_port_rule }
 {
-    value_arg(
-        alloc,
-        "port",
-        "P",
-        "The port on 127.0.0.1, from 1 to 65535",
-    )
-    .short('p')
-    .long("port")
+    value_arg(alloc, "port", "P", "The port on 127.0.0.1, from 1 to 65535")
+        .short('p')
+        .long("port")
 }
 
 /// The line, which may be left out.
