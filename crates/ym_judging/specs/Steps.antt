@@ -1,5 +1,5 @@
 -- What a report rests on: the steps that a session had, in order.
-use Rattle.std.specs.Prelude.{◌≡◌, ◌≤◌, ◌+◌, ℕ, Bool, true, false, List, [], ◌∷◌, length}
+use Rattle.std.specs.Prelude.{◌≡◌, ◌≤◌, ◌+◌, ℕ, Bool, true, false, List, [], ◌∷◌, ◌||◌, length}
 use Rattle.ym_frame.specs.declared.control.Reply.{Reply}
 use Rattle.ym_frame.specs.declared.control.Reply.TheVariants.{Silence, Start, Ack, AckStart, Nak, Cancel}
 use Rattle.ym_judge.specs.Noted.{no_notes, notes_behind}
@@ -63,7 +63,7 @@ has_acknowledged (act.Answers first second) = either (is_ack first) (is_ack seco
 abbrev pub evidence_of : Outcome → Evidence
 evidence_of it = record {
   tried = it.notes.tried;
-  answered = it.notes.answered;
+  answered = it.notes.answered || it.is_mute;
   fits = it.notes.fits;
   told = it.told;
   held = it.held;

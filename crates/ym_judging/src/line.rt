@@ -8,7 +8,7 @@ use ym_link::{Got, PortFault};
 use ym_port::Wire;
 
 /// How many milliseconds an answer is waited for, the first one, and one that is not to come.
-pub(crate) const ANSWER_MS: u64 = 12_000;
+pub(crate) const ANSWER_MS: u64 = 20_000;
 
 pub(crate) const FIRST_MS: u64 = 30_000;
 
@@ -21,7 +21,7 @@ const SETTLE_MS: u64 = 300;
 const LATE_MS: u64 = 4_000;
 
 /// How many milliseconds a case takes before it is ended.
-const CASE_MS: u64 = 60_000;
+const CASE_MS: u64 = 90_000;
 
 /// How many bytes and how many pieces are taken at once.
 const MOST_BYTES: usize = 8192;

@@ -19,6 +19,8 @@ pub struct Outcome {
     pub held: usize,
     /// Each file that is stored is the one that was sent.
     pub is_exact: bool,
+    /// Who is there and does what the reference does says nothing in this case.
+    pub is_mute: bool,
     /// The session came to the end that it has with the reference.
     pub is_finished: bool,
     /// The line failed.
@@ -36,6 +38,7 @@ impl Outcome {
             told: 0,
             held: 0,
             is_exact: true,
+            is_mute: false,
             is_finished: false,
             has_failed: false,
         }
@@ -47,7 +50,7 @@ impl Outcome {
     {
         Evidence {
             tried: self.notes.tried,
-            answered: self.notes.answered,
+            answered: self.notes.answered || self.is_mute,
             fits: self.notes.fits,
             told: self.told,
             held: self.held,

@@ -287,6 +287,7 @@ impl<'a> ReceiverTrial<'a> {
             told: self.claims.told,
             held: self.twins.held().max(self.keen.held()),
             is_exact: true,
+            is_mute: false,
             is_finished: self.is_finished(),
             has_failed,
         }

@@ -286,6 +286,7 @@ impl SenderTrial {
             told: self.claims.told,
             held: self.twins.held(),
             is_exact,
+            is_mute: self.case == Case::Answer(Spot::Start, Twist::Cancel),
             is_finished: self.is_finished(),
             has_failed,
         })
