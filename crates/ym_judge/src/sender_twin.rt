@@ -74,13 +74,6 @@ impl<'a> SenderTwin<'a> {
         asked_of_sender(self.standing)
     }
 
-    /// Whether its batch has ended: its end block was acknowledged.
-    pub fn has_finished(&self) -> bool
-        ensures { (result ≡ true) ↔ (self.now.standing.state ≡ SendState.Finished) }
-    {
-        self.standing.state == SendState::Finished
-    }
-
     /// Whether it has ended.
     pub fn has_ended(&self) -> bool
         ensures { (result ≡ true) ↔ HasEnded self.now.standing }

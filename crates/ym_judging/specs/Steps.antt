@@ -59,6 +59,26 @@ has_acknowledged act.Noise = false
 has_acknowledged (act.Answer reply) = is_ack reply
 has_acknowledged (act.Answers first second) = either (is_ack first) (is_ack second)
 
+-- a reply that cancels
+abbrev pub is_cancel : Reply → Bool
+is_cancel Silence = false
+is_cancel Start = false
+is_cancel Ack = false
+is_cancel AckStart = false
+is_cancel Nak = false
+is_cancel Cancel = true
+
+abbrev pub has_cancelled : Act → Bool
+has_cancelled act.Nothing = false
+has_cancelled act.Header = false
+has_cancelled (act.Block number) = false
+has_cancelled act.Eot = false
+has_cancelled act.End = false
+has_cancelled act.Cancel = false
+has_cancelled act.Noise = false
+has_cancelled (act.Answer reply) = is_cancel reply
+has_cancelled (act.Answers first second) = either (is_cancel first) (is_cancel second)
+
 -- the evidence of an outcome
 abbrev pub evidence_of : Outcome → Evidence
 evidence_of it = record {

@@ -28,6 +28,9 @@ const MOST_BYTES: usize = 8192;
 
 const MOST_READS: u32 = 10_000;
 
+/// The answer that C may come behind.
+const ACK: u8 = 0x06;
+
 /// How many bytes a read takes.
 const PIECE: usize = 2048;
 
@@ -176,12 +179,23 @@ impl<'w, W: Wire> Line<'w, W> {
         before: Vec<u8>,
         millis: u64,
     ) -> Result<Heard, AllocError> {
+        let is_gone = self.is_closed;
         self.write(turn.out.as_slice());
         let (bytes, tenths) = self.listen(millis)?;
         Ok(Heard {
             before,
             bytes,
             tenths,
+            is_gone,
         })
+    }
+
+    /// Takes what comes behind an ACK that stands alone, where C is to come.
+    pub(crate) fn wait_for_start(&mut self, heard: &mut Heard) -> Result<(), AllocError> {
+        if heard.bytes.as_slice() == [ACK] && !self.is_closed {
+            let (rest, _) = self.listen(STILL_MS)?;
+            heard.bytes.extend_from_slice(rest.as_slice())?;
+        }
+        Ok(())
     }
 }

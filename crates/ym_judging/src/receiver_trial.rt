@@ -4,7 +4,7 @@ ghost use Rattle.std.specs.Prelude.{◌≡◌, ◌++◌, ◌+◌, ℕ, List, IfO
 ghost use Rattle.ym_judge.specs.Acts.{answer_in};
 ghost use Rattle.ym_judge.specs.Noted.{no_notes};
 ghost use Rattle.ym_judging.specs.Manners.{twisted_as};
-ghost use Rattle.ym_judging.specs.Steps.{GoesOn, GrowsBy, IsNoted, has_acknowledged};
+ghost use Rattle.ym_judging.specs.Steps.{GoesOn, GrowsBy, IsNoted, has_acknowledged, has_cancelled};
 ghost use Rattle.ym_judging.specs.declared.receiver_trial.TheConstants.{MOST_TURNS};
 
 use crate::line::{ANSWER_MS, Ear, FIRST_MS, Line, STILL_MS};
@@ -15,6 +15,7 @@ use crate::sent_frame::{counts_of, sent_frame};
 use crate::turn::{Heard, Turn};
 use crate::twisted::{frame_twist, is_everywhere, twisted};
 use std::alloc::{AllocError, Global};
+use ym_core::RecvState;
 use ym_frame::{CAN, Reply};
 use ym_judge::{
     Act, Answers, Case, Claims, Fits, Notes, Passage, SenderTwin, Spot, Twins, Twist, answered,
@@ -48,6 +49,8 @@ struct ReceiverTrial<'a> {
     eots: u8,
     /// The turn of the case is over.
     is_used: bool,
+    /// The peer has cancelled.
+    is_cancelled: bool,
     notes: Notes,
 }
 
@@ -59,6 +62,18 @@ fn is_acknowledged(did: Act) -> bool
         Act::Answer(Reply::Ack | Reply::AckStart) => true,
         Act::Answers(Reply::Ack | Reply::AckStart, _) => true,
         Act::Answers(_, Reply::Ack | Reply::AckStart) => true,
+        _ => false,
+    }
+}
+
+/// Whether a receiver that did this has cancelled.
+fn has_cancelled(did: Act) -> bool
+    ensures { result ≡ has_cancelled did }
+{
+    match did {
+        Act::Answer(Reply::Cancel) => true,
+        Act::Answers(Reply::Cancel, _) => true,
+        Act::Answers(_, Reply::Cancel) => true,
         _ => false,
     }
 }
@@ -87,6 +102,7 @@ impl<'a> ReceiverTrial<'a> {
             claims: Claims::new(),
             eots: 0,
             is_used: false,
+            is_cancelled: false,
             notes: Notes::new(),
         }
     }
@@ -96,9 +112,14 @@ impl<'a> ReceiverTrial<'a> {
         self.sender.has_ended() || self.twins.has_stopped()
     }
 
+    /// Whether the peer has heard the end of the batch: its answer ended the sender.
+    fn has_finished(&self) -> bool {
+        self.sender.has_ended() && self.sender.asked() != Act::Cancel && !self.is_cancelled
+    }
+
     /// Whether it has ended as it does with the reference.
     fn is_finished(&self) -> bool {
-        self.sender.has_finished() || self.twins.has_stopped()
+        self.has_finished() || self.twins.has_stopped()
     }
 
     /// The file that is being sent.
@@ -179,6 +200,24 @@ impl<'a> ReceiverTrial<'a> {
         }
     }
 
+    /// What it answers to the turn's last writing. One that has heard the end of the batch may go.
+    fn deliver_last(&mut self, turn: &Turn, heard: &Heard) -> Answers
+        ensures notes { self.new.notes ≡ self.old.notes }
+        ensures case { self.new.case ≡ self.old.case }
+    {
+        if heard.is_gone && self.twins.twice.state() == RecvState::Finished {
+            NO_ANSWERS
+        } else {
+            self.deliver(turn.out.as_slice())
+        }
+    }
+
+    /// Whether the reference answers these bytes with ACK C.
+    fn wants_start(&self, out: &[u8]) -> bool {
+        let (_, answers) = self.twins.hear(out);
+        answers.twice == Reply::AckStart || answers.once == Reply::AckStart
+    }
+
     /// Has the keen ones hear what is delivered.
     fn deliver_keenly(&mut self, alloc: Global, turn: &Turn) -> Result<(), AllocError>
         ensures notes { self.new.notes ≡ self.old.notes }
@@ -217,11 +256,12 @@ impl<'a> ReceiverTrial<'a> {
         });
     }
 
-    /// Takes what it acknowledged of an EOT that was delivered.
+    /// Takes what it acknowledged of an EOT that was delivered, and whether it has cancelled.
     fn take_claim(&mut self, turn: &Turn, did: Act)
         ensures notes { self.new.notes ≡ self.old.notes }
         ensures case { self.new.case ≡ self.old.case }
     {
+        self.is_cancelled = self.is_cancelled || has_cancelled(did);
         if delivered(false, turn.out.as_slice()) == Act::Eot && is_acknowledged(did) {
             self.claims = self.claims.behind(Act::End);
         }
@@ -248,7 +288,7 @@ impl<'a> ReceiverTrial<'a> {
         ensures case { self.new.case ≡ self.old.case }
     {
         let first = self.deliver_before(turn, heard);
-        let second = self.deliver(turn.out.as_slice());
+        let second = self.deliver_last(turn, heard);
         self.deliver_keenly(alloc, turn)?;
         let mut said = Vec::from_slice(alloc, heard.before.as_slice())?;
         said.extend_from_slice(heard.bytes.as_slice())?;
@@ -305,7 +345,7 @@ fn end_receiver<W: Wire>(
         let (said, tenths) = line.listen(STILL_MS)?;
         trial.take_rest(said.as_slice(), tenths);
     }
-    if !trial.sender.has_finished() {
+    if !trial.has_finished() {
         line.write(&[CAN, CAN, CAN]);
     }
     Ok(())
@@ -327,7 +367,10 @@ pub fn try_receiver<W: Wire>(alloc: Global, wire: &mut W, case: Case) -> Result<
         let turn = trial.turn(alloc)?;
         let before = line.before(&turn)?;
         let millis = trial.patience(turn.out.as_slice());
-        let heard = line.behind(&turn, before, millis)?;
+        let mut heard = line.behind(&turn, before, millis)?;
+        if trial.wants_start(turn.out.as_slice()) {
+            line.wait_for_start(&mut heard)?;
+        }
         trial.take(alloc, &turn, &heard)?;
     }
     end_receiver(&mut line, &mut trial)?;

@@ -25,4 +25,6 @@ pub(crate) struct Heard {
     pub(crate) bytes: Vec<u8>,
     /// After how many tenths of a second its first byte came.
     pub(crate) tenths: u64,
+    /// The peer had closed the line before all was written.
+    pub(crate) is_gone: bool,
 }

@@ -41,7 +41,7 @@ pub(crate) fn twisted(
     twist: Option<Twist>,
     bytes: Vec<u8>,
 ) -> Result<Vec<u8>, AllocError>
-    ensures { IfOk result (λ out. out.items ≡ twisted_as twist bytes.entry.items) }
+    ensures { IfOk result (λ out. out.items ≡ twisted_as twist bytes.items) }
 {
     match twist {
         Some(twist) => carried(alloc, twist, bytes.as_slice()),
