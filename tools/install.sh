@@ -1,5 +1,5 @@
 #!/bin/sh
-# Puts the program, ymodem-tty, the manual pages and the completion below a folder.
+# Puts the program, ymodem-tty, ymodem-judge, the manual pages and the completion below a folder.
 #
 # usage: install.sh PROGRAM FOLDER
 set -eu
@@ -11,11 +11,13 @@ share=$2/share
 umask 022
 
 install -D -m 755 "$1" "$2/bin/ymodem"
-install -D -m 755 "$here/share/ymodem-tty" "$2/bin/ymodem-tty"
-for page in ymodem.1 ymodem-tty.1; do
+for script in ymodem-tty ymodem-judge; do
+    install -D -m 755 "$here/share/$script" "$2/bin/$script"
+done
+for page in ymodem.1 ymodem-tty.1 ymodem-judge.1; do
     install -D -m 644 "$here/share/man/$page" "$share/man/man1/$page"
 done
-for name in ymodem ymodem-tty; do
+for name in ymodem ymodem-tty ymodem-judge; do
     install -D -m 644 "$here/share/completion/$name.bash" "$share/bash-completion/completions/$name"
     install -D -m 644 "$here/share/completion/_$name" "$share/zsh/site-functions/_$name"
     install -D -m 644 "$here/share/completion/$name.fish" "$share/fish/vendor_completions.d/$name.fish"

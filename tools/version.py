@@ -20,6 +20,7 @@ COPIES = (
     ("include/ymodem.h", r'^#define YM_VERSION "(.*)"$'),
     ("share/man/ymodem.1", r"^This page is that of version (.*)\.$"),
     ("share/man/ymodem-tty.1", r"^This page is that of version (.*)\.$"),
+    ("share/man/ymodem-judge.1", r"^This page is that of version (.*)\.$"),
 )
 NUMBER = re.compile(r"\d+\.\d+\.\d+")
 

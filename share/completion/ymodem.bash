@@ -3,12 +3,13 @@
 _ymodem() {
     local cur=${COMP_WORDS[COMP_CWORD]} prev=${COMP_WORDS[COMP_CWORD - 1]} command= words
     case $prev in
-    -p | --port) COMPREPLY=(); return ;;
+    -p | --port | --only) COMPREPLY=(); return ;;
+    --stored) compopt -o filenames; COMPREPLY=($(compgen -d -- "$cur")); return ;;
     --line | --record | --there | --back | --chart) compopt -o filenames; COMPREPLY=($(compgen -f -- "$cur")); return ;;
     esac
     [ "$COMP_CWORD" -gt 1 ] && command=${COMP_WORDS[1]}
     case $command in
-    '') words='sb rb send receive play loop explain help --help -h --version -V' ;;
+    '') words='sb rb send receive play loop explain judge help --help -h --version -V' ;;
     play) words='--help -h' ;;
     loop) words='--port -p --verbose --quiet --help -h' ;;
     send) words='--port -p --short --record --verbose --quiet --help -h' ;;
@@ -16,12 +17,13 @@ _ymodem() {
     sb) words='--line --short --record --verbose --quiet --help -h' ;;
     rb) words='--line --single --no-sync --discard-parts --record --verbose --quiet --help -h' ;;
     explain) words='--there --back --turned --chart --help -h' ;;
-    help) words='sb rb send receive play loop explain help' ;;
+    judge) words='sender receiver --port -p --line --only --stored --list --json --help -h' ;;
+    help) words='sb rb send receive play loop explain judge help' ;;
     *) words= ;;
     esac
     local IFS=$'\n'
     case $command:$cur in
-    :* | *:-* | help:*) COMPREPLY=($(compgen -W "${words// /$'\n'}" -- "$cur")) ;;
+    :* | *:-* | help:* | judge:*) COMPREPLY=($(compgen -W "${words// /$'\n'}" -- "$cur")) ;;
     send:* | sb:* | explain:*) compopt -o filenames; COMPREPLY=($(compgen -f -- "$cur")) ;;
     receive:* | rb:*) compopt -o filenames; COMPREPLY=($(compgen -d -- "$cur")) ;;
     *) COMPREPLY=() ;;

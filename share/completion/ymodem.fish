@@ -1,6 +1,6 @@
 # fish completion of ymodem(1)
 
-set -l commands sb rb send receive play loop explain help
+set -l commands sb rb send receive play loop explain judge help
 complete -c ymodem -f
 complete -c ymodem -s h -l help -d 'Print help'
 complete -c ymodem -n "not __fish_seen_subcommand_from $commands" -s V -l version -d 'Print version'
@@ -11,9 +11,10 @@ complete -c ymodem -n "not __fish_seen_subcommand_from $commands" -a receive -d 
 complete -c ymodem -n "not __fish_seen_subcommand_from $commands" -a play -d 'Plays the session of a script, and prints what was seen'
 complete -c ymodem -n "not __fish_seen_subcommand_from $commands" -a loop -d 'Plays the session of a script over a connection to itself'
 complete -c ymodem -n "not __fish_seen_subcommand_from $commands" -a explain -d 'Tells what passed on a line, and what went wrong there'
+complete -c ymodem -n "not __fish_seen_subcommand_from $commands" -a judge -d 'Tries a sender or a receiver of YMODEM by a list of cases'
 complete -c ymodem -n "not __fish_seen_subcommand_from $commands" -a help -d 'Print this message or the help of the given subcommand(s)'
-complete -c ymodem -n '__fish_seen_subcommand_from help' -a 'sb rb send receive play loop explain help'
-complete -c ymodem -n '__fish_seen_subcommand_from loop send receive' -x -s p -l port -d 'The port on 127.0.0.1, from 1 to 65535'
+complete -c ymodem -n '__fish_seen_subcommand_from help' -a 'sb rb send receive play loop explain judge help'
+complete -c ymodem -n '__fish_seen_subcommand_from loop send receive judge' -x -s p -l port -d 'The port on 127.0.0.1, from 1 to 65535'
 complete -c ymodem -n '__fish_seen_subcommand_from loop send receive sb rb' -l verbose -d 'Tells what it does, also if standard error is no terminal'
 complete -c ymodem -n '__fish_seen_subcommand_from loop send receive sb rb' -l quiet -d 'Tells nothing on standard error but why it failed'
 complete -c ymodem -n '__fish_seen_subcommand_from send sb' -l short -d 'Sends blocks of 128 bytes alone'
@@ -31,3 +32,9 @@ complete -c ymodem -n '__fish_seen_subcommand_from explain' -r -F -l back -d 'A 
 complete -c ymodem -n '__fish_seen_subcommand_from explain' -l turned -d 'Takes the sender of a capture of TCP for the receiver'
 complete -c ymodem -n '__fish_seen_subcommand_from explain' -r -F -l chart -d 'Draws what it tells as a chart, in a new file (SVG)'
 complete -c ymodem -n '__fish_seen_subcommand_from explain' -F
+complete -c ymodem -n '__fish_seen_subcommand_from judge' -r -F -l line -d 'The terminal of the line, in place of a port'
+complete -c ymodem -n '__fish_seen_subcommand_from judge' -x -l only -d 'Plays this case alone'
+complete -c ymodem -n '__fish_seen_subcommand_from judge' -x -l stored -a '(__fish_complete_directories)' -d 'The folder of a receiver, whose files are compared'
+complete -c ymodem -n '__fish_seen_subcommand_from judge' -l list -d 'Prints the names of the cases, and plays none'
+complete -c ymodem -n '__fish_seen_subcommand_from judge' -l json -d 'Prints an object of JSON for each case'
+complete -c ymodem -n '__fish_seen_subcommand_from judge' -a 'sender receiver' -d 'What the peer is, `sender` or `receiver`'

@@ -17,14 +17,19 @@ SCRIPT = "file a.txt 48656C6C6F\nok 6\n"
 INSTALLED = {
     "bin/ymodem": 0o755,
     "bin/ymodem-tty": 0o755,
+    "bin/ymodem-judge": 0o755,
     "share/man/man1/ymodem.1": 0o644,
     "share/man/man1/ymodem-tty.1": 0o644,
+    "share/man/man1/ymodem-judge.1": 0o644,
     "share/bash-completion/completions/ymodem": 0o644,
     "share/bash-completion/completions/ymodem-tty": 0o644,
+    "share/bash-completion/completions/ymodem-judge": 0o644,
     "share/zsh/site-functions/_ymodem": 0o644,
     "share/zsh/site-functions/_ymodem-tty": 0o644,
+    "share/zsh/site-functions/_ymodem-judge": 0o644,
     "share/fish/vendor_completions.d/ymodem.fish": 0o644,
     "share/fish/vendor_completions.d/ymodem-tty.fish": 0o644,
+    "share/fish/vendor_completions.d/ymodem-judge.fish": 0o644,
 }
 
 

@@ -129,6 +129,26 @@ fn job_text(alloc: Global, job: &Job<'_>) -> Result<String, AllocError> {
             }
             Ok(text)
         }
+        Job::Judge {
+            peer,
+            port,
+            line,
+            only,
+            stored,
+            list,
+            json,
+        } => {
+            let port = port.unwrap_or("nothing");
+            let line = line.unwrap_or("nothing");
+            let only = only.unwrap_or("nothing");
+            let stored = stored.unwrap_or("nothing");
+            let mut text = format!(in alloc;
+                "judge {peer} port {port} line {line} only {only} stored {stored}"
+            )?;
+            push_flag(&mut text, *list, "list")?;
+            push_flag(&mut text, *json, "json")?;
+            Ok(text)
+        }
     }
 }
 

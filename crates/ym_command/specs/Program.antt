@@ -90,6 +90,7 @@ JobGives (job.ReceiveLine line flags dir to tell) old answer new =
     PrintsBeside line (ReceiveGives (confirm_of flags.single)) old answer new
 JobGives (job.Explain there back both turned chart) old answer new =
     DrawsGives chart there back both turned old answer new
+JobGives (job.Judge peer port line only stored list json) old answer new = ReadsNothing old new
 
 -- the line of a fault was written to err, and nothing else was done
 pub record OnlyTells (why : CommandFault) (old : Desk) (status : ℕ) (new : Desk) : Type 0 where

@@ -4,6 +4,10 @@
 mod chart_file;
 mod charted;
 mod explaining;
+mod judge_message;
+mod judged_files;
+mod judged_peer;
+mod judging;
 mod program;
 mod untold;
 

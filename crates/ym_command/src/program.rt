@@ -9,6 +9,7 @@ ghost use Rattle.ym_command.specs.Program.{AsksFor, IsPlayed, JobGives, shape_of
 
 use crate::charted::Draw;
 use crate::explaining::explain_and_draw;
+use crate::judging::{JudgeOrder, judge};
 use clap::error::ErrorKind;
 use std::alloc::Global;
 use std::fmt::Display;
@@ -181,7 +182,7 @@ fn line_order_of<'a>(store: StoreFlags, dir: &'a str, record_path: Option<&'a st
 /// How much is told, by the flags of a job.
 fn tell_flags(job: &Job<'_>) -> TellFlags {
     match job {
-        Job::Play | Job::Explain { .. } => TellFlags {
+        Job::Play | Job::Explain { .. } | Job::Judge { .. } => TellFlags {
             verbose: false,
             quiet: false,
         },
@@ -275,6 +276,26 @@ where
         } => explain_and_draw(
             rt, alloc, there, back, both, turned, chart, input, out, err,
         ),
+        Job::Judge {
+            peer,
+            port,
+            line,
+            only,
+            stored,
+            list,
+            json,
+        } => {
+            let order = JudgeOrder {
+                peer,
+                port,
+                line,
+                only,
+                stored,
+                list,
+                json,
+            };
+            judge(rt, alloc, order, out, err)
+        }
     }
 }
 

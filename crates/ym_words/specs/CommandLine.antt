@@ -1,4 +1,4 @@
--- The command line: `--version`, and seven optional subcommands, with `--port` (or `-p`) a required
+-- The command line: `--version`, and eight optional subcommands, with `--port` (or `-p`) a required
 -- text, `--line`, `--record`, `--there`, `--back` and `--chart` ones that may be left out, DIR and
 -- RECORD one positional, FILE the last positional with one or more values, and all else flags.
 use Rattle.std.specs.Prelude.{◌≡◌, false, true, List, [], ◌∷◌, Some, codes}
@@ -158,9 +158,33 @@ explain_app =
     with_rule (with_rule (with_rule (with_rule (with_rule (new_app (codes "explain")) there_rule)
     back_rule) turned_rule) chart_rule) record_rule
 
+-- those of `judge`: what the peer does, where it is, one case, and the folder that it stores in
+abbrev pub peer_rule : Rule
+peer_rule = record (value_rule (codes "peer")) { required = true }
+
+abbrev pub any_port_rule : Rule
+any_port_rule =
+    record (value_rule (codes "port")) { short = Some 112; long = Some (codes "port") }
+
+abbrev pub only_rule : Rule
+only_rule = record (value_rule (codes "only")) { long = Some (codes "only") }
+
+abbrev pub stored_rule : Rule
+stored_rule = record (value_rule (codes "stored")) { long = Some (codes "stored") }
+
+abbrev pub judged_app : App
+judged_app =
+    with_rule (with_rule (with_rule (with_rule (new_app (codes "judge")) peer_rule) any_port_rule)
+    line_rule) only_rule
+
+abbrev pub judge_app : App
+judge_app =
+    with_rule (with_rule (with_rule judged_app stored_rule) (flag (codes "list") (codes "list")))
+    (flag (codes "json") (codes "json"))
+
 -- the whole command, serial lines first
 unfoldable pub the_app : App
 the_app =
     with_subcommand (with_subcommand (with_subcommand (with_subcommand (with_subcommand
-    (with_subcommand (with_subcommand bare_app sb_app.top) rb_app.top) send_app.top)
-    receive_app.top) play_app.top) loop_app.top) explain_app.top
+    (with_subcommand (with_subcommand (with_subcommand bare_app sb_app.top) rb_app.top)
+    send_app.top) receive_app.top) play_app.top) loop_app.top) explain_app.top) judge_app.top

@@ -21,6 +21,7 @@ pub data Asked : Type 0 where
   SendLine : Option Text → Bool → List Text → Option Text → TellFlags → Asked
   ReceiveLine : Option Text → StoreFlags → Text → Option Text → TellFlags → Asked
   Explain : Option Text → Option Text → Option Text → Bool → Option Text → Asked
+  Judge : Text → Option Text → Option Text → Option Text → Option Text → Bool → Bool → Asked
 
 abbrev pub is_true_text : Option Text → Bool
 is_true_text None = false
@@ -106,14 +107,24 @@ explain_of rows =
     (first_of (codes "record") rows) (flag_of (codes "turned") rows)
     (first_of (codes "chart") rows)
 
+abbrev pub peer_of : List Row → Text
+peer_of rows = unwrap_or (first_of (codes "peer") rows) []
+
+abbrev pub judge_of : List Row → Asked
+judge_of rows =
+    Judge (peer_of rows) (first_of (codes "port") rows) (first_of (codes "line") rows)
+    (first_of (codes "only") rows) (first_of (codes "stored") rows) (flag_of (codes "list") rows)
+    (flag_of (codes "json") rows)
+
 -- the job that a subcommand and its matches ask for, unless a value is lacking
 abbrev pub asked_for : Text → List Row → Option Asked
 asked_for name rows =
     if bytes_eq name (codes "play") then Some Play
     else (if bytes_eq name (codes "explain") then Some (explain_of rows)
+    else (if bytes_eq name (codes "judge") then Some (judge_of rows)
     else (if bytes_eq name (codes "sb") then send_line_of rows
     else (if bytes_eq name (codes "rb") then Some (receive_line_of rows)
-    else ported_for (port_value (first_of (codes "port") rows)) name rows)))
+    else ported_for (port_value (first_of (codes "port") rows)) name rows))))
 
 abbrev pub asked : Option (Text × List Row) → Option Asked
 asked None = Some Play
@@ -134,6 +145,9 @@ asked_of (job.ReceiveLine line flags dir to tell) =
 asked_of (job.Explain there back both turned chart) =
     Explain (option_map (λ f. f.now) there) (option_map (λ f. f.now) back)
     (option_map (λ f. f.now) both) turned (option_map (λ f. f.now) chart)
+asked_of (job.Judge peer port line only stored list json) =
+    Judge peer.now (option_map (λ f. f.now) port) (option_map (λ f. f.now) line)
+    (option_map (λ f. f.now) only) (option_map (λ f. f.now) stored) list json
 
 -- what each fault says of the words
 abbrev pub FaultSays : JobFault → Option Asked → Bool → Type 0

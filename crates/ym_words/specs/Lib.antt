@@ -1,3 +1,3 @@
 pub mod CommandLine
-pub mod PortNumber
 pub mod Job
+pub mod PortNumber

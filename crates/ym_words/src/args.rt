@@ -79,7 +79,7 @@ fn flag_arg<'a>(alloc: Global, flag: Flag) -> Arg<'a>
 }
 
 /// An argument that takes one value, and may be left out.
-fn value_arg<'a>(alloc: Global, id: &'a str, value: &'a str, help: &'a str) -> Arg<'a>
+pub(crate) fn value_arg<'a>(alloc: Global, id: &'a str, value: &'a str, help: &'a str) -> Arg<'a>
     ensures { HasRule result (value_rule id.entry.now) }
 {
     Arg::new(alloc, id)

@@ -11,6 +11,7 @@ use crate::args::{
 };
 use crate::explain_command::explain_command;
 use crate::help::{bare_loop, bare_receive, bare_send, bare_top, play_command};
+use crate::judge_command::judge_command;
 use crate::line_commands::{rb_command, sb_command};
 use clap::Command;
 use std::alloc::{AllocError, Global};
@@ -74,5 +75,6 @@ pub(crate) fn the_command<'a>(alloc: Global) -> Result<Command<'a>, AllocError>
     let with_receive = with_command(with_send, receive_command(alloc))?;
     let with_play = with_receive.subcommand(play_command(alloc))?;
     let with_loop = with_command(with_play, loop_command(alloc))?;
-    with_command(with_loop, explain_command(alloc))
+    let with_explain = with_command(with_loop, explain_command(alloc))?;
+    with_command(with_explain, judge_command(alloc))
 }

@@ -130,6 +130,30 @@ Examples:
   ymodem explain session.pcap
   ymodem explain --there sent.bin --back answered.bin";
 
+const JUDGE_ABOUT: &str = "Tries a sender or a receiver of YMODEM by a list of cases";
+
+const JUDGE_HELP: &str =
+    "It plays each case to the peer and prints a line for it: what the reference
+does there, what the peer did, and `conforms`, `differs (harmless)` or `loses
+data`. The last lines say what to avoid with this peer.
+
+The peer has to be started anew for each case: standard error says when. It is
+waited for 30 seconds. `ymodem-judge` starts a peer by a command and runs this.
+
+A receiver is connected to at the port, and is sent files. Give the folder that
+it stores in by --stored, empty at each start: then its files are compared. A
+sender connects to the port. It is to send the one file that this makes:
+
+  seq 302 > judge.txt
+
+Exit status: 0 where nothing is to be avoided, 1 where something is, 2 where the
+words are refused, 3 at a device fault or want of memory.
+
+Examples:
+  ymodem judge receiver --port 4000 --stored incoming
+  ymodem judge sender --line /dev/ttyUSB0
+  ymodem judge receiver --list";
+
 const PLAY_ABOUT: &str = "Plays the session of a script, and prints what was seen";
 
 const PLAY_HELP: &str = "It reads the script from standard input. Lines of a script:
@@ -199,6 +223,12 @@ pub(crate) fn bare_explain<'a>(alloc: Global) -> Command<'a>
     ensures { HasApp result (new_app (codes "explain")) }
 {
     new_command(alloc, "explain", EXPLAIN_ABOUT, EXPLAIN_HELP)
+}
+
+pub(crate) fn bare_judge<'a>(alloc: Global) -> Command<'a>
+    ensures { HasApp result (new_app (codes "judge")) }
+{
+    new_command(alloc, "judge", JUDGE_ABOUT, JUDGE_HELP)
 }
 
 /// `play`, which has no words of its own.

@@ -7,7 +7,8 @@ ghost use Rattle.ym_words.specs.CommandLine.{the_app};
 ghost use Rattle.ym_words.specs.PortNumber.{port_value};
 ghost use Rattle.ym_words.specs.Job.{asked, asked_for, asked_of, FaultSays, IsKind};
 ghost use Rattle.ym_words.specs.Job.{flag_of, store_flags_of, receive_flags_of, tell_flags_of};
-ghost use Rattle.ym_words.specs.Job.{explain_of, folder_of, send_line_of, receive_line_of};
+ghost use Rattle.ym_words.specs.Job.{explain_of, folder_of, judge_of, peer_of};
+ghost use Rattle.ym_words.specs.Job.{send_line_of, receive_line_of};
 ghost use Rattle.ym_words.specs.Job.{ported_for, send_of, receive_of, recorded_of};
 
 use crate::command::the_command;
@@ -99,6 +100,17 @@ pub enum Job<'a> {
         both: Option<&'a str>,
         turned: bool,
         chart: Option<&'a str>,
+    },
+    /// Try a peer by cases: at a port, or at the terminal at a path. What these words say is read
+    /// where it is done.
+    Judge {
+        peer: &'a str,
+        port: Option<&'a str>,
+        line: Option<&'a str>,
+        only: Option<&'a str>,
+        stored: Option<&'a str>,
+        list: bool,
+        json: bool,
     },
 }
 
@@ -230,6 +242,31 @@ fn explain_in<'a>(matches: &ArgMatches<'a>) -> Job<'a>
     }
 }
 
+/// What the peer does that `judge` tries: nothing, where no word says it.
+fn peer_in<'a>(matches: &ArgMatches<'a>) -> &'a str
+    ensures { result.now ≡ peer_of (rows_of (found_of matches.now)) }
+{
+    match matches.get_str("peer") {
+        Some(peer) => peer,
+        None => "",
+    }
+}
+
+/// The job of the matches of `judge`.
+fn judge_in<'a>(matches: &ArgMatches<'a>) -> Job<'a>
+    ensures { judge_of (rows_of (found_of matches.now)) ≡ asked_of result }
+{
+    Job::Judge {
+        peer: peer_in(matches),
+        port: matches.get_str("port"),
+        line: matches.get_str("line"),
+        only: matches.get_str("only"),
+        stored: matches.get_str("stored"),
+        list: flag_in(matches, "list"),
+        json: flag_in(matches, "json"),
+    }
+}
+
 /// The job of the matches of `send`.
 fn send_in<'a>(alloc: Global, port: u16, matches: &ArgMatches<'a>) -> Result<Job<'a>, JobFault>
     ensures ok { let rows = rows_of (found_of matches.now) in
@@ -313,6 +350,9 @@ fn job_for<'a>(alloc: Global, name: &str, matches: &ArgMatches<'a>) -> Result<Jo
     }
     if name == "explain" {
         return Ok(explain_in(matches));
+    }
+    if name == "judge" {
+        return Ok(judge_in(matches));
     }
     if name == "sb" {
         return send_line_in(alloc, matches);

@@ -16,7 +16,7 @@ fn is_digits(text: &str) -> bool
 }
 
 /// The number of a port, from 1 to 65535, that decimal digits alone write.
-pub(crate) fn port_number(text: &str) -> Option<u16>
+pub fn port_number(text: &str) -> Option<u16>
     ensures { IsPort text.now result }
 {
     if !is_digits(text) {

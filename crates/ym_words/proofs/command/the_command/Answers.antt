@@ -11,4 +11,5 @@ returns c =
     let with_receive = c.in_ok-with_receive.ensures _ _ with_send c.receive_command.ensures in
     let with_play = with_sub c.in_ok-with_play.ensures with_receive c.play_command.ensures in
     let with_loop = c.in_ok-with_loop.ensures _ _ with_play c.loop_command.ensures in
-    c.with_command-6.ensures _ _ with_loop c.explain_command.ensures
+    let with_explain = c.in_ok-with_explain.ensures _ _ with_loop c.explain_command.ensures in
+    c.with_command-7.ensures _ _ with_explain c.judge_command.ensures

@@ -1,0 +1,40 @@
+//! What `judge` tells beside its report.
+
+use std::fmt;
+use ym_judge::{Case, Peer};
+
+/// What `judge` tells on standard error. Its `Display` is the line, without its end.
+#[derive(Clone, Copy)]
+pub(crate) enum JudgeMessage<'a> {
+    /// This word names no kind of peer.
+    NoPeer(&'a str),
+    /// This word names no case of such a peer.
+    NoCase(Peer, &'a str),
+    /// There is no port and no line, or there are both.
+    NoPlace,
+    /// The line at this path cannot be opened.
+    NoLine(&'a str),
+    /// The line failed in this case.
+    Failed(Case),
+}
+
+impl fmt::Display for JudgeMessage<'_> {
+    fn fmt<W: fmt::Write>(&self, f: &mut fmt::Formatter<W>) -> fmt::Result {
+        match *self {
+            JudgeMessage::NoPeer(word) => {
+                write!(f, "judge takes `sender` or `receiver`, and not '{word}'")
+            }
+            JudgeMessage::NoCase(Peer::Sender, word) => write!(
+                f,
+                "no case of a sender is called '{word}'; judge sender --list names them"
+            ),
+            JudgeMessage::NoCase(Peer::Receiver, word) => write!(
+                f,
+                "no case of a receiver is called '{word}'; judge receiver --list names them"
+            ),
+            JudgeMessage::NoPlace => write!(f, "judge takes --port or --line, and one of them"),
+            JudgeMessage::NoLine(path) => write!(f, "the line '{path}' cannot be opened"),
+            JudgeMessage::Failed(case) => write!(f, "the line failed: {case}"),
+        }
+    }
+}

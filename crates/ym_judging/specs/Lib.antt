@@ -1,0 +1,3 @@
+pub mod Contents
+pub mod Manners
+pub mod Steps

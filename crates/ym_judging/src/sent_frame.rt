@@ -1,0 +1,68 @@
+//! The frames of the files that are sent to a receiver.
+
+use crate::payload::{Payload, content};
+use std::alloc::{AllocError, Global};
+use ym_file::{Shape, block_at, block_count};
+use ym_frame::{Block, Item, encode};
+use ym_header::write_end;
+use ym_judge::Act;
+
+/// In how many data blocks each file is sent.
+pub(crate) fn counts_of(alloc: Global, files: &[Payload]) -> Result<Vec<u64>, AllocError> {
+    let mut counts = Vec::new(alloc);
+    for file in files {
+        counts.push(block_count(u64::from(file.length), Shape::Mixed))?;
+    }
+    Ok(counts)
+}
+
+/// The frame of an item.
+fn frame_of(alloc: Global, item: &Item) -> Result<Vec<u8>, AllocError> {
+    Vec::from_slice(alloc, encode(item).as_bytes())
+}
+
+/// The body of a file's block 0.
+fn header_body(alloc: Global, file: &Payload) -> Result<Vec<u8>, AllocError> {
+    let mut body = Vec::from_slice(alloc, file.name.as_bytes())?;
+    body.push(0)?;
+    body.extend_from_slice(file.fields.as_bytes())?;
+    let size = if file.is_long { 1024 } else { 128 };
+    body.resize(size, 0)?;
+    Ok(body)
+}
+
+/// The frame of a file's block 0.
+fn header_frame(alloc: Global, file: &Payload) -> Result<Vec<u8>, AllocError> {
+    let body = header_body(alloc, file)?;
+    match Block::new(0, body.as_slice()) {
+        Ok(block) => frame_of(alloc, &Item::Block(block)),
+        Err(_) => Ok(Vec::new(alloc)),
+    }
+}
+
+/// The frame of a file's data block, counted from 1. A block that it has not has none.
+fn block_frame(alloc: Global, file: &Payload, number: u8) -> Result<Vec<u8>, AllocError> {
+    let place = u64::from(number);
+    if place == 0 || place > block_count(u64::from(file.length), Shape::Mixed) {
+        return Ok(Vec::new(alloc));
+    }
+    let bytes = content(alloc, file.length)?;
+    let block = block_at(bytes.as_slice(), Shape::Mixed, place);
+    frame_of(alloc, &Item::Block(block))
+}
+
+/// What an end writes that does this with a file, or with none.
+pub(crate) fn sent_frame(
+    alloc: Global,
+    file: Option<&Payload>,
+    act: Act,
+) -> Result<Vec<u8>, AllocError> {
+    match (act, file) {
+        (Act::Header, Some(file)) => header_frame(alloc, file),
+        (Act::Block(number), Some(file)) => block_frame(alloc, file, number),
+        (Act::Eot, _) => frame_of(alloc, &Item::Eot),
+        (Act::End, _) => frame_of(alloc, &Item::Block(write_end())),
+        (Act::Cancel, _) => frame_of(alloc, &Item::Cancel),
+        _ => Ok(Vec::new(alloc)),
+    }
+}
