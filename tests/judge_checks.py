@@ -34,7 +34,6 @@ LOST = (
     "takes a damaged block",
     "takes a cut block",
     "commits at an early EOT",
-    "acknowledges silence",
     "acknowledges before it stores, and stores nothing",
     "drops the last byte",
     "drops what is after 1A",

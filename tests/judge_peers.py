@@ -174,7 +174,10 @@ class Receiver:
     def ends(self):
         if self.name is None:
             return ACK_START if self.files else bytes((START,))
-        covered = len(self.taken) >= self.length or self.has("commits at an early EOT")
+        covered = len(self.taken) >= self.length
+        if not covered and self.has("commits at an early EOT"):
+            self.stores()
+            return ACK_START
         if self.has("refuses each EOT") or not covered:
             return bytes((NAK,))
         if not self.has_eot:

@@ -172,7 +172,7 @@ pub(crate) fn parcel_of(case: Case) -> Parcel
 fn byte_before(left: u16) -> u8
     ensures { result ≡ byte_before left }
 {
-    let byte = (u32::from(left) * 7 + 26) % 256;
+    let byte = (u32::from(left) * 7 + u32::from(left / 256) * 13 + 26) % 256;
     byte as u8
 }
 

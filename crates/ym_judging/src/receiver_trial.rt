@@ -51,6 +51,8 @@ struct ReceiverTrial<'a> {
     is_used: bool,
     /// The peer has cancelled.
     is_cancelled: bool,
+    /// The reference has ended there, and not for what the peer did before.
+    is_refused: bool,
     notes: Notes,
 }
 
@@ -103,13 +105,14 @@ impl<'a> ReceiverTrial<'a> {
             eots: 0,
             is_used: false,
             is_cancelled: false,
+            is_refused: false,
             notes: Notes::new(),
         }
     }
 
     /// Whether the session has ended.
     fn is_over(&self) -> bool {
-        self.sender.has_ended() || self.twins.has_stopped()
+        self.sender.has_ended() || self.is_refused
     }
 
     /// Whether the peer has heard the end of the batch: its answer ended the sender.
@@ -119,7 +122,7 @@ impl<'a> ReceiverTrial<'a> {
 
     /// Whether it has ended as it does with the reference.
     fn is_finished(&self) -> bool {
-        self.has_finished() || self.twins.has_stopped()
+        self.has_finished() || self.is_refused
     }
 
     /// The file that is being sent.
@@ -289,6 +292,7 @@ impl<'a> ReceiverTrial<'a> {
     {
         let first = self.deliver_before(turn, heard);
         let second = self.deliver_last(turn, heard);
+        self.is_refused = self.notes.fits && self.twins.has_stopped();
         self.deliver_keenly(alloc, turn)?;
         let mut said = Vec::from_slice(alloc, heard.before.as_slice())?;
         said.extend_from_slice(heard.bytes.as_slice())?;
