@@ -127,7 +127,7 @@ fn send_order_of<'a>(
 ) -> SendOrder<'a>
     ensures shape { result.shape ≡ shape_of is_short }
     ensures paths { result.paths.now ≡ paths.now }
-    ensures recorded { result.record_path ≡ record_path }
+    ensures recorded { result.record_path ≡ record_path.entry }
 {
     SendOrder {
         paths,
@@ -144,7 +144,7 @@ fn order_of<'a>(flags: ReceiveFlags, dir: &'a str, record_path: Option<&'a str>)
     ensures eager { result.eager ≡ flags.eager }
     ensures keep { result.keep ≡ flags.keep }
     ensures dir { result.dir.now ≡ dir.now }
-    ensures recorded { result.record_path ≡ record_path }
+    ensures recorded { result.record_path ≡ record_path.entry }
 {
     Order {
         confirm: confirm_of(flags.store.single),
@@ -166,7 +166,7 @@ fn line_order_of<'a>(store: StoreFlags, dir: &'a str, record_path: Option<&'a st
     ensures eager { result.eager ≡ true }
     ensures keep { result.keep ≡ false }
     ensures dir { result.dir.now ≡ dir.now }
-    ensures recorded { result.record_path ≡ record_path }
+    ensures recorded { result.record_path ≡ record_path.entry }
 {
     let flags = ReceiveFlags {
         store,

@@ -116,8 +116,8 @@ impl<'a> Records<'a> {
         sent: &[&str],
         teller: &mut Teller<E>,
     ) -> io::Result<Records<'a>>
-        ensures path { IfOk result (λ it. it.path ≡ path) }
-        ensures made { IfOk result (λ it. is_some it.recorder.to ≡ is_some path) }
+        ensures path { IfOk result (λ it. it.path ≡ path.entry) }
+        ensures made { IfOk result (λ it. is_some it.recorder.to ≡ is_some path.entry) }
     {
         let Some(asked) = path else {
             return Ok(Records::none(alloc));
