@@ -3,13 +3,17 @@
 into which faults can be planted by name.
 
 usage: judge_peers.py receiver|sender [FAULT..]
+       judge_peers.py u-boot
 """
 
 import os
 import select
+import subprocess
 import sys
 
 from frames import ACK, ACK_START, CANCEL, EOT, FRAME_LENGTHS, NAK, SOH, START, STX, block, has_frame, header, mixed
+
+U_BOOT = os.environ.get("U_BOOT", "/usr/lib/u-boot/qemu_arm64/u-boot.bin")
 
 # Seconds after which an end acts that hears nothing, and after which what came is a whole delivery.
 QUIET = 2
@@ -351,9 +355,48 @@ class Sender:
             self.hear(data)
 
 
+def carried(source, board):
+    """Carries what comes on standard input to a board's port, and what the board writes back."""
+    out = board.stdout.fileno()
+    while True:
+        for it in select.select([source, out], [], [])[0]:
+            data = os.read(it, 4096)
+            if not data:
+                return
+            if it == out:
+                say(data)
+            else:
+                board.stdin.write(data)
+                board.stdin.flush()
+
+
+def seen(board, text):
+    """Reads what a board writes up to this text."""
+    found = b""
+    while text not in found:
+        data = os.read(board.stdout.fileno(), 4096)
+        if not data:
+            sys.exit("the board has ended: %r" % found[-200:])
+        found += data
+
+
+def u_boot():
+    """`loady` of U-Boot on a board in QEMU, whose serial port is standard input and output."""
+    words = ["qemu-system-aarch64", "-M", "virt", "-cpu", "cortex-a57", "-bios", U_BOOT, "-m", "128"]
+    words += ["-display", "none", "-monitor", "none", "-nic", "none", "-serial", "stdio"]
+    board = subprocess.Popen(words, stdin=subprocess.PIPE, stdout=subprocess.PIPE, stderr=subprocess.DEVNULL)
+    for text, typed in ((b"Hit any key", b"\r"), (b"=> ", b"loady\r"), (b"Ready for binary", b"")):
+        seen(board, text)
+        board.stdin.write(typed)
+        board.stdin.flush()
+    carried(0, board)
+
+
 def main(words):
     kind, *faults = words
-    if kind == "receiver":
+    if kind == "u-boot":
+        u_boot()
+    elif kind == "receiver":
         Receiver(faults).run()
     else:
         with open("judge.txt", "rb") as it:

@@ -5,7 +5,7 @@ _ymodem_judge() {
     case $prev in
     --only | --jobs) COMPREPLY=(); return ;;
     esac
-    COMPREPLY=($(compgen -W 'sender receiver --only --json --jobs --help -h' -- "$cur"))
+    COMPREPLY=($(compgen -W 'sender receiver --only --json --elsewhere --jobs --help -h' -- "$cur"))
 }
 
 complete -F _ymodem_judge ymodem-judge

@@ -192,7 +192,7 @@ impl<'w, W: Wire> Line<'w, W> {
 
     /// Takes what comes behind an ACK that stands alone, where C is to come.
     pub(crate) fn wait_for_start(&mut self, heard: &mut Heard) -> Result<(), AllocError> {
-        if heard.bytes.as_slice() == [ACK] && !self.is_closed {
+        if heard.bytes.as_slice() == [ACK].as_slice() && !self.is_closed {
             let (rest, _) = self.listen(STILL_MS)?;
             heard.bytes.extend_from_slice(rest.as_slice())?;
         }
