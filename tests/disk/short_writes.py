@@ -1,6 +1,8 @@
-"""Runs a program whose writes to files take half of what they are given, and say so: its words are those of this script, and its status is the program's.
+"""Runs a program whose writes to files take half of what they are given, and say so: its words are
+those of this script, and its status is the program's.
 
-The system may do that at any time, and hardly ever does. It needs Linux on x86-64, where the count of bytes is in a register that a tracer can set.
+The system may do that at any time, and hardly ever does. It needs Linux on x86-64, where the count
+of bytes is in a register that a tracer can set.
 """
 
 import ctypes
@@ -23,7 +25,9 @@ WRITE = 1
 def ptrace(request, child, where=0, what=0):
     call = ctypes.CDLL(None, use_errno=True).ptrace
     call.restype = ctypes.c_long
-    return call(ctypes.c_long(request), ctypes.c_long(child), ctypes.c_void_p(where), ctypes.c_void_p(what))
+    return call(
+        ctypes.c_long(request), ctypes.c_long(child), ctypes.c_void_p(where), ctypes.c_void_p(what)
+    )
 
 
 def halve(child):

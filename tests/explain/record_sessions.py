@@ -1,6 +1,6 @@
 #!/usr/bin/env python3
-"""Records sessions between real senders and receivers of files, over lines that spoil them: the data
-of test_sessions_told.py.
+"""Records sessions between real senders and receivers of files, over lines that spoil them: the
+data of test_sessions_told.py.
 
 usage: record_sessions.py [WORD..]
   WORD        only the sessions whose names have one of these words
@@ -110,8 +110,8 @@ def seven_bits(data):
 
 
 class Sampled:
-    """What a receiver at one speed makes of bytes that were sent at another: each byte is a start bit, eight bits
-    from the lowest on, and a stop bit, and is sampled in the middle of each bit."""
+    """What a receiver at one speed makes of bytes that were sent at another: each byte is a start
+    bit, eight bits from the lowest on, and a stop bit, and is sampled in the middle of each bit."""
 
     def __init__(self, sent, read):
         self.sent, self.read = sent, read
@@ -205,7 +205,7 @@ def slowly(data):
 
 
 FLOW_EATEN, SUB_EATEN = dropping(b"\x11\x13"), dropping(b"\x1a")
-LATE_SENDER = piped("sh", "-c", "sleep 6; exec sb -q \"$@\"", "sb")
+LATE_SENDER = piped("sh", "-c", 'sleep 6; exec sb -q "$@"', "sb")
 SHELL = piped("sh", "-c", "printf 'login: '; sleep 2; printf '\\r\\nPassword: '; sleep 1")
 KILLED = piped("timeout", "-s", "KILL", "2", "sb", "-q")
 # Debian's python3 has its modules, whichever runs this.
@@ -233,7 +233,12 @@ def speeds(sent, read):
 SESSIONS = {
     # nothing wrong
     "whole": (WHOLE, lambda: between(SB, RB)),
-    "whole-short-blocks": (WHOLE, lambda: between(SB, RB, files=[("a", some_bytes(2, 200)), ("b", b""), ("c", some_bytes(3, 128))])),
+    "whole-short-blocks": (
+        WHOLE,
+        lambda: between(
+            SB, RB, files=[("a", some_bytes(2, 200)), ("b", b""), ("c", some_bytes(3, 128))]
+        ),
+    ),
     "whole-1k": (WHOLE, lambda: between(SB_LONG, RB, files=[("a", some_bytes(4, 9000))])),
     "whole-receive-asks-late": (WHOLE, lambda: between(LATE_SENDER, RB)),
     "whole-own-sender": (WHOLE, lambda: between(our_sender, RB)),
@@ -253,44 +258,123 @@ SESSIONS = {
     "echo-own": (ECHO, lambda: echoed(our_sender)),
     "echo-late": (ECHO, lambda: echoed(SB, wait=0.5)),
     # bytes that a line keeps for itself
-    "eats-11-13": (FLOW, lambda: between(SB_LONG, RB, Line(FLOW_EATEN, FLOW_EATEN), files=long_file(5), seconds=40)),
-    "eats-11-13-own": (FLOW, lambda: between(our_sender, our_receiver, Line(FLOW_EATEN, FLOW_EATEN), files=long_file(5), seconds=40)),
-    "eats-1a": (SUB, lambda: between(SB, RB, Line(SUB_EATEN), files=[("a", some_bytes(6, 1000))], seconds=40)),
-    "eats-1a-own": (SUB, lambda: between(our_sender, our_receiver, Line(SUB_EATEN), files=[("a", some_bytes(6, 1000))], seconds=40)),
+    "eats-11-13": (
+        FLOW,
+        lambda: between(SB_LONG, RB, Line(FLOW_EATEN, FLOW_EATEN), files=long_file(5), seconds=40),
+    ),
+    "eats-11-13-own": (
+        FLOW,
+        lambda: between(
+            our_sender, our_receiver, Line(FLOW_EATEN, FLOW_EATEN), files=long_file(5), seconds=40
+        ),
+    ),
+    "eats-1a": (
+        SUB,
+        lambda: between(SB, RB, Line(SUB_EATEN), files=[("a", some_bytes(6, 1000))], seconds=40),
+    ),
+    "eats-1a-own": (
+        SUB,
+        lambda: between(
+            our_sender,
+            our_receiver,
+            Line(SUB_EATEN),
+            files=[("a", some_bytes(6, 1000))],
+            seconds=40,
+        ),
+    ),
     # seven bits of each byte
     "seven-bits": (SEVEN, lambda: between(SB, RB, Line(seven_bits, seven_bits), seconds=30)),
-    "seven-bits-1k": (SEVEN, lambda: between(SB_LONG, RB, Line(seven_bits, seven_bits), seconds=30)),
+    "seven-bits-1k": (
+        SEVEN,
+        lambda: between(SB_LONG, RB, Line(seven_bits, seven_bits), seconds=30),
+    ),
     "seven-bits-one-way": (SEVEN, lambda: between(SB, RB, Line(seven_bits), seconds=30)),
-    "seven-bits-own": (SEVEN, lambda: between(our_sender, our_receiver, Line(seven_bits, seven_bits), seconds=40)),
+    "seven-bits-own": (
+        SEVEN,
+        lambda: between(our_sender, our_receiver, Line(seven_bits, seven_bits), seconds=40),
+    ),
     # two speeds
     "other-speed-sender": (SPEED, lambda: between(SB, RB, speeds(115200, 9600), seconds=12)),
-    "other-speed-receiver": (SPEED, lambda: between(piped("sx", "-q"), RB, Line(Sampled(9600, 115200)), seconds=12)),
+    "other-speed-receiver": (
+        SPEED,
+        lambda: between(piped("sx", "-q"), RB, Line(Sampled(9600, 115200)), seconds=12),
+    ),
     "other-speed-twice": (SPEED, lambda: between(SB, RB, speeds(9600, 19200), seconds=12)),
-    "other-speed-own": (SPEED, lambda: between(our_sender, our_receiver, speeds(38400, 57600), seconds=30)),
+    "other-speed-own": (
+        SPEED,
+        lambda: between(our_sender, our_receiver, speeds(38400, 57600), seconds=30),
+    ),
     # a reply too many
-    "reply-ahead": (AHEAD, lambda: between(SB, RB, Line(Noise(lambda count: count > 12), Doubled(4)), seconds=60)),
-    "reply-ahead-early": (AHEAD, lambda: between(SB, RB, Line(Noise(lambda count: count > 12), Doubled(3)), seconds=60)),
-    "reply-ahead-late": (AHEAD, lambda: between(SB, RB, Line(Noise(lambda count: count > 14), Doubled(9)), seconds=60)),
+    "reply-ahead": (
+        AHEAD,
+        lambda: between(SB, RB, Line(Noise(lambda count: count > 12), Doubled(4)), seconds=60),
+    ),
+    "reply-ahead-early": (
+        AHEAD,
+        lambda: between(SB, RB, Line(Noise(lambda count: count > 12), Doubled(3)), seconds=60),
+    ),
+    "reply-ahead-late": (
+        AHEAD,
+        lambda: between(SB, RB, Line(Noise(lambda count: count > 14), Doubled(9)), seconds=60),
+    ),
     # another protocol
     "zmodem-sender": (ZMODEM, lambda: between(piped("sz", "-q"), nobody, seconds=4)),
     "zmodem-receiver": (ZMODEM, lambda: between(SB, piped("rz", "-q"), seconds=3)),
     "xmodem-sender": (XMODEM, lambda: between(piped("sx", "-q"), RB, seconds=20)),
     "xmodem-sender-python": (XMODEM, lambda: between(piped(*XMODEM_END, "send"), RB, seconds=20)),
-    "xmodem-receiver": (XMODEM_RECEIVER, lambda: between(nobody, piped("rx", "-q", "got"), seconds=25)),
-    "xmodem-receiver-python": (XMODEM_RECEIVER, lambda: between(nobody, piped(*XMODEM_END, "receive", "got"), seconds=20)),
+    "xmodem-receiver": (
+        XMODEM_RECEIVER,
+        lambda: between(nobody, piped("rx", "-q", "got"), seconds=25),
+    ),
+    "xmodem-receiver-python": (
+        XMODEM_RECEIVER,
+        lambda: between(nobody, piped(*XMODEM_END, "receive", "got"), seconds=20),
+    ),
     # a length that is not that of the file
     "no-room-for-length": (NO_ROOM, lambda: between(SB, RB, files=named(124), seconds=60)),
     "no-room-for-two-digits": (NO_ROOM, lambda: between(SB, RB, files=named(123), seconds=60)),
     "no-room-for-three-digits": (NO_ROOM, lambda: between(SB, RB, files=named(122), seconds=60)),
     # noise
     "damage-mended": (MENDED, lambda: between(SB, RB, Line(Noise(every_fifth)), seconds=60)),
-    "damage-mended-own": (MENDED, lambda: between(our_sender, our_receiver, Line(Noise(every_fifth)), seconds=60)),
-    "damage-mended-u-boot": (MENDED, lambda: between(SB, board(LOADY), Line(Noise(every_fifth)), seconds=60)),
-    "damage": (TOO_MANY, lambda: between(SB, RB, Line(Noise(lambda count: count > 4)), seconds=120)),
+    "damage-mended-own": (
+        MENDED,
+        lambda: between(our_sender, our_receiver, Line(Noise(every_fifth)), seconds=60),
+    ),
+    "damage-mended-u-boot": (
+        MENDED,
+        lambda: between(SB, board(LOADY), Line(Noise(every_fifth)), seconds=60),
+    ),
+    "damage": (
+        TOO_MANY,
+        lambda: between(SB, RB, Line(Noise(lambda count: count > 4)), seconds=120),
+    ),
     # an end that goes away
-    "sender-cancels": (SENDER, lambda: between(SB, RB, Line(slowly), files=[("a", some_bytes(8, 30000))], then=interrupted("sender", 5000), seconds=30)),
-    "receiver-cancels": (RECEIVER, lambda: between(SB, RB, Line(slowly), files=[("a", some_bytes(9, 30000))], then=interrupted("receiver", 5000), seconds=30)),
-    "sender-killed": (STOPPED, lambda: between(KILLED, RB, Line(slowly), files=[("a", some_bytes(10, 60000))], seconds=8)),
+    "sender-cancels": (
+        SENDER,
+        lambda: between(
+            SB,
+            RB,
+            Line(slowly),
+            files=[("a", some_bytes(8, 30000))],
+            then=interrupted("sender", 5000),
+            seconds=30,
+        ),
+    ),
+    "receiver-cancels": (
+        RECEIVER,
+        lambda: between(
+            SB,
+            RB,
+            Line(slowly),
+            files=[("a", some_bytes(9, 30000))],
+            then=interrupted("receiver", 5000),
+            seconds=30,
+        ),
+    ),
+    "sender-killed": (
+        STOPPED,
+        lambda: between(KILLED, RB, Line(slowly), files=[("a", some_bytes(10, 60000))], seconds=8),
+    ),
 }
 
 

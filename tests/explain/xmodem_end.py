@@ -1,4 +1,5 @@
-"""Sends a file by XMODEM over standard input and output, or receives one, as python3-xmodem does it.
+"""Sends a file by XMODEM over standard input and output, or receives one, as python3-xmodem does
+it.
 
 usage: xmodem_end.py send FILE | receive FILE
 """

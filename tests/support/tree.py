@@ -44,7 +44,11 @@ ci)
         echo "rt: $name proved"
     done
     [ ! -e "$CALLED/slow" ] || exec sleep 1000
-    [ ! -e "$CALLED/wrong" ] || { echo "rt: FAILED: ym_check/check.add.byte_shifted_in.edit"; echo "17 passed, 1 failed"; exit 1; }
+    if [ -e "$CALLED/wrong" ]; then
+        echo "rt: FAILED: ym_check/check.add.byte_shifted_in.edit"
+        echo "17 passed, 1 failed"
+        exit 1
+    fi
     echo "18 passed, 0 failed"
     ;;
 try)
