@@ -16,6 +16,8 @@ pytestmark = pytest.mark.steadily
 
 DATA = random.Random(4).randbytes(5000)
 FILE = [("first", DATA)]
+# As long as a name may be: the front that its part's name has, and the ending of that.
+OWN_PART = (250 * "n" + ".part", DATA)
 DISCARD = ["--discard-parts"]
 FAULT = "fault: device\n"
 
@@ -38,6 +40,7 @@ IN_THE_FILE = 3
         1,
         DISCARD,
     ),
+    case("parts: a NAME of 255 bytes that would be its own part's", [OWN_PART], 0),
 )
 def test_refuses(files, count, flags=(), there_is=()):
     """So many files of the batch are stored, and what was in the folder stays."""
