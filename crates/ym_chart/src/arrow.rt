@@ -1,7 +1,7 @@
 //! The arrow of a frame or an answer.
 
 ghost use Rattle.std.specs.Prelude.{◌≡◌, IfOk, Some};
-ghost use Rattle.ym_chart.specs.Arrows.{arrow_of};
+ghost use Rattle.ym_chart.specs.Arrows.{arrow_of, arrow_with, kept_name};
 ghost use Rattle.ym_chart.specs.Drawing.{arrow_words, class_of, label_of, stroke_of};
 
 use crate::parts::{behind, kind_of, moment_of, name_of, said_of, undated, way_of};
@@ -14,7 +14,7 @@ use ym_told::Direction;
 const BEFORE_NUMBER: usize = 6;
 
 /// What an arrow is to its session.
-#[derive(Clone, Copy, PartialEq, Eq)]
+#[derive(Clone, Copy)]
 pub(crate) enum Kind {
     /// A block in its turn. Its name is its number.
     Next,
@@ -50,20 +50,34 @@ impl Arrow {
         let Some(way) = way_of(undated) else {
             return Ok(None);
         };
-        let words = behind(undated, 2);
+        let arrow = Arrow::of_parts(alloc, moment_of(line), way, behind(undated, 2))?;
+        Ok(Some(arrow))
+    }
+
+    /// The arrow of these words, which went this way at this moment.
+    fn of_parts(
+        alloc: Global,
+        moment: &[u8],
+        way: Direction,
+        words: &[u8],
+    ) -> Result<Arrow, AllocError>
+        ensures { IfOk result (λ arrow. arrow ≡ arrow_with moment.now way words.now) }
+    {
         let kind = kind_of(words);
-        Ok(Some(Arrow {
-            moment: Text::of(alloc, moment_of(line))?,
+        Ok(Arrow {
+            moment: Text::of(alloc, moment)?,
             way,
             kind,
             name: Text::of(alloc, name_for(kind, name_of(words)))?,
             said: Text::of(alloc, said_of(words))?,
-        }))
+        })
     }
 }
 
 /// What is kept of a name.
-fn name_for(kind: Kind, name: &[u8]) -> &[u8] {
+fn name_for(kind: Kind, name: &[u8]) -> &[u8]
+    ensures { result.now ≡ kept_name kind name.entry.now }
+{
     match kind {
         Kind::Next => behind(name, BEFORE_NUMBER),
         Kind::Takes | Kind::Plain | Kind::Odd => name,

@@ -18,8 +18,11 @@ const STEP: u64 = 28;
 /// How high a sentence at the end is.
 const END_STEP: u64 = 24;
 
-/// How everything looks, by day and by night.
-const STYLE: &str = "<style>
+/// What stands behind the height of the picture: its title, and how everything looks, by day and
+/// by night.
+const STYLE: &str = "\" font-family=\"Helvetica, Arial, sans-serif\">
+<title>What passed on a line</title>
+<style>
 .paper{fill:#ffffff}
 text{fill:#1f2328;font-size:13px}
 .name,.who,.head{text-anchor:middle}
@@ -47,6 +50,13 @@ text{fill:#e6edf3}
 </style>
 ";
 
+/// What stands behind the height of the paper: the heads of the chart and of both ends.
+const HEADS: &str = "\" rx=\"8\"/>
+<text class=\"head\" x=\"480\" y=\"30\">What passed on a line</text>
+<text class=\"who\" x=\"104\" y=\"62\">sender</text>
+<text class=\"who\" x=\"404\" y=\"62\">receiver</text>
+";
+
 /// What stands before the rows.
 #[derive(Clone, Copy)]
 struct Head {
@@ -62,16 +72,13 @@ impl fmt::Display for Head {
     fn fmt<W: fmt::Write>(&self, f: &mut fmt::Formatter<W>) -> fmt::Result {
         let Head { height, foot } = *self;
         let style = STYLE;
+        let heads = HEADS;
         write!(
             f,
             "<svg xmlns=\"http://www.w3.org/2000/svg\" viewBox=\"0 0 960 {height}\" \
-             width=\"960\" height=\"{height}\" font-family=\"Helvetica, Arial, sans-serif\">\n\
-             <title>What passed on a line</title>\n{style}\
-             <rect class=\"paper\" width=\"960\" height=\"{height}\" rx=\"8\"/>\n\
-             <text class=\"head\" x=\"480\" y=\"30\">What passed on a line</text>\n\
-             <text class=\"who\" x=\"104\" y=\"62\">sender</text>\n\
-             <text class=\"who\" x=\"404\" y=\"62\">receiver</text>\n\
-             <path class=\"life\" d=\"M 104 70 V {foot}\"/>\n\
+             width=\"960\" height=\"{height}{style}\
+             <rect class=\"paper\" width=\"960\" height=\"{height}{heads}\
+             <path class=\"life\" d=\"M 104 70 V {foot}\"/>\
              <path class=\"life\" d=\"M 404 70 V {foot}\"/>\n"
         )
     }

@@ -7,6 +7,9 @@ use crate::arrow::{Arrow, Drawn};
 use crate::text::Text;
 use std::fmt;
 
+/// What a streak stands in.
+const BOX: &str = "<rect x=\"118\" y=\"8\" width=\"272\" height=\"18\" rx=\"6\"/>";
+
 /// Blocks in their turn that were acknowledged one after another.
 #[derive(Drop)]
 pub(crate) struct Streak {
@@ -51,11 +54,11 @@ impl fmt::Display for Placed<'_> {
                 let first = &streak.first.name;
                 let last = &streak.last.name;
                 let count = streak.count;
+                let mark = BOX;
                 write!(
                     f,
                     "<g class=\"run\" transform=\"translate(0 {at})\">\
-                     <text class=\"when\" x=\"84\" y=\"24\">{moment}</text>\
-                     <rect x=\"118\" y=\"8\" width=\"272\" height=\"18\" rx=\"6\"/>\
+                     <text class=\"when\" x=\"84\" y=\"24\">{moment}</text>{mark}\
                      <text class=\"name\" x=\"254\" y=\"21\">blocks {first} to {last}, \
                      each acknowledged</text>\
                      <text class=\"said\" x=\"424\" y=\"24\">{count} blocks</text></g>\n"
