@@ -8,7 +8,6 @@ use Rattle.ym_chart.specs.declared.arrow.Arrow.{Arrow}
 use Rattle.ym_chart.specs.declared.arrow.Kind.{Kind}
 use Rattle.ym_chart.specs.declared.arrow.Kind.TheVariants.{Next, Takes, Plain, Odd}
 use Rattle.ym_chart.specs.declared.picture.TheConstants.{END_STEP, HEADS, STEP, STYLE, TOP}
-use Rattle.ym_chart.specs.declared.row.TheConstants.{BOX}
 use Rattle.ym_chart.specs.declared.row.Row.{Row}
 use Rattle.ym_chart.specs.declared.row.Row.TheVariants as row
 use Rattle.ym_chart.specs.declared.row.Streak.{Streak}
@@ -39,26 +38,40 @@ label_of Takes = []
 label_of Plain = []
 label_of Odd = []
 
+-- what begins a row of this class, so far down: its moment
+abbrev pub open_words : List ℕ → ℕ → List ℕ → List ℕ
+open_words class at moment =
+    codes "<g class=\"" ++ (class ++ (codes "\" transform=\"translate(0 " ++ (decimal at
+    ++ (codes ")\"><text class=\"when\" x=\"84\" y=\"24\">" ++ (moment ++ codes "</text>")))))
+
+-- the name above an arrow, and what is said beside it
+abbrev pub named_words : List ℕ → List ℕ → List ℕ → List ℕ
+named_words label name said =
+    codes "<text class=\"name\" x=\"254\" y=\"14\">" ++ (label ++ (name
+    ++ (codes "</text><text class=\"said\" x=\"424\" y=\"24\">" ++ (said
+    ++ (codes "</text></g>" ++ 10 ∷ [])))))
+
 abbrev pub arrow_words : ℕ → Arrow → List ℕ
 arrow_words at a =
-    codes "<g class=\"" ++ (class_of a.way a.kind ++ (codes "\" transform=\"translate(0 "
-    ++ (decimal at ++ (codes ")\"><text class=\"when\" x=\"84\" y=\"24\">" ++ (a.moment
-    ++ (codes "</text>" ++ (stroke_of a.way ++ (codes "<text class=\"name\" x=\"254\" y=\"14\">"
-    ++ (label_of a.kind ++ (a.name
-    ++ (codes "</text><text class=\"said\" x=\"424\" y=\"24\">" ++ (a.said
-    ++ (codes "</text></g>" ++ 10 ∷ [])))))))))))))
+    open_words (class_of a.way a.kind) at a.moment
+    ++ (stroke_of a.way ++ named_words (label_of a.kind) a.name a.said)
 
 -- ---- A row
 
--- in a box, which has its name in the middle
+-- a streak stands in a box
+abbrev pub box : List ℕ
+box = codes "<rect x=\"118\" y=\"8\" width=\"272\" height=\"18\" rx=\"6\"/>"
+
+abbrev pub boxed_words : List ℕ → List ℕ → ℕ → List ℕ
+boxed_words first last count =
+    box ++ (codes "<text class=\"name\" x=\"254\" y=\"21\">blocks " ++ (first
+    ++ (codes " to " ++ (last
+    ++ (codes ", each acknowledged</text><text class=\"said\" x=\"424\" y=\"24\">"
+    ++ (decimal count ++ (codes " blocks</text></g>" ++ 10 ∷ [])))))))
+
 abbrev pub streak_words : ℕ → Streak → List ℕ
 streak_words at r =
-    codes "<g class=\"run\" transform=\"translate(0 " ++ (decimal at
-    ++ (codes ")\"><text class=\"when\" x=\"84\" y=\"24\">" ++ (r.first.moment
-    ++ (codes "</text>" ++ (BOX.now ++ (codes "<text class=\"name\" x=\"254\" y=\"21\">blocks "
-    ++ (r.first.name ++ (codes " to " ++ (r.last.name
-    ++ (codes ", each acknowledged</text><text class=\"said\" x=\"424\" y=\"24\">"
-    ++ (decimal r.count ++ (codes " blocks</text></g>" ++ 10 ∷ []))))))))))))
+    open_words (codes "run") at r.first.moment ++ boxed_words r.first.name r.last.name r.count
 
 abbrev pub note_words : ℕ → List ℕ → List ℕ
 note_words at text =
@@ -103,21 +116,29 @@ ends_words foot number [] = []
 ends_words foot number (text ∷ more) =
     end_words (end_top foot number) text ++ ends_words foot (number + 1) more
 
--- what stands before the rows: the heads, and the lines of both ends
-abbrev pub head_words : ℕ → ℕ → List ℕ
-head_words height foot =
+-- the paper of this height, with what stands behind that of the picture, and behind its own
+abbrev pub paper_words : ℕ → List ℕ → List ℕ → List ℕ
+paper_words height style heads =
     codes "<svg xmlns=\"http://www.w3.org/2000/svg\" viewBox=\"0 0 960 " ++ (decimal height
-    ++ (codes "\" width=\"960\" height=\"" ++ (decimal height ++ (STYLE.now
-    ++ (codes "<rect class=\"paper\" width=\"960\" height=\"" ++ (decimal height
-    ++ (HEADS.now ++ (codes "<path class=\"life\" d=\"M 104 70 V " ++ (decimal foot
+    ++ (codes "\" width=\"960\" height=\"" ++ (decimal height ++ (style
+    ++ (codes "<rect class=\"paper\" width=\"960\" height=\"" ++ (decimal height ++ heads))))))
+
+-- the lines of both ends
+abbrev pub lives_words : ℕ → List ℕ
+lives_words foot =
+    codes "<path class=\"life\" d=\"M 104 70 V " ++ (decimal foot
     ++ (codes "\"/><path class=\"life\" d=\"M 404 70 V " ++ (decimal foot
-    ++ (codes "\"/>" ++ 10 ∷ []))))))))))))
+    ++ (codes "\"/>" ++ 10 ∷ []))))
+
+-- what stands before the rows
+unfoldable pub head_words : ℕ → ℕ → List ℕ
+head_words height foot = paper_words height STYLE.now HEADS.now ++ lives_words foot
 
 -- how far down the lines of both ends go, which leaves room for the count of what is left out
 abbrev pub foot_of : List Row → ℕ
 foot_of rows = row_top (length rows) + STEP
 
-abbrev pub picture_words : List Row → ℕ → List (List ℕ) → List ℕ
+unfoldable pub picture_words : List Row → ℕ → List (List ℕ) → List ℕ
 picture_words rows left_out ends =
     (((head_words (end_top (foot_of rows) (length ends)) (foot_of rows) ++ rows_words 0 rows)
     ++ left_out_words (row_top (length rows)) left_out) ++ ends_words (foot_of rows) 0 ends)

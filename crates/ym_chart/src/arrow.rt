@@ -2,7 +2,7 @@
 
 ghost use Rattle.std.specs.Prelude.{◌≡◌, IfOk, Some};
 ghost use Rattle.ym_chart.specs.Arrows.{arrow_of, arrow_with, kept_name};
-ghost use Rattle.ym_chart.specs.Drawing.{arrow_words, class_of, label_of, stroke_of};
+ghost use Rattle.ym_chart.specs.Drawing.{arrow_words, class_of, label_of, named_words, open_words, stroke_of};
 
 use crate::parts::{behind, kind_of, moment_of, name_of, said_of, undated, way_of};
 use crate::text::Text;
@@ -84,6 +84,48 @@ fn name_for(kind: Kind, name: &[u8]) -> &[u8]
     }
 }
 
+/// What begins the row of an arrow, so far down: its moment.
+#[derive(Clone, Copy)]
+pub(crate) struct Opened<'a> {
+    pub(crate) class: &'a str,
+    pub(crate) at: u64,
+    pub(crate) moment: &'a Text,
+}
+
+impl fmt::Display for Opened<'_> {
+    ghost output = { λ it. Some (open_words it.class.now it.at it.moment.now) };
+
+    fn fmt<W: fmt::Write>(&self, f: &mut fmt::Formatter<W>) -> fmt::Result {
+        let Opened { class, at, moment } = *self;
+        write!(
+            f,
+            "<g class=\"{class}\" transform=\"translate(0 {at})\">\
+             <text class=\"when\" x=\"84\" y=\"24\">{moment}</text>"
+        )
+    }
+}
+
+/// The name of an arrow, and what is said of it.
+#[derive(Clone, Copy)]
+struct Named<'a> {
+    label: &'a str,
+    name: &'a Text,
+    said: &'a Text,
+}
+
+impl fmt::Display for Named<'_> {
+    ghost output = { λ it. Some (named_words it.label.now it.name.now it.said.now) };
+
+    fn fmt<W: fmt::Write>(&self, f: &mut fmt::Formatter<W>) -> fmt::Result {
+        let Named { label, name, said } = *self;
+        write!(
+            f,
+            "<text class=\"name\" x=\"254\" y=\"14\">{label}{name}</text>\
+             <text class=\"said\" x=\"424\" y=\"24\">{said}</text></g>\n"
+        )
+    }
+}
+
 /// An arrow, and how far down it is drawn.
 #[derive(Clone, Copy)]
 pub(crate) struct Drawn<'a> {
@@ -96,19 +138,18 @@ impl fmt::Display for Drawn<'_> {
 
     fn fmt<W: fmt::Write>(&self, f: &mut fmt::Formatter<W>) -> fmt::Result {
         let Drawn { at, arrow } = *self;
-        let class = class_of(arrow.way, arrow.kind);
+        let opened = Opened {
+            class: class_of(arrow.way, arrow.kind),
+            at,
+            moment: &arrow.moment,
+        };
         let stroke = stroke_of(arrow.way);
-        let label = label_of(arrow.kind);
-        let moment = &arrow.moment;
-        let name = &arrow.name;
-        let said = &arrow.said;
-        write!(
-            f,
-            "<g class=\"{class}\" transform=\"translate(0 {at})\">\
-             <text class=\"when\" x=\"84\" y=\"24\">{moment}</text>{stroke}\
-             <text class=\"name\" x=\"254\" y=\"14\">{label}{name}</text>\
-             <text class=\"said\" x=\"424\" y=\"24\">{said}</text></g>\n"
-        )
+        let named = Named {
+            label: label_of(arrow.kind),
+            name: &arrow.name,
+            said: &arrow.said,
+        };
+        write!(f, "{opened}{stroke}{named}")
     }
 }
 
