@@ -14,16 +14,20 @@ kept_name Takes name = name
 kept_name Plain name = name
 kept_name Odd name = name
 
-abbrev pub arrow_for : List ℕ → List ℕ → Option Direction → Option Arrow
-arrow_for line words None = None
-arrow_for line words (Some way) = Some (record {
-  moment = text_of (moment_of line);
+-- of these words, which went this way at this moment
+abbrev pub arrow_with : List ℕ → Direction → List ℕ → Arrow
+arrow_with moment way words = record {
+  moment = text_of moment;
   way = way;
   kind = kind_of words;
   name = text_of (kept_name (kind_of words) (name_of words));
   said = text_of (said_of words);
-})
+}
+
+abbrev pub arrow_for : List ℕ → List ℕ → Option Direction → Option Arrow
+arrow_for moment words None = None
+arrow_for moment words (Some way) = Some (arrow_with moment way words)
 
 -- none where the line tells no frame and no answer
 abbrev pub arrow_of : List ℕ → Option Arrow
-arrow_of line = arrow_for line (drop 2 (undated line)) (way_of (undated line))
+arrow_of line = arrow_for (moment_of line) (drop 2 (undated line)) (way_of (undated line))

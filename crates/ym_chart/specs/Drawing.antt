@@ -7,7 +7,7 @@ use Rattle.ym_chart.specs.Rows.{Kept}
 use Rattle.ym_chart.specs.declared.arrow.Arrow.{Arrow}
 use Rattle.ym_chart.specs.declared.arrow.Kind.{Kind}
 use Rattle.ym_chart.specs.declared.arrow.Kind.TheVariants.{Next, Takes, Plain, Odd}
-use Rattle.ym_chart.specs.declared.picture.TheConstants.{END_STEP, STEP, STYLE, TOP}
+use Rattle.ym_chart.specs.declared.picture.TheConstants.{END_STEP, HEADS, STEP, STYLE, TOP}
 use Rattle.ym_chart.specs.declared.row.Row.{Row}
 use Rattle.ym_chart.specs.declared.row.Row.TheVariants as row
 use Rattle.ym_chart.specs.declared.row.Streak.{Streak}
@@ -38,45 +38,51 @@ label_of Takes = []
 label_of Plain = []
 label_of Odd = []
 
--- a group of this class, so far down
-abbrev pub group : List ℕ → ℕ → List ℕ → List ℕ
-group class at parts =
+-- what begins a row of this class, so far down: its moment
+abbrev pub open_words : List ℕ → ℕ → List ℕ → List ℕ
+open_words class at moment =
     codes "<g class=\"" ++ (class ++ (codes "\" transform=\"translate(0 " ++ (decimal at
-    ++ (codes ")\">" ++ (parts ++ (codes "</g>" ++ 10 ∷ []))))))
+    ++ (codes ")\"><text class=\"when\" x=\"84\" y=\"24\">" ++ (moment ++ codes "</text>")))))
 
-abbrev pub when_words : List ℕ → List ℕ
-when_words moment = codes "<text class=\"when\" x=\"84\" y=\"24\">" ++ (moment ++ codes "</text>")
-
-abbrev pub said_words : List ℕ → List ℕ
-said_words said = codes "<text class=\"said\" x=\"424\" y=\"24\">" ++ (said ++ codes "</text>")
-
-abbrev pub name_words : List ℕ → List ℕ
-name_words name = codes "<text class=\"name\" x=\"254\" y=\"14\">" ++ (name ++ codes "</text>")
+-- the name above an arrow, and what is said beside it
+abbrev pub named_words : List ℕ → List ℕ → List ℕ → List ℕ
+named_words label name said =
+    codes "<text class=\"name\" x=\"254\" y=\"14\">" ++ (label ++ (name
+    ++ (codes "</text><text class=\"said\" x=\"424\" y=\"24\">" ++ (said
+    ++ (codes "</text></g>" ++ 10 ∷ [])))))
 
 abbrev pub arrow_words : ℕ → Arrow → List ℕ
 arrow_words at a =
-    group (class_of a.way a.kind) at (when_words a.moment ++ (stroke_of a.way
-    ++ (name_words (label_of a.kind ++ a.name) ++ said_words a.said)))
+    open_words (class_of a.way a.kind) at a.moment
+    ++ (stroke_of a.way ++ named_words (label_of a.kind) a.name a.said)
 
 -- ---- A row
 
--- a name in the middle of its row
-abbrev pub middle_words : List ℕ → List ℕ
-middle_words name = codes "<text class=\"name\" x=\"254\" y=\"21\">" ++ (name ++ codes "</text>")
-
+-- a streak stands in a box
 abbrev pub box : List ℕ
 box = codes "<rect x=\"118\" y=\"8\" width=\"272\" height=\"18\" rx=\"6\"/>"
 
+abbrev pub boxed_words : List ℕ → List ℕ → ℕ → List ℕ
+boxed_words first last count =
+    box ++ (codes "<text class=\"name\" x=\"254\" y=\"21\">blocks " ++ (first
+    ++ (codes " to " ++ (last
+    ++ (codes ", each acknowledged</text><text class=\"said\" x=\"424\" y=\"24\">"
+    ++ (decimal count ++ (codes " blocks</text></g>" ++ 10 ∷ [])))))))
+
 abbrev pub streak_words : ℕ → Streak → List ℕ
 streak_words at r =
-    group (codes "run") at (when_words r.first.moment ++ (box
-    ++ (middle_words (codes "blocks " ++ (r.first.name ++ (codes " to " ++ (r.last.name
-    ++ codes ", each acknowledged")))) ++ said_words (decimal r.count ++ codes " blocks"))))
+    open_words (codes "run") at r.first.moment ++ boxed_words r.first.name r.last.name r.count
+
+abbrev pub note_words : ℕ → List ℕ → List ℕ
+note_words at text =
+    codes "<g class=\"note\" transform=\"translate(0 " ++ (decimal at
+    ++ (codes ")\"><text class=\"said\" x=\"424\" y=\"24\">" ++ (text
+    ++ (codes "</text></g>" ++ 10 ∷ []))))
 
 abbrev pub row_words : ℕ → Row → List ℕ
 row_words at (row.Arrow a) = arrow_words at a
 row_words at (row.Streak r) = streak_words at r
-row_words at (row.Note text) = group (codes "note") at (said_words text)
+row_words at (row.Note text) = note_words at text
 
 abbrev pub row_top : ℕ → ℕ
 row_top number = TOP + STEP * number
@@ -90,7 +96,9 @@ rows_words number (r ∷ more) = row_words (row_top number) r ++ rows_words (num
 abbrev pub left_out_words : ℕ → ℕ → List ℕ
 left_out_words at count =
     if count == 0 then [] else
-    group (codes "run") at (middle_words (decimal count ++ codes " more are not drawn"))
+    codes "<g class=\"run\" transform=\"translate(0 " ++ (decimal at
+    ++ (codes ")\"><text class=\"name\" x=\"254\" y=\"21\">" ++ (decimal count
+    ++ (codes " more are not drawn</text></g>" ++ 10 ∷ []))))
 
 -- ---- The picture
 
@@ -108,34 +116,33 @@ ends_words foot number [] = []
 ends_words foot number (text ∷ more) =
     end_words (end_top foot number) text ++ ends_words foot (number + 1) more
 
-abbrev pub life_words : ℕ → ℕ → List ℕ
-life_words at foot =
-    codes "<path class=\"life\" d=\"M " ++ (decimal at ++ (codes " 70 V " ++ (decimal foot
+-- the paper of this height, with what stands behind that of the picture, and behind its own
+abbrev pub paper_words : ℕ → List ℕ → List ℕ → List ℕ
+paper_words height style heads =
+    codes "<svg xmlns=\"http://www.w3.org/2000/svg\" viewBox=\"0 0 960 " ++ (decimal height
+    ++ (codes "\" width=\"960\" height=\"" ++ (decimal height ++ (style
+    ++ (codes "<rect class=\"paper\" width=\"960\" height=\"" ++ (decimal height ++ heads))))))
+
+-- the lines of both ends
+abbrev pub lives_words : ℕ → List ℕ
+lives_words foot =
+    codes "<path class=\"life\" d=\"M 104 70 V " ++ (decimal foot
+    ++ (codes "\"/><path class=\"life\" d=\"M 404 70 V " ++ (decimal foot
     ++ (codes "\"/>" ++ 10 ∷ []))))
 
 -- what stands before the rows
-abbrev pub head_words : ℕ → ℕ → List ℕ
-head_words height foot =
-    codes "<svg xmlns=\"http://www.w3.org/2000/svg\" viewBox=\"0 0 960 " ++ (decimal height
-    ++ (codes "\" width=\"960\" height=\"" ++ (decimal height
-    ++ (codes "\" font-family=\"Helvetica, Arial, sans-serif\">" ++ (10 ∷ []
-    ++ (codes "<title>What passed on a line</title>" ++ (10 ∷ [] ++ (STYLE.now
-    ++ (codes "<rect class=\"paper\" width=\"960\" height=\"" ++ (decimal height
-    ++ (codes "\" rx=\"8\"/>" ++ (10 ∷ []
-    ++ (codes "<text class=\"head\" x=\"480\" y=\"30\">What passed on a line</text>" ++ (10 ∷ []
-    ++ (codes "<text class=\"who\" x=\"104\" y=\"62\">sender</text>" ++ (10 ∷ []
-    ++ (codes "<text class=\"who\" x=\"404\" y=\"62\">receiver</text>" ++ (10 ∷ []
-    ++ (life_words 104 foot ++ life_words 404 foot)))))))))))))))))))
+unfoldable pub head_words : ℕ → ℕ → List ℕ
+head_words height foot = paper_words height STYLE.now HEADS.now ++ lives_words foot
 
 -- how far down the lines of both ends go, which leaves room for the count of what is left out
 abbrev pub foot_of : List Row → ℕ
 foot_of rows = row_top (length rows) + STEP
 
-abbrev pub picture_words : List Row → ℕ → List (List ℕ) → List ℕ
+unfoldable pub picture_words : List Row → ℕ → List (List ℕ) → List ℕ
 picture_words rows left_out ends =
-    head_words (end_top (foot_of rows) (length ends)) (foot_of rows) ++ (rows_words 0 rows
-    ++ (left_out_words (row_top (length rows)) left_out ++ (ends_words (foot_of rows) 0 ends
-    ++ (codes "</svg>" ++ 10 ∷ []))))
+    (((head_words (end_top (foot_of rows) (length ends)) (foot_of rows) ++ rows_words 0 rows)
+    ++ left_out_words (row_top (length rows)) left_out) ++ ends_words (foot_of rows) 0 ends)
+    ++ (codes "</svg>" ++ 10 ∷ [])
 
 abbrev pub chart_words : Kept → List ℕ
 chart_words k = picture_words k.rows k.left_out k.ends

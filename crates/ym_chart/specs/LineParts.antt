@@ -41,9 +41,12 @@ name_of words = take (name_len words) words
 abbrev pub said_of : List ℕ → List ℕ
 said_of words = drop (name_len words + 2) words
 
+abbrev pub head_len : List ℕ → ℕ
+head_len words = length (take_while (λ byte. not (byte == 0x3a)) words)
+
 -- what stands behind the colon
 abbrev pub sense_of : List ℕ → List ℕ
-sense_of words = drop (length (take_while (λ byte. not (byte == 0x3a)) words) + 2) words
+sense_of words = drop (head_len words + 2) words
 
 abbrev pub block_kind : List ℕ → Kind
 block_kind sense =

@@ -53,21 +53,25 @@ arrows_settled k (a ∷ more) = arrows_settled (settled k (row.Arrow a)) more
 abbrev pub few_settled : Kept → Kept
 few_settled k = arrows_settled (record k { few = [] }) k.few
 
-abbrev pub streak_settled : Kept → Option Streak → Kept
-streak_settled k None = k
-streak_settled k (Some r) = settled k (row.Streak r)
+abbrev pub with_streak : Kept → Option Streak → Kept
+with_streak k None = k
+with_streak k (Some r) = settled k (row.Streak r)
 
-abbrev pub block_settled : Kept → Option Arrow → Kept
-block_settled k None = k
-block_settled k (Some a) = settled k (row.Arrow a)
+-- a streak does
+abbrev pub streak_settled : Kept → Kept
+streak_settled k = with_streak (record k { streak = None }) k.streak
 
--- and a streak does
-abbrev pub streaks_settled : Kept → Kept
-streaks_settled k = streak_settled (record (few_settled k) { streak = None }) k.streak
+abbrev pub with_waiting : Kept → Option Arrow → Kept
+with_waiting k None = k
+with_waiting k (Some a) = settled k (row.Arrow a)
+
+-- and a block that waits
+abbrev pub block_settled : Kept → Kept
+block_settled k = with_waiting (record k { block = None }) k.block
 
 -- all that waits becomes rows
 abbrev pub flushed : Kept → Kept
-flushed k = block_settled (record (streaks_settled k) { block = None }) k.block
+flushed k = block_settled (streak_settled (few_settled k))
 
 -- a block in its turn waits for its answer
 abbrev pub with_block : Kept → Option Arrow → Arrow → Kept

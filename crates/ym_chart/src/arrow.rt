@@ -1,8 +1,8 @@
 //! The arrow of a frame or an answer.
 
 ghost use Rattle.std.specs.Prelude.{◌≡◌, IfOk, Some};
-ghost use Rattle.ym_chart.specs.Arrows.{arrow_of};
-ghost use Rattle.ym_chart.specs.Drawing.{arrow_words, class_of, label_of, stroke_of};
+ghost use Rattle.ym_chart.specs.Arrows.{arrow_of, arrow_with, kept_name};
+ghost use Rattle.ym_chart.specs.Drawing.{arrow_words, class_of, label_of, named_words, open_words, stroke_of};
 
 use crate::parts::{behind, kind_of, moment_of, name_of, said_of, undated, way_of};
 use crate::text::Text;
@@ -14,7 +14,7 @@ use ym_told::Direction;
 const BEFORE_NUMBER: usize = 6;
 
 /// What an arrow is to its session.
-#[derive(Clone, Copy, PartialEq, Eq)]
+#[derive(Clone, Copy)]
 pub(crate) enum Kind {
     /// A block in its turn. Its name is its number.
     Next,
@@ -50,23 +50,79 @@ impl Arrow {
         let Some(way) = way_of(undated) else {
             return Ok(None);
         };
-        let words = behind(undated, 2);
+        let arrow = Arrow::of_parts(alloc, moment_of(line), way, behind(undated, 2))?;
+        Ok(Some(arrow))
+    }
+
+    /// The arrow of these words, which went this way at this moment.
+    fn of_parts(
+        alloc: Global,
+        moment: &[u8],
+        way: Direction,
+        words: &[u8],
+    ) -> Result<Arrow, AllocError>
+        ensures { IfOk result (λ arrow. arrow ≡ arrow_with moment.now way words.now) }
+    {
         let kind = kind_of(words);
-        Ok(Some(Arrow {
-            moment: Text::of(alloc, moment_of(line))?,
+        Ok(Arrow {
+            moment: Text::of(alloc, moment)?,
             way,
             kind,
             name: Text::of(alloc, name_for(kind, name_of(words)))?,
             said: Text::of(alloc, said_of(words))?,
-        }))
+        })
     }
 }
 
 /// What is kept of a name.
-fn name_for(kind: Kind, name: &[u8]) -> &[u8] {
+fn name_for(kind: Kind, name: &[u8]) -> &[u8]
+    ensures { result.now ≡ kept_name kind name.entry.now }
+{
     match kind {
         Kind::Next => behind(name, BEFORE_NUMBER),
         Kind::Takes | Kind::Plain | Kind::Odd => name,
+    }
+}
+
+/// What begins the row of an arrow, so far down: its moment.
+#[derive(Clone, Copy)]
+pub(crate) struct Opened<'a> {
+    pub(crate) class: &'a str,
+    pub(crate) at: u64,
+    pub(crate) moment: &'a Text,
+}
+
+impl fmt::Display for Opened<'_> {
+    ghost output = { λ it. Some (open_words it.class.now it.at it.moment.now) };
+
+    fn fmt<W: fmt::Write>(&self, f: &mut fmt::Formatter<W>) -> fmt::Result {
+        let Opened { class, at, moment } = *self;
+        write!(
+            f,
+            "<g class=\"{class}\" transform=\"translate(0 {at})\">\
+             <text class=\"when\" x=\"84\" y=\"24\">{moment}</text>"
+        )
+    }
+}
+
+/// The name of an arrow, and what is said of it.
+#[derive(Clone, Copy)]
+struct Named<'a> {
+    label: &'a str,
+    name: &'a Text,
+    said: &'a Text,
+}
+
+impl fmt::Display for Named<'_> {
+    ghost output = { λ it. Some (named_words it.label.now it.name.now it.said.now) };
+
+    fn fmt<W: fmt::Write>(&self, f: &mut fmt::Formatter<W>) -> fmt::Result {
+        let Named { label, name, said } = *self;
+        write!(
+            f,
+            "<text class=\"name\" x=\"254\" y=\"14\">{label}{name}</text>\
+             <text class=\"said\" x=\"424\" y=\"24\">{said}</text></g>\n"
+        )
     }
 }
 
@@ -82,19 +138,18 @@ impl fmt::Display for Drawn<'_> {
 
     fn fmt<W: fmt::Write>(&self, f: &mut fmt::Formatter<W>) -> fmt::Result {
         let Drawn { at, arrow } = *self;
-        let class = class_of(arrow.way, arrow.kind);
+        let opened = Opened {
+            class: class_of(arrow.way, arrow.kind),
+            at,
+            moment: &arrow.moment,
+        };
         let stroke = stroke_of(arrow.way);
-        let label = label_of(arrow.kind);
-        let moment = &arrow.moment;
-        let name = &arrow.name;
-        let said = &arrow.said;
-        write!(
-            f,
-            "<g class=\"{class}\" transform=\"translate(0 {at})\">\
-             <text class=\"when\" x=\"84\" y=\"24\">{moment}</text>{stroke}\
-             <text class=\"name\" x=\"254\" y=\"14\">{label}{name}</text>\
-             <text class=\"said\" x=\"424\" y=\"24\">{said}</text></g>\n"
-        )
+        let named = Named {
+            label: label_of(arrow.kind),
+            name: &arrow.name,
+            said: &arrow.said,
+        };
+        write!(f, "{opened}{stroke}{named}")
     }
 }
 

@@ -210,13 +210,28 @@ impl Chart {
         ensures { OnOk result (self.new ≡ spec.flushed self.old) }
     {
         self.settle_few()?;
-        if let Some(streak) = self.streak.take() {
-            self.settle(Row::Streak(streak))?;
+        self.settle_streak()?;
+        self.settle_block()
+    }
+
+    /// Makes a row of a streak.
+    fn settle_streak(&mut self) -> Result<(), AllocError>
+        ensures { OnOk result (self.new ≡ spec.streak_settled self.old) }
+    {
+        match self.streak.take() {
+            Some(streak) => self.settle(Row::Streak(streak)),
+            None => Ok(()),
         }
-        if let Some(block) = self.block.take() {
-            self.settle(Row::Arrow(block))?;
+    }
+
+    /// Makes a row of a block that waits.
+    fn settle_block(&mut self) -> Result<(), AllocError>
+        ensures { OnOk result (self.new ≡ spec.block_settled self.old) }
+    {
+        match self.block.take() {
+            Some(block) => self.settle(Row::Arrow(block)),
+            None => Ok(()),
         }
-        Ok(())
     }
 
     /// Makes rows of a few blocks and their answers.
@@ -251,6 +266,13 @@ impl Chart {
         ensures { IfOk result (λ text. string_bytes text ≡ chart_words (spec.flushed self)) }
     {
         self.flush()?;
+        self.drawn()
+    }
+
+    /// The picture of its rows.
+    fn drawn(&self) -> Result<String, AllocError>
+        ensures { IfOk result (λ text. string_bytes text ≡ chart_words self.now) }
+    {
         picture_of(
             self.alloc,
             self.rows.as_slice(),

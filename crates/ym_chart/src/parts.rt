@@ -95,12 +95,19 @@ pub(crate) fn said_of(words: &[u8]) -> &[u8]
     behind(words, name_len(words) + 2)
 }
 
+/// How many bytes stand before the first colon.
+fn head_len(words: &[u8]) -> usize
+    ensures exact { result ≡ spec.head_len words.now }
+    ensures within { result ≤ length words.now }
+{
+    words.iter().take_while(|byte| **byte != b':').count()
+}
+
 /// What it means to its session: what stands behind the colon.
 fn sense_of(words: &[u8]) -> &[u8]
     ensures { result.now ≡ spec.sense_of words.entry.now }
 {
-    let head = words.iter().take_while(|byte| **byte != b':').count();
-    behind(words, head + 2)
+    behind(words, head_len(words) + 2)
 }
 
 /// Whether these bytes are this text.

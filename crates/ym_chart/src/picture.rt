@@ -1,7 +1,7 @@
 //! The picture of rows.
 
 ghost use Rattle.std.specs.Prelude.{◌≡◌, ◌^◌, ◌≤◌, ◌++◌, Some, IfOk, OnOk, length, string_bytes};
-ghost use Rattle.ym_chart.specs.Drawing.{end_top, end_words, ends_words, head_words, picture_words, row_top, rows_words};
+ghost use Rattle.ym_chart.specs.Drawing.{end_top, end_words, ends_words, head_words, left_out_words, lives_words, paper_words, picture_words, row_top, rows_words};
 
 use crate::chart::{MOST_ENDS, MOST_ROWS};
 use crate::row::{LeftOut, Placed, Row};
@@ -18,8 +18,11 @@ const STEP: u64 = 28;
 /// How high a sentence at the end is.
 const END_STEP: u64 = 24;
 
-/// How everything looks, by day and by night.
-const STYLE: &str = "<style>
+/// What stands behind the height of the picture: its title, and how everything looks, by day and
+/// by night.
+const STYLE: &str = "\" font-family=\"Helvetica, Arial, sans-serif\">
+<title>What passed on a line</title>
+<style>
 .paper{fill:#ffffff}
 text{fill:#1f2328;font-size:13px}
 .name,.who,.head{text-anchor:middle}
@@ -47,31 +50,51 @@ text{fill:#e6edf3}
 </style>
 ";
 
-/// What stands before the rows.
+/// What stands behind the height of the paper: the heads of the chart and of both ends.
+const HEADS: &str = "\" rx=\"8\"/>
+<text class=\"head\" x=\"480\" y=\"30\">What passed on a line</text>
+<text class=\"who\" x=\"104\" y=\"62\">sender</text>
+<text class=\"who\" x=\"404\" y=\"62\">receiver</text>
+";
+
+/// The paper, so high, with what stands behind its height, and behind that of the picture.
 #[derive(Clone, Copy)]
-struct Head {
-    /// How high the picture is.
+struct Paper<'a> {
     height: u64,
-    /// How far down the lines of both ends go.
-    foot: u64,
+    style: &'a str,
+    heads: &'a str,
 }
 
-impl fmt::Display for Head {
-    ghost output = { λ head. Some (head_words head.height head.foot) };
+impl fmt::Display for Paper<'_> {
+    ghost output = { λ it. Some (paper_words it.height it.style.now it.heads.now) };
 
     fn fmt<W: fmt::Write>(&self, f: &mut fmt::Formatter<W>) -> fmt::Result {
-        let Head { height, foot } = *self;
-        let style = STYLE;
+        let Paper {
+            height,
+            style,
+            heads,
+        } = *self;
         write!(
             f,
             "<svg xmlns=\"http://www.w3.org/2000/svg\" viewBox=\"0 0 960 {height}\" \
-             width=\"960\" height=\"{height}\" font-family=\"Helvetica, Arial, sans-serif\">\n\
-             <title>What passed on a line</title>\n{style}\
-             <rect class=\"paper\" width=\"960\" height=\"{height}\" rx=\"8\"/>\n\
-             <text class=\"head\" x=\"480\" y=\"30\">What passed on a line</text>\n\
-             <text class=\"who\" x=\"104\" y=\"62\">sender</text>\n\
-             <text class=\"who\" x=\"404\" y=\"62\">receiver</text>\n\
-             <path class=\"life\" d=\"M 104 70 V {foot}\"/>\n\
+             width=\"960\" height=\"{height}{style}\
+             <rect class=\"paper\" width=\"960\" height=\"{height}{heads}"
+        )
+    }
+}
+
+/// The lines of both ends, which go so far down.
+#[derive(Clone, Copy)]
+struct Lives(u64);
+
+impl fmt::Display for Lives {
+    ghost output = { λ lives. Some (lives_words lives.0) };
+
+    fn fmt<W: fmt::Write>(&self, f: &mut fmt::Formatter<W>) -> fmt::Result {
+        let foot = self.0;
+        write!(
+            f,
+            "<path class=\"life\" d=\"M 104 70 V {foot}\"/>\
              <path class=\"life\" d=\"M 404 70 V {foot}\"/>\n"
         )
     }
@@ -144,6 +167,35 @@ fn push_ends(
     Ok(())
 }
 
+/// What stands before the rows of a picture of this height, whose lines of both ends go so far
+/// down.
+fn head_of(alloc: Global, height: u64, foot: u64) -> Result<String, AllocError>
+    ensures { IfOk result (λ text. string_bytes text ≡ head_words height foot) }
+{
+    let paper = Paper {
+        height,
+        style: STYLE,
+        heads: HEADS,
+    };
+    let lives = Lives(foot);
+    format!(in alloc; "{paper}{lives}")
+}
+
+/// Puts how many are left out behind a text.
+fn push_left_out(
+    alloc: Global,
+    text: &mut String,
+    at: u64,
+    count: u64,
+) -> Result<(), AllocError>
+    ensures { OnOk result
+        (string_bytes text.new ≡ string_bytes text.old ++ left_out_words at count) }
+{
+    let left_out = LeftOut { at, count };
+    text.push_str(format!(in alloc; "{left_out}")?.as_str())?;
+    Ok(())
+}
+
 /// The picture of these rows, of so many that are left out, and of what is told at the end.
 pub(crate) fn picture_of(
     alloc: Global,
@@ -158,15 +210,9 @@ pub(crate) fn picture_of(
 {
     let at = row_top(rows.len());
     let foot = at + STEP;
-    let height = end_top(foot, ends.len());
-    let head = Head { height, foot };
-    let left_out = LeftOut {
-        at,
-        count: left_out,
-    };
-    let mut text = format!(in alloc; "{head}")?;
+    let mut text = head_of(alloc, end_top(foot, ends.len()), foot)?;
     push_rows(alloc, &mut text, rows)?;
-    text.push_str(format!(in alloc; "{left_out}")?.as_str())?;
+    push_left_out(alloc, &mut text, at, left_out)?;
     push_ends(alloc, &mut text, foot, ends)?;
     text.push_str("</svg>\n")?;
     Ok(text)

@@ -1,9 +1,9 @@
 //! The rows of a chart.
 
 ghost use Rattle.std.specs.Prelude.{Some};
-ghost use Rattle.ym_chart.specs.Drawing.{row_words, left_out_words};
+ghost use Rattle.ym_chart.specs.Drawing.{boxed_words, left_out_words, row_words};
 
-use crate::arrow::{Arrow, Drawn};
+use crate::arrow::{Arrow, Drawn, Opened};
 use crate::text::Text;
 use std::fmt;
 
@@ -29,6 +29,29 @@ pub(crate) enum Row {
     Note(Text),
 }
 
+/// A streak in its box: the numbers of its first and its last block, and how many it has.
+#[derive(Clone, Copy)]
+struct Boxed<'a> {
+    first: &'a Text,
+    last: &'a Text,
+    count: u64,
+}
+
+impl fmt::Display for Boxed<'_> {
+    ghost output = { λ it. Some (boxed_words it.first.now it.last.now it.count) };
+
+    fn fmt<W: fmt::Write>(&self, f: &mut fmt::Formatter<W>) -> fmt::Result {
+        let Boxed { first, last, count } = *self;
+        write!(
+            f,
+            "<rect x=\"118\" y=\"8\" width=\"272\" height=\"18\" rx=\"6\"/>\
+             <text class=\"name\" x=\"254\" y=\"21\">blocks {first} to {last}, \
+             each acknowledged</text>\
+             <text class=\"said\" x=\"424\" y=\"24\">{count} blocks</text></g>\n"
+        )
+    }
+}
+
 /// A row, and how far down it is drawn.
 #[derive(Clone, Copy)]
 pub(crate) struct Placed<'a> {
@@ -47,19 +70,17 @@ impl fmt::Display for Placed<'_> {
                 write!(f, "{drawn}")
             }
             Row::Streak(streak) => {
-                let moment = &streak.first.moment;
-                let first = &streak.first.name;
-                let last = &streak.last.name;
-                let count = streak.count;
-                write!(
-                    f,
-                    "<g class=\"run\" transform=\"translate(0 {at})\">\
-                     <text class=\"when\" x=\"84\" y=\"24\">{moment}</text>\
-                     <rect x=\"118\" y=\"8\" width=\"272\" height=\"18\" rx=\"6\"/>\
-                     <text class=\"name\" x=\"254\" y=\"21\">blocks {first} to {last}, \
-                     each acknowledged</text>\
-                     <text class=\"said\" x=\"424\" y=\"24\">{count} blocks</text></g>\n"
-                )
+                let opened = Opened {
+                    class: "run",
+                    at,
+                    moment: &streak.first.moment,
+                };
+                let boxed = Boxed {
+                    first: &streak.first.name,
+                    last: &streak.last.name,
+                    count: streak.count,
+                };
+                write!(f, "{opened}{boxed}")
             }
             Row::Note(text) => write!(
                 f,

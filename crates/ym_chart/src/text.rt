@@ -1,8 +1,9 @@
 //! Text that can stand in XML.
 
 ghost use Rattle.std.specs.Prelude.{◌≡◌, ◌<◌, ◌++◌, IfOk, OnOk, flat_map, string_bytes};
-ghost use Rattle.ym_chart.specs.ChartText.{digit as digit_of_value, is_printable as prints, text_of, written};
+ghost use Rattle.ym_chart.specs.ChartText.{code, digit as digit_of_value, is_printable as prints, text_of, written};
 
+use crate::parts::front_of;
 use std::alloc::{AllocError, Global};
 use std::fmt;
 use std::marker::Model;
@@ -33,7 +34,7 @@ impl Text {
             let written = escaped(alloc, bytes)?;
             return Ok(Text { written });
         }
-        let mut written = escaped(alloc, &bytes[..MOST_TEXT])?;
+        let mut written = escaped(alloc, front_of(bytes, MOST_TEXT))?;
         written.push_str(" ..")?;
         Ok(Text { written })
     }
@@ -87,10 +88,13 @@ fn push_written(text: &mut String, byte: u8) -> Result<(), AllocError>
 }
 
 /// Puts a byte that is not printed behind a text.
-fn push_code(text: &mut String, byte: u8) -> Result<(), AllocError> {
+fn push_code(text: &mut String, byte: u8) -> Result<(), AllocError>
+    ensures { OnOk result (string_bytes text.new ≡ string_bytes text.old ++ code byte) }
+{
     text.push_str("\\x")?;
     text.push(digit(byte / 16))?;
-    text.push(digit(byte % 16))
+    text.push(digit(byte % 16))?;
+    Ok(())
 }
 
 /// A hexadecimal digit.
