@@ -32,7 +32,6 @@ COUNTS = {"receiver": 68, "sender": 67}
 # A fault of these shows as files that are not there, or are others.
 LOST = (
     "takes a damaged block",
-    "takes a cut block",
     "commits at an early EOT",
     "acknowledges before it stores, and stores nothing",
     "drops the last byte",

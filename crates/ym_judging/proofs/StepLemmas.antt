@@ -1,5 +1,5 @@
 -- Notes of one step more.
-use Rattle.std.proofs.Common.{◌≡◌, ◌≤◌, ◌+◌, ◌∙◌, ℕ, [], ◌∷◌, length, refl, ap, sym, omega, arith}
+use Rattle.std.proofs.Common.{◌≡◌, ◌≤◌, ◌+◌, ◌∙◌, ℕ, [], ◌∷◌, length, refl, ap, sym, arith}
 use Rattle.ym_judge.specs.Noted.{no_notes, notes_behind}
 use Rattle.ym_judge.specs.declared.act.Act.{Act}
 use Rattle.ym_judge.specs.declared.notes.Notes.{Notes}
@@ -27,3 +27,7 @@ pub both : (a b : ℕ) {old between new : Notes} → GrowsBy a old between → G
 both a b first second most noted =
     let grown = second (most + a) (first most noted) in
     record { steps = grown.steps; few = let few = grown.few in omega (arith, few); are = grown.are }
+
+pub same_notes : {most : ℕ} {old new : Notes} → new ≡ old → IsNoted most old → IsNoted most new
+same_notes e noted =
+    record { steps = noted.steps; few = noted.few; are = e ∙ noted.are }

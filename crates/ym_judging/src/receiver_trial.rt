@@ -338,8 +338,8 @@ impl<'a> ReceiverTrial<'a> {
     }
 }
 
-/// Hears what comes when the session is over, and brings the peer back to rest.
-fn end_receiver<W: Wire>(
+/// Hears what comes when the session is over.
+fn hear_rest<W: Wire>(
     line: &mut Line<'_, W>,
     trial: &mut ReceiverTrial<'_>,
 ) -> Result<(), AllocError>
@@ -349,6 +349,17 @@ fn end_receiver<W: Wire>(
         let (said, tenths) = line.listen(STILL_MS)?;
         trial.take_rest(said.as_slice(), tenths);
     }
+    Ok(())
+}
+
+/// The same, and brings the peer back to rest.
+fn end_receiver<W: Wire>(
+    line: &mut Line<'_, W>,
+    trial: &mut ReceiverTrial<'_>,
+) -> Result<(), AllocError>
+    ensures { GrowsBy 1 trial.old.notes trial.new.notes }
+{
+    hear_rest(line, trial)?;
     if !trial.has_finished() {
         line.write(&[CAN, CAN, CAN]);
     }

@@ -231,20 +231,36 @@ impl SenderTrial {
         }
     }
 
+    /// Takes of which size its first data block is.
+    fn take_size(&mut self, did: Act, bytes: &[u8])
+        ensures notes { self.new.notes ≡ self.old.notes }
+        ensures case { self.new.case ≡ self.old.case }
+    {
+        if did == Act::Block(1) {
+            self.is_short = bytes.first() == Some(&SOH);
+        }
+    }
+
+    /// Takes that the turn of the case is over, where it was this one.
+    fn take_twist(&mut self, twist: Option<Twist>)
+        ensures notes { self.new.notes ≡ self.old.notes }
+        ensures case { self.new.case ≡ self.old.case }
+    {
+        self.is_used = self.is_used || twist.is_some();
+        self.is_single = self.is_single || twist == Some(Twist::Taken);
+    }
+
     /// Takes the frame that came.
     fn take_frame(&mut self, turn: &Turn, bytes: &[u8], tenths: u64)
         ensures noted { GrowsBy 1 self.old.notes self.new.notes }
         ensures case { self.new.case ≡ self.old.case }
     {
         let did = delivered(false, bytes);
-        if did == Act::Block(1) {
-            self.is_short = bytes.first() == Some(&SOH);
-        }
+        self.take_size(did, bytes);
+        self.take_twist(turn.twist);
         let asked = self.twin().asked();
         let here = turn.twist.is_some() || is_everywhere(self.case);
         self.note(asked, did, tenths, here);
-        self.is_used = self.is_used || turn.twist.is_some();
-        self.is_single = self.is_single || turn.twist == Some(Twist::Taken);
     }
 
     /// Takes what came behind the frame, where the reference waits for an answer.
@@ -293,19 +309,23 @@ impl SenderTrial {
     }
 }
 
-/// Hears what comes when the session is over, and brings the peer back to rest.
-fn end_sender<W: Wire>(line: &mut Line<'_, W>, trial: &mut SenderTrial) -> Result<(), AllocError>
+/// Hears what comes when the session is over.
+fn hear_rest<W: Wire>(line: &mut Line<'_, W>, trial: &mut SenderTrial) -> Result<(), AllocError>
     ensures { GrowsBy 1 trial.old.notes trial.new.notes }
 {
     if trial.is_over() && !line.is_closed {
         let (said, tenths) = line.listen(STILL_MS)?;
-        trial.note(
-            Act::Nothing,
-            delivered(false, said.as_slice()),
-            tenths,
-            false,
-        );
+        let did = delivered(false, said.as_slice());
+        trial.note(Act::Nothing, did, tenths, false);
     }
+    Ok(())
+}
+
+/// The same, and brings the peer back to rest.
+fn end_sender<W: Wire>(line: &mut Line<'_, W>, trial: &mut SenderTrial) -> Result<(), AllocError>
+    ensures { GrowsBy 1 trial.old.notes trial.new.notes }
+{
+    hear_rest(line, trial)?;
     if !trial.is_finished() {
         line.write(&[CAN, CAN, CAN]);
     }
