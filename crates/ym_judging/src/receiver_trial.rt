@@ -4,7 +4,8 @@ ghost use Rattle.std.specs.Prelude.{◌≡◌, ◌++◌, ◌+◌, ℕ, List, IfO
 ghost use Rattle.ym_judge.specs.Acts.{answer_in};
 ghost use Rattle.ym_judge.specs.Noted.{no_notes};
 ghost use Rattle.ym_judging.specs.Manners.{twisted_as};
-ghost use Rattle.ym_judging.specs.Steps.{GoesOn, GrowsBy, IsNoted, has_acknowledged, has_cancelled};
+ghost use Rattle.ym_judging.specs.JudgedSteps.{GoesOn, GrowsBy, IsNoted, has_acknowledged};
+ghost use Rattle.ym_judging.specs.JudgedSteps.{has_cancelled};
 ghost use Rattle.ym_judging.specs.declared.receiver_trial.TheConstants.{MOST_TURNS};
 
 use crate::line::{ANSWER_MS, Ear, FIRST_MS, Line, STILL_MS};
@@ -286,8 +287,8 @@ impl<'a> ReceiverTrial<'a> {
 
     /// Takes what came in a turn.
     fn take(&mut self, alloc: Global, turn: &Turn, heard: &Heard) -> Result<(), AllocError>
-        ensures noted { OnOk result (GoesOn (answer_in (heard.now.before.items ++ heard.now.bytes.items))
-            self.old.notes self.new.notes) }
+        ensures noted { let said = heard.now.before.items ++ heard.now.bytes.items in
+            OnOk result (GoesOn (answer_in said) self.old.notes self.new.notes) }
         ensures case { self.new.case ≡ self.old.case }
     {
         let first = self.deliver_before(turn, heard);

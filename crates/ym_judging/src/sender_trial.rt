@@ -3,7 +3,7 @@
 ghost use Rattle.std.specs.Prelude.{◌≡◌, ◌≤◌, ◌+◌, ◌*◌, ℕ, List, IfOk, IfSome, Some, length};
 ghost use Rattle.ym_judge.specs.Noted.{no_notes};
 ghost use Rattle.ym_judging.specs.Manners.{twisted_as};
-ghost use Rattle.ym_judging.specs.Steps.{GoesOn, GrowsBy, IsNoted};
+ghost use Rattle.ym_judging.specs.JudgedSteps.{GoesOn, GrowsBy, IsNoted};
 ghost use Rattle.ym_judging.specs.declared.sender_trial.TheConstants.{MOST_TURNS};
 
 use crate::line::{ANSWER_MS, Ear, FIRST_MS, Line, STILL_MS};
@@ -29,8 +29,8 @@ const MOST_TURNS: u32 = 64;
 struct SenderTrial {
     alloc: Global,
     case: Case,
-    /// The senders of the reference, which hear what is answered: one that uses long blocks, and one
-    /// that uses short blocks alone.
+    /// The senders of the reference, which hear what is answered: one that uses long blocks, and
+    /// one that uses short blocks alone.
     long: SenderTwin<'static>,
     short: SenderTwin<'static>,
     /// The peer uses short blocks alone.
@@ -125,7 +125,8 @@ impl SenderTrial {
 
     /// What becomes of the answer that is due.
     fn twist(&self) -> Option<Twist>
-        ensures { IfSome result (λ twist. (spot : Spot) × (self.now.case ≡ Case.Answer spot twist)) }
+        ensures { IfSome result (λ twist. (spot : Spot)
+            × (self.now.case ≡ Case.Answer spot twist)) }
     {
         if self.is_used {
             None

@@ -1,5 +1,0 @@
-use Rattle.ym_judging.proofs.StepLemmas.{both, one_more, same_notes}
-use Rattle.ym_judging.proofs.receiver_trial.hear_rest.Goals as goal
-
-pub returns-then-not-line : goal.returns-then-not-line
-returns-then-not-line g c most noted = one_more c.take_rest.ensures.noted most noted
