@@ -293,7 +293,7 @@ impl<'a> ReceiverTrial<'a> {
     {
         let first = self.deliver_before(turn, heard);
         let second = self.deliver_last(turn, heard);
-        self.is_refused = self.notes.fits && self.twins.has_stopped();
+        self.is_refused = self.twins.has_stopped() && (self.notes.fits || turn.twist.is_some());
         self.deliver_keenly(alloc, turn)?;
         let mut said = Vec::from_slice(alloc, heard.before.as_slice())?;
         said.extend_from_slice(heard.bytes.as_slice())?;

@@ -1,4 +1,5 @@
-use Rattle.std.proofs.Common.{arith, common_steps}
+use Rattle.std.proofs.Common.{arith}
+use Rattle.std.proofs.lemmas.Grind.{common_steps}
 use Rattle.ym_judging.proofs.ContentLemmas.{content_step}
 use Rattle.ym_judging.proofs.payload.content.Goals as goal
 
