@@ -32,7 +32,6 @@ COUNTS = {"receiver": 68, "sender": 67}
 # A fault of these shows as files that are not there, or are others.
 LOST = (
     "takes a damaged block",
-    "takes a cut block",
     "commits at an early EOT",
     "acknowledges before it stores, and stores nothing",
     "drops the last byte",
@@ -67,19 +66,15 @@ def told(it):
     return "%(case)s: asks for %(asks)s; did %(did)s after %(seconds)s s: %(finding)s" % it
 
 
-def conforms(kind, command, but=()):
-    """Each case conforms, but for those whose names have one of these words: they differ."""
+def conforms(kind, command):
+    """Each case conforms."""
 
     def check():
         status, found = judged(kind, command)
         wants(len(found) == COUNTS[kind], "%d cases" % len(found))
-        wrong = [
-            told(it)
-            for name, it in found.items()
-            if it["finding"] != "conforms" and not any(word in name for word in but)
-        ]
+        wrong = [told(it) for it in found.values() if it["finding"] != "conforms"]
         wants(not wrong, "; ".join(wrong))
-        wants(status == 0 or but, "status %d" % status)
+        wants(status == 0, "status %d" % status)
 
     return check
 
@@ -93,8 +88,9 @@ def loses_nothing(kind, command):
         _, found = judged(kind, command)
         wants(len(found) == COUNTS[kind], "%d cases" % len(found))
         wants(found["plain"]["finding"] != "loses-data", told(found["plain"]))
-        silent = [told(it) for it in found.values() if it["finding"] in ("no-answer", "not-tried")]
-        wants(not silent, "; ".join(silent))
+        # `rb` acknowledges the first EOT, so that there is no second one.
+        left = [told(it) for name, it in found.items() if it["finding"] in ("no-answer", "not-tried") and "second EOT" not in name]
+        wants(not left, "; ".join(left))
 
     return check
 

@@ -1,2 +1,3 @@
 pub mod Explaining
+pub mod Judged
 pub mod Program

@@ -1,5 +1,7 @@
 //! The files that a receiver has stored which is tried.
 
+ghost use Rattle.std.specs.Prelude.{◌≤◌, length};
+
 use std::alloc::{AllocError, Global};
 use std::fs;
 use std::fs::{File, Files};
@@ -7,12 +9,14 @@ use std::io::Read;
 use ym_judging::{Payload, content};
 
 /// Reads what this has, up to the end of the buffer. The answer is how many bytes.
-fn read_front<F: Read>(file: &mut F, buf: &mut [u8]) -> usize {
+fn read_front<F: Read>(file: &mut F, buf: &mut [u8]) -> usize
+    ensures { result ≤ length buf.new }
+{
     let mut length = 0;
     while length < buf.len() {
         match file.read(&mut buf[length..]) {
-            Ok(count) if count > 0 => length += count,
-            _ => return length,
+            Ok(0) | Err(_) => return length,
+            Ok(count) => length += count,
         }
     }
     length

@@ -1,5 +1,8 @@
 //! `judge`: cases are played to a peer, and what it did is reported.
 
+ghost use Rattle.std.specs.Prelude.{◌≡◌, ◌≤◌, [], IfOk};
+ghost use Rattle.ym_command.specs.Judged.{AnswersReport, peer_named};
+
 use crate::judge_message::JudgeMessage;
 use crate::judged_files::stores_all;
 use crate::judged_peer::{Access, access_of, play_case};
@@ -46,7 +49,9 @@ struct Report {
 }
 
 /// What peer this word names.
-fn peer_of(word: &str) -> Option<Peer> {
+fn peer_of(word: &str) -> Option<Peer>
+    ensures { result ≡ peer_named word.now }
+{
     match word {
         "sender" => Some(Peer::Sender),
         "receiver" => Some(Peer::Receiver),
@@ -66,7 +71,9 @@ fn case_of(alloc: Global, peer: Peer, name: &str) -> Result<Option<Case>, AllocE
 }
 
 /// Prints the names of the cases.
-fn list<O: Output>(peer: Peer, out: &mut O) -> Result<u8, CommandFault> {
+fn list<O: Output>(peer: Peer, out: &mut O) -> Result<u8, CommandFault>
+    ensures { IfOk result (λ status. status ≤ 2) }
+{
     for case in cases_of(peer) {
         out.put_line(*case)?;
     }
@@ -74,7 +81,9 @@ fn list<O: Output>(peer: Peer, out: &mut O) -> Result<u8, CommandFault> {
 }
 
 /// Tells why the words are refused.
-fn refuse<E: Output>(err: &mut E, why: JudgeMessage<'_>) -> Result<u8, CommandFault> {
+fn refuse<E: Output>(err: &mut E, why: JudgeMessage<'_>) -> Result<u8, CommandFault>
+    ensures { IfOk result (λ status. status ≡ 2) }
+{
     err.put_line(why)?;
     Ok(REFUSED)
 }
@@ -116,7 +125,10 @@ fn print_end<O: Output>(out: &mut O, report: &Report) -> Result<(), CommandFault
 }
 
 /// What the report comes to.
-fn status_of(report: &Report) -> Result<u8, CommandFault> {
+fn status_of(report: &Report) -> Result<u8, CommandFault>
+    ensures gives { AnswersReport report.now result }
+    ensures status { IfOk result (λ status. status ≤ 2) }
+{
     if report.has_failed {
         Err(CommandFault::Device)
     } else if report.avoided.is_empty() {
@@ -128,7 +140,9 @@ fn status_of(report: &Report) -> Result<u8, CommandFault> {
 
 impl Report {
     /// Nothing was found.
-    fn new(alloc: Global) -> Report {
+    fn new(alloc: Global) -> Report
+        ensures { result.avoided.items ≡ [] }
+    {
         Report {
             sums: Sums::new(),
             avoided: Vec::new(alloc),
@@ -190,6 +204,7 @@ where
     R: Files<File = File> + Net<Listener = TcpListener, Stream = TcpStream> + Clock,
     O: Output,
     E: Output,
+    ensures { IfOk result (λ status. status ≤ 2) }
 {
     let mut report = Report::new(alloc);
     for case in cases {
@@ -199,6 +214,20 @@ where
         print_end(out, &report)?;
     }
     status_of(&report)
+}
+
+/// Tells why there is no way to the peer.
+fn refuse_place<E: Output>(err: &mut E, order: JudgeOrder<'_>) -> Result<u8, CommandFault>
+    ensures { IfOk result (λ status. status ≤ 2) }
+{
+    match (order.port, order.line) {
+        (None, Some(path)) => {
+            err.put_line(JudgeMessage::NoLine(path))?;
+            Err(CommandFault::Device)
+        }
+        (Some(_), None) => Err(CommandFault::Device),
+        _ => refuse(err, JudgeMessage::NoPlace),
+    }
 }
 
 /// Does what the words of `judge` ask for, and answers the status: 0 where nothing is to be
@@ -214,6 +243,7 @@ where
     R: Files<File = File> + Net<Listener = TcpListener, Stream = TcpStream> + Clock,
     O: Output,
     E: Output,
+    ensures { IfOk result (λ status. status ≤ 2) }
 {
     let Some(peer) = peer_of(order.peer) else {
         return refuse(err, JudgeMessage::NoPeer(order.peer));
@@ -235,17 +265,5 @@ where
         },
         Err(CommandFault::Port) => Err(CommandFault::Port),
         Err(_) => refuse_place(err, order),
-    }
-}
-
-/// Tells why there is no way to the peer.
-fn refuse_place<E: Output>(err: &mut E, order: JudgeOrder<'_>) -> Result<u8, CommandFault> {
-    match (order.port, order.line) {
-        (None, Some(path)) => {
-            err.put_line(JudgeMessage::NoLine(path))?;
-            Err(CommandFault::Device)
-        }
-        (Some(_), None) => Err(CommandFault::Device),
-        _ => refuse(err, JudgeMessage::NoPlace),
     }
 }

@@ -1,9 +1,9 @@
 -- Notes of one step more.
-use Rattle.std.proofs.Common.{◌≡◌, ◌≤◌, ◌+◌, ◌∙◌, ℕ, [], ◌∷◌, length, refl, ap, sym, omega, arith}
+use Rattle.std.proofs.Common.{◌≡◌, ◌≤◌, ◌+◌, ◌∙◌, ℕ, [], ◌∷◌, length, refl, ap, sym, arith}
 use Rattle.ym_judge.specs.Noted.{no_notes, notes_behind}
 use Rattle.ym_judge.specs.declared.act.Act.{Act}
 use Rattle.ym_judge.specs.declared.notes.Notes.{Notes}
-use Rattle.ym_judging.specs.Steps.{GoesOn, GrowsBy, IsNoted, notes_of}
+use Rattle.ym_judging.specs.JudgedSteps.{GoesOn, GrowsBy, IsNoted, notes_of}
 
 pub none_yet : (notes : Notes) → notes ≡ no_notes → IsNoted 0 notes
 none_yet notes e = record { steps = []; few = omega arith; are = e }
@@ -27,3 +27,14 @@ pub both : (a b : ℕ) {old between new : Notes} → GrowsBy a old between → G
 both a b first second most noted =
     let grown = second (most + a) (first most noted) in
     record { steps = grown.steps; few = let few = grown.few in omega (arith, few); are = grown.are }
+
+pub same_notes : {most : ℕ} {old new : Notes} → new ≡ old → IsNoted most old → IsNoted most new
+same_notes e noted =
+    record { steps = noted.steps; few = noted.few; are = e ∙ noted.are }
+
+pub at_most : {a b : ℕ} {notes : Notes} → a ≤ b → IsNoted a notes → IsNoted b notes
+at_most below noted = record {
+  steps = noted.steps;
+  few = let few = noted.few in omega (arith, few, below);
+  are = noted.are;
+}

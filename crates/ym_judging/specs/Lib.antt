@@ -1,3 +1,3 @@
 pub mod Contents
+pub mod JudgedSteps
 pub mod Manners
-pub mod Steps

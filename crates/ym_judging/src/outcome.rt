@@ -1,7 +1,7 @@
 //! What a case has shown.
 
 ghost use Rattle.std.specs.Prelude.{◌≡◌, false};
-ghost use Rattle.ym_judging.specs.Steps.{IsFound, IsStep, evidence_of};
+ghost use Rattle.ym_judging.specs.JudgedSteps.{IsFound, IsStep, evidence_of};
 
 use crate::payload::Payload;
 use ym_judge::{Case, Evidence, Notes, Tried};

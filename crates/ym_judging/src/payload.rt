@@ -177,6 +177,7 @@ fn byte_before(left: u16) -> u8
 }
 
 /// The bytes of a file of this length. The last one is 1A, with which blocks are padded too.
+#[tactic(auto, using(crate::proofs::ContentLemmas::content_step))]
 pub fn content(alloc: Global, length: u16) -> Result<Vec<u8>, AllocError>
     ensures { IfOk result (λ bytes. bytes.items ≡ content_of length) }
 {

@@ -4,7 +4,8 @@ ghost use Rattle.std.specs.Prelude.{◌≡◌, ◌++◌, ◌+◌, ℕ, List, IfO
 ghost use Rattle.ym_judge.specs.Acts.{answer_in};
 ghost use Rattle.ym_judge.specs.Noted.{no_notes};
 ghost use Rattle.ym_judging.specs.Manners.{twisted_as};
-ghost use Rattle.ym_judging.specs.Steps.{GoesOn, GrowsBy, IsNoted, has_acknowledged, has_cancelled};
+ghost use Rattle.ym_judging.specs.JudgedSteps.{GoesOn, GrowsBy, IsNoted, has_acknowledged};
+ghost use Rattle.ym_judging.specs.JudgedSteps.{has_cancelled};
 ghost use Rattle.ym_judging.specs.declared.receiver_trial.TheConstants.{MOST_TURNS};
 
 use crate::line::{ANSWER_MS, Ear, FIRST_MS, Line, STILL_MS};
@@ -286,13 +287,13 @@ impl<'a> ReceiverTrial<'a> {
 
     /// Takes what came in a turn.
     fn take(&mut self, alloc: Global, turn: &Turn, heard: &Heard) -> Result<(), AllocError>
-        ensures noted { OnOk result (GoesOn (answer_in (heard.now.before.items ++ heard.now.bytes.items))
-            self.old.notes self.new.notes) }
+        ensures noted { let said = heard.now.before.items ++ heard.now.bytes.items in
+            OnOk result (GoesOn (answer_in said) self.old.notes self.new.notes) }
         ensures case { self.new.case ≡ self.old.case }
     {
         let first = self.deliver_before(turn, heard);
         let second = self.deliver_last(turn, heard);
-        self.is_refused = self.notes.fits && self.twins.has_stopped();
+        self.is_refused = self.twins.has_stopped() && (self.notes.fits || turn.twist.is_some());
         self.deliver_keenly(alloc, turn)?;
         let mut said = Vec::from_slice(alloc, heard.before.as_slice())?;
         said.extend_from_slice(heard.bytes.as_slice())?;
@@ -338,8 +339,8 @@ impl<'a> ReceiverTrial<'a> {
     }
 }
 
-/// Hears what comes when the session is over, and brings the peer back to rest.
-fn end_receiver<W: Wire>(
+/// Hears what comes when the session is over.
+fn hear_rest<W: Wire>(
     line: &mut Line<'_, W>,
     trial: &mut ReceiverTrial<'_>,
 ) -> Result<(), AllocError>
@@ -349,6 +350,17 @@ fn end_receiver<W: Wire>(
         let (said, tenths) = line.listen(STILL_MS)?;
         trial.take_rest(said.as_slice(), tenths);
     }
+    Ok(())
+}
+
+/// The same, and brings the peer back to rest.
+fn end_receiver<W: Wire>(
+    line: &mut Line<'_, W>,
+    trial: &mut ReceiverTrial<'_>,
+) -> Result<(), AllocError>
+    ensures { GrowsBy 1 trial.old.notes trial.new.notes }
+{
+    hear_rest(line, trial)?;
     if !trial.has_finished() {
         line.write(&[CAN, CAN, CAN]);
     }

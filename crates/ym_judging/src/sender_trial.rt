@@ -3,7 +3,7 @@
 ghost use Rattle.std.specs.Prelude.{◌≡◌, ◌≤◌, ◌+◌, ◌*◌, ℕ, List, IfOk, IfSome, Some, length};
 ghost use Rattle.ym_judge.specs.Noted.{no_notes};
 ghost use Rattle.ym_judging.specs.Manners.{twisted_as};
-ghost use Rattle.ym_judging.specs.Steps.{GoesOn, GrowsBy, IsNoted};
+ghost use Rattle.ym_judging.specs.JudgedSteps.{GoesOn, GrowsBy, IsNoted};
 ghost use Rattle.ym_judging.specs.declared.sender_trial.TheConstants.{MOST_TURNS};
 
 use crate::line::{ANSWER_MS, Ear, FIRST_MS, Line, STILL_MS};
@@ -29,8 +29,8 @@ const MOST_TURNS: u32 = 64;
 struct SenderTrial {
     alloc: Global,
     case: Case,
-    /// The senders of the reference, which hear what is answered: one that uses long blocks, and one
-    /// that uses short blocks alone.
+    /// The senders of the reference, which hear what is answered: one that uses long blocks, and
+    /// one that uses short blocks alone.
     long: SenderTwin<'static>,
     short: SenderTwin<'static>,
     /// The peer uses short blocks alone.
@@ -125,7 +125,8 @@ impl SenderTrial {
 
     /// What becomes of the answer that is due.
     fn twist(&self) -> Option<Twist>
-        ensures { IfSome result (λ twist. (spot : Spot) × (self.now.case ≡ Case.Answer spot twist)) }
+        ensures { IfSome result (λ twist. (spot : Spot)
+            × (self.now.case ≡ Case.Answer spot twist)) }
     {
         if self.is_used {
             None
@@ -231,20 +232,36 @@ impl SenderTrial {
         }
     }
 
+    /// Takes of which size its first data block is.
+    fn take_size(&mut self, did: Act, bytes: &[u8])
+        ensures notes { self.new.notes ≡ self.old.notes }
+        ensures case { self.new.case ≡ self.old.case }
+    {
+        if did == Act::Block(1) {
+            self.is_short = bytes.first() == Some(&SOH);
+        }
+    }
+
+    /// Takes that the turn of the case is over, where it was this one.
+    fn take_twist(&mut self, twist: Option<Twist>)
+        ensures notes { self.new.notes ≡ self.old.notes }
+        ensures case { self.new.case ≡ self.old.case }
+    {
+        self.is_used = self.is_used || twist.is_some();
+        self.is_single = self.is_single || twist == Some(Twist::Taken);
+    }
+
     /// Takes the frame that came.
     fn take_frame(&mut self, turn: &Turn, bytes: &[u8], tenths: u64)
         ensures noted { GrowsBy 1 self.old.notes self.new.notes }
         ensures case { self.new.case ≡ self.old.case }
     {
         let did = delivered(false, bytes);
-        if did == Act::Block(1) {
-            self.is_short = bytes.first() == Some(&SOH);
-        }
+        self.take_size(did, bytes);
+        self.take_twist(turn.twist);
         let asked = self.twin().asked();
         let here = turn.twist.is_some() || is_everywhere(self.case);
         self.note(asked, did, tenths, here);
-        self.is_used = self.is_used || turn.twist.is_some();
-        self.is_single = self.is_single || turn.twist == Some(Twist::Taken);
     }
 
     /// Takes what came behind the frame, where the reference waits for an answer.
@@ -293,19 +310,23 @@ impl SenderTrial {
     }
 }
 
-/// Hears what comes when the session is over, and brings the peer back to rest.
-fn end_sender<W: Wire>(line: &mut Line<'_, W>, trial: &mut SenderTrial) -> Result<(), AllocError>
+/// Hears what comes when the session is over.
+fn hear_rest<W: Wire>(line: &mut Line<'_, W>, trial: &mut SenderTrial) -> Result<(), AllocError>
     ensures { GrowsBy 1 trial.old.notes trial.new.notes }
 {
     if trial.is_over() && !line.is_closed {
         let (said, tenths) = line.listen(STILL_MS)?;
-        trial.note(
-            Act::Nothing,
-            delivered(false, said.as_slice()),
-            tenths,
-            false,
-        );
+        let did = delivered(false, said.as_slice());
+        trial.note(Act::Nothing, did, tenths, false);
     }
+    Ok(())
+}
+
+/// The same, and brings the peer back to rest.
+fn end_sender<W: Wire>(line: &mut Line<'_, W>, trial: &mut SenderTrial) -> Result<(), AllocError>
+    ensures { GrowsBy 1 trial.old.notes trial.new.notes }
+{
+    hear_rest(line, trial)?;
     if !trial.is_finished() {
         line.write(&[CAN, CAN, CAN]);
     }

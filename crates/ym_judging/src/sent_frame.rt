@@ -41,6 +41,7 @@ fn header_frame(alloc: Global, file: &Payload) -> Result<Vec<u8>, AllocError> {
 }
 
 /// The frame of a file's data block, counted from 1. A block that it has not has none.
+#[tactic(auto, using(crate::proofs::ContentLemmas::content_length))]
 fn block_frame(alloc: Global, file: &Payload, number: u8) -> Result<Vec<u8>, AllocError> {
     let place = u64::from(number);
     if place == 0 || place > block_count(u64::from(file.length), Shape::Mixed) {

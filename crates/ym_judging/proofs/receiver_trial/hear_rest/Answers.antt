@@ -1,0 +1,5 @@
+use Rattle.ym_judging.proofs.StepLemmas.{one_more}
+use Rattle.ym_judging.proofs.receiver_trial.hear_rest.Goals as goal
+
+pub returns-in_ok-said : goal.returns-in_ok-said
+returns-in_ok-said g c most noted = one_more c.take_rest.ensures.noted most noted

@@ -1,0 +1,5 @@
+use Rattle.ym_judging.proofs.StepLemmas.{both, one_more, same_notes}
+use Rattle.ym_judging.proofs.sender_trial.SenderTrial.take_behind.Goals as goal
+
+pub returns-then-ne-clause-noted : goal.returns-then-ne-clause-noted
+returns-then-ne-clause-noted c most noted = one_more c.note.ensures.noted most noted
