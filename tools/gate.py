@@ -45,7 +45,7 @@ TRIED = {"YMODEM": "ymodem", "CASES": "port_cases", "LINE_CASES": "line_cases"}
 ROWS = (
     ("line", "disk", "words"),
     ("peers", "explain", "serial", "package", "house"),
-    ("sessions",),
+    ("sessions", "judge"),
     ("library", "web"),
     ("uboot", "boards", "portable"),
 )

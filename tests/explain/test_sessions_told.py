@@ -10,7 +10,17 @@ import tempfile
 
 from support.cable import plug
 from support.cases import case, cases, sentence
-from support.explained import DATA, PIECE, crc, explained, record_of, told, within_bounds
+from support.explained import (
+    DATA,
+    PIECE,
+    crc,
+    explained,
+    record_of,
+    recorded,
+    told,
+    ways,
+    within_bounds,
+)
 from support.picocom import picocom
 from support.skipping import needs
 from support.waits import wait_until
@@ -20,23 +30,11 @@ from support.waits import wait_until
 MOST = 2 * 1024 * 1024
 
 
-def recorded():
-    return sorted(it[:-7] for it in os.listdir(DATA) if it.endswith(".record"))
-
-
 @cases(*(case("the sentence of a recorded session: " + name, name) for name in recorded()))
 def test_is_told(name):
     path, sentence, _ = record_of(name)
     lines = told(path)
     assert lines and lines[-1] == sentence, "told %r, wanted %r" % (lines[-1:], sentence)
-
-
-def ways(text):
-    """The bytes of each way of a record."""
-    found = {">": b"", "<": b""}
-    for _, way, digits in PIECE.findall(text):
-        found[way] += bytes.fromhex(digits)
-    return found[">"], found["<"]
 
 
 @sentence("a session is told alike in any pieces")

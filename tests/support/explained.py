@@ -39,6 +39,19 @@ def record_of(name):
     return path, text.split("\n", 1)[0][2:], text
 
 
+def recorded():
+    """The names of the recorded sessions."""
+    return sorted(it[:-7] for it in os.listdir(DATA) if it.endswith(".record"))
+
+
+def ways(text):
+    """The bytes of each way of a record."""
+    found = {">": b"", "<": b""}
+    for _, way, digits in PIECE.findall(text):
+        found[way] += bytes.fromhex(digits)
+    return found[">"], found["<"]
+
+
 def within_bounds(*words):
     """A capture is told in seconds and little memory."""
     # A bound of the system, and not ru_maxrss: behind a vfork a child's has its parent's pages.

@@ -24,6 +24,7 @@ AT_ONCE = {
     "disk": 60,
     "explain": 60,
     "house": 8,
+    "judge": 4,
     "library": 60,
     "line": 500,
     "package": 8,

@@ -1,9 +1,9 @@
 #!/usr/bin/env python3
-"""A receiver and a sender of YMODEM on standard input and output, as plain as the protocol has them,
-into which faults can be planted by name.
+"""A receiver and a sender of YMODEM on standard input and output, as plain as the protocol has
+them, into which faults can be planted by name.
 
-usage: judge_peers.py receiver|sender [FAULT..]
-       judge_peers.py u-boot
+usage: faulty_peers.py receiver|sender [FAULT..]
+       faulty_peers.py u-boot
 """
 
 import os
@@ -11,7 +11,24 @@ import select
 import subprocess
 import sys
 
-from frames import ACK, ACK_START, CANCEL, EOT, FRAME_LENGTHS, NAK, SOH, START, STX, block, has_frame, header, mixed
+sys.dont_write_bytecode = True
+sys.path.insert(0, os.path.dirname(os.path.dirname(os.path.abspath(__file__))))
+
+from support.frames import (
+    ACK,
+    ACK_START,
+    CANCEL,
+    EOT,
+    FRAME_LENGTHS,
+    NAK,
+    SOH,
+    START,
+    STX,
+    block,
+    has_frame,
+    header,
+    mixed,
+)
 
 U_BOOT = os.environ.get("U_BOOT", "/usr/lib/u-boot/qemu_arm64/u-boot.bin")
 
@@ -124,7 +141,11 @@ class Receiver:
             if data[:2] == CANCEL:
                 return "cancel", 0, b""
             return "block", data[1], data[3 : FRAME_LENGTHS[data[0]] - 2]
-        if self.has("takes a damaged block") and data[:1] and FRAME_LENGTHS.get(data[0]) == len(data) > 2:
+        if (
+            self.has("takes a damaged block")
+            and data[:1]
+            and FRAME_LENGTHS.get(data[0]) == len(data) > 2
+        ):
             return "block", data[1], data[3:-2]
         if self.has("takes a cut block") and len(data) > 3 and data[0] in (SOH, STX):
             return "block", data[1], data[3:]
@@ -205,7 +226,11 @@ class Receiver:
 
     def silence(self):
         """What it does where nothing comes."""
-        if self.has("commits at an EOT that is lost") and self.name and len(self.taken) >= self.length:
+        if (
+            self.has("commits at an EOT that is lost")
+            and self.name
+            and len(self.taken) >= self.length
+        ):
             self.stores()
             return ACK_START
         if self.has("acknowledges silence") and self.name:
@@ -302,7 +327,11 @@ class Sender:
             return ACK
         if self.has("takes C for ACK") and byte == START and self.is_sent:
             return ACK
-        if self.has("takes a NAK of EOT for ACK") and byte == NAK and self.frames[self.place][0] == EOT:
+        if (
+            self.has("takes a NAK of EOT for ACK")
+            and byte == NAK
+            and self.frames[self.place][0] == EOT
+        ):
             return ACK
         return byte
 

@@ -1,0 +1,46 @@
+"""What is found of whole peers by all cases: the program's own ends, a plain receiver and a plain
+sender, and those of lrzsz."""
+
+import shlex
+
+import pytest
+
+from support.cases import case, cases
+from support.judged import PEER, judged_by_all, told
+from support.program import PROGRAM
+
+
+# The program, as a word of /bin/sh.
+OURS = shlex.quote(PROGRAM)
+
+
+@cases(
+    case(
+        "judge: receive conforms in every case",
+        "receiver",
+        OURS + " receive --eager --port $PORT .",
+    ),
+    case("judge: send conforms in every case", "sender", OURS + " send --port $PORT judge.txt"),
+    case("judge: a plain receiver conforms", "receiver", PEER + " receiver"),
+    case("judge: a plain sender conforms", "sender", PEER + " sender"),
+)
+def test_conforms(kind, command):
+    """Each case conforms."""
+    status, found = judged_by_all(kind, command)
+    wrong = [told(it) for it in found.values() if it["finding"] != "conforms"]
+    assert not wrong, "; ".join(wrong)
+    assert status == 0, "status %d" % status
+
+
+@cases(
+    case("judge: rb of lrzsz", "receiver", "rb", marks=pytest.mark.needs("rb")),
+    case("judge: sb of lrzsz", "sender", "sb judge.txt", marks=pytest.mark.needs("sb")),
+)
+def test_loses_nothing(kind, command):
+    """A peer that is used differs where it does, and loses no data where it is used as it is."""
+    _, found = judged_by_all(kind, command)
+    assert found["plain"]["finding"] != "loses-data", told(found["plain"])
+    # `rb` acknowledges the first EOT, so that there is no second one.
+    asked = (it for name, it in found.items() if "second EOT" not in name)
+    left = [told(it) for it in asked if it["finding"] in ("no-answer", "not-tried")]
+    assert not left, "; ".join(left)
