@@ -221,7 +221,7 @@ echo "2 passed, 1 skipped in 0.01s"
 ROWS = (
     ("line", "disk", "words"),
     ("peers", "explain", "serial", "package", "house"),
-    ("sessions",),
+    ("sessions", "judge"),
     ("library", "web"),
     ("uboot", "boards", "portable"),
 )
