@@ -12,7 +12,7 @@ use std::net::{Net, TcpListener, TcpStream};
 use std::time::Clock;
 use ym_jobs::CommandFault;
 use ym_judge::{Avoided, Case, CaseJson, CaseLine, Peer, StartLine, Sums, Tried, cases_of};
-use ym_judging::Outcome;
+use ym_judging::{Outcome, files_of};
 use ym_play::Output;
 
 /// The status where something has to be avoided.
@@ -95,9 +95,9 @@ fn looked_at<R: Files<File = File>>(
     stored: Option<&str>,
     outcome: Outcome,
 ) -> Result<Outcome, AllocError> {
-    let is_exact = match stored {
-        Some(dir) => stores_all(rt, alloc, dir, outcome.sent, outcome.told)?,
-        None => true,
+    let is_exact = match (stored, outcome.sent) {
+        (Some(dir), Some(parcel)) => { stores_all(rt, alloc, dir, files_of(parcel), outcome.told)? }
+        _ => true,
     };
     Ok(Outcome {
         is_exact: outcome.is_exact && is_exact,

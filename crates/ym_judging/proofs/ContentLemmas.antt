@@ -1,5 +1,5 @@
 -- The content of a file, byte by byte.
-use Rattle.std.proofs.Common.{◌≡◌, ◌<◌, ◌+◌, ◌-◌, ℕ, zero, suc, [], ◌∷◌, length, refl, arith}
+use Rattle.std.proofs.Common.{◌≡◌, ◌<◌, ◌-◌, ℕ, zero, suc, ◌∷◌, length, refl, arith}
 use Rattle.ym_judging.specs.Contents.{byte_before, content_of}
 
 pub content_length : (n : ℕ) → length (content_of n) ≡ n

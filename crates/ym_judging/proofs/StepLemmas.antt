@@ -1,9 +1,9 @@
 -- Notes of one step more.
-use Rattle.std.proofs.Common.{◌≡◌, ◌≤◌, ◌+◌, ◌∙◌, ℕ, [], ◌∷◌, length, refl, ap, sym, arith}
+use Rattle.std.proofs.Common.{◌≡◌, ◌≤◌, ◌+◌, ◌∙◌, ℕ, [], ◌∷◌, ap, arith}
 use Rattle.ym_judge.specs.Noted.{no_notes, notes_behind}
 use Rattle.ym_judge.specs.declared.act.Act.{Act}
 use Rattle.ym_judge.specs.declared.notes.Notes.{Notes}
-use Rattle.ym_judging.specs.JudgedSteps.{GoesOn, GrowsBy, IsNoted, notes_of}
+use Rattle.ym_judging.specs.JudgedSteps.{GoesOn, GrowsBy, IsNoted}
 
 pub none_yet : (notes : Notes) → notes ≡ no_notes → IsNoted 0 notes
 none_yet notes e = record { steps = []; few = omega arith; are = e }

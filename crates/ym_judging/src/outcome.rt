@@ -3,16 +3,15 @@
 ghost use Rattle.std.specs.Prelude.{◌≡◌, false};
 ghost use Rattle.ym_judging.specs.JudgedSteps.{IsFound, IsStep, evidence_of};
 
-use crate::payload::Payload;
-use ym_judge::{Case, Evidence, Notes, Tried};
+use ym_judge::{Case, Evidence, Notes, Parcel, Tried};
 
 /// What a case has shown.
 #[derive(Clone, Copy)]
 pub struct Outcome {
     /// What was seen.
     pub notes: Notes,
-    /// The files that were sent to the peer, if it receives.
-    pub sent: &'static [Payload],
+    /// What was sent to the peer, if it receives.
+    pub sent: Option<Parcel>,
     /// How many files are done by what the peer wrote.
     pub told: usize,
     /// How many are there by what was delivered.
@@ -34,7 +33,7 @@ impl Outcome {
     {
         Outcome {
             notes: Notes::new(),
-            sent: &[],
+            sent: None,
             told: 0,
             held: 0,
             is_exact: true,

@@ -328,7 +328,7 @@ impl<'a> ReceiverTrial<'a> {
     {
         Outcome {
             notes: self.notes,
-            sent: self.files,
+            sent: Some(parcel_of(self.case)),
             told: self.claims.told,
             held: self.twins.held().max(self.keen.held()),
             is_exact: true,

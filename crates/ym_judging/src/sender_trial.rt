@@ -299,7 +299,7 @@ impl SenderTrial {
         let is_exact = is_exact(self.alloc, &self.store)?;
         Ok(Outcome {
             notes: self.notes,
-            sent: &[],
+            sent: None,
             told: self.claims.told,
             held: self.twins.held(),
             is_exact,

@@ -1,4 +1,4 @@
-use Rattle.std.proofs.Common.{◌*◌, ◌+◌, arith}
+use Rattle.std.proofs.Common.{◌*◌, arith}
 use Rattle.std.proofs.lemmas.Result.{IfOk-weaker}
 use Rattle.ym_judging.proofs.StepLemmas.{at_most, same_notes}
 use Rattle.ym_judging.proofs.sender_trial.try_sender.Goals as goal

@@ -1,4 +1,4 @@
-use Rattle.ym_judging.proofs.StepLemmas.{both, one_more, same_notes}
+use Rattle.ym_judging.proofs.StepLemmas.{one_more, same_notes}
 use Rattle.ym_judging.proofs.sender_trial.SenderTrial.take_before.Goals as goal
 
 pub returns-then-not-is_empty-clause-noted : goal.returns-then-not-is_empty-clause-noted

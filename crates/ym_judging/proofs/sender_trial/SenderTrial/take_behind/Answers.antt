@@ -1,4 +1,4 @@
-use Rattle.ym_judging.proofs.StepLemmas.{both, one_more, same_notes}
+use Rattle.ym_judging.proofs.StepLemmas.{one_more}
 use Rattle.ym_judging.proofs.sender_trial.SenderTrial.take_behind.Goals as goal
 
 pub returns-then-ne-clause-noted : goal.returns-then-ne-clause-noted
