@@ -26,7 +26,7 @@ COLUMNS = 100
 PROOF_LINES = 400
 EDITS = 50
 # Every contract there is one equation that fixes the result, as of texts and words.
-EQUATIONS = {"ym_text", "ym_told", "ym_words"}
+EQUATIONS = {"ym_chart", "ym_text", "ym_told", "ym_words"}
 README, README_LINES = "README.md", 80
 MAP = "docs/map.md"
 # The two pages that say what is promised and how to believe it, and the words of both together.

@@ -36,14 +36,14 @@ is_plain byte =
 pub data StandsFor : List ℕ → List ℕ → Type 0 where
   Nothing : StandsFor [] []
   Less : {text bytes : List ℕ} → StandsFor text bytes
-    → StandsFor (codes "&lt;" ++ text) (0x3c ∷ bytes)
+      → StandsFor (codes "&lt;" ++ text) (0x3c ∷ bytes)
   Greater : {text bytes : List ℕ} → StandsFor text bytes
-    → StandsFor (codes "&gt;" ++ text) (0x3e ∷ bytes)
+      → StandsFor (codes "&gt;" ++ text) (0x3e ∷ bytes)
   Ampersand : {text bytes : List ℕ} → StandsFor text bytes
-    → StandsFor (codes "&amp;" ++ text) (0x26 ∷ bytes)
+      → StandsFor (codes "&amp;" ++ text) (0x26 ∷ bytes)
   Quote : {text bytes : List ℕ} → StandsFor text bytes
-    → StandsFor (codes "&quot;" ++ text) (0x22 ∷ bytes)
+      → StandsFor (codes "&quot;" ++ text) (0x22 ∷ bytes)
   Itself : {text bytes : List ℕ} (byte : ℕ) → is_plain byte ≡ true → StandsFor text bytes
-    → StandsFor (byte ∷ text) (byte ∷ bytes)
+      → StandsFor (byte ∷ text) (byte ∷ bytes)
   Coded : {text bytes : List ℕ} (byte : ℕ) → is_printable byte ≡ false → StandsFor text bytes
-    → StandsFor (code byte ++ text) (byte ∷ bytes)
+      → StandsFor (code byte ++ text) (byte ∷ bytes)
