@@ -1,1 +1,2 @@
 mod PictureLemmas
+mod StandsForLemmas

@@ -34,12 +34,16 @@ is_plain byte =
 -- What a reader of XML takes a text for: a name of a character for that character, and any other
 -- character for itself. What is not printed is taken for its code.
 pub data StandsFor : List ℕ → List ℕ → Type 0 where
-  nothing : StandsFor [] []
-  less : {text bytes : List ℕ} → StandsFor text bytes → StandsFor (codes "&lt;" ++ text) (0x3c ∷ bytes)
-  more : {text bytes : List ℕ} → StandsFor text bytes → StandsFor (codes "&gt;" ++ text) (0x3e ∷ bytes)
-  ampersand : {text bytes : List ℕ} → StandsFor text bytes → StandsFor (codes "&amp;" ++ text) (0x26 ∷ bytes)
-  quote : {text bytes : List ℕ} → StandsFor text bytes → StandsFor (codes "&quot;" ++ text) (0x22 ∷ bytes)
-  itself : {text bytes : List ℕ} (byte : ℕ) → is_plain byte ≡ true → StandsFor text bytes
-    → StandsFor (byte ∷ text) (byte ∷ bytes)
-  coded : {text bytes : List ℕ} (byte : ℕ) → is_printable byte ≡ false → StandsFor text bytes
-    → StandsFor (code byte ++ text) (byte ∷ bytes)
+  Nothing : StandsFor [] []
+  Less : {text bytes : List ℕ} → StandsFor text bytes
+      → StandsFor (codes "&lt;" ++ text) (0x3c ∷ bytes)
+  Greater : {text bytes : List ℕ} → StandsFor text bytes
+      → StandsFor (codes "&gt;" ++ text) (0x3e ∷ bytes)
+  Ampersand : {text bytes : List ℕ} → StandsFor text bytes
+      → StandsFor (codes "&amp;" ++ text) (0x26 ∷ bytes)
+  Quote : {text bytes : List ℕ} → StandsFor text bytes
+      → StandsFor (codes "&quot;" ++ text) (0x22 ∷ bytes)
+  Itself : {text bytes : List ℕ} (byte : ℕ) → is_plain byte ≡ true → StandsFor text bytes
+      → StandsFor (byte ∷ text) (byte ∷ bytes)
+  Coded : {text bytes : List ℕ} (byte : ℕ) → is_printable byte ≡ false → StandsFor text bytes
+      → StandsFor (code byte ++ text) (byte ∷ bytes)

@@ -148,12 +148,7 @@ fn push_rows(alloc: Global, text: &mut String, rows: &[Row]) -> Result<(), Alloc
 }
 
 /// Puts these sentences behind a text, below the lines of both ends.
-fn push_ends(
-    alloc: Global,
-    text: &mut String,
-    foot: u64,
-    ends: &[Text],
-) -> Result<(), AllocError>
+fn push_ends(alloc: Global, text: &mut String, foot: u64, ends: &[Text]) -> Result<(), AllocError>
     requires foot { foot ≤ 2 ^ 32 }
     requires few { length ends.now ≤ MOST_ENDS }
     ensures { OnOk result
@@ -182,12 +177,7 @@ fn head_of(alloc: Global, height: u64, foot: u64) -> Result<String, AllocError>
 }
 
 /// Puts how many are left out behind a text.
-fn push_left_out(
-    alloc: Global,
-    text: &mut String,
-    at: u64,
-    count: u64,
-) -> Result<(), AllocError>
+fn push_left_out(alloc: Global, text: &mut String, at: u64, count: u64) -> Result<(), AllocError>
     ensures { OnOk result
         (string_bytes text.new ≡ string_bytes text.old ++ left_out_words at count) }
 {

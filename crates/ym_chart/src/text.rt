@@ -1,7 +1,7 @@
 //! Text that can stand in XML.
 
 ghost use Rattle.std.specs.Prelude.{◌≡◌, ◌<◌, ◌++◌, IfOk, OnOk, flat_map, string_bytes};
-ghost use Rattle.ym_chart.specs.ChartText.{code, digit as digit_of_value, is_printable as prints, text_of, written};
+ghost use Rattle.ym_chart.specs.ChartText.{StandsFor, code, digit as digit_of_value, is_printable as prints, text_of, written};
 
 use crate::parts::front_of;
 use std::alloc::{AllocError, Global};
@@ -57,6 +57,15 @@ impl fmt::Display for Text {
 ///
 /// At want of memory.
 pub fn escaped(alloc: Global, bytes: &[u8]) -> Result<String, AllocError>
+    ensures exact { IfOk result (λ text. string_bytes text ≡ flat_map written bytes.now) }
+    // Nothing in it means more to XML than these bytes.
+    ensures means { IfOk result (λ text. StandsFor (string_bytes text) bytes.now) }
+{
+    spelled(alloc, bytes)
+}
+
+/// These bytes, one behind the other, as text of XML.
+fn spelled(alloc: Global, bytes: &[u8]) -> Result<String, AllocError>
     ensures { IfOk result (λ text. string_bytes text ≡ flat_map written bytes.now) }
 {
     let mut text = String::new(alloc);

@@ -11,13 +11,13 @@ use ym_play::{Output, StreamFault};
 pub trait Draw: Output {
     /// Draws from now on what goes there.
     fn begin_chart(&mut self)
-        ensures holds { contents self.new ≡ contents self.old }
-        ensures failed { failures self.new ≡ failures self.old };
+        ensures holds { Self.contents self.new ≡ Self.contents self.old }
+        ensures failed { Self.failures self.new ≡ Self.failures self.old };
 
     /// The picture of what went there since that began; none at want of memory, now or before.
     fn end_chart(&mut self) -> Option<String>
-        ensures holds { contents self.new ≡ contents self.old }
-        ensures failed { failures self.new ≡ failures self.old };
+        ensures holds { Self.contents self.new ≡ Self.contents self.old }
+        ensures failed { Self.failures self.new ≡ Self.failures self.old };
 }
 
 /// An output, and the chart that is drawn of what goes to it. It holds what the output holds, and

@@ -273,9 +273,7 @@ where
             both,
             turned,
             chart,
-        } => explain_and_draw(
-            rt, alloc, there, back, both, turned, chart, input, out, err,
-        ),
+        } => explain_and_draw(rt, alloc, there, back, both, turned, chart, input, out, err),
         Job::Judge {
             peer,
             port,

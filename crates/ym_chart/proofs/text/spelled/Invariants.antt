@@ -1,6 +1,6 @@
 use Rattle.std.proofs.Common.{◌≡◌, ◌++◌, drop, flat_map, string_bytes}
 use Rattle.ym_chart.specs.ChartText.{written}
-use Rattle.ym_chart.proofs.text.escaped.Given as goal
+use Rattle.ym_chart.proofs.text.spelled.Given as goal
 
 abbrev pub invariant-loop-byte : goal.invariant-loop-byte
 invariant-loop-byte l =
