@@ -194,8 +194,30 @@ fn tell_outcome<E: Write + Drop>(
     }
 }
 
-/// Receives the files that come over a line, as [`receive_on`] does. The line is recorded where
-/// that is wanted.
+/// Receives the files that come over a line, as [`receive_on`] does over a port of it.
+fn receive_at<R, W, O, E>(
+    rt: &R,
+    alloc: Global,
+    wire: W,
+    order: Order<'_>,
+    out: &mut O,
+    teller: &mut Teller<E>,
+) -> Result<u8, CommandFault>
+where
+    R: Files<File = File> + Clock,
+    W: ToldWire + Drop,
+    O: Output,
+    E: Write + Drop,
+    ensures { SessionGives order.entry.confirm
+        (page (O.contents out.old) (O.failures out.old)) result
+        (page (O.contents out.new) (O.failures out.new)) }
+{
+    let port = InStep::new(TimedPort::new(wire, Role::Receiver));
+    let port = Eager::new(port, order.eager);
+    receive_on(rt, alloc, port, order, out, teller)
+}
+
+/// The same over a line that is recorded where that is wanted.
 pub(crate) fn receive_through<R, W, O, E>(
     rt: &R,
     alloc: Global,
@@ -215,9 +237,7 @@ where
         (page (O.contents out.new) (O.failures out.new)) }
 {
     let wire = RecordedWire::new(wire, rt, Role::Receiver, &mut records.recorder);
-    let port = InStep::new(TimedPort::new(wire, Role::Receiver));
-    let port = Eager::new(port, order.eager);
-    let answer = receive_on(rt, alloc, port, order, out, teller);
+    let answer = receive_at(rt, alloc, wire, order, out, teller);
     records.end(matches!(answer, Ok(0)), teller);
     answer
 }

@@ -65,15 +65,21 @@ impl<R: Clock + Drop, I: Read + Drop, O: Write + Drop> ToldWire for TtyWire<R, I
     }
 }
 
+impl<'r, W: ToldWire + Drop, C: Clock + Drop, A: Append + Drop> ToldWire
+    for RecordedWire<'r, W, C, A> {
+    fn words(&self) -> LineWords {
+        self.wire().words()
+    }
+}
+
 /// A port that says what its faults are told as.
 pub(crate) trait ToldLine: Learned {
     fn words(&self) -> LineWords;
 }
 
-impl<'r, W: ToldWire + Drop, C: Clock + Drop, A: Append + Drop> ToldLine
-    for TimedPort<RecordedWire<'r, W, C, A>> {
+impl<W: ToldWire + Drop> ToldLine for TimedPort<W> {
     fn words(&self) -> LineWords {
-        self.wire().wire().words()
+        self.wire().words()
     }
 }
 
