@@ -28,7 +28,8 @@ use Rattle.ym_command.specs.Explaining.{DrawsGives}
 abbrev pub AsksFor : List Text → Option Asked → Type 0
 AsksFor words job = (takes the_app words ≡ true) × (asked (subcommand_of the_app words) ≡ job)
 
--- the session of the script `text`, carried in memory, ends so, where out held the bytes before, and err those of wrong
+-- the session of the script `text`, carried in memory, ends so, where out held the bytes before,
+-- and err those of wrong
 abbrev pub IsPlayed : List ℕ → List ℕ → List ℕ → ℕ → Option (List ℕ) → Option (List ℕ) → Type 0
 IsPlayed text before wrong status out err =
     (handed : Option (List Handed)) × (failures : ℕ) × SessionGives text before wrong (Some []) 0 status out err handed failures
@@ -75,7 +76,8 @@ abbrev pub PrintsBeside : Option Text → Gives → Desk → Result ℕ CommandF
 PrintsBeside (Some path) gives old answer new = gives old.out answer new.out × OnlyPrints old new
 PrintsBeside None gives old answer new = gives old.err answer new.err × OnlyReports old new
 
--- What a job answers, and what it leaves: a status, or a fault that is still to be told. A session tells its own.
+-- What a job answers, and what it leaves: a status, or a fault that is still to be told. A session
+-- tells its own.
 abbrev pub JobGives : Asked → Desk → Result ℕ CommandFault → Desk → Type 0
 JobGives job.Play old answer new = (status : ℕ) × (answer ≡ Ok status) × IsSession (Some []) old status new
 JobGives (job.Loop port tell) old answer new = LoopGives old answer new

@@ -36,7 +36,8 @@ const REFUSED: u8 = 2;
 /// The status where a line could not be written.
 const FAILED: u8 = 3;
 
-/// Writes the text of refused words. The answer is their status, or that of a failed device where it could not be written.
+/// Writes the text of refused words. The answer is their status, or that of a failed device where
+/// it could not be written.
 fn tell_words<E: Output, D: Display + Drop>(err: &mut E, text: D) -> u8
     ensures { ((result ≡ 2) × (E.failures err.new ≡ E.failures err.old)) ⊎ (result ≡ 3) }
 {
@@ -46,7 +47,8 @@ fn tell_words<E: Output, D: Display + Drop>(err: &mut E, text: D) -> u8
     }
 }
 
-/// Writes the version. The answer is 0, or the status of a failed device where it could not be written.
+/// Writes the version. The answer is 0, or the status of a failed device where it could not be
+/// written.
 fn tell_version<O: Output, D: Display + Drop>(out: &mut O, text: D) -> u8
     ensures { ((result ≡ 0) × (O.failures out.new ≡ O.failures out.old)) ⊎ (result ≡ 3) }
 {
@@ -56,7 +58,8 @@ fn tell_version<O: Output, D: Display + Drop>(out: &mut O, text: D) -> u8
     }
 }
 
-/// Writes the line of a fault. The answer is its status, or that of a failed device where it could not be written.
+/// Writes the line of a fault. The answer is its status, or that of a failed device where it could
+/// not be written.
 fn tell_fault<E: Output>(err: &mut E, fault: CommandFault) -> u8
     ensures { TellsFault fault (record { holds = E.contents err.old; failed = E.failures err.old }) result (record { holds = E.contents err.new; failed = E.failures err.new }) }
 {
@@ -297,11 +300,13 @@ where
     }
 }
 
-/// Does what the words ask for, of which the first is the program's name, and answers the status of the program: 0 where both ends have finished
-/// (of `send` and `receive` its own end), 1 where it ended otherwise, 2 where the words, the script, a name, a length or the number of files is
-/// refused or help was asked for, and 3 where a device failed, the connection was closed or memory ran out. What ends in a fault prints one line
-/// that tells it to `err`, and words that are refused the text that says how they are written. The version goes to `out`, with status 0. To somebody who
-/// looks `teller` tells besides what is done and why it failed.
+/// Does what the words ask for, of which the first is the program's name, and answers the status of
+/// the program: 0 where both ends have finished (of `send` and `receive` its own end), 1 where it
+/// ended otherwise, 2 where the words, the script, a name, a length or the number of files is
+/// refused or help was asked for, and 3 where a device failed, the connection was closed or memory
+/// ran out. What ends in a fault prints one line that tells it to `err`, and words that are refused
+/// the text that says how they are written. The version goes to `out`, with status 0. To somebody
+/// who looks `teller` tells besides what is done and why it failed.
 pub fn command<R, I, O, E, T>(
     rt: &R,
     alloc: Global,

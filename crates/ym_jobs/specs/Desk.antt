@@ -5,7 +5,8 @@ use Rattle.ym_play.specs.SessionOver.{Scene, SessionEnds, HasFailed, IsReadWithi
 use Rattle.ym_play.specs.declared.limits.TheConstants.{MOST_SCRIPT_BYTES}
 use Rattle.ym_jobs.specs.Page.{Page}
 
--- what a command reads from and writes to: the bytes that reads will give, where they are known, how often they failed, and both outputs
+-- what a command reads from and writes to: the bytes that reads will give, where they are known,
+-- how often they failed, and both outputs
 pub record Desk : Type 0 where
   pub text : Option (List ℕ)
   pub reads_failed : ℕ

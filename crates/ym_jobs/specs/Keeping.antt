@@ -21,8 +21,8 @@ pub record HoldsSession (confirm : Confirm) (out err : Page) (told : Result Unit
   pub gives : SessionGives confirm out answer new_out
   pub tells : TellsEnd answer err told new_err
 
--- So many sessions were held, one behind another, each of a connection of its own. What a session prints stands behind what the ones before it have printed,
--- however those ended.
+-- So many sessions were held, one behind another, each of a connection of its own. What a session
+-- prints stands behind what the ones before it have printed, however those ended.
 pub data Sessions : Confirm → ℕ → Page → Page → Page → Page → Type 0 where
   no_session : (confirm : Confirm) (out err : Page) → Sessions confirm 0 out err out err
   one_more : (confirm : Confirm) (count : ℕ) (out err between between_err new_out new_err : Page) → Sessions confirm count out err between between_err
@@ -55,7 +55,8 @@ pub record AreAll (confirm : Confirm) (taken : ℕ) (out err : Page) (answer : R
   pub sessions : Sessions confirm taken out err new_out new_err
   pub answer_is : answer ≡ Ok 0
 
--- Each connection that was taken had a session. It ends where no more can be taken, or where a fault cannot be told, and at no session that fails.
+-- Each connection that was taken had a session. It ends where no more can be taken, or where a
+-- fault cannot be told, and at no session that fails.
 abbrev pub KeepsOn : Confirm → ℕ → ℕ → ℕ → Page → Page → Result ℕ CommandFault → Page → Page → Type 0
 KeepsOn confirm taken failed new_failed out err answer new_out new_err =
     NoneComes confirm taken failed new_failed out err answer new_out new_err

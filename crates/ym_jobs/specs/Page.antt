@@ -15,12 +15,14 @@ pub record Page : Type 0 where
 abbrev pub page : Option (List ℕ) → ℕ → Page
 page holds failed = record { holds = holds; failed = failed }
 
--- this text went to an output and nothing else; or it failed, and some of the text may have gone there
+-- this text went to an output and nothing else; or it failed, and some of the text may have gone
+-- there
 abbrev pub Prints : Page → List ℕ → Result Unit StreamFault → Page → Type 0
 Prints old text (Ok done) new = Appends old.holds new.holds text × (new.failed ≡ old.failed)
 Prints old text (Err fault) new = Rose old.failed new.failed
 
--- the line of a fault went to an output, and the status is the fault's; or the output failed, and the status is 3
+-- the line of a fault went to an output, and the status is the fault's; or the output failed, and
+-- the status is 3
 abbrev pub TellsFault : CommandFault → Page → ℕ → Page → Type 0
 TellsFault fault old status new =
     ((status ≡ fault_status fault) × Prints old (line (fault_words fault)) (Ok tt) new) ⊎ ((status ≡ 3) × Rose old.failed new.failed)

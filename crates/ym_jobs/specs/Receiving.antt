@@ -31,8 +31,9 @@ pub record IsNewReceiver (r : ReceiverParts) : Type 0 where
   pub begins : r.receiver ≡ new_receiver r.receiver.confirm
   pub into_new : IsNew r.kept
 
--- What an engine does with a receiver: it hears one delivery after another, and stops where it has ended or at a fault. Where the port tells its
--- events, these are the deliveries that they bring. What a new receiver has committed then was spelled by them, whatever the peer is.
+-- What an engine does with a receiver: it hears one delivery after another, and stops where it has
+-- ended or at a fault. Where the port tells its events, these are the deliveries that they bring.
+-- What a new receiver has committed then was spelled by them, whatever the peer is.
 pub record ReceiverRuns (before after : Tape → Type 0) (old : ReceiverParts) (failed new_failed : ℕ) (ended : Result Unit EndFault) (new : ReceiverParts) : Type 0 where
   pub told : (u : Tape) → after u → (t : Tape) × before t × (run : Receives old t (record { receiver = new; tape = u; answer = ended }))
       × (IsNewReceiver old → CommitsTheHeard old.receiver.confirm (heard_in old t (record { receiver = new; tape = u; answer = ended }) run) new.kept)
@@ -47,14 +48,16 @@ pub record Closes (old : Kept) (failed : ℕ) (closed : Result Unit SinkFault) (
   pub ok : is_ok closed ≡ true → new_failed ≡ failed
   pub failed_rose : (e : SinkFault) → closed ≡ Err e → (e ≡ sink.Failed) × Rose failed new_failed
 
--- the engine's fault; else that of closing the sink; else that of the output; else what the receiver's end says
+-- the engine's fault; else that of closing the sink; else that of the output; else what the
+-- receiver's end says
 abbrev pub receive_gives : Result Unit EndFault → Result Unit SinkFault → Result Unit StreamFault → RecvState → Result ℕ CommandFault
 receive_gives (Err why) closed printed state = Err (end_fault why)
 receive_gives (Ok done) (Err why) printed state = Err (sink_fault why)
 receive_gives (Ok done) (Ok shut) (Err why) state = Err fault.Device
 receive_gives (Ok done) (Ok shut) (Ok shown) state = receive_answer state
 
--- the lines and the answer are those of this end of the receiver: a line for each file that its sink has committed
+-- the lines and the answer are those of this end of the receiver: a line for each file that its
+-- sink has committed
 pub record TellsReceiver (ended : Result Unit EndFault) (closed : Result Unit SinkFault) (r : ReceiverParts) (out : Page) (answer : Result ℕ CommandFault) (new_out : Page) : Type 0 where
   pub printed : Result Unit StreamFault
   pub prints : Prints out (receiver_lines r.kept.headers r.receiver.state) printed new_out
@@ -69,8 +72,8 @@ pub record ReceivesNothing (out : Page) (answer : Result ℕ CommandFault) (new_
   pub answer_is : answer ≡ Err why
   pub out_stays : new_out ≡ out
 
--- A new receiver into a new sink ran over some port, and its lines are printed: what it has committed, of which each file has a line, was spelled by what it
--- heard.
+-- A new receiver into a new sink ran over some port, and its lines are printed: what it has
+-- committed, of which each file has a line, was spelled by what it heard.
 pub record ReceivesBatch (confirm : Confirm) (out : Page) (answer : Result ℕ CommandFault) (new_out : Page) : Type 0 where
   pub old : ReceiverParts
   pub new : ReceiverParts

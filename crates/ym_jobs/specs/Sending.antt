@@ -28,7 +28,8 @@ use Rattle.ym_jobs.specs.declared.command_fault.CommandFault.TheVariants as faul
 
 -- ---- The batch
 
--- the last part of a path, under which its file is sent; the root and a path that ends in `..` have none
+-- the last part of a path, under which its file is sent; the root and a path that ends in `..` have
+-- none
 abbrev pub last_part : List ℕ → List ℕ
 last_part path = unwrap_or (path_file_name path) []
 
@@ -37,7 +38,8 @@ pub record IsBatch (paths : List (List ℕ)) (files : List FileParts) : Type 0 w
   pub names : map (λ (file : FileParts). file.header.name) files ≡ map last_part paths
   pub stamps : All (λ (file : FileParts). file.header.stamp ≡ Nothing) files
 
--- why a file of this name is not sent: it cannot be looked at, its name is refused, its name is fine and its length is refused, or memory ran out
+-- why a file of this name is not sent: it cannot be looked at, its name is refused, its name is
+-- fine and its length is refused, or memory ran out
 abbrev pub MayRefuse : List ℕ → CommandFault → Type 0
 MayRefuse name fault.Port = ⊥
 MayRefuse name fault.Name = ¬ IsName name
@@ -54,7 +56,8 @@ pub record RefusesFile (paths : List (List ℕ)) (why : CommandFault) : Type 0 w
   pub before : (j : ℕ) → j < place → IsName (last_part (slice_index_or paths j []))
   pub refused : MayRefuse (last_part (slice_index_or paths place [])) why
 
--- why nothing was sent, the first that applies: a file of the batch, the number of files, or the connection
+-- why nothing was sent, the first that applies: a file of the batch, the number of files, or the
+-- connection
 abbrev pub RefusesBatch : List (List ℕ) → CommandFault → Type 0
 RefusesBatch paths why = RefusesFile paths why ⊎ ((why ≡ fault.TooManyFiles) × (MOST_FILES < length paths))
 
@@ -66,12 +69,14 @@ pub record IsNewSender (shape : Shape) (paths : List (List ℕ)) (s : SenderPart
 
 -- ---- The transfer
 
--- Each frame of each file that a sender reports as done was acknowledged, in order, while it was what had been written last.
+-- Each frame of each file that a sender reports as done was acknowledged, in order, while it was
+-- what had been written last.
 abbrev pub AcknowledgesFiles : SenderParts → SenderParts → List Spoke → Type 0
 AcknowledgesFiles old new spoke = AreAcknowledged old.shape old.files (files_places (counts old) (done_at (length new.files) new.standing.place)) spoke
 
--- What an engine does with a sender: it hears one delivery after another, and stops where it has ended or at a fault. Where the port tells its
--- events, these are the deliveries that they bring. They have acknowledged what a new sender then reports as done, whatever the peer is.
+-- What an engine does with a sender: it hears one delivery after another, and stops where it has
+-- ended or at a fault. Where the port tells its events, these are the deliveries that they bring.
+-- They have acknowledged what a new sender then reports as done, whatever the peer is.
 pub record SenderRuns (before after : Tape → Type 0) (old : SenderParts) (failed new_failed : ℕ) (ended : Result Unit EndFault) (new : SenderParts) : Type 0 where
   pub told : old.standing.state ≡ state.Running → (u : Tape) → after u → (t : Tape) × before t × (run : Sends old t (record { sender = new; tape = u; answer = ended }))
       × (old.standing ≡ new_standing (counts old) → AcknowledgesFiles old new (spoke_in old t (record { sender = new; tape = u; answer = ended }) run))
@@ -93,7 +98,8 @@ pub record TellsSender (ended : Result Unit EndFault) (s : SenderParts) (out : P
   pub prints : Prints out (sender_line (done_at (length s.files) s.standing.place) s.standing.state) printed new_out
   pub answer_is : answer ≡ send_gives ended printed s.standing.state
 
--- A sender ran over some port, and its line is printed: the frames of the files that the line counts were acknowledged, where the sender was new.
+-- A sender ran over some port, and its line is printed: the frames of the files that the line
+-- counts were acknowledged, where the sender was new.
 pub record SendsOn (old new : SenderParts) (out : Page) (answer : Result ℕ CommandFault) (new_out : Page) : Type 0 where
   pub ended : Result Unit EndFault
   pub course : (deliveries : List (List ℕ)) × (heard : SenderCourse old deliveries new)

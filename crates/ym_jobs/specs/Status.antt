@@ -1,5 +1,6 @@
--- The line of a fault, and the status that a command ends with: 0 where its end has finished, 1 where it ended otherwise, 2 where what it was given is refused, and
--- 3 where a device failed, the connection was closed, or memory ran out.
+-- The line of a fault, and the status that a command ends with: 0 where its end has finished, 1
+-- where it ended otherwise, 2 where what it was given is refused, and 3 where a device failed, the
+-- connection was closed, or memory ran out.
 use Rattle.std.specs.Prelude.{ℕ, List, codes, Result, Ok, Err}
 use Rattle.ym_file.specs.declared.sink.SinkFault.{SinkFault}
 use Rattle.ym_file.specs.declared.sink.SinkFault.TheVariants as sink

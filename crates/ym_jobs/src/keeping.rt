@@ -17,7 +17,8 @@ use ym_port::Role;
 use ym_record::Records;
 use ym_show::Teller;
 
-/// Receives the files of one connection, and prints them and how the receiver has ended. Where that ends in a fault, its line goes to `err`.
+/// Receives the files of one connection, and prints them and how the receiver has ended. Where that
+/// ends in a fault, its line goes to `err`.
 fn hold_session<R, O, F, E>(
     rt: &R,
     alloc: Global,
@@ -46,9 +47,10 @@ where
     }
 }
 
-/// Receives files from one connection after another, of which none was taken yet, and prints them and how each receiver has ended, also where it ended in a
-/// fault, whose line goes to `err`. It ends where no connection can be taken any more. Each connection is recorded in a file of its own, where that is
-/// wanted.
+/// Receives files from one connection after another, of which none was taken yet, and prints them
+/// and how each receiver has ended, also where it ended in a fault, whose line goes to `err`. It
+/// ends where no connection can be taken any more. Each connection is recorded in a file of its
+/// own, where that is wanted.
 pub fn receive_each<R, C, O, F, E>(
     rt: &R,
     alloc: Global,
@@ -75,8 +77,8 @@ where
     Ok(0)
 }
 
-/// Receives files into a folder over 127.0.0.1 at this port as it is asked for: from whoever connects first, or from one connection after another, as
-/// [`receive_each`] does.
+/// Receives files into a folder over 127.0.0.1 at this port as it is asked for: from whoever
+/// connects first, or from one connection after another, as [`receive_each`] does.
 pub fn receive_as_asked<R, O, F, E>(
     rt: &R,
     alloc: Global,

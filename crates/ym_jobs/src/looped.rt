@@ -46,8 +46,9 @@ fn looped_carrier<R: Net<Listener = TcpListener, Stream = TcpStream>, T: Write +
     made
 }
 
-/// Plays the script that `input` holds, as [`session_over`] does, over a connection of the program to itself at this port of 127.0.0.1. Where no
-/// connection was made, nothing is read or written, and the fault is still to be told.
+/// Plays the script that `input` holds, as [`session_over`] does, over a connection of the program
+/// to itself at this port of 127.0.0.1. Where no connection was made, nothing is read or written,
+/// and the fault is still to be told.
 pub fn looped_session<R, I: Input, O: Output, E: Output, T: Write + Drop>(
     rt: &R,
     alloc: Global,

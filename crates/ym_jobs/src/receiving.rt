@@ -71,7 +71,8 @@ fn status_of(state: RecvState) -> Result<u8, CommandFault>
     }
 }
 
-/// What a receiver's end comes to. Of several faults that of the engine is told, then that of the folder, then that of the output.
+/// What a receiver's end comes to. Of several faults that of the engine is told, then that of the
+/// folder, then that of the output.
 fn answer_of(
     ended: Result<(), EndFault>,
     closed: Result<(), SinkFault>,
@@ -117,8 +118,9 @@ fn open_sink<'a, R: Files<File = File>>(
     DirSink::new(folder, alloc, order.dir, order.durability, order.leftover)
 }
 
-/// Runs a receiver over a port, lets its sink go of what is open, also after a fault, and prints the files that were committed and how the
-/// receiver has ended. The sink comes back, with how the receiver has ended, and its status: 0 where it has finished.
+/// Runs a receiver over a port, lets its sink go of what is open, also after a fault, and prints
+/// the files that were committed and how the receiver has ended. The sink comes back, with how the
+/// receiver has ended, and its status: 0 where it has finished.
 pub fn receive_batch<P: Port, K: Store + Drop, O: Output>(
     port: &mut P,
     mut receiver: ReceiverInto<K>,

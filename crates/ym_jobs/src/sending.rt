@@ -40,7 +40,8 @@ const CALL_WAIT_MS: u64 = 10_000;
 /// After so many seconds without a byte it gives up: ten deliveries, each waited for so long.
 const QUIET_S: u64 = 100;
 
-/// How often a sender calls again where nobody listens yet, and how many milliseconds it waits before: two seconds in all.
+/// How often a sender calls again where nobody listens yet, and how many milliseconds it waits
+/// before: two seconds in all.
 const CALLS: u32 = 40;
 
 const CALL_MS: u64 = 50;
@@ -146,7 +147,8 @@ fn connect_once<R: Net<Stream = TcpStream>>(rt: &R, address: SocketAddr) -> io::
     Ok(stream)
 }
 
-/// The same, where nobody listens yet called again for two seconds: who starts both ends at once need not start the receiver first.
+/// The same, where nobody listens yet called again for two seconds: who starts both ends at once
+/// need not start the receiver first.
 fn connect<R: Net<Stream = TcpStream> + Clock>(rt: &R, port: u16) -> io::Result<TcpStream> {
     let address = SocketAddr::from((Ipv4Addr::LOCALHOST, port));
     for _call in 0..CALLS {
@@ -185,7 +187,8 @@ fn status_of(state: SendState) -> Result<u8, CommandFault>
     }
 }
 
-/// What a sender's end comes to. Of several faults that of the engine is told, and then that of the output.
+/// What a sender's end comes to. Of several faults that of the engine is told, and then that of the
+/// output.
 fn answer_of(
     ended: Result<(), EndFault>,
     printed: Result<(), StreamFault>,
@@ -222,7 +225,8 @@ fn run_sender<P: Port, S: Source>(port: &mut P, sender: &mut SenderFrom<S>) -> R
     send_over(port, sender)
 }
 
-/// Runs a sender over a port, and prints how it has ended. The answer is its status: 0 where it has finished.
+/// Runs a sender over a port, and prints how it has ended. The answer is its status: 0 where it has
+/// finished.
 pub fn send_batch<P: Port, S: Source, O: Output>(
     port: &mut P,
     sender: &mut SenderFrom<S>,

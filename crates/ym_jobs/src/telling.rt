@@ -8,7 +8,8 @@ use ym_folder::{Leftover, StoreFault, part_name};
 use ym_show::Teller;
 use ym_text::{EndMessage, FileMessage, Reason};
 
-/// Tells why an end has ended: the fault of its port, where it was still running, or else what its state says.
+/// Tells why an end has ended: the fault of its port, where it was still running, or else what its
+/// state says.
 pub(crate) fn tell_end<E: Write + Drop>(
     teller: &mut Teller<E>,
     answer: &Result<u8, CommandFault>,
@@ -26,7 +27,8 @@ pub(crate) fn tell_end<E: Write + Drop>(
     }
 }
 
-/// Tells why the file of this name was not stored in a folder, as its sink says. Without memory for the part's name nothing is told.
+/// Tells why the file of this name was not stored in a folder, as its sink says. Without memory for
+/// the part's name nothing is told.
 pub(crate) fn tell_not_stored<E: Write + Drop>(
     teller: &mut Teller<E>,
     alloc: Global,

@@ -151,7 +151,8 @@ impl<'a> Records<'a> {
     }
 
     /// A connection begins, of as many as there may be. The record of the first one is there; that
-    /// of a later one is begun, and where it cannot be written, that is told and none is made of it.
+    /// of a later one is begun, and where it cannot be written, that is told and none is made of
+    /// it.
     pub fn begin<R: Files<File = File>, E: Write + Drop>(
         &mut self,
         rt: &R,

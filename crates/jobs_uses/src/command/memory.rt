@@ -21,8 +21,8 @@ fn text(page: &Cursor<[u8; 512]>) -> &[u8] {
         .unwrap_or(&[])
 }
 
-/// Runs these words on this input. It succeeds where they end with this status and this line on standard error; else they have to end in
-/// want of memory, and to print nothing else.
+/// Runs these words on this input. It succeeds where they end with this status and this line on
+/// standard error; else they have to end in want of memory, and to print nothing else.
 fn run(rt: &HostRuntime, words: &[&str], input: &[u8], status: u8, line: &str) -> Result<(), Fail> {
     let alloc = rt.alloc();
     let mut list = Vec::new(alloc);

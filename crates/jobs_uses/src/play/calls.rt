@@ -1,4 +1,5 @@
-//! Calls of what is tested. They tell a proof nothing of what they do, so that a test costs it little.
+//! Calls of what is tested. They tell a proof nothing of what they do, so that a test costs it
+//! little.
 
 use std::alloc::Global;
 use std::io::{Read, Write};
@@ -46,7 +47,8 @@ pub(super) fn session_of<R: Read, W: Write, E: Write>(
     session_by(alloc, input, out, err, &mut Direct::new(alloc))
 }
 
-/// Whether a session by this carrier ends with this status, this text on standard output and this one on standard error.
+/// Whether a session by this carrier ends with this status, this text on standard output and this
+/// one on standard error.
 pub(super) fn ends_by<R: Read, C: Carrier>(
     alloc: Global,
     input: &mut R,

@@ -36,7 +36,8 @@ fn a_growth_is_refused(rt: HostRuntime) -> Result<(), Fail> {
     Ok(())
 }
 
-/// Holds whichever one growth is refused: the fault line tells want of memory, and nothing is printed.
+/// Holds whichever one growth is refused: the fault line tells want of memory, and nothing is
+/// printed.
 #[test]
 fn a_growth_of_a_session_is_refused(rt: HostRuntime) -> Result<(), Fail> {
     let mut out = page();

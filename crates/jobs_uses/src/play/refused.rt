@@ -1,5 +1,6 @@
-//! Calls that can meet want of memory, each in a test that succeeds where no growth is refused. Where one of the call is, the test
-//! answers so in these words, and it holds that nothing else came of it. `tests/memory` refuses each growth in turn.
+//! Calls that can meet want of memory, each in a test that succeeds where no growth is refused.
+//! Where one of the call is, the test answers so in these words, and it holds that nothing else
+//! came of it. `tests/memory` refuses each growth in turn.
 
 use super::calls::{played, same};
 use super::memory::ONE_FILE;
@@ -68,7 +69,8 @@ fn whole_rounds(alloc: Global, count: usize) -> Result<Vec<Round>, Fail> {
     Ok(rounds)
 }
 
-/// How a run of six whole rounds ended: its fault, how both ends were left, and how many files were committed.
+/// How a run of six whole rounds ended: its fault, how both ends were left, and how many files were
+/// committed.
 #[derive(Drop)]
 struct Run {
     fault: Option<LineFault>,
@@ -237,7 +239,8 @@ fn received_header(alloc: Global) -> Result<Left, Fail> {
     received(alloc, false, frame.as_bytes())
 }
 
-/// Of the header nothing is written, and the receiver still runs. A port whose record does not grow has failed.
+/// Of the header nothing is written, and the receiver still runs. A port whose record does not grow
+/// has failed.
 #[test]
 fn a_header_is_received(rt: HostRuntime) -> Result<(), Fail> {
     let left = received_header(rt.alloc())?;
