@@ -1,8 +1,8 @@
 use Rattle.std.proofs.Common.{◌≤◌, ◌-◌, ◌≡◌, length}
 use Rattle.ym_command.proofs.judged_files.read_front.Given as goal
 
-abbrev pub invariant-loop : goal.invariant-loop
-invariant-loop l = l.length ≤ length l.buf
+abbrev pub invariant-loop-length : goal.invariant-loop-length
+invariant-loop-length l = l.length ≤ length l.buf
 
-abbrev pub decreases-loop : goal.decreases-loop
-decreases-loop l = length l.buf - l.length
+abbrev pub decreases-loop-length : goal.decreases-loop-length
+decreases-loop-length l = length l.buf - l.length
