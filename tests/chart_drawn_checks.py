@@ -12,7 +12,7 @@ import subprocess
 import tempfile
 import xml.etree.ElementTree as ET
 
-from explain_checks import DATA, crc, record_of, recorded
+from explain_checks import DATA, crc, record_of, recorded, ways, within_bounds
 from program import LIMIT, PROGRAM, ROOT
 from wanting import wants
 
@@ -253,7 +253,7 @@ def a_long_chart_is_cut():
 
 
 def a_long_record_takes_little():
-    """100 MB of one way, and of a record, are drawn within the bounds of what is told alone."""
+    """A record of 100 MB is drawn within the bounds of what is told alone."""
     body = bytes(range(256)) * 4
     behind = body + crc(body)
     with tempfile.TemporaryDirectory() as folder:
@@ -264,10 +264,7 @@ def a_long_record_takes_little():
                 it.write("%d.%06d > %s\n" % (at // 100, at % 100 * 10000, (bytes((2, number, 255 - number)) + behind).hex()))
                 it.write("%d.%06d < 06\n" % (at // 100, at % 100 * 10000 + 5000))
         wants(os.path.getsize(path) > 10**8, "the record has %d bytes" % os.path.getsize(path))
-        most = 64 * 1024 * 1024
-        bound = lambda: resource.setrlimit(resource.RLIMIT_AS, (most, most))  # noqa: E731
-        done = run("--chart", chart, path, stdout=subprocess.DEVNULL, preexec_fn=bound)
-        wants(done.returncode == 0, "status %d: %r" % (done.returncode, done.stderr[-300:]))
+        within_bounds("--chart", chart, path)
         wants(os.path.getsize(chart) < 10**6, "the chart has %d bytes" % os.path.getsize(chart))
         read(chart)
 
@@ -369,8 +366,6 @@ def refused_words_draw_nothing():
 
 def two_files_are_drawn():
     """Two files of bytes tell no moments, and have no moments in their chart."""
-    from explain_checks import ways
-
     with tempfile.TemporaryDirectory() as folder:
         paths = [os.path.join(folder, it) for it in ("there", "back")]
         for path, data in zip(paths, ways(record_of("whole-short-blocks")[2])):

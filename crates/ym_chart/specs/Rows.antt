@@ -1,6 +1,6 @@
 -- The rows of a session: an arrow for each frame and answer, in the order in which they are told.
--- Blocks that come in their turn and are acknowledged one after another are a streak, from the fourth
--- on, and a streak is one row.
+-- Blocks that come in their turn and are acknowledged one after another are a streak, from the
+-- fourth on, and a streak is one row.
 use Rattle.std.specs.Prelude.{ℕ, ◌+◌, ◌^◌, ◌-◌, min, nat_lt, ◌==◌, if◌then◌else◌, List, [], ◌∷◌, ◌++◌, length, drop, Option, Some, None}
 use Rattle.ym_chart.specs.Arrows.{arrow_of}
 use Rattle.ym_chart.specs.ChartText.{text_of}
@@ -14,8 +14,8 @@ use Rattle.ym_chart.specs.declared.row.Row.TheVariants as row
 use Rattle.ym_chart.specs.declared.row.Streak.{Streak}
 
 -- What is kept of a session: the line under way, the rows, and how many found no room. Behind them
--- wait a few blocks with their answers, or a streak, and a block with no answer yet. Then what is told
--- at the end.
+-- wait a few blocks with their answers, or a streak, and a block with no answer yet. Then what is
+-- told at the end.
 pub record Kept : Type 0 where
   pub line : List ℕ
   pub rows : List Row
