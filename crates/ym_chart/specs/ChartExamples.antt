@@ -50,8 +50,8 @@ streak_count (row.Note text) = 0
 abbrev pub rows_of : List ℕ → List Row
 rows_of text = (flushed (after_bytes nothing_kept text)).rows
 
-three_blocks : map streak_count (rows_of (block_and_answer (codes "1") ++ (block_and_answer (codes "2")
-    ++ block_and_answer (codes "3")))) ≡ 0 ∷ 0 ∷ 0 ∷ 0 ∷ 0 ∷ 0 ∷ []
+three_blocks : map streak_count (rows_of (block_and_answer (codes "1")
+    ++ (block_and_answer (codes "2") ++ block_and_answer (codes "3")))) ≡ 0 ∷ 0 ∷ 0 ∷ 0 ∷ 0 ∷ 0 ∷ []
 three_blocks = refl
 
 -- with a fourth they are one row, and what comes behind them stands behind that

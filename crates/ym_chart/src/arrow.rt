@@ -171,10 +171,12 @@ fn stroke_of(way: Direction) -> &'static str
 {
     match way {
         Direction::There => {
-            "<path class=\"way\" d=\"M 104 20 H 402\"/><path class=\"tip\" d=\"M 404 20 l -11 -5 v 10 z\"/>"
+            "<path class=\"way\" d=\"M 104 20 H 402\"/>\
+             <path class=\"tip\" d=\"M 404 20 l -11 -5 v 10 z\"/>"
         }
         Direction::Back => {
-            "<path class=\"way\" d=\"M 404 20 H 106\"/><path class=\"tip\" d=\"M 104 20 l 11 -5 v 10 z\"/>"
+            "<path class=\"way\" d=\"M 404 20 H 106\"/>\
+             <path class=\"tip\" d=\"M 104 20 l 11 -5 v 10 z\"/>"
         }
     }
 }
