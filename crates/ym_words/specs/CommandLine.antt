@@ -1,6 +1,6 @@
 -- The command line: `--version`, and seven optional subcommands, with `--port` (or `-p`) a required
--- text, `--line`, `--there`, `--back` and `--chart` ones that may be left out, DIR and RECORD one positional,
--- FILE the last positional with one or more values, and all else flags.
+-- text, `--line`, `--there`, `--back` and `--chart` ones that may be left out, DIR and RECORD one
+-- positional, FILE the last positional with one or more values, and all else flags.
 use Rattle.std.specs.Prelude.{◌≡◌, false, true, List, [], ◌∷◌, Some, codes}
 use Rattle.clap.specs.Words.{App, Rule, Text, app_of, new_app, new_rule, rule_of}
 use Rattle.clap.specs.Words.{with_rule, with_subcommand}
