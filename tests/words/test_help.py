@@ -16,6 +16,7 @@ SCRIPT = os.path.join("share", "ymodem-tty")
 # how names are shown.
 SOURCES = ("crates/ym_text/src", "crates/ym_header/src/fault.rt", "crates/ym_play/src/fault.rt")
 SOURCES += ("crates/ym_record/src/message.rt",)
+REPORT = "crates/ym_judge/src/report.rt"
 FAULTS = ("crates/ym_jobs/src/command_fault.rt", "crates/ym_command/src", "crates/ymodem/src")
 NO_MESSAGES = ("progress.rt", "cells.rt", "shown.rt", "shown_out.rt")
 TEXT = r'"((?:[^"\\]|\\.)*)"'
@@ -78,6 +79,9 @@ def templates():
         found |= set(re.findall(r"(?:write|format)!\(\s*f,\s*" + TEXT, source))
         found |= set(re.findall(r"#\[error\(" + TEXT, source))
         found |= set(re.findall(r"(?:tell|eprintln)\(\s*" + TEXT, source))
+    # Of the report of `judge`, which is output, this alone goes to standard error.
+    (report,) = files([REPORT])
+    found |= set(re.findall(r"write!\(\s*f,\s*\"(start the peer[^\"]*)\"", report))
     found = {re.sub(r"\{[^{}]*\}", "{}", it) for it in found}
     return {it for it in found if re.search(r"[a-z]", it)} | lines_of_script()
 
