@@ -6,12 +6,12 @@
 #        packages.sh install   installs them, as root
 set -eu
 packages="python3-pytest lrzsz socat picocom minicom screen strace mandoc lintian bash zsh fish
-    binutils qemu-system-arm qemu-system-misc u-boot-qemu gcc-aarch64-linux-gnu libc6-dev-
-    arm64-cross chromium firefox-esr g++ clang lld llvm valgrind nodejs pkgconf locales binaryen
-    wabt qemu-user gcc-12-multilib gcc-arm-none-eabi libnewlib-arm-none-eabi gcc-arm-linux-
-    gnueabihf libc6-dev-armhf-cross gcc-mipsel-linux-gnu libc6-dev-mipsel-cross gcc-
-    riscv64-linux-gnu libc6-dev-riscv64-cross gcc-riscv64-unknown-elf picolibc-riscv64-unknown-
-    elf"
+    binutils qemu-system-arm qemu-system-misc u-boot-qemu gcc-aarch64-linux-gnu
+    libc6-dev-arm64-cross chromium firefox-esr g++ clang lld llvm valgrind nodejs pkgconf
+    locales binaryen wabt qemu-user gcc-12-multilib gcc-arm-none-eabi libnewlib-arm-none-eabi
+    gcc-arm-linux-gnueabihf libc6-dev-armhf-cross gcc-mipsel-linux-gnu libc6-dev-mipsel-cross
+    gcc-riscv64-linux-gnu libc6-dev-riscv64-cross gcc-riscv64-unknown-elf
+    picolibc-riscv64-unknown-elf"
 
 missing() {
     for package in $packages; do
