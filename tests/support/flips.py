@@ -49,8 +49,8 @@ class Flips(Clean):
 
 # The block that is damaged, and how many new ones behind it may take longer.
 DAMAGED, MAY_BE_SLOW = 10, 2
-# No wait of either end is shorter, in seconds. On a busy machine one block in ten may take as long.
-SHORTEST_WAIT, ONE_IN = 1.0, 10
+# No wait of either end is shorter, in seconds. On a busy machine one block in four may take as long.
+SHORTEST_WAIT, ONE_IN = 1.0, 4
 
 
 class OneBad(Clean):
