@@ -35,6 +35,7 @@ Architecture: amd64
 Maintainer: {maintainer}
 Installed-Size: {size}
 Depends: libc6 (>= {libc})
+Recommends: python3:any
 Suggests: picocom | minicom
 Section: comm
 Priority: optional
