@@ -3,7 +3,7 @@
 import { YmodemError } from "./errors.js";
 
 const PAGE = 65536;
-// Room for pieces that are written, as much as is taken at once.
+// Room for pieces that are written, as much as is taken at once: many frames.
 const PIECES = 65536;
 
 // A module that copies memory and extends a sign: the newest of what ymodem.wasm has.
@@ -43,20 +43,32 @@ async function compile(source) {
 
 const rounded = (size) => Math.ceil(size / 16) * 16;
 
-/** One instance of the module, for one transfer, with room behind its own memory for what the transfer needs. */
+// Those that no transfer has. The browser calls one sooner that it has called before.
+const idle = [];
+
+/** One instance of the module, for one transfer at a time, with room behind its own memory for what the transfer needs. */
 export class Engine {
+  #first;
   #next;
   // Where the next piece for a stream stands.
-  #room = new Uint8Array(0);
+  #room = new ArrayBuffer(0);
+  #used = 0;
 
   constructor(instance) {
     // an object as others are: a call of it is found sooner than one of the exports
     this.calls = { ...instance.exports };
-    this.#next = rounded(Number(this.calls.__heap_base.value));
+    this.#first = this.#next = rounded(Number(this.calls.__heap_base.value));
   }
 
   static async start() {
-    return new Engine(await WebAssembly.instantiate(await load(), {}));
+    const module = await load();
+    return idle.pop() ?? new Engine(await WebAssembly.instantiate(module, {}));
+  }
+
+  /** Gives it to the next transfer, behind one that ended well. */
+  end() {
+    this.#next = this.#first;
+    idle.push(this);
   }
 
   /** Room for so many bytes. All of it is taken before the transfer begins. */
@@ -88,10 +100,13 @@ export class Engine {
   /** A copy for a stream, which may keep it. Many have one buffer: one for each would cost more
    *  than all else of a block. A stream that takes the buffer away leaves no room in it. */
   piece(at, size) {
-    if (this.#room.length < size) this.#room = new Uint8Array(Math.max(PIECES, size));
-    const piece = this.#room.subarray(0, size);
+    if (this.#room.byteLength < this.#used + size) {
+      this.#room = new ArrayBuffer(PIECES);
+      this.#used = 0;
+    }
+    const piece = new Uint8Array(this.#room, this.#used, size);
     piece.set(this.bytes.subarray(at, at + size));
-    this.#room = this.#room.subarray(size);
+    this.#used += size;
     return piece;
   }
 }

@@ -24,30 +24,40 @@ const failed = (how, cause) =>
 export class Line {
   #reader;
   #writer;
-  #coming = null;
+  #isComing = false;
   #came = [];
   #wake = null;
   #pieces = 0;
   #since = 0;
   #fault = null;
-  #ended = false;
   #stopAt = Infinity;
   #alarm = new Alarm();
-  #onAbort = () => this.#stop();
-  // How long the read under way waits, and of how many bytes.
+  // A delivery that is under way may come to its end: an end may drop what it is told before it has
+  // answered.
+  #onAbort = () => {
+    this.isStopped = true;
+    this.#stopAt = moment() + STOPS_WITHIN;
+    this.#goOn();
+  };
+  // How long the read under way waits.
   #until = 0;
   #isHeldUp = false;
-  #most = 0;
-  // What a wait hears, made once for all of them.
-  #onTime = () => this.#goOn();
+  // Ends the read under way, where there is one that may end, or has it wait on. What calls it is
+  // made once for all reads.
+  #goOn = () => {
+    const wake = this.#wake;
+    if (wake === null || this.#goesOn()) return;
+    this.#wake = null;
+    wake();
+  };
   #onRead = ({ done, value }) => {
-    this.#coming = null;
-    if (done) this.#ended = true;
+    this.#isComing = false;
+    if (done) this.#fault = new YmodemError("closed", "the line was closed");
     else if (value.length) this.#came.push(value);
     this.#goOn();
   };
   #onFault = (cause) => {
-    this.#coming = null;
+    this.#isComing = false;
     this.#fault = failed("read", cause);
     this.#goOn();
   };
@@ -73,46 +83,31 @@ export class Line {
     }
     this.signal = signal;
     signal?.addEventListener("abort", this.#onAbort);
-    if (signal?.aborted) this.#stop();
+    if (signal?.aborted) this.#onAbort();
   }
 
-  // A delivery that is under way may come to its end: an end may drop what it is told before it has
-  // answered.
-  #stop() {
-    this.isStopped = true;
-    this.#stopAt = moment() + STOPS_WITHIN;
-    this.#goOn();
+  /** Whether something is there that was not taken yet. */
+  get isThere() {
+    return this.#came.length > 0;
   }
 
-  /** What is there already, at most so many bytes; or QUIET, where only a read can tell. */
-  there(most) {
-    return this.#came.length === 0 || this.#drips() ? QUIET : this.#piece(most);
-  }
-
-  /** What came, at most so many bytes; or QUIET, where nothing did within these milliseconds from
-   *  now or within those of a stop, where bytes never paused, or where the line is closed. */
-  read(now, millis, most) {
-    if (this.#drips()) return this.#quiet();
+  /** Whether a read has to wait: until something comes, these milliseconds from now or those of a
+   *  stop are over, or the line is closed. Then `wake` is called. */
+  waits(now, millis, wake) {
     this.#until = now + Math.max(millis, 1);
     this.#isHeldUp = false;
-    this.#most = most;
-    return new Promise((resolve) => {
-      this.#wake = resolve;
-      this.#goOn(now);
-    });
+    this.#wake = this.#goesOn(now) ? wake : null;
+    return this.#wake !== null;
   }
 
-  /** Ends the read under way, where there is one that may end, or has it wait on. */
-  #goOn(now) {
-    if (this.#wake === null) return;
-    const isThere = this.#came.length > 0;
-    if (!isThere && !this.#isClosed() && !this.#isOver(now ?? moment())) {
-      this.#coming ??= this.#reader.read().then(this.#onRead, this.#onFault);
-      this.#alarm.set(Math.min(this.#until, this.#stopAt), this.#onTime);
-      return;
-    }
-    this.#wake(isThere ? this.#piece(this.#most) : this.#quiet());
-    this.#wake = null;
+  #goesOn(now) {
+    if (this.isThere) return false;
+    this.closed = this.#fault;
+    if (this.closed || this.#isOver(now ?? moment())) return false;
+    if (!this.#isComing) this.#reader.read().then(this.#onRead, this.#onFault);
+    this.#isComing = true;
+    this.#alarm.set(Math.min(this.#until, this.#stopAt), this.#goOn);
+    return true;
   }
 
   #isOver(now) {
@@ -124,24 +119,18 @@ export class Line {
     return false;
   }
 
-  #isClosed() {
-    if (this.#ended) this.closed = new YmodemError("closed", "the line was closed");
-    else this.closed = this.#fault;
-    return this.closed !== null;
-  }
-
   #drips() {
     if (this.#pieces === 0) return false;
     if (this.#pieces === 1) this.#since = moment();
     return moment() - this.#since > DRIPS_FOR;
   }
 
-  #quiet() {
-    this.#pieces = 0;
-    return QUIET;
-  }
-
-  #piece(most) {
+  /** What came, at most so many bytes; or QUIET, where nothing did, or where bytes never paused. */
+  piece(most) {
+    if (!this.isThere || this.#drips()) {
+      this.#pieces = 0;
+      return QUIET;
+    }
     this.#pieces++;
     const first = this.#came[0];
     if (first.length <= most) return this.#came.shift();
@@ -175,7 +164,8 @@ export class Line {
   async settle() {
     this.#stopAt = moment() + 5 * STOPS_WITHIN;
     for (let reads = 0; reads < 64; reads++) {
-      if ((await this.read(moment(), STOPS_WITHIN / 2, DELIVERY)) === QUIET) break;
+      await new Promise((wake) => this.waits(moment(), STOPS_WITHIN / 2, wake) || wake());
+      if (this.piece(DELIVERY) === QUIET) break;
     }
   }
 
@@ -183,11 +173,11 @@ export class Line {
    *  to whoever has the line next. */
   async release(read) {
     this.signal?.removeEventListener("abort", this.#onAbort);
-    const coming = this.#coming;
     this.#alarm.close();
     this.#reader.releaseLock();
     this.#writer.releaseLock();
-    await coming;
+    // what the stream has promised already comes first
+    await null;
     return joined([read, ...this.#came]);
   }
 }

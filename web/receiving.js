@@ -205,25 +205,16 @@ export class Receiving {
     if (this.#line.isStopped) return false;
     try {
       const done = this.#doAsked();
-      return isLater(done) ? this.#couldLater(done) : true;
+      return isLater(done) ? Promise.resolve(done).then(() => true, this.#couldNot) : true;
     } catch (fault) {
       return this.#couldNot(fault);
     }
   }
 
-  async #couldLater(done) {
-    try {
-      await done;
-      return true;
-    } catch (fault) {
-      return this.#couldNot(fault);
-    }
-  }
-
-  #couldNot(fault) {
+  #couldNot = (fault) => {
     this.#cause = fault;
     return false;
-  }
+  };
 
   #doAsked() {
     const kind = this.#asked("kind");

@@ -90,20 +90,15 @@ export class TimedLine {
     return GOES_ON;
   }
 
-  /** What is there already of at most so many bytes, or QUIET. */
-  there(most) {
-    return this.#line.there(most);
+  /** Whether there is nothing to take yet: `wake` is called once there is, or the wait is over. */
+  waits(wake) {
+    return !this.#line.isThere && this.#waits(this.#end(this.#wait), wake);
   }
 
-  /** What comes, at most so many bytes, until the wait is over: a promise of it, or QUIET. */
-  comes(most) {
-    return this.#comes(this.#end(this.#wait), most);
-  }
-
-  /** Takes what came, or QUIET. It answers how many bytes of it are heard, which is 0 where the
-   *  line was quiet, or GOES_ON. */
-  take(piece) {
-    this.#stops(piece);
+  /** Takes what came, at most so many bytes, or that nothing did. It answers how many of them are
+   *  heard, which is 0 where the line was quiet, or GOES_ON. */
+  take(most) {
+    const piece = this.#piece(most);
     const count = piece === QUIET ? 0 : this.#hear(piece);
     if (count > 0 || this.#line.isStopped) return count;
     // where nothing of it is heard, a wait goes on, for as long as one for a reply
@@ -129,19 +124,21 @@ export class TimedLine {
     return this.#calls.ym_line_cancelled(this.#state) !== 0;
   }
 
-  /** What the line brings until then. One that closes or fails is quiet, and known to be closed. */
-  #comes(until, most) {
+  #waits(until, wake) {
     this.#until = until;
-    const millis = until > this.#now ? Number(until - this.#now) : 0;
-    return this.#line.read(this.#looked, millis, most);
+    return this.#line.waits(this.#looked, Number(until - this.#now), wake);
   }
 
-  /** Takes the moment at which a read ended, with a piece or in vain. */
-  #stops(piece) {
-    if (piece !== QUIET) return this.#look();
-    if (this.#line.isStopped || this.#line.closed) return;
-    this.#clock();
-    this.#now = this.#calls.ym_line_waited(this.#state, this.#until, BigInt(this.#millis));
+  /** What a read ended with, and takes the moment of that. A line that closes or fails is quiet,
+   *  and known to be closed. */
+  #piece(most) {
+    const piece = this.#line.piece(most);
+    if (piece !== QUIET) this.#look();
+    else if (!this.#line.isStopped && !this.#line.closed) {
+      this.#clock();
+      this.#now = this.#calls.ym_line_waited(this.#state, this.#until, BigInt(this.#millis));
+    }
+    return piece;
   }
 
   #hears(bytes) {
@@ -201,8 +198,8 @@ export class TimedLine {
   async #clear() {
     this.#mayCancel = true;
     for (let reads = 0; reads < MOST_READS && !this.#isClear(); reads++) {
-      const piece = this.#line.there(DELIVERY) ?? (await this.#comes(this.#clearAt(), DELIVERY));
-      this.#stops(piece);
+      await new Promise((wake) => this.#waits(this.#clearAt(), wake) || wake());
+      const piece = this.#piece(DELIVERY);
       if (piece !== QUIET) this.#drop(piece);
     }
   }

@@ -18,7 +18,7 @@ async function receive(port, options = {}) {
   const engine = await Engine.start();
   const line = new Line(port, options);
   const receiving = new Receiving(engine, line, options);
-  return finish(line, receiving);
+  return finish(engine, line, receiving);
 }
 
 /** Sends files, in order. A file is a File, or a name and its data. */
@@ -28,11 +28,11 @@ async function send(port, files, options = {}) {
   const engine = await Engine.start();
   const line = new Line(port, options);
   const sending = new Sending(engine, line, sources, options);
-  return finish(line, sending);
+  return finish(engine, line, sending);
 }
 
 /** Runs a transfer, and lets go of the streams whatever comes of it. */
-async function finish(line, transfer) {
+async function finish(engine, line, transfer) {
   let fault = null;
   try {
     await transfer.run();
@@ -41,7 +41,10 @@ async function finish(line, transfer) {
     await transfer.abandon(fault);
   }
   const rest = await line.release(transfer.rest);
-  if (fault === null) return { files: transfer.files, rest };
+  if (fault === null) {
+    engine.end();
+    return { files: transfer.files, rest };
+  }
   fault.files = transfer.files;
   fault.rest = rest;
   throw fault;

@@ -18,7 +18,7 @@ from support.skipping import needs
 from support.web_peers import lrzsz
 
 
-# MiB a second: over a WebSocket, and with both ends in one page of Chromium.
+# MiB a second: over a WebSocket, and with both ends in one page.
 LEAST = 4
 LEAST_IN_ONE_PAGE = 20
 FRAME = 1029
