@@ -45,9 +45,11 @@ TRIED = {"YMODEM": "ymodem", "CASES": "port_cases", "LINE_CASES": "line_cases"}
 ROWS = (
     ("line", "disk", "words"),
     ("peers", "explain", "serial", "package", "house"),
-    ("sessions", "judge"),
-    ("library", "web"),
-    ("uboot", "boards", "portable"),
+    ("sessions",),
+    ("judge",),
+    ("library", "portable"),
+    ("web",),
+    ("uboot", "boards"),
 )
 # These need the library or the page, which are made meanwhile.
 TESTS_OF_LIBRARY = {"library", "web", "uboot", "boards", "portable"}

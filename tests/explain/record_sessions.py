@@ -230,6 +230,12 @@ def speeds(sent, read):
     return Line(Sampled(sent, read), Sampled(read, sent))
 
 
+def broken_off(who, send, seed, size, after):
+    """A session of a file of this size in which one end is interrupted behind so many bytes."""
+    files = [("a", some_bytes(seed, size))]
+    return between(send, RB, Line(slowly), files, 30, interrupted(who, after))
+
+
 SESSIONS = {
     # nothing wrong
     "whole": (WHOLE, lambda: between(SB, RB)),
@@ -317,6 +323,16 @@ SESSIONS = {
         AHEAD,
         lambda: between(SB, RB, Line(Noise(lambda count: count > 14), Doubled(9)), seconds=60),
     ),
+    "reply-ahead-1k": (
+        AHEAD,
+        lambda: between(
+            SB_LONG,
+            RB,
+            Line(Noise(lambda count: count > 6), Doubled(4)),
+            files=[("a", some_bytes(12, 16000))],
+            seconds=60,
+        ),
+    ),
     # another protocol
     "zmodem-sender": (ZMODEM, lambda: between(piped("sz", "-q"), nobody, seconds=4)),
     "zmodem-receiver": (ZMODEM, lambda: between(SB, piped("rz", "-q"), seconds=3)),
@@ -334,6 +350,10 @@ SESSIONS = {
     "no-room-for-length": (NO_ROOM, lambda: between(SB, RB, files=named(124), seconds=60)),
     "no-room-for-two-digits": (NO_ROOM, lambda: between(SB, RB, files=named(123), seconds=60)),
     "no-room-for-three-digits": (NO_ROOM, lambda: between(SB, RB, files=named(122), seconds=60)),
+    "no-room-for-length-own": (
+        NO_ROOM,
+        lambda: between(SB, our_receiver, files=named(124), seconds=60),
+    ),
     # noise
     "damage-mended": (MENDED, lambda: between(SB, RB, Line(Noise(every_fifth)), seconds=60)),
     "damage-mended-own": (
@@ -349,28 +369,9 @@ SESSIONS = {
         lambda: between(SB, RB, Line(Noise(lambda count: count > 4)), seconds=120),
     ),
     # an end that goes away
-    "sender-cancels": (
-        SENDER,
-        lambda: between(
-            SB,
-            RB,
-            Line(slowly),
-            files=[("a", some_bytes(8, 30000))],
-            then=interrupted("sender", 5000),
-            seconds=30,
-        ),
-    ),
-    "receiver-cancels": (
-        RECEIVER,
-        lambda: between(
-            SB,
-            RB,
-            Line(slowly),
-            files=[("a", some_bytes(9, 30000))],
-            then=interrupted("receiver", 5000),
-            seconds=30,
-        ),
-    ),
+    "sender-cancels": (SENDER, lambda: broken_off("sender", SB, 8, 30000, 5000)),
+    "sender-cancels-1k": (SENDER, lambda: broken_off("sender", SB_LONG, 11, 60000, 9000)),
+    "receiver-cancels": (RECEIVER, lambda: broken_off("receiver", SB, 9, 30000, 5000)),
     "sender-killed": (
         STOPPED,
         lambda: between(KILLED, RB, Line(slowly), files=[("a", some_bytes(10, 60000))], seconds=8),

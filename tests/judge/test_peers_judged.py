@@ -5,8 +5,8 @@ import shlex
 
 import pytest
 
-from support.cases import case, cases
-from support.judged import PEER, judged_by_all, told
+from support.cases import case, cases, sentence
+from support.judged import PEER, judged, judged_by_all, told
 from support.program import PROGRAM
 
 
@@ -44,3 +44,11 @@ def test_loses_nothing(kind, command):
     asked = (it for name, it in found.items() if "second EOT" not in name)
     left = [told(it) for it in asked if it["finding"] in ("no-answer", "not-tried")]
     assert not left, "; ".join(left)
+
+
+@sentence("judge: a C that comes late behind the ACK of block 0 is waited for")
+def test_waits_for_a_late_start():
+    """Who says C as late as U-Boot does conforms all the same."""
+    status, found = judged("receiver", PEER + ' receiver "says C late"', "--only", "plain")
+    assert found["plain"]["finding"] == "conforms", told(found["plain"])
+    assert status == 0, "status %d" % status

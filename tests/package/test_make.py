@@ -221,9 +221,11 @@ echo "2 passed, 1 skipped in 0.01s"
 ROWS = (
     ("line", "disk", "words"),
     ("peers", "explain", "serial", "package", "house"),
-    ("sessions", "judge"),
-    ("library", "web"),
-    ("uboot", "boards", "portable"),
+    ("sessions",),
+    ("judge",),
+    ("library", "portable"),
+    ("web",),
+    ("uboot", "boards"),
 )
 TESTS = [name for row in ROWS for name in row]
 # The page is made of one of the archives once more.

@@ -10,6 +10,7 @@ import os
 import select
 import subprocess
 import sys
+import time
 
 sys.dont_write_bytecode = True
 sys.path.insert(0, os.path.dirname(os.path.dirname(os.path.abspath(__file__))))
@@ -35,6 +36,9 @@ U_BOOT = os.environ.get("U_BOOT", "/usr/lib/u-boot/qemu_arm64/u-boot.bin")
 # Seconds after which an end acts that hears nothing, and after which what came is a whole delivery.
 QUIET = 2
 WITHIN = 0.1
+# Seconds after which U-Boot's `loady` says C behind its ACK of block 0. It is no fault, and a
+# receiver does so that "says C late".
+LATE = 4.25
 # After so many deliveries without progress it gives up.
 GIVE_UP = 10
 
@@ -154,6 +158,8 @@ class Receiver:
         return "bad", 0, b""
 
     def bad(self):
+        if self.name is not None and self.has("says no C after block 0"):
+            return bytes((NAK,))
         return bytes((START,)) if self.name is None or not self.count else bytes((NAK,))
 
     def begins(self, body):
@@ -169,6 +175,10 @@ class Receiver:
         self.name = name[:60] if self.has("cuts long names") else name
         self.length, self.taken, self.count, self.has_eot = int(digits), b"", 0, False
         self.retries = 0
+        if self.has("says C late"):
+            say(bytes((ACK,)))
+            time.sleep(LATE)
+            return bytes((START,))
         return bytes((ACK,)) if self.has("says no C after block 0") else ACK_START
 
     def cancels(self):

@@ -17,6 +17,10 @@ TOLERATED = 0.25
 # How often a check is made on a machine that does not keep time.
 TRIES = 3
 
+# Before it is made again, the machine has to have kept time for so many seconds, or so many have
+# passed.
+CALM, PATIENCE = 3, 120
+
 
 class Pulse(threading.Thread):
     """Beats, and keeps the beats that were late."""
@@ -47,6 +51,16 @@ class Pulse(threading.Thread):
     def was_late(self, since):
         """Whether a beat was late since then."""
         return any(now > since for _, now in list(self.late))
+
+    def wait_for_calm(self):
+        """Waits until the machine keeps time again, or for as long as that is worth."""
+        began = time.monotonic()
+        while True:
+            now = time.monotonic()
+            is_calm = now - began > CALM and not self.was_late(now - CALM)
+            if is_calm or now - began > PATIENCE:
+                return
+            time.sleep(BEAT * 5)
 
 
 @functools.cache

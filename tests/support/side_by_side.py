@@ -5,7 +5,8 @@ for each would cost more than the tests do. A test that takes nothing but its pa
 when the folder begins. One that takes a fixture is made by pytest, in its turn, and one that is
 marked `alone` is made before the others begin. Those marked `slow` begin first.
 
-A test that failed while this machine did not keep time is made again: it shows nothing then.
+A test that failed while this machine did not keep time is made again, once the machine keeps time:
+it shows nothing then.
 """
 
 import os
@@ -70,6 +71,8 @@ def made(item, arguments):
         has_failed = fault is not None and not isinstance(fault, Skipped)
         if not has_failed or not beating().was_late(began):
             break
+        if left:
+            beating().wait_for_calm()
     return Made(fault, time.monotonic() - began, left + 1 < TRIES)
 
 

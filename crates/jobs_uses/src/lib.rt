@@ -1,10 +1,7 @@
-//! Tests of what `ym_play`, `ym_jobs` and `ym_command` do, print and answer. They stand here and
-//! not in those crates, which would be proved twice for them. `words_cases` and `script_cases` have
-//! what is a table of words or of scripts.
+//! Tests of what `ym_play` and `ym_jobs` do, print and answer. They stand here and not in those
+//! crates, which would be proved twice for them. `script_cases` has what is a table of scripts.
 #![tactic(auto)]
 
-#[cfg(test)]
-mod command;
 #[cfg(test)]
 mod jobs;
 #[cfg(test)]

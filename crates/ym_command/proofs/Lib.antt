@@ -1,2 +1,3 @@
 pub mod ExplainLemmas
 pub mod JobLemmas
+pub mod JudgeLemmas

@@ -149,10 +149,6 @@ AnswersClosed path old answer new =
 
 -- ---- One file, or one for each way
 
-abbrev pub desk : Option (List ℕ) → ℕ → Page → Page → Desk
-desk text reads_failed out err =
-    record { text = text; reads_failed = reads_failed; out = out; err = err }
-
 -- nothing of standard input was read
 pub record KeepsInput (old new : Desk) : Type 0 where
   pub text : new.text ≡ old.text

@@ -1,3 +1,4 @@
 pub mod Explaining
 pub mod Judged
+pub mod JudgedExamples
 pub mod Program

@@ -1,6 +1,6 @@
 -- What the program does for its words.
-use Rattle.std.specs.Prelude.{◌≡◌, ◌⊎◌, ℕ, Bool, true, false, List, [], Option, Some, None, Result, Ok, Err}
-use Rattle.clap.specs.Words.{Text, Kinds, IsAmong, takes, subcommand_of}
+use Rattle.std.specs.Prelude.{◌≡◌, ◌≢◌, ◌⊎◌, ℕ, Bool, true, false, List, [], Option, Some, None, Result, Ok, Err}
+use Rattle.clap.specs.Words.{Text, Kinds, IsAmong, fault_of, takes, subcommand_of}
 use Rattle.clap.specs.declared.error.kind.ErrorKind.TheVariants.{DisplayVersion}
 use Rattle.ym_file.specs.declared.plan.Shape.{Shape}
 use Rattle.ym_file.specs.declared.plan.Shape.TheVariants.{Mixed, Short}
@@ -18,11 +18,13 @@ use Rattle.ym_words.specs.Job as job
 use Rattle.ym_jobs.specs.Desk.{Desk, IsSession}
 use Rattle.ym_jobs.specs.Keeping.{ReceivesSo}
 use Rattle.ym_jobs.specs.Looped.{LoopGives}
-use Rattle.ym_jobs.specs.Page.{Page, TellsFault}
+use Rattle.ym_jobs.specs.Page.{TellsFault}
 use Rattle.ym_jobs.specs.Receiving.{ReceiveGives}
 use Rattle.ym_jobs.specs.Sending.{SendGives}
 use Rattle.ym_jobs.specs.declared.command_fault.CommandFault.{CommandFault}
+use Rattle.ym_jobs.specs.declared.command_fault.CommandFault.TheVariants as fault
 use Rattle.ym_command.specs.Explaining.{DrawsGives}
+use Rattle.ym_command.specs.Judged.{Gives, JudgeGives}
 
 -- the command line takes these words, and they ask for this job, or for none
 abbrev pub AsksFor : List Text → Option Asked → Type 0
@@ -32,7 +34,8 @@ AsksFor words job = (takes the_app words ≡ true) × (asked (subcommand_of the_
 -- and err those of wrong
 abbrev pub IsPlayed : List ℕ → List ℕ → List ℕ → ℕ → Option (List ℕ) → Option (List ℕ) → Type 0
 IsPlayed text before wrong status out err =
-    (handed : Option (List Handed)) × (failures : ℕ) × SessionGives text before wrong (Some []) 0 status out err handed failures
+    (handed : Option (List Handed)) × (failures : ℕ)
+    × SessionGives text before wrong (Some []) 0 status out err handed failures
 
 -- no byte of the script was read, and nothing was written to err
 pub record OnlyPrints (old new : Desk) : Type 0 where
@@ -67,9 +70,6 @@ pub record OnlyReports (old new : Desk) : Type 0 where
   pub reads : new.reads_failed ≡ old.reads_failed
   pub out : new.out ≡ old.out
 
-abbrev pub Gives : Type 1
-Gives = Page → Result ℕ CommandFault → Page → Type 0
-
 -- A job over a serial line prints to out where the line has a path, and else, where standard output
 -- is the line, to err.
 abbrev pub PrintsBeside : Option Text → Gives → Desk → Result ℕ CommandFault → Desk → Type 0
@@ -79,7 +79,8 @@ PrintsBeside None gives old answer new = gives old.err answer new.err × OnlyRep
 -- What a job answers, and what it leaves: a status, or a fault that is still to be told. A session
 -- tells its own.
 abbrev pub JobGives : Asked → Desk → Result ℕ CommandFault → Desk → Type 0
-JobGives job.Play old answer new = (status : ℕ) × (answer ≡ Ok status) × IsSession (Some []) old status new
+JobGives job.Play old answer new =
+    (status : ℕ) × (answer ≡ Ok status) × IsSession (Some []) old status new
 JobGives (job.Loop port tell) old answer new = LoopGives old answer new
 JobGives (job.Send port short files to tell) old answer new =
     SendGives (shape_of short) files old.out answer new.out × OnlyPrints old new
@@ -92,7 +93,8 @@ JobGives (job.ReceiveLine line flags dir to tell) old answer new =
     PrintsBeside line (ReceiveGives (confirm_of flags.single)) old answer new
 JobGives (job.Explain there back both turned chart) old answer new =
     DrawsGives chart there back both turned old answer new
-JobGives (job.Judge peer port line only stored list json) old answer new = ReadsNothing old new
+JobGives (job.Judge peer port line only stored list json) old answer new =
+    JudgeGives peer port line only list json old.out answer new.out × ReadsNothing old new
 
 -- the line of a fault was written to err, and nothing else was done
 pub record OnlyTells (why : CommandFault) (old : Desk) (status : ℕ) (new : Desk) : Type 0 where
@@ -129,4 +131,24 @@ pub record IsRefused (old : Desk) (status : ℕ) (new : Desk) : Type 0 where
 
 -- words that are no job: they are refused, unless they ask for the version
 abbrev pub IsNoJob : Kinds → Desk → ℕ → Desk → Type 0
-IsNoJob kinds old status new = IsRefused old status new ⊎ (IsAmong DisplayVersion kinds × TellsVersion old status new)
+IsNoJob kinds old status new =
+    IsRefused old status new ⊎ (IsAmong DisplayVersion kinds × TellsVersion old status new)
+
+-- ---- The command
+
+-- the job that the words ask for is done, unless there was no memory to read the words
+abbrev pub DoesAsked : List Text → Desk → ℕ → Desk → Type 0
+DoesAsked words old status new =
+    (job : Asked) → AsksFor words (Some job)
+    → Does job old status new ⊎ OnlyTells fault.Memory old status new
+
+-- the port of the words is none, with the same exception
+abbrev pub RefusesPort : List Text → Desk → ℕ → Desk → Type 0
+RefusesPort words old status new =
+    AsksFor words None
+    → OnlyTells fault.Port old status new ⊎ OnlyTells fault.Memory old status new
+
+-- clap's rule finds a fault in the words; one of help is such a fault too
+abbrev pub RefusesWords : List Text → Desk → ℕ → Desk → Type 0
+RefusesWords words old status new =
+    fault_of the_app words ≢ [] → IsNoJob (fault_of the_app words) old status new

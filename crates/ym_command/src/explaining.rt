@@ -2,8 +2,9 @@
 //! of bytes.
 
 ghost use Rattle.std.specs.Prelude.{◌≡◌, ◌≤◌, ◌⊎◌, IfOk, Ok, option_map};
+ghost use Rattle.ym_jobs.specs.Desk.{desk};
 ghost use Rattle.ym_jobs.specs.Page.{page};
-ghost use Rattle.ym_command.specs.Explaining.{desk, AnswersCapture, AnswersChart, AnswersClosed, ChartBehind, DrawsGives, ExplainGives, FileGives, PairGives, Refuses, Told, untold_words};
+ghost use Rattle.ym_command.specs.Explaining.{AnswersCapture, AnswersChart, AnswersClosed, ChartBehind, DrawsGives, ExplainGives, FileGives, PairGives, Refuses, Told, untold_words};
 
 use crate::chart_file::{ChartFault, write_chart};
 use crate::charted::Draw;
@@ -13,7 +14,7 @@ use std::fs::{File, Files};
 use std::{fs, io};
 use ym_explain::Verdict;
 use ym_inspect::{Direction, InspectFault, explain_capture, explain_one_way, explain_pair};
-use ym_jobs::CommandFault;
+use ym_jobs::{CommandFault, Outputs, Streams};
 use ym_play::{Input, Output, StreamFault};
 use ym_text::Reason;
 
@@ -115,19 +116,19 @@ fn explain_file<R: Files<File = File>, I: Input, O: Output, E: Output>(
     alloc: Global,
     path: &str,
     form: Form,
-    input: &mut I,
-    out: &mut O,
-    err: &mut E,
+    streams: &mut Streams<I, O, E>,
 ) -> Result<u8, CommandFault>
     ensures gives { FileGives path.now form
-        (desk (I.remaining input.old) (I.failures input.old)
-        (page (O.contents out.old) (O.failures out.old))
-        (page (E.contents err.old) (E.failures err.old))) result
-        (desk (I.remaining input.new) (I.failures input.new)
-        (page (O.contents out.new) (O.failures out.new))
-        (page (E.contents err.new) (E.failures err.new))) }
+        (desk (I.remaining streams.old.input) (I.failures streams.old.input)
+        (page (O.contents streams.old.outputs.out) (O.failures streams.old.outputs.out))
+        (page (E.contents streams.old.outputs.err) (E.failures streams.old.outputs.err))) result
+        (desk (I.remaining streams.new.input) (I.failures streams.new.input)
+        (page (O.contents streams.new.outputs.out) (O.failures streams.new.outputs.out))
+        (page (E.contents streams.new.outputs.err) (E.failures streams.new.outputs.err))) }
     ensures status { IfOk result (λ status. status ≤ 1) }
 {
+    let Streams { input, outputs } = streams;
+    let Outputs { out, err } = outputs;
     if path == STANDARD_INPUT {
         let told = tell_form(alloc, form, input, out);
         return answer(err, INPUT_NAME, Untold::Unread(INPUT_NAME), told);
@@ -147,16 +148,16 @@ fn explain_files<R: Files<File = File>, O: Output, E: Output>(
     alloc: Global,
     there: &str,
     back: &str,
-    out: &mut O,
-    err: &mut E,
+    outputs: &mut Outputs<O, E>,
 ) -> Result<u8, CommandFault>
     ensures gives { PairGives there.now back.now
-        (page (O.contents out.old) (O.failures out.old))
-        (page (E.contents err.old) (E.failures err.old)) result
-        (page (O.contents out.new) (O.failures out.new))
-        (page (E.contents err.new) (E.failures err.new)) }
+        (page (O.contents outputs.old.out) (O.failures outputs.old.out))
+        (page (E.contents outputs.old.err) (E.failures outputs.old.err)) result
+        (page (O.contents outputs.new.out) (O.failures outputs.new.out))
+        (page (E.contents outputs.new.err) (E.failures outputs.new.err)) }
     ensures status { IfOk result (λ status. status ≤ 1) }
 {
+    let Outputs { out, err } = outputs;
     let mut there_file = match fs::open(rt, there) {
         Ok(file) => file,
         Err(error) => return answer_closed(err, there, error),
@@ -169,50 +170,65 @@ fn explain_files<R: Files<File = File>, O: Output, E: Output>(
     answer(err, there, Untold::UnreadPair(there, back), told)
 }
 
+/// What `explain` is asked for, as its words say it. The paths are those of files; where one alone
+/// is read, `-` is standard input.
+#[derive(Clone, Copy)]
+pub(crate) struct ExplainOrder<'a> {
+    /// The path of what the sender wrote.
+    pub(crate) there: Option<&'a str>,
+    /// The path of what the receiver wrote.
+    pub(crate) back: Option<&'a str>,
+    /// The path of a capture of both ways.
+    pub(crate) both: Option<&'a str>,
+    /// The ways of the capture are turned.
+    pub(crate) turned: bool,
+    /// The path where a chart is to be.
+    pub(crate) chart: Option<&'a str>,
+}
+
 /// Tells what passed on a line, as these files have it: those of what the sender and the receiver
-/// wrote, or of one of them alone, or else a capture of both ways, which may be turned. Where one
-/// file is read, `-` is standard input. A capture that is not named is read there.
-pub(crate) fn explain<R: Files<File = File>, I: Input, O: Output, E: Output>(
+/// wrote, or of one of them alone, or else a capture of both ways, which may be turned. A capture
+/// that is not named is read from standard input. No chart is drawn.
+fn explain<R: Files<File = File>, I: Input, O: Output, E: Output>(
     rt: &R,
     alloc: Global,
-    there: Option<&str>,
-    back: Option<&str>,
-    both: Option<&str>,
-    turned: bool,
-    input: &mut I,
-    out: &mut O,
-    err: &mut E,
+    order: ExplainOrder<'_>,
+    streams: &mut Streams<I, O, E>,
 ) -> Result<u8, CommandFault>
-    ensures gives { ExplainGives (option_map (λ f. f.now) there.entry)
-        (option_map (λ f. f.now) back.entry) (option_map (λ f. f.now) both.entry) turned
-        (desk (I.remaining input.old) (I.failures input.old)
-        (page (O.contents out.old) (O.failures out.old))
-        (page (E.contents err.old) (E.failures err.old))) result
-        (desk (I.remaining input.new) (I.failures input.new)
-        (page (O.contents out.new) (O.failures out.new))
-        (page (E.contents err.new) (E.failures err.new))) }
+    ensures gives { ExplainGives (option_map (λ f. f.now) order.entry.there)
+        (option_map (λ f. f.now) order.entry.back) (option_map (λ f. f.now) order.entry.both)
+        order.entry.turned
+        (desk (I.remaining streams.old.input) (I.failures streams.old.input)
+        (page (O.contents streams.old.outputs.out) (O.failures streams.old.outputs.out))
+        (page (E.contents streams.old.outputs.err) (E.failures streams.old.outputs.err))) result
+        (desk (I.remaining streams.new.input) (I.failures streams.new.input)
+        (page (O.contents streams.new.outputs.out) (O.failures streams.new.outputs.out))
+        (page (E.contents streams.new.outputs.err) (E.failures streams.new.outputs.err))) }
     ensures status { IfOk result (λ status. status ≤ 2) }
 {
-    match (both, there, back) {
+    match (order.both, order.there, order.back) {
         (Some(path), None, None) => {
-            explain_file(rt, alloc, path, Form::Capture(turned), input, out, err)
+            let form = Form::Capture(order.turned);
+            explain_file(rt, alloc, path, form, streams)
         }
-        (Some(_), Some(_), None) => refuse(err, Untold::TooMany, REFUSED),
-        (Some(_), None, Some(_)) => refuse(err, Untold::TooMany, REFUSED),
-        (Some(_), Some(_), Some(_)) => refuse(err, Untold::TooMany, REFUSED),
+        (Some(_), Some(_), None) => refuse(&mut streams.outputs.err, Untold::TooMany, REFUSED),
+        (Some(_), None, Some(_)) => refuse(&mut streams.outputs.err, Untold::TooMany, REFUSED),
+        (Some(_), Some(_), Some(_)) => refuse(&mut streams.outputs.err, Untold::TooMany, REFUSED),
         (None, None, None) => {
-            let form = Form::Capture(turned);
-            explain_file(rt, alloc, STANDARD_INPUT, form, input, out, err)
+            let form = Form::Capture(order.turned);
+            explain_file(rt, alloc, STANDARD_INPUT, form, streams)
         }
         (None, Some(path), None) => {
             let form = Form::OneWay(Direction::There);
-            explain_file(rt, alloc, path, form, input, out, err)
+            explain_file(rt, alloc, path, form, streams)
         }
         (None, None, Some(path)) => {
             let form = Form::OneWay(Direction::Back);
-            explain_file(rt, alloc, path, form, input, out, err)
+            explain_file(rt, alloc, path, form, streams)
         }
-        (None, Some(there), Some(back)) => explain_files(rt, alloc, there, back, out, err),
+        (None, Some(there), Some(back)) => {
+            explain_files(rt, alloc, there, back, &mut streams.outputs)
+        }
     }
 }
 
@@ -269,34 +285,28 @@ fn put_picture<R: Files<File = File>, E: Output>(
 pub(crate) fn explain_and_draw<R: Files<File = File>, I: Input, O: Draw, E: Output>(
     rt: &R,
     alloc: Global,
-    there: Option<&str>,
-    back: Option<&str>,
-    both: Option<&str>,
-    turned: bool,
-    chart: Option<&str>,
-    input: &mut I,
-    out: &mut O,
-    err: &mut E,
+    order: ExplainOrder<'_>,
+    streams: &mut Streams<I, O, E>,
 ) -> Result<u8, CommandFault>
-    ensures gives { DrawsGives (option_map (λ f. f.now) chart.entry)
-        (option_map (λ f. f.now) there.entry) (option_map (λ f. f.now) back.entry)
-        (option_map (λ f. f.now) both.entry) turned
-        (desk (I.remaining input.old) (I.failures input.old)
-        (page (O.contents out.old) (O.failures out.old))
-        (page (E.contents err.old) (E.failures err.old))) result
-        (desk (I.remaining input.new) (I.failures input.new)
-        (page (O.contents out.new) (O.failures out.new))
-        (page (E.contents err.new) (E.failures err.new))) }
+    ensures gives { DrawsGives (option_map (λ f. f.now) order.entry.chart)
+        (option_map (λ f. f.now) order.entry.there) (option_map (λ f. f.now) order.entry.back)
+        (option_map (λ f. f.now) order.entry.both) order.entry.turned
+        (desk (I.remaining streams.old.input) (I.failures streams.old.input)
+        (page (O.contents streams.old.outputs.out) (O.failures streams.old.outputs.out))
+        (page (E.contents streams.old.outputs.err) (E.failures streams.old.outputs.err))) result
+        (desk (I.remaining streams.new.input) (I.failures streams.new.input)
+        (page (O.contents streams.new.outputs.out) (O.failures streams.new.outputs.out))
+        (page (E.contents streams.new.outputs.err) (E.failures streams.new.outputs.err))) }
     ensures status { IfOk result (λ status. status ≤ 2) }
 {
-    let Some(path) = chart else {
-        return explain(rt, alloc, there, back, both, turned, input, out, err);
+    let Some(path) = order.chart else {
+        return explain(rt, alloc, order, streams);
     };
-    out.begin_chart();
-    let told = explain(rt, alloc, there, back, both, turned, input, out, err);
-    let picture = out.end_chart();
+    streams.outputs.out.begin_chart();
+    let told = explain(rt, alloc, order, streams);
+    let picture = streams.outputs.out.end_chart();
     match told {
-        Ok(status) => put_picture(rt, path, status, picture, err),
+        Ok(status) => put_picture(rt, path, status, picture, &mut streams.outputs.err),
         Err(fault) => Err(fault),
     }
 }

@@ -1,5 +1,8 @@
 //! The way to a peer that is tried.
 
+ghost use Rattle.std.specs.Prelude.{option_map};
+ghost use Rattle.ym_command.specs.Judged.{HasWay};
+
 use std::alloc::{AllocError, Global};
 use std::fs::{File, Files};
 use std::net::{Ipv4Addr, Net, SocketAddr, TcpListener, TcpStream};
@@ -51,7 +54,10 @@ pub(crate) fn access_of<R: Files<File = File> + Net<Listener = TcpListener, Stre
     peer: Peer,
     port: Option<&str>,
     line: Option<&str>,
-) -> Result<Access, CommandFault> {
+) -> Result<Access, CommandFault>
+    ensures { HasWay (option_map (λ w. w.now) port.entry) (option_map (λ w. w.now) line.entry)
+        result }
+{
     match (port, line) {
         (Some(text), None) => match port_number(text) {
             Some(port) => access_at(rt, peer, port),

@@ -1,7 +1,14 @@
 //! `judge`: cases are played to a peer, and what it did is reported.
 
-ghost use Rattle.std.specs.Prelude.{◌≡◌, ◌≤◌, [], IfOk};
-ghost use Rattle.ym_command.specs.Judged.{AnswersReport, peer_named};
+ghost use Rattle.std.specs.Prelude.{◌≡◌, ◌≤◌, ◌++◌, ◌||◌, [], ◌∷◌, false, IfOk, IfErr, OnOk};
+ghost use Rattle.std.specs.Prelude.{option_map};
+ghost use Rattle.ym_judge.specs.Reporting.{counted, no_sums};
+ghost use Rattle.ym_jobs.specs.Lines.{line};
+ghost use Rattle.ym_jobs.specs.Page.{Prints, page};
+ghost use Rattle.ym_command.specs.Judged.{AnswersReport, IsMidway, IsRefusal, JudgeGives};
+ghost use Rattle.ym_command.specs.Judged.{LacksWay, ListsCases, PlaysCases, TriesCases};
+ghost use Rattle.ym_command.specs.Judged.{avoid_lines, case_named, case_words, names_text};
+ghost use Rattle.ym_command.specs.Judged.{peer_named, report_end, to_avoid};
 
 use crate::judge_message::JudgeMessage;
 use crate::judged_files::stores_all;
@@ -10,10 +17,10 @@ use std::alloc::{AllocError, Global};
 use std::fs::{File, Files};
 use std::net::{Net, TcpListener, TcpStream};
 use std::time::Clock;
-use ym_jobs::CommandFault;
+use ym_jobs::{CommandFault, Outputs};
 use ym_judge::{Avoided, Case, CaseJson, CaseLine, Peer, StartLine, Sums, Tried, cases_of};
 use ym_judging::{Outcome, files_of};
-use ym_play::Output;
+use ym_play::{Output, StreamFault};
 
 /// The status where something has to be avoided.
 const TO_AVOID: u8 = 1;
@@ -59,9 +66,11 @@ fn peer_of(word: &str) -> Option<Peer>
     }
 }
 
-/// The case of this name.
-fn case_of(alloc: Global, peer: Peer, name: &str) -> Result<Option<Case>, AllocError> {
-    for case in cases_of(peer) {
+/// The case of this name among these.
+fn case_of(alloc: Global, cases: &[Case], name: &str) -> Result<Option<Case>, AllocError>
+    ensures { IfOk result (λ found. found ≡ case_named cases.now name.now) }
+{
+    for case in cases {
         let text = format!(in alloc; "{case}")?;
         if text.as_str() == name {
             return Ok(Some(*case));
@@ -70,19 +79,31 @@ fn case_of(alloc: Global, peer: Peer, name: &str) -> Result<Option<Case>, AllocE
     Ok(None)
 }
 
-/// Prints the names of the cases.
-fn list<O: Output>(peer: Peer, out: &mut O) -> Result<u8, CommandFault>
-    ensures { IfOk result (λ status. status ≤ 2) }
+/// Prints the names of these cases.
+fn print_names<O: Output>(out: &mut O, cases: &[Case]) -> Result<(), StreamFault>
+    ensures { Prints (page (O.contents out.old) (O.failures out.old)) (names_text cases.now) result
+        (page (O.contents out.new) (O.failures out.new)) }
 {
-    for case in cases_of(peer) {
+    for case in cases {
         out.put_line(*case)?;
     }
+    Ok(())
+}
+
+/// Prints the names of the cases of such a peer.
+fn list<O: Output>(peer: Peer, out: &mut O) -> Result<u8, CommandFault>
+    ensures gives { ListsCases peer (page (O.contents out.old) (O.failures out.old)) result
+        (page (O.contents out.new) (O.failures out.new)) }
+    ensures status { IfOk result (λ status. status ≤ 2) }
+{
+    print_names(out, cases_of(peer))?;
     Ok(0)
 }
 
 /// Tells why the words are refused.
 fn refuse<E: Output>(err: &mut E, why: JudgeMessage<'_>) -> Result<u8, CommandFault>
-    ensures { IfOk result (λ status. status ≡ 2) }
+    ensures gives { IsRefusal result }
+    ensures status { IfOk result (λ status. status ≡ 2) }
 {
     err.put_line(why)?;
     Ok(REFUSED)
@@ -106,22 +127,39 @@ fn looked_at<R: Files<File = File>>(
 }
 
 /// Prints what a case has shown.
-fn print_case<O: Output>(out: &mut O, json: bool, tried: Tried) -> Result<(), CommandFault> {
+fn print_case<O: Output>(out: &mut O, json: bool, tried: Tried) -> Result<(), StreamFault>
+    ensures { Prints (page (O.contents out.old) (O.failures out.old))
+        (line (case_words json tried)) result (page (O.contents out.new) (O.failures out.new)) }
+{
     if json {
-        out.put_line(CaseJson(tried))?;
+        out.put_line(CaseJson(tried))
     } else {
-        out.put_line(CaseLine(tried))?;
+        out.put_line(CaseLine(tried))
+    }
+}
+
+/// Prints a line for each case that is to be avoided.
+fn print_avoided<O: Output>(out: &mut O, avoided: &[Tried]) -> Result<(), StreamFault>
+    ensures { Prints (page (O.contents out.old) (O.failures out.old)) (avoid_lines avoided.now)
+        result (page (O.contents out.new) (O.failures out.new)) }
+{
+    for tried in avoided {
+        out.put_line(Avoided(*tried))?;
     }
     Ok(())
 }
 
-/// Prints what is to be avoided, and how many cases came out how.
-fn print_end<O: Output>(out: &mut O, report: &Report) -> Result<(), CommandFault> {
-    for tried in report.avoided.as_slice() {
-        out.put_line(Avoided(*tried))?;
+/// Prints for people what is to be avoided, and how many cases came out how.
+fn print_end<O: Output>(out: &mut O, json: bool, report: &Report) -> Result<(), StreamFault>
+    ensures { Prints (page (O.contents out.old) (O.failures out.old))
+        (report_end json report.now.avoided.items report.now.sums) result
+        (page (O.contents out.new) (O.failures out.new)) }
+{
+    if json {
+        return Ok(());
     }
-    out.put_line(report.sums)?;
-    Ok(())
+    print_avoided(out, report.avoided.as_slice())?;
+    out.put_line(report.sums)
 }
 
 /// What the report comes to.
@@ -141,7 +179,9 @@ fn status_of(report: &Report) -> Result<u8, CommandFault>
 impl Report {
     /// Nothing was found.
     fn new(alloc: Global) -> Report
-        ensures { result.avoided.items ≡ [] }
+        ensures sums { result.sums ≡ no_sums }
+        ensures avoided { result.avoided.items ≡ [] }
+        ensures failed { result.has_failed ≡ false }
     {
         Report {
             sums: Sums::new(),
@@ -151,7 +191,12 @@ impl Report {
     }
 
     /// Takes a case more.
-    fn take(&mut self, tried: Tried, has_failed: bool) -> Result<(), AllocError> {
+    fn take(&mut self, tried: Tried, has_failed: bool) -> Result<(), AllocError>
+        ensures sums { self.new.sums ≡ counted tried.finding self.old.sums }
+        ensures avoided { OnOk result
+            (self.new.avoided.items ≡ self.old.avoided.items ++ to_avoid (tried ∷ [])) }
+        ensures failed { self.new.has_failed ≡ self.old.has_failed || has_failed }
+    {
         self.sums = self.sums.with(tried.finding);
         self.has_failed = self.has_failed || has_failed;
         if tried.is_to_avoid() {
@@ -161,64 +206,81 @@ impl Report {
     }
 }
 
-/// Plays a case, and reports it.
-fn try_case<R, O, E>(
+/// What is asked for of a peer.
+#[derive(Clone, Copy)]
+struct PeerOrder<'a> {
+    /// What the peer does.
+    peer: Peer,
+    /// What is asked for.
+    order: JudgeOrder<'a>,
+}
+
+/// A peer that is tried.
+#[derive(Drop)]
+struct Trial<'a> {
+    /// The way to it.
+    access: Access,
+    /// What is asked for of it.
+    asked: PeerOrder<'a>,
+}
+
+/// Plays a case, and tells before it that it begins, and behind it whether the line failed.
+fn play_telling<R, E>(
     rt: &R,
     alloc: Global,
-    access: &Access,
-    order: JudgeOrder<'_>,
-    peer: Peer,
+    trial: &Trial<'_>,
     case: Case,
-    report: &mut Report,
-    out: &mut O,
     err: &mut E,
-) -> Result<(), CommandFault>
+) -> Result<Outcome, CommandFault>
 where
     R: Files<File = File> + Net<Listener = TcpListener, Stream = TcpStream> + Clock,
-    O: Output,
     E: Output,
+    ensures { IfErr result (λ why. IsMidway why) }
 {
     err.put_line(StartLine(case))?;
-    let outcome = play_case(rt, alloc, access, peer, case)?;
+    let PeerOrder { peer, order } = trial.asked;
+    let outcome = play_case(rt, alloc, &trial.access, peer, case)?;
     let outcome = looked_at(rt, alloc, order.stored, outcome)?;
     if outcome.has_failed {
         err.put_line(JudgeMessage::Failed(case))?;
     }
-    let tried = outcome.tried(case);
-    report.take(tried, outcome.has_failed)?;
-    print_case(out, order.json, tried)
+    Ok(outcome)
 }
 
-/// Plays these cases.
+/// Plays these cases, and reports them.
 fn try_cases<R, O, E>(
     rt: &R,
     alloc: Global,
-    access: &Access,
-    order: JudgeOrder<'_>,
-    peer: Peer,
+    trial: &Trial<'_>,
     cases: &[Case],
-    out: &mut O,
-    err: &mut E,
+    outputs: &mut Outputs<O, E>,
 ) -> Result<u8, CommandFault>
 where
     R: Files<File = File> + Net<Listener = TcpListener, Stream = TcpStream> + Clock,
     O: Output,
     E: Output,
-    ensures { IfOk result (λ status. status ≤ 2) }
+    ensures gives { TriesCases cases.now trial.now.asked.order.json
+        (page (O.contents outputs.old.out) (O.failures outputs.old.out)) result
+        (page (O.contents outputs.new.out) (O.failures outputs.new.out)) }
+    ensures status { IfOk result (λ status. status ≤ 2) }
 {
+    let json = trial.asked.order.json;
     let mut report = Report::new(alloc);
     for case in cases {
-        try_case(rt, alloc, access, order, peer, *case, &mut report, out, err)?;
+        let outcome = play_telling(rt, alloc, trial, *case, &mut outputs.err)?;
+        let tried = outcome.tried(*case);
+        report.take(tried, outcome.has_failed)?;
+        print_case(&mut outputs.out, json, tried)?;
     }
-    if !order.json {
-        print_end(out, &report)?;
-    }
+    print_end(&mut outputs.out, json, &report)?;
     status_of(&report)
 }
 
 /// Tells why there is no way to the peer.
 fn refuse_place<E: Output>(err: &mut E, order: JudgeOrder<'_>) -> Result<u8, CommandFault>
-    ensures { IfOk result (λ status. status ≤ 2) }
+    ensures gives { LacksWay (option_map (λ w. w.now) order.entry.port)
+        (option_map (λ w. w.now) order.entry.line) result }
+    ensures status { IfOk result (λ status. status ≤ 2) }
 {
     match (order.port, order.line) {
         (None, Some(path)) => {
@@ -230,40 +292,68 @@ fn refuse_place<E: Output>(err: &mut E, order: JudgeOrder<'_>) -> Result<u8, Com
     }
 }
 
-/// Does what the words of `judge` ask for, and answers the status: 0 where nothing is to be
-/// avoided, 1 where something is, 2 where the words are refused.
-pub(crate) fn judge<R, O, E>(
+/// Plays these cases, or tells why there is no way to the peer.
+fn play_cases<R, O, E>(
     rt: &R,
     alloc: Global,
-    order: JudgeOrder<'_>,
-    out: &mut O,
-    err: &mut E,
+    asked: PeerOrder<'_>,
+    cases: &[Case],
+    outputs: &mut Outputs<O, E>,
 ) -> Result<u8, CommandFault>
 where
     R: Files<File = File> + Net<Listener = TcpListener, Stream = TcpStream> + Clock,
     O: Output,
     E: Output,
-    ensures { IfOk result (λ status. status ≤ 2) }
+    ensures gives { PlaysCases (option_map (λ w. w.now) asked.entry.order.port)
+        (option_map (λ w. w.now) asked.entry.order.line) cases.now asked.entry.order.json
+        (page (O.contents outputs.old.out) (O.failures outputs.old.out)) result
+        (page (O.contents outputs.new.out) (O.failures outputs.new.out)) }
+    ensures status { IfOk result (λ status. status ≤ 2) }
+{
+    let order = asked.order;
+    match access_of(rt, asked.peer, order.port, order.line) {
+        Ok(access) => {
+            let trial = Trial { access, asked };
+            try_cases(rt, alloc, &trial, cases, outputs)
+        }
+        Err(CommandFault::Port) => Err(CommandFault::Port),
+        Err(_) => refuse_place(&mut outputs.err, order),
+    }
+}
+
+/// Does what the words of `judge` ask for: prints the names of the cases, or a line for each case
+/// and, for people, what is to be avoided and the sums. The answer is the status: 0 where nothing
+/// is to be avoided, 1 where something is, 2 where the words are refused.
+pub(crate) fn judge<R, O, E>(
+    rt: &R,
+    alloc: Global,
+    order: JudgeOrder<'_>,
+    outputs: &mut Outputs<O, E>,
+) -> Result<u8, CommandFault>
+where
+    R: Files<File = File> + Net<Listener = TcpListener, Stream = TcpStream> + Clock,
+    O: Output,
+    E: Output,
+    ensures gives { JudgeGives order.entry.peer.now (option_map (λ w. w.now) order.entry.port)
+        (option_map (λ w. w.now) order.entry.line) (option_map (λ w. w.now) order.entry.only)
+        order.entry.list order.entry.json
+        (page (O.contents outputs.old.out) (O.failures outputs.old.out)) result
+        (page (O.contents outputs.new.out) (O.failures outputs.new.out)) }
+    ensures status { IfOk result (λ status. status ≤ 2) }
 {
     let Some(peer) = peer_of(order.peer) else {
-        return refuse(err, JudgeMessage::NoPeer(order.peer));
+        return refuse(&mut outputs.err, JudgeMessage::NoPeer(order.peer));
     };
     if order.list {
-        return list(peer, out);
+        return list(peer, &mut outputs.out);
     }
-    let only = match order.only {
-        Some(name) => match case_of(alloc, peer, name)? {
-            Some(case) => Some([case]),
-            None => return refuse(err, JudgeMessage::NoCase(peer, name)),
+    let asked = PeerOrder { peer, order };
+    let cases = cases_of(peer);
+    match order.only {
+        None => play_cases(rt, alloc, asked, cases, outputs),
+        Some(name) => match case_of(alloc, cases, name)? {
+            Some(case) => play_cases(rt, alloc, asked, &[case], outputs),
+            None => refuse(&mut outputs.err, JudgeMessage::NoCase(peer, name)),
         },
-        None => None,
-    };
-    match access_of(rt, peer, order.port, order.line) {
-        Ok(access) => match &only {
-            Some(cases) => try_cases(rt, alloc, &access, order, peer, cases, out, err),
-            None => try_cases(rt, alloc, &access, order, peer, cases_of(peer), out, err),
-        },
-        Err(CommandFault::Port) => Err(CommandFault::Port),
-        Err(_) => refuse_place(err, order),
     }
 }

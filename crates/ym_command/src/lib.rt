@@ -8,8 +8,10 @@ mod judge_message;
 mod judged_files;
 mod judged_peer;
 mod judging;
+mod orders;
 mod program;
 mod untold;
 
 pub use charted::{Charted, Draw};
 pub use program::command;
+pub use ym_jobs::{Outputs, Streams};

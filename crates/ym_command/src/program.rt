@@ -1,34 +1,32 @@
 //! What the program's words ask for, done.
 
-ghost use Rattle.std.specs.Prelude.{◌≡◌, ◌≢◌, ◌≤◌, ◌⊎◌, ℕ, List, [], IfOk, Some, None, true, false, map, string_bytes};
-ghost use Rattle.clap.specs.Words.{fault_of};
-ghost use Rattle.ym_words.specs.CommandLine.{the_app};
+ghost use Rattle.std.specs.Prelude.{◌≡◌, ◌≢◌, ◌≤◌, ◌⊎◌, ℕ, List, IfOk, Some, None, map, string_bytes};
 ghost use Rattle.ym_words.specs.Job.{Asked, Play, asked_of};
-ghost use Rattle.ym_jobs.specs.Page.{TellsFault};
-ghost use Rattle.ym_command.specs.Program.{AsksFor, IsPlayed, JobGives, shape_of, confirm_of, durability_of, leftover_of, OnlyTells, Does, IsNoJob};
+ghost use Rattle.ym_jobs.specs.Desk.{desk};
+ghost use Rattle.ym_jobs.specs.Page.{TellsFault, page};
+ghost use Rattle.ym_command.specs.Program.{AsksFor, IsPlayed, JobGives, DoesAsked, RefusesPort, RefusesWords};
 
 use crate::charted::Draw;
-use crate::explaining::explain_and_draw;
+use crate::explaining::{ExplainOrder, explain_and_draw};
 use crate::judging::{JudgeOrder, judge};
+use crate::orders::{line_order_of, order_of, send_order_of};
 use clap::error::ErrorKind;
-use std::alloc::Global;
+use std::alloc::{AllocGlobal, Global};
 use std::fmt::Display;
 use std::fs::{File, Files};
 use std::io;
 use std::io::{IsTerminal, Print, Write};
 use std::net::{Net, TcpListener, TcpStream};
 use std::time::Clock;
-use ym_file::Shape;
-use ym_folder::{Durability, Leftover};
 use ym_jobs::{
-    CommandFault, Order, SendOrder, looped_session, receive_as_asked, receive_line, send, send_line,
+    AtPort, CommandFault, OnLine, Outputs, Streams, looped_session, receive_as_asked, receive_line,
+    send, send_line,
 };
 use ym_line::Direct;
-use ym_machine::Confirm;
 use ym_play::laws::a_known_script_is_played;
 use ym_play::{Input, Output, StreamFault, session_over};
 use ym_show::Teller;
-use ym_words::{Job, JobFault, ReceiveFlags, StoreFlags, TellFlags, job_of};
+use ym_words::{Job, JobFault, TellFlags, job_of};
 
 /// The status after refused words.
 const REFUSED: u8 = 2;
@@ -61,7 +59,8 @@ fn tell_version<O: Output, D: Display + Drop>(out: &mut O, text: D) -> u8
 /// Writes the line of a fault. The answer is its status, or that of a failed device where it could
 /// not be written.
 fn tell_fault<E: Output>(err: &mut E, fault: CommandFault) -> u8
-    ensures { TellsFault fault (record { holds = E.contents err.old; failed = E.failures err.old }) result (record { holds = E.contents err.new; failed = E.failures err.new }) }
+    ensures { TellsFault fault (page (E.contents err.old) (E.failures err.old)) result
+        (page (E.contents err.new) (E.failures err.new)) }
 {
     match err.put_line(fault) {
         Ok(()) => fault.status(),
@@ -70,116 +69,20 @@ fn tell_fault<E: Output>(err: &mut E, fault: CommandFault) -> u8
 }
 
 /// Plays a script, carried in memory.
-fn play<I: Input, O: Output, E: Output>(
-    alloc: Global,
-    input: &mut I,
-    out: &mut O,
-    err: &mut E,
-) -> u8
-    ensures { JobGives Play (record { text = I.remaining input.old; reads_failed = I.failures input.old; out = record { holds = O.contents out.old; failed = O.failures out.old }; err = record { holds = E.contents err.old; failed = E.failures err.old } }) (Ok result) (record { text = I.remaining input.new; reads_failed = I.failures input.new; out = record { holds = O.contents out.new; failed = O.failures out.new }; err = record { holds = E.contents err.new; failed = E.failures err.new } }) }
+fn play<I: Input, O: Output, E: Output>(alloc: Global, streams: &mut Streams<I, O, E>) -> u8
+    ensures { JobGives Play
+        (desk (I.remaining streams.old.input) (I.failures streams.old.input)
+        (page (O.contents streams.old.outputs.out) (O.failures streams.old.outputs.out))
+        (page (E.contents streams.old.outputs.err) (E.failures streams.old.outputs.err)))
+        (Ok result)
+        (desk (I.remaining streams.new.input) (I.failures streams.new.input)
+        (page (O.contents streams.new.outputs.out) (O.failures streams.new.outputs.out))
+        (page (E.contents streams.new.outputs.err) (E.failures streams.new.outputs.err))) }
 {
+    let Streams { input, outputs } = streams;
+    let Outputs { out, err } = outputs;
     let mut carrier = Direct::new(alloc);
     session_over(alloc, input, out, err, &mut carrier)
-}
-
-/// The blocks of a batch, by the flag `--short`.
-fn shape_of(is_short: bool) -> Shape
-    ensures { result ≡ shape_of is_short }
-{
-    if is_short { Shape::Short } else { Shape::Mixed }
-}
-
-/// When a receiver acknowledges an EOT, by the flag `--single`.
-fn confirm_of(is_single: bool) -> Confirm
-    ensures { result ≡ confirm_of is_single }
-{
-    if is_single {
-        Confirm::Once
-    } else {
-        Confirm::Twice
-    }
-}
-
-/// When a file counts as stored, by the flag `--no-sync`.
-fn durability_of(is_unforced: bool) -> Durability
-    ensures { result ≡ durability_of is_unforced }
-{
-    if is_unforced {
-        Durability::System
-    } else {
-        Durability::Disk
-    }
-}
-
-/// What becomes of the part of an earlier run, by the flag `--discard-parts`.
-fn leftover_of(discards: bool) -> Leftover
-    ensures { result ≡ leftover_of discards }
-{
-    if discards {
-        Leftover::Discarded
-    } else {
-        Leftover::Refused
-    }
-}
-
-/// What a sender is asked for, by the flag `--short`, with these files.
-fn send_order_of<'a>(
-    is_short: bool,
-    paths: &'a [&'a str],
-    record_path: Option<&'a str>,
-) -> SendOrder<'a>
-    ensures shape { result.shape ≡ shape_of is_short }
-    ensures paths { result.paths.now ≡ paths.now }
-    ensures recorded { result.record_path ≡ record_path.entry }
-{
-    SendOrder {
-        paths,
-        shape: shape_of(is_short),
-        record_path,
-    }
-}
-
-/// What a receiver is asked for, by the flags of `receive`, and where.
-fn order_of<'a>(flags: ReceiveFlags, dir: &'a str, record_path: Option<&'a str>) -> Order<'a>
-    ensures confirm { result.confirm ≡ confirm_of flags.store.single }
-    ensures durability { result.durability ≡ durability_of flags.store.no_sync }
-    ensures leftover { result.leftover ≡ leftover_of flags.store.discard_parts }
-    ensures eager { result.eager ≡ flags.eager }
-    ensures keep { result.keep ≡ flags.keep }
-    ensures dir { result.dir.now ≡ dir.now }
-    ensures recorded { result.record_path ≡ record_path.entry }
-{
-    Order {
-        confirm: confirm_of(flags.store.single),
-        durability: durability_of(flags.store.no_sync),
-        leftover: leftover_of(flags.store.discard_parts),
-        eager: flags.eager,
-        keep: flags.keep,
-        dir,
-        record_path,
-    }
-}
-
-/// What a receiver is asked for by the flags of `rb`, and where: it removes the parts that earlier
-/// runs left, asks for the first file at once, and there is one line.
-fn line_order_of<'a>(store: StoreFlags, dir: &'a str, record_path: Option<&'a str>) -> Order<'a>
-    ensures confirm { result.confirm ≡ confirm_of store.single }
-    ensures durability { result.durability ≡ durability_of store.no_sync }
-    ensures leftover { result.leftover ≡ Leftover.Discarded }
-    ensures eager { result.eager ≡ true }
-    ensures keep { result.keep ≡ false }
-    ensures dir { result.dir.now ≡ dir.now }
-    ensures recorded { result.record_path ≡ record_path.entry }
-{
-    let flags = ReceiveFlags {
-        store,
-        eager: true,
-        keep: false,
-    };
-    Order {
-        leftover: Leftover::Discarded,
-        ..order_of(flags, dir, record_path)
-    }
 }
 
 /// How much is told, by the flags of a job.
@@ -202,9 +105,7 @@ fn do_job<R, I, O, E, T>(
     rt: &R,
     alloc: Global,
     job: Job<'_>,
-    input: &mut I,
-    out: &mut O,
-    err: &mut E,
+    streams: &mut Streams<I, O, E>,
     teller: &mut Teller<T>,
 ) -> Result<u8, CommandFault>
 where
@@ -212,18 +113,25 @@ where
         + Net<Listener = TcpListener, Stream = TcpStream>
         + Clock
         + io::Input
-        + Print,
+        + Print
+        + AllocGlobal,
     R::Reader: IsTerminal,
     I: Input,
     O: Draw,
     E: Output,
     T: Write + Drop,
-    ensures gives { JobGives (asked_of job.entry) (record { text = I.remaining input.old; reads_failed = I.failures input.old; out = record { holds = O.contents out.old; failed = O.failures out.old }; err = record { holds = E.contents err.old; failed = E.failures err.old } }) result (record { text = I.remaining input.new; reads_failed = I.failures input.new; out = record { holds = O.contents out.new; failed = O.failures out.new }; err = record { holds = E.contents err.new; failed = E.failures err.new } }) }
+    ensures gives { JobGives (asked_of job.entry)
+        (desk (I.remaining streams.old.input) (I.failures streams.old.input)
+        (page (O.contents streams.old.outputs.out) (O.failures streams.old.outputs.out))
+        (page (E.contents streams.old.outputs.err) (E.failures streams.old.outputs.err))) result
+        (desk (I.remaining streams.new.input) (I.failures streams.new.input)
+        (page (O.contents streams.new.outputs.out) (O.failures streams.new.outputs.out))
+        (page (E.contents streams.new.outputs.err) (E.failures streams.new.outputs.err))) }
     ensures status { IfOk result (λ status. status ≤ 3) }
 {
     match job {
-        Job::Play => Ok(play(alloc, input, out, err)),
-        Job::Loop { port, .. } => looped_session(rt, alloc, port, input, out, err, teller),
+        Job::Play => Ok(play(alloc, streams)),
+        Job::Loop { port, .. } => looped_session(rt, port, streams, teller),
         Job::Send {
             port,
             short,
@@ -232,7 +140,8 @@ where
             ..
         } => {
             let order = send_order_of(short, files.as_slice(), record_path);
-            send(rt, alloc, port, order, out, teller)
+            let asked = AtPort { port, order };
+            send(rt, asked, &mut streams.outputs.out, teller)
         }
         Job::Receive {
             port,
@@ -242,7 +151,8 @@ where
             ..
         } => {
             let order = order_of(flags, dir, record_path);
-            receive_as_asked(rt, alloc, port, order, out, err, teller)
+            let asked = AtPort { port, order };
+            receive_as_asked(rt, asked, &mut streams.outputs, teller)
         }
         Job::SendLine {
             line,
@@ -252,9 +162,10 @@ where
             ..
         } => {
             let order = send_order_of(short, files.as_slice(), record_path);
+            let asked = OnLine { line, order };
             match line {
-                Some(_) => send_line(rt, alloc, line, order, out, teller),
-                None => send_line(rt, alloc, line, order, err, teller),
+                Some(_) => send_line(rt, asked, &mut streams.outputs.out, teller),
+                None => send_line(rt, asked, &mut streams.outputs.err, teller),
             }
         }
         Job::ReceiveLine {
@@ -265,9 +176,10 @@ where
             ..
         } => {
             let order = line_order_of(flags, dir, record_path);
+            let asked = OnLine { line, order };
             match line {
-                Some(_) => receive_line(rt, alloc, line, order, out, teller),
-                None => receive_line(rt, alloc, line, order, err, teller),
+                Some(_) => receive_line(rt, asked, &mut streams.outputs.out, teller),
+                None => receive_line(rt, asked, &mut streams.outputs.err, teller),
             }
         }
         Job::Explain {
@@ -276,7 +188,16 @@ where
             both,
             turned,
             chart,
-        } => explain_and_draw(rt, alloc, there, back, both, turned, chart, input, out, err),
+        } => {
+            let order = ExplainOrder {
+                there,
+                back,
+                both,
+                turned,
+                chart,
+            };
+            explain_and_draw(rt, alloc, order, streams)
+        }
         Job::Judge {
             peer,
             port,
@@ -295,7 +216,7 @@ where
                 list,
                 json,
             };
-            judge(rt, alloc, order, out, err)
+            judge(rt, alloc, order, &mut streams.outputs)
         }
     }
 }
@@ -311,9 +232,7 @@ pub fn command<R, I, O, E, T>(
     rt: &R,
     alloc: Global,
     words: Vec<String>,
-    input: &mut I,
-    out: &mut O,
-    err: &mut E,
+    streams: &mut Streams<I, O, E>,
     teller: &mut Teller<T>,
 ) -> u8
 where
@@ -321,27 +240,41 @@ where
         + Net<Listener = TcpListener, Stream = TcpStream>
         + Clock
         + io::Input
-        + Print,
+        + Print
+        + AllocGlobal,
     R::Reader: IsTerminal,
     I: Input,
     O: Draw,
     E: Output,
     T: Write + Drop,
-    // The job that the words ask for, unless there was no memory to read the words.
-    ensures does { (job : Asked) → AsksFor (map string_bytes words.items) (Some job)
-        → Does job (record { text = I.remaining input.old; reads_failed = I.failures input.old; out = record { holds = O.contents out.old; failed = O.failures out.old }; err = record { holds = E.contents err.old; failed = E.failures err.old } }) result (record { text = I.remaining input.new; reads_failed = I.failures input.new; out = record { holds = O.contents out.new; failed = O.failures out.new }; err = record { holds = E.contents err.new; failed = E.failures err.new } })
-        ⊎ OnlyTells CommandFault.Memory (record { text = I.remaining input.old; reads_failed = I.failures input.old; out = record { holds = O.contents out.old; failed = O.failures out.old }; err = record { holds = E.contents err.old; failed = E.failures err.old } }) result (record { text = I.remaining input.new; reads_failed = I.failures input.new; out = record { holds = O.contents out.new; failed = O.failures out.new }; err = record { holds = E.contents err.new; failed = E.failures err.new } }) }
-    // Words whose port is none, with the same exception.
-    ensures port { AsksFor (map string_bytes words.items) None
-        → OnlyTells CommandFault.Port (record { text = I.remaining input.old; reads_failed = I.failures input.old; out = record { holds = O.contents out.old; failed = O.failures out.old }; err = record { holds = E.contents err.old; failed = E.failures err.old } }) result (record { text = I.remaining input.new; reads_failed = I.failures input.new; out = record { holds = O.contents out.new; failed = O.failures out.new }; err = record { holds = E.contents err.new; failed = E.failures err.new } })
-        ⊎ OnlyTells CommandFault.Memory (record { text = I.remaining input.old; reads_failed = I.failures input.old; out = record { holds = O.contents out.old; failed = O.failures out.old }; err = record { holds = E.contents err.old; failed = E.failures err.old } }) result (record { text = I.remaining input.new; reads_failed = I.failures input.new; out = record { holds = O.contents out.new; failed = O.failures out.new }; err = record { holds = E.contents err.new; failed = E.failures err.new } }) }
-    // Words in which clap's rule finds a fault; one of help is such a fault too.
-    ensures words { fault_of the_app (map string_bytes words.items) ≢ []
-        → IsNoJob (fault_of the_app (map string_bytes words.items)) (record { text = I.remaining input.old; reads_failed = I.failures input.old; out = record { holds = O.contents out.old; failed = O.failures out.old }; err = record { holds = E.contents err.old; failed = E.failures err.old } }) result (record { text = I.remaining input.new; reads_failed = I.failures input.new; out = record { holds = O.contents out.new; failed = O.failures out.new }; err = record { holds = E.contents err.new; failed = E.failures err.new } }) }
+    ensures does { DoesAsked (map string_bytes words.items)
+        (desk (I.remaining streams.old.input) (I.failures streams.old.input)
+        (page (O.contents streams.old.outputs.out) (O.failures streams.old.outputs.out))
+        (page (E.contents streams.old.outputs.err) (E.failures streams.old.outputs.err))) result
+        (desk (I.remaining streams.new.input) (I.failures streams.new.input)
+        (page (O.contents streams.new.outputs.out) (O.failures streams.new.outputs.out))
+        (page (E.contents streams.new.outputs.err) (E.failures streams.new.outputs.err))) }
+    ensures port { RefusesPort (map string_bytes words.items)
+        (desk (I.remaining streams.old.input) (I.failures streams.old.input)
+        (page (O.contents streams.old.outputs.out) (O.failures streams.old.outputs.out))
+        (page (E.contents streams.old.outputs.err) (E.failures streams.old.outputs.err))) result
+        (desk (I.remaining streams.new.input) (I.failures streams.new.input)
+        (page (O.contents streams.new.outputs.out) (O.failures streams.new.outputs.out))
+        (page (E.contents streams.new.outputs.err) (E.failures streams.new.outputs.err))) }
+    ensures words { RefusesWords (map string_bytes words.items)
+        (desk (I.remaining streams.old.input) (I.failures streams.old.input)
+        (page (O.contents streams.old.outputs.out) (O.failures streams.old.outputs.out))
+        (page (E.contents streams.old.outputs.err) (E.failures streams.old.outputs.err))) result
+        (desk (I.remaining streams.new.input) (I.failures streams.new.input)
+        (page (O.contents streams.new.outputs.out) (O.failures streams.new.outputs.out))
+        (page (E.contents streams.new.outputs.err) (E.failures streams.new.outputs.err))) }
     // Where no read and no write fails: a session that meets one has status 3.
-    ensures plays { AsksFor (map string_bytes words.items) (Some Asked.Play) → (text before wrong : List ℕ) → I.remaining input.old ≡ Some text
-        → O.contents out.old ≡ Some before → E.contents err.old ≡ Some wrong → result ≢ 3
-        → IsPlayed text before wrong result (O.contents out.new) (E.contents err.new) }
+    ensures plays { AsksFor (map string_bytes words.items) (Some Asked.Play)
+        → (text before wrong : List ℕ) → I.remaining streams.old.input ≡ Some text
+        → O.contents streams.old.outputs.out ≡ Some before
+        → E.contents streams.old.outputs.err ≡ Some wrong → result ≢ 3
+        → IsPlayed text before wrong result
+        (O.contents streams.new.outputs.out) (E.contents streams.new.outputs.err) }
     ensures refused { AsksFor (map string_bytes words.items) None → (result ≡ 2) ⊎ (result ≡ 3) }
     ensures status { result ≤ 3 }
 {
@@ -350,19 +283,19 @@ where
         Ok(job) => {
             let TellFlags { verbose, quiet } = tell_flags(&job);
             teller.heed(verbose, quiet);
-            match do_job(rt, alloc, job, input, out, err, teller) {
+            match do_job(rt, alloc, job, streams, teller) {
                 Ok(status) => status,
-                Err(fault) => tell_fault(err, fault),
+                Err(fault) => tell_fault(&mut streams.outputs.err, fault),
             }
         }
         Err(JobFault::Words(error)) if error.kind() == ErrorKind::DisplayVersion => {
-            tell_version(out, error)
+            tell_version(&mut streams.outputs.out, error)
         }
-        Err(JobFault::Words(error)) => tell_words(err, error),
+        Err(JobFault::Words(error)) => tell_words(&mut streams.outputs.err, error),
         Err(JobFault::Value) => {
             teller.tell("--port takes a number from 1 to 65535, in digits");
-            tell_fault(err, CommandFault::Port)
+            tell_fault(&mut streams.outputs.err, CommandFault::Port)
         }
-        Err(JobFault::Memory) => tell_fault(err, CommandFault::Memory),
+        Err(JobFault::Memory) => tell_fault(&mut streams.outputs.err, CommandFault::Memory),
     }
 }

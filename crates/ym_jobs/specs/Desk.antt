@@ -13,6 +13,10 @@ pub record Desk : Type 0 where
   pub out : Page
   pub err : Page
 
+abbrev pub desk : Option (List ℕ) → ℕ → Page → Page → Desk
+desk text reads_failed out err =
+    record { text = text; reads_failed = reads_failed; out = out; err = err }
+
 -- the same beside a carrier
 abbrev pub scene_of : Desk → Option (List Handed) → ℕ → Scene
 scene_of desk told carries_failed = record {
@@ -26,10 +30,13 @@ scene_of desk told carries_failed = record {
 }
 
 -- a session of the script on the desk, over a carrier that tells this and has not failed
-pub record IsSession (told : Option (List Handed)) (old : Desk) (status : ℕ) (new : Desk) : Type 0 where
+pub record IsSession (told : Option (List Handed)) (old : Desk) (status : ℕ) (new : Desk)
+    : Type 0 where
   pub new_told : Option (List Handed)
   pub carries_failed : ℕ
-  pub ends : SessionEnds old.text (scene_of old told 0) status (scene_of new new_told carries_failed)
-  pub failed : status ≡ 3 → HasFailed old.text (scene_of old told 0) (scene_of new new_told carries_failed)
+  pub ends : SessionEnds old.text (scene_of old told 0) status
+      (scene_of new new_told carries_failed)
+  pub failed : status ≡ 3 → HasFailed old.text (scene_of old told 0)
+      (scene_of new new_told carries_failed)
   pub within : IsReadWithin (MOST_SCRIPT_BYTES + 1) old.text new.text
   pub small : status ≤ 3

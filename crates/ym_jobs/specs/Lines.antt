@@ -24,7 +24,9 @@ mode_in (stamp.Time time) = None
 mode_in (stamp.TimeMode time mode) = Some mode
 
 abbrev pub file_words : HeaderParts → List ℕ
-file_words h = codes "file " ++ (h.name ++ (codes " " ++ (decimal h.length ++ (codes " " ++ (octal_words (time_in h.stamp) ++ (codes " " ++ octal_words (mode_in h.stamp)))))))
+file_words h =
+    codes "file " ++ (h.name ++ (codes " " ++ (decimal h.length ++ (codes " "
+    ++ (octal_words (time_in h.stamp) ++ (codes " " ++ octal_words (mode_in h.stamp)))))))
 
 -- ---- With their ends
 

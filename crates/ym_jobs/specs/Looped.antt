@@ -12,4 +12,6 @@ pub record IsNotLooped (old : Desk) (answer : Result ℕ CommandFault) (new : De
   pub same : new ≡ old
 
 abbrev pub LoopGives : Desk → Result ℕ CommandFault → Desk → Type 0
-LoopGives old answer new = IsNotLooped old answer new ⊎ ((status : ℕ) × (answer ≡ Ok status) × IsSession None old status new)
+LoopGives old answer new =
+    IsNotLooped old answer new
+    ⊎ ((status : ℕ) × (answer ≡ Ok status) × IsSession None old status new)

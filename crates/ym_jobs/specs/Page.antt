@@ -25,4 +25,5 @@ Prints old text (Err fault) new = Rose old.failed new.failed
 -- the status is 3
 abbrev pub TellsFault : CommandFault → Page → ℕ → Page → Type 0
 TellsFault fault old status new =
-    ((status ≡ fault_status fault) × Prints old (line (fault_words fault)) (Ok tt) new) ⊎ ((status ≡ 3) × Rose old.failed new.failed)
+    ((status ≡ fault_status fault) × Prints old (line (fault_words fault)) (Ok tt) new)
+    ⊎ ((status ≡ 3) × Rose old.failed new.failed)

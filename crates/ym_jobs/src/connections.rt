@@ -20,8 +20,10 @@ pub trait Connections {
     /// Takes the next one. It waits for it as long as it takes.
     fn take(&mut self) -> io::Result<TcpStream>
         requires { taken self.old < 2 ^ 64 - 1 }
-        ensures ok { OnOk result ((taken self.new ≡ taken self.old + 1) × (failures self.new ≡ failures self.old)) }
-        ensures failed { OnErr result ((taken self.new ≡ taken self.old) × Rose (failures self.old) (failures self.new)) };
+        ensures ok { OnOk result ((taken self.new ≡ taken self.old + 1)
+            × (failures self.new ≡ failures self.old)) }
+        ensures failed { OnErr result ((taken self.new ≡ taken self.old)
+            × Rose (failures self.old) (failures self.new)) };
 }
 
 /// A listener, with how many connections it has given and how often it failed.
@@ -81,8 +83,10 @@ pub(crate) fn take_told<C: Connections, E: Write + Drop>(
     teller: &mut Teller<E>,
 ) -> io::Result<TcpStream>
     requires { C.taken connections.old < 2 ^ 64 - 1 }
-    ensures ok { OnOk result ((C.taken connections.new ≡ C.taken connections.old + 1) × (C.failures connections.new ≡ C.failures connections.old)) }
-    ensures failed { OnErr result ((C.taken connections.new ≡ C.taken connections.old) × Rose (C.failures connections.old) (C.failures connections.new)) }
+    ensures ok { OnOk result ((C.taken connections.new ≡ C.taken connections.old + 1)
+        × (C.failures connections.new ≡ C.failures connections.old)) }
+    ensures failed { OnErr result ((C.taken connections.new ≡ C.taken connections.old)
+        × Rose (C.failures connections.old) (C.failures connections.new)) }
 {
     let stream = connections.take()?;
     teller.tell(LineMessage::Connected);

@@ -2,11 +2,14 @@
 
 ghost use Rattle.std.specs.Prelude.{◌≡◌};
 ghost use Rattle.ym_jobs.specs.Keeping.{HoldsSession, KeepsOn, ReceivesSo};
+ghost use Rattle.ym_jobs.specs.Page.{page};
 
 use crate::command_fault::CommandFault;
 use crate::connections::{Connections, listen, take_told};
+use crate::places::AtPort;
 use crate::receiving::{Order, look_at, receive_through};
-use std::alloc::Global;
+use crate::streams::Outputs;
+use std::alloc::AllocGlobal;
 use std::fs::{File, Files};
 use std::io::Write;
 use std::net::{Net, TcpListener, TcpStream};
@@ -21,98 +24,110 @@ use ym_show::Teller;
 /// ends in a fault, its line goes to `err`.
 fn hold_session<R, O, F, E>(
     rt: &R,
-    alloc: Global,
     stream: TcpStream,
     order: Order<'_>,
     records: &mut Records<'_>,
-    out: &mut O,
-    err: &mut F,
+    outputs: &mut Outputs<O, F>,
     teller: &mut Teller<E>,
 ) -> Result<(), StreamFault>
 where
-    R: Files<File = File> + Clock,
+    R: Files<File = File> + Clock + AllocGlobal,
     O: Output,
     F: Output,
     E: Write + Drop,
-    ensures { HoldsSession order.entry.confirm (record { holds = O.contents out.old; failed = O.failures out.old }) (record { holds = F.contents err.old; failed = F.failures err.old }) result (record { holds = O.contents out.new; failed = O.failures out.new }) (record { holds = F.contents err.new; failed = F.failures err.new }) }
+    ensures { HoldsSession order.entry.confirm
+        (page (O.contents outputs.old.out) (O.failures outputs.old.out))
+        (page (F.contents outputs.old.err) (F.failures outputs.old.err)) result
+        (page (O.contents outputs.new.out) (O.failures outputs.new.out))
+        (page (F.contents outputs.new.err) (F.failures outputs.new.err)) }
 {
-    records.begin(rt, alloc, teller);
+    records.begin(rt, rt.alloc(), teller);
     let wire = SocketWire::new(rt, stream, Role::Receiver);
-    match receive_through(rt, alloc, wire, records, order, out, teller) {
+    match receive_through(rt, wire, order, records, &mut outputs.out, teller) {
         Ok(_) => Ok(()),
         Err(fault) => {
-            err.put_line(fault)?;
+            outputs.err.put_line(fault)?;
             Ok(())
         }
     }
 }
 
+/// The connections that files are received from.
+#[derive(Drop)]
+pub struct Intake<'a, C> {
+    /// They come from here, one after another.
+    pub connections: C,
+    /// What is recorded of them: each is in a file of its own, where that is wanted.
+    pub records: Records<'a>,
+    /// What a receiver is asked for, the same at each.
+    pub order: Order<'a>,
+}
+
 /// Receives files from one connection after another, of which none was taken yet, and prints them
 /// and how each receiver has ended, also where it ended in a fault, whose line goes to `err`. It
-/// ends where no connection can be taken any more. Each connection is recorded in a file of its
-/// own, where that is wanted.
+/// ends where no connection can be taken any more.
 pub fn receive_each<R, C, O, F, E>(
     rt: &R,
-    alloc: Global,
-    connections: &mut C,
-    order: Order<'_>,
-    records: &mut Records<'_>,
-    out: &mut O,
-    err: &mut F,
+    intake: &mut Intake<'_, C>,
+    outputs: &mut Outputs<O, F>,
     teller: &mut Teller<E>,
 ) -> Result<u8, CommandFault>
 where
-    R: Files<File = File> + Clock,
+    R: Files<File = File> + Clock + AllocGlobal,
     C: Connections,
     O: Output,
     F: Output,
     E: Write + Drop,
-    requires { C.taken connections.old ≡ 0 }
-    ensures { KeepsOn order.entry.confirm (C.taken connections.new) (C.failures connections.old) (C.failures connections.new) (record { holds = O.contents out.old; failed = O.failures out.old }) (record { holds = F.contents err.old; failed = F.failures err.old }) result (record { holds = O.contents out.new; failed = O.failures out.new }) (record { holds = F.contents err.new; failed = F.failures err.new }) }
+    requires { C.taken intake.old.connections ≡ 0 }
+    ensures { KeepsOn intake.old.order.confirm (C.taken intake.new.connections)
+        (C.failures intake.old.connections) (C.failures intake.new.connections)
+        (page (O.contents outputs.old.out) (O.failures outputs.old.out))
+        (page (F.contents outputs.old.err) (F.failures outputs.old.err)) result
+        (page (O.contents outputs.new.out) (O.failures outputs.new.out))
+        (page (F.contents outputs.new.err) (F.failures outputs.new.err)) }
 {
+    let order = intake.order;
     for _session in 0..u64::MAX {
-        let stream = take_told(connections, teller)?;
-        hold_session(rt, alloc, stream, order, records, out, err, teller)?;
+        let stream = take_told(&mut intake.connections, teller)?;
+        hold_session(rt, stream, order, &mut intake.records, outputs, teller)?;
     }
     Ok(0)
 }
 
-/// Receives files into a folder over 127.0.0.1 at this port as it is asked for: from whoever
-/// connects first, or from one connection after another, as [`receive_each`] does.
+/// Receives files into a folder at a port as it is asked for: from whoever connects first, or from
+/// one connection after another, as [`receive_each`] does.
 pub fn receive_as_asked<R, O, F, E>(
     rt: &R,
-    alloc: Global,
-    port: u16,
-    order: Order<'_>,
-    out: &mut O,
-    err: &mut F,
+    asked: AtPort<Order<'_>>,
+    outputs: &mut Outputs<O, F>,
     teller: &mut Teller<E>,
 ) -> Result<u8, CommandFault>
 where
-    R: Files<File = File> + Net<Listener = TcpListener, Stream = TcpStream> + Clock,
+    R: Files<File = File> + Net<Listener = TcpListener, Stream = TcpStream> + Clock + AllocGlobal,
     O: Output,
     F: Output,
     E: Write + Drop,
-    ensures { ReceivesSo order.entry.keep order.entry.confirm (record { holds = O.contents out.old; failed = O.failures out.old }) (record { holds = F.contents err.old; failed = F.failures err.old }) result (record { holds = O.contents out.new; failed = O.failures out.new }) (record { holds = F.contents err.new; failed = F.failures err.new }) }
+    ensures { ReceivesSo asked.entry.order.keep asked.entry.order.confirm
+        (page (O.contents outputs.old.out) (O.failures outputs.old.out))
+        (page (F.contents outputs.old.err) (F.failures outputs.old.err)) result
+        (page (O.contents outputs.new.out) (O.failures outputs.new.out))
+        (page (F.contents outputs.new.err) (F.failures outputs.new.err)) }
 {
-    look_at(rt, alloc, order.dir, teller)?;
-    let mut records = Records::open(rt, alloc, order.record_path, &[], teller)?;
-    let records = &mut records;
+    let AtPort { port, order } = asked;
+    look_at(rt, rt.alloc(), order.dir, teller)?;
+    let mut records = Records::open(rt, rt.alloc(), order.record_path, &[], teller)?;
     let mut connections = listen(rt, port, teller)?;
     if order.keep {
-        receive_each(
-            rt,
-            alloc,
-            &mut connections,
-            order,
+        let mut intake = Intake {
+            connections,
             records,
-            out,
-            err,
-            teller,
-        )
+            order,
+        };
+        receive_each(rt, &mut intake, outputs, teller)
     } else {
         let stream = take_told(&mut connections, teller)?;
         let wire = SocketWire::new(rt, stream, Role::Receiver);
-        receive_through(rt, alloc, wire, records, order, out, teller)
+        let out = &mut outputs.out;
+        receive_through(rt, wire, order, &mut records, out, teller)
     }
 }

@@ -1,10 +1,13 @@
 //! `loop`: a session over a connection of the program to itself.
 
 ghost use Rattle.std.specs.Prelude.{◌≡◌, IfOk};
+ghost use Rattle.ym_jobs.specs.Desk.{desk};
 ghost use Rattle.ym_jobs.specs.Looped.{LoopGives};
+ghost use Rattle.ym_jobs.specs.Page.{page};
 
 use crate::command_fault::CommandFault;
-use std::alloc::Global;
+use crate::streams::{Outputs, Streams};
+use std::alloc::AllocGlobal;
 use std::io;
 use std::io::Write;
 use std::net::{Ipv4Addr, Net, SocketAddr, TcpListener, TcpStream};
@@ -46,22 +49,28 @@ fn looped_carrier<R: Net<Listener = TcpListener, Stream = TcpStream>, T: Write +
     made
 }
 
-/// Plays the script that `input` holds, as [`session_over`] does, over a connection of the program
-/// to itself at this port of 127.0.0.1. Where no connection was made, nothing is read or written,
-/// and the fault is still to be told.
+/// Plays the script that is read, as [`session_over`] does, over a connection of the program to
+/// itself at this port of 127.0.0.1. Where no connection was made, nothing is read or written, and
+/// the fault is still to be told.
 pub fn looped_session<R, I: Input, O: Output, E: Output, T: Write + Drop>(
     rt: &R,
-    alloc: Global,
     port: u16,
-    input: &mut I,
-    out: &mut O,
-    err: &mut E,
+    streams: &mut Streams<I, O, E>,
     teller: &mut Teller<T>,
 ) -> Result<u8, CommandFault>
 where
-    R: Net<Listener = TcpListener, Stream = TcpStream>,
-    ensures { LoopGives (record { text = I.remaining input.old; reads_failed = I.failures input.old; out = record { holds = O.contents out.old; failed = O.failures out.old }; err = record { holds = E.contents err.old; failed = E.failures err.old } }) result (record { text = I.remaining input.new; reads_failed = I.failures input.new; out = record { holds = O.contents out.new; failed = O.failures out.new }; err = record { holds = E.contents err.new; failed = E.failures err.new } }) }
+    R: Net<Listener = TcpListener, Stream = TcpStream> + AllocGlobal,
+    ensures { LoopGives
+        (desk (I.remaining streams.old.input) (I.failures streams.old.input)
+        (page (O.contents streams.old.outputs.out) (O.failures streams.old.outputs.out))
+        (page (E.contents streams.old.outputs.err) (E.failures streams.old.outputs.err))) result
+        (desk (I.remaining streams.new.input) (I.failures streams.new.input)
+        (page (O.contents streams.new.outputs.out) (O.failures streams.new.outputs.out))
+        (page (E.contents streams.new.outputs.err) (E.failures streams.new.outputs.err))) }
 {
+    let alloc = rt.alloc();
     let mut carrier = looped_carrier(rt, port, teller)?;
+    let Streams { input, outputs } = streams;
+    let Outputs { out, err } = outputs;
     Ok(session_over(alloc, input, out, err, &mut carrier))
 }

@@ -19,7 +19,7 @@ use crate::store::Store;
 use crate::telling::{tell_end, tell_not_stored};
 use crate::told_line::{LineWords, ToldLine, ToldWire};
 use crate::watched::Watched;
-use std::alloc::{AllocError, Global};
+use std::alloc::{AllocError, AllocGlobal, Global};
 use std::cell::RefCell;
 use std::fs::{File, Files};
 use std::io;
@@ -43,7 +43,8 @@ const QUIET_S: u64 = 30;
 
 /// Prints a line for each file.
 fn print_files<O: Output>(out: &mut O, headers: &[Header]) -> Result<(), StreamFault>
-    ensures { Prints (record { holds = O.contents out.old; failed = O.failures out.old }) (file_lines headers.now) result (record { holds = O.contents out.new; failed = O.failures out.new }) }
+    ensures { Prints (page (O.contents out.old) (O.failures out.old)) (file_lines headers.now)
+        result (page (O.contents out.new) (O.failures out.new)) }
 {
     for header in headers {
         out.put_line(FileLine(header))?;
@@ -53,7 +54,9 @@ fn print_files<O: Output>(out: &mut O, headers: &[Header]) -> Result<(), StreamF
 
 /// Prints a line for each file, and one for the receiver.
 fn print<O: Output>(out: &mut O, headers: &[Header], state: RecvState) -> Result<(), StreamFault>
-    ensures { Prints (record { holds = O.contents out.old; failed = O.failures out.old }) (receiver_lines headers.now state) result (record { holds = O.contents out.new; failed = O.failures out.new }) }
+    ensures { Prints (page (O.contents out.old) (O.failures out.old))
+        (receiver_lines headers.now state) result
+        (page (O.contents out.new) (O.failures out.new)) }
 {
     print_files(out, headers)?;
     let files = headers.len();
@@ -127,10 +130,12 @@ pub fn receive_batch<P: Port, K: Store + Drop, O: Output>(
     out: &mut O,
 ) -> (K, RecvState, Result<u8, CommandFault>)
     ensures { (r : ReceiverParts) × (ended : Result Unit Why) × (closed : Result Unit Shut)
-        × ReceiverRuns (P.tells port.old) (P.tells port.new) receiver (P.failures port.old) (P.failures port.new) ended r
+        × ReceiverRuns (P.tells port.old) (P.tells port.new) receiver
+        (P.failures port.old) (P.failures port.new) ended r
         × Closes r.kept r.failures closed (K.kept result.0) (K.failures result.0)
         × (result.1 ≡ r.receiver.state)
-        × TellsReceiver ended closed r (record { holds = O.contents out.old; failed = O.failures out.old }) result.2 (record { holds = O.contents out.new; failed = O.failures out.new }) }
+        × TellsReceiver ended closed r (page (O.contents out.old) (O.failures out.old)) result.2
+        (page (O.contents out.new) (O.failures out.new)) }
 {
     a_receiver_commits_what_it_heard();
     let ended = receive_over(port, &mut receiver);
@@ -199,14 +204,13 @@ fn tell_outcome<E: Write + Drop>(
 /// Receives the files that come over a line, as [`receive_on`] does over a port of it.
 fn receive_at<R, W, O, E>(
     rt: &R,
-    alloc: Global,
     wire: W,
     order: Order<'_>,
     out: &mut O,
     teller: &mut Teller<E>,
 ) -> Result<u8, CommandFault>
 where
-    R: Files<File = File> + Clock,
+    R: Files<File = File> + Clock + AllocGlobal,
     W: ToldWire + Drop,
     O: Output,
     E: Write + Drop,
@@ -216,21 +220,20 @@ where
 {
     let port = InStep::new(TimedPort::new(wire, Role::Receiver));
     let port = Eager::new(port, order.eager);
-    receive_on(rt, alloc, port, order, out, teller)
+    receive_on(rt, port, order, out, teller)
 }
 
 /// The same over a line that is recorded where that is wanted.
 pub(crate) fn receive_through<R, W, O, E>(
     rt: &R,
-    alloc: Global,
     wire: W,
-    records: &mut Records<'_>,
     order: Order<'_>,
+    records: &mut Records<'_>,
     out: &mut O,
     teller: &mut Teller<E>,
 ) -> Result<u8, CommandFault>
 where
-    R: Files<File = File> + Clock,
+    R: Files<File = File> + Clock + AllocGlobal,
     W: ToldWire + Drop,
     O: Output,
     E: Write + Drop,
@@ -239,7 +242,7 @@ where
         (page (O.contents out.new) (O.failures out.new)) }
 {
     let wire = RecordedWire::new(wire, rt, Role::Receiver, &mut records.recorder);
-    let answer = receive_at(rt, alloc, wire, order, out, teller);
+    let answer = receive_at(rt, wire, order, out, teller);
     records.end(matches!(answer, Ok(0)), teller);
     answer
 }
@@ -260,14 +263,13 @@ fn watch_of<'s, 't, E: Write + Drop, C: Clock + Drop>(
 /// stored and why the receiver has ended told.
 pub(crate) fn receive_on<R, P, O, E>(
     rt: &R,
-    alloc: Global,
     port: P,
     order: Order<'_>,
     out: &mut O,
     teller: &mut Teller<E>,
 ) -> Result<u8, CommandFault>
 where
-    R: Files<File = File> + Clock,
+    R: Files<File = File> + Clock + AllocGlobal,
     P: ToldLine + Drop,
     O: Output,
     E: Write + Drop,
@@ -275,6 +277,7 @@ where
         (page (O.contents out.old) (O.failures out.old)) result
         (page (O.contents out.new) (O.failures out.new)) }
 {
+    let alloc = rt.alloc();
     let sink = open_sink(rt, alloc, order)?;
     let is_looked_at = teller.is_loud;
     let besides = match order.confirm {

@@ -6,14 +6,15 @@ ghost use Rattle.ym_link.specs.declared.end_fault.EndFault.{EndFault as Why};
 ghost use Rattle.ym_core.specs.Standing.{new_standing};
 ghost use Rattle.ym_link.specs.Sender.{counts};
 ghost use Rattle.ym_machine.specs.declared.limits.TheConstants.{MOST_FILES};
-ghost use Rattle.ym_jobs.specs.Sending.{last_part, IsBatch, MayRefuse, RefusesFile, SenderRuns, TellsSender, SendsOn, SendGives, send_gives};
+ghost use Rattle.ym_jobs.specs.Sending.{last_part, header_at, IsBatch, MayRefuse, RefusesFile, SenderRuns, TellsSender, SendsOn, SendGives, send_gives};
 ghost use Rattle.ym_jobs.specs.Page.{page};
 ghost use Rattle.ym_jobs.specs.Status.{send_answer};
 
 use crate::command_fault::CommandFault;
+use crate::places::AtPort;
 use crate::telling::tell_end;
 use crate::told_line::{ToldLine, ToldWire};
-use std::alloc::Global;
+use std::alloc::{AllocGlobal, Global};
 use std::cell::RefCell;
 use std::fs::{File, Files};
 use std::io::Write;
@@ -74,9 +75,10 @@ fn with_header<S: Source + Drop, E: Write + Drop>(
     source: S,
     teller: &mut Teller<E>,
 ) -> Result<SourceFile<S>, HeaderFault>
-    ensures ok { IfOk result (λ file. file.header ≡ record { name = last_part path.now; length = S.size source; stamp = Stamp.Nothing }) }
+    ensures ok { IfOk result (λ file. file.header ≡ header_at path.now (S.size source)) }
     ensures within { IfOk result (λ file. IsName (last_part path.now)) }
-    ensures refused { IfErr result (λ fault. IsRefused length_limit (last_part path.now) (S.size source) fault) }
+    ensures refused { IfErr result
+        (λ fault. IsRefused length_limit (last_part path.now) (S.size source) fault) }
 {
     let made = SourceFile::from_source(alloc, last_part(path), source, Stamp::Nothing);
     if let Err(fault) = &made {
@@ -127,8 +129,10 @@ pub(crate) fn sender_of<S: Source + Drop>(
     batch: Vec<SourceFile<S>>,
     shape: Shape,
 ) -> Result<SenderFrom<S>, CommandFault>
-    ensures new { IfOk result (λ sender. (sender.shape ≡ shape) × (sender.files ≡ batch.items) × (sender.standing ≡ new_standing (counts sender))) }
-    ensures refused { IfErr result (λ why. (why ≡ CommandFault.TooManyFiles) × (MOST_FILES < length batch.items)) }
+    ensures new { IfOk result (λ sender. (sender.shape ≡ shape) × (sender.files ≡ batch.items)
+        × (sender.standing ≡ new_standing (counts sender))) }
+    ensures refused { IfErr result
+        (λ why. (why ≡ CommandFault.TooManyFiles) × (MOST_FILES < length batch.items)) }
 {
     match SenderFrom::new(batch, shape) {
         Ok(sender) => Ok(sender),
@@ -207,7 +211,8 @@ fn tell_sender<S: Source, O: Output>(
     sender: &SenderFrom<S>,
     out: &mut O,
 ) -> Result<u8, CommandFault>
-    ensures { TellsSender ended sender.now (record { holds = O.contents out.old; failed = O.failures out.old }) result (record { holds = O.contents out.new; failed = O.failures out.new }) }
+    ensures { TellsSender ended sender.now (page (O.contents out.old) (O.failures out.old)) result
+        (page (O.contents out.new) (O.failures out.new)) }
 {
     let done = sender.done();
     let state = sender.state();
@@ -232,8 +237,11 @@ pub fn send_batch<P: Port, S: Source, O: Output>(
     sender: &mut SenderFrom<S>,
     out: &mut O,
 ) -> Result<u8, CommandFault>
-    ensures { (ended : Result Unit Why) × SenderRuns (P.tells port.old) (P.tells port.new) sender.old (P.failures port.old) (P.failures port.new) ended sender.new
-        × TellsSender ended sender.new (record { holds = O.contents out.old; failed = O.failures out.old }) result (record { holds = O.contents out.new; failed = O.failures out.new }) }
+    ensures { (ended : Result Unit Why)
+        × SenderRuns (P.tells port.old) (P.tells port.new) sender.old
+        (P.failures port.old) (P.failures port.new) ended sender.new
+        × TellsSender ended sender.new (page (O.contents out.old) (O.failures out.old)) result
+        (page (O.contents out.new) (O.failures out.new)) }
 {
     let ended = run_sender(port, sender);
     tell_sender(ended, sender, out)
@@ -252,20 +260,25 @@ fn watch_of<'s, 't, E: Write + Drop, C: Clock + Drop>(
 
 /// The same over a port of the program's own. Where somebody looks, how far each file is or whom it
 /// waits for is shown, and why the sender has ended told.
-pub(crate) fn send_on<P: ToldLine + Drop, S: Source, O: Output, C: Clock, E: Write + Drop>(
-    rt: &C,
-    alloc: Global,
+pub(crate) fn send_on<R, P, S, O, E>(
+    rt: &R,
     port: P,
     sender: &mut SenderFrom<S>,
     out: &mut O,
     teller: &mut Teller<E>,
 ) -> Result<u8, CommandFault>
+where
+    R: Clock + AllocGlobal,
+    P: ToldLine + Drop,
+    S: Source,
+    O: Output,
+    E: Write + Drop,
     ensures { SendsOn sender.old sender.new
         (page (O.contents out.old) (O.failures out.old)) result
         (page (O.contents out.new) (O.failures out.new)) }
 {
     let is_looked_at = teller.is_loud;
-    let shown = RefCell::new(Sending::new(Meter::new(alloc, rt, teller, QUIET_S)));
+    let shown = RefCell::new(Sending::new(Meter::new(rt.alloc(), rt, teller, QUIET_S)));
     let watch = watch_of(&shown, is_looked_at);
     let mut port = WatchedPort {
         port,
@@ -286,29 +299,37 @@ pub(crate) fn send_on<P: ToldLine + Drop, S: Source, O: Output, C: Clock, E: Wri
     answer
 }
 
+/// What is sent over a line.
+#[derive(Drop)]
+pub(crate) struct Outgoing<'a, S: Source> {
+    /// The sender.
+    pub(crate) sender: SenderFrom<S>,
+    /// What is recorded of it.
+    pub(crate) records: Records<'a>,
+}
+
 /// The same over a line, which is recorded where that is wanted.
 pub(crate) fn send_through<R, W, S, O, E>(
     rt: &R,
-    alloc: Global,
     wire: W,
-    records: &mut Records<'_>,
-    sender: &mut SenderFrom<S>,
+    outgoing: &mut Outgoing<'_, S>,
     out: &mut O,
     teller: &mut Teller<E>,
 ) -> Result<u8, CommandFault>
 where
-    R: Clock,
+    R: Clock + AllocGlobal,
     W: ToldWire + Drop,
     S: Source,
     O: Output,
     E: Write + Drop,
-    ensures { SendsOn sender.old sender.new
+    ensures { SendsOn outgoing.old.sender outgoing.new.sender
         (page (O.contents out.old) (O.failures out.old)) result
         (page (O.contents out.new) (O.failures out.new)) }
 {
+    let Outgoing { sender, records } = outgoing;
     let wire = RecordedWire::new(wire, rt, Role::Sender, &mut records.recorder);
     let port = TimedPort::new(wire, Role::Sender);
-    let answer = send_on(rt, alloc, port, sender, out, teller);
+    let answer = send_on(rt, port, sender, out, teller);
     records.end(matches!(answer, Ok(0)), teller);
     answer
 }
@@ -324,27 +345,29 @@ pub struct SendOrder<'a> {
     pub record_path: Option<&'a str>,
 }
 
-/// Sends files to whoever listens on 127.0.0.1 at this port, and prints how the sender has ended.
+/// Sends files to whoever listens at a port, and prints how the sender has ended.
 pub fn send<R, O, E>(
     rt: &R,
-    alloc: Global,
-    port: u16,
-    order: SendOrder<'_>,
+    asked: AtPort<SendOrder<'_>>,
     out: &mut O,
     teller: &mut Teller<E>,
 ) -> Result<u8, CommandFault>
 where
-    R: Files<File = File> + Net<Stream = TcpStream> + Clock,
+    R: Files<File = File> + Net<Stream = TcpStream> + Clock + AllocGlobal,
     O: Output,
     E: Write + Drop,
-    ensures { SendGives order.entry.shape (map (λ path. path.now) order.entry.paths.now)
+    ensures { SendGives asked.entry.order.shape
+        (map (λ path. path.now) asked.entry.order.paths.now)
         (page (O.contents out.old) (O.failures out.old)) result
         (page (O.contents out.new) (O.failures out.new)) }
 {
+    let AtPort { port, order } = asked;
+    let alloc = rt.alloc();
     let batch = open_batch(rt, alloc, order.paths, teller)?;
-    let mut sender = sender_of(batch, order.shape)?;
-    let mut records = Records::open(rt, alloc, order.record_path, order.paths, teller)?;
+    let sender = sender_of(batch, order.shape)?;
+    let records = Records::open(rt, alloc, order.record_path, order.paths, teller)?;
+    let mut outgoing = Outgoing { sender, records };
     let stream = connect_telling(rt, port, teller)?;
     let wire = SocketWire::new(rt, stream, Role::Sender);
-    send_through(rt, alloc, wire, &mut records, &mut sender, out, teller)
+    send_through(rt, wire, &mut outgoing, out, teller)
 }

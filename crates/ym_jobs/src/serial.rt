@@ -7,9 +7,10 @@ ghost use Rattle.ym_jobs.specs.Sending.{SendGives};
 ghost use Rattle.ym_jobs.specs.Status.{IsHostFault};
 
 use crate::command_fault::CommandFault;
+use crate::places::OnLine;
 use crate::receiving::{Order, look_at, receive_through};
-use crate::sending::{SendOrder, open_batch, send_through, sender_of};
-use std::alloc::Global;
+use crate::sending::{Outgoing, SendOrder, open_batch, send_through, sender_of};
+use std::alloc::AllocGlobal;
 use std::fs::{File, Files};
 use std::io;
 use std::io::{IsTerminal, Print, Write};
@@ -52,75 +53,74 @@ fn open_line<R: Files<File = File>, E: Write + Drop>(
     }
 }
 
-/// Sends files over the terminal at the path `line`, or over standard input and output, and prints
-/// how the sender has ended.
+/// Sends files over a line, and prints how the sender has ended.
 pub fn send_line<R, O, E>(
     rt: &R,
-    alloc: Global,
-    line: Option<&str>,
-    order: SendOrder<'_>,
+    asked: OnLine<'_, SendOrder<'_>>,
     out: &mut O,
     teller: &mut Teller<E>,
 ) -> Result<u8, CommandFault>
 where
-    R: Files<File = File> + Clock + io::Input + Print,
+    R: Files<File = File> + Clock + io::Input + Print + AllocGlobal,
     R::Reader: IsTerminal,
     O: Output,
     E: Write + Drop,
-    ensures { SendGives order.entry.shape (map (λ path. path.now) order.entry.paths.now)
+    ensures { SendGives asked.entry.order.shape
+        (map (λ path. path.now) asked.entry.order.paths.now)
         (page (O.contents out.old) (O.failures out.old)) result
         (page (O.contents out.new) (O.failures out.new)) }
 {
+    let OnLine { line, order } = asked;
+    let alloc = rt.alloc();
     let batch = open_batch(rt, alloc, order.paths, teller)?;
-    let mut sender = sender_of(batch, order.shape)?;
-    let mut records = Records::open(rt, alloc, order.record_path, order.paths, teller)?;
+    let sender = sender_of(batch, order.shape)?;
+    let records = Records::open(rt, alloc, order.record_path, order.paths, teller)?;
+    let mut outgoing = Outgoing { sender, records };
     match line {
         Some(path) => {
             let file = open_line(rt, path, teller)?;
             let wire = TtyWire::new(rt, &file, &file, true, Role::Sender);
-            send_through(rt, alloc, wire, &mut records, &mut sender, out, teller)
+            send_through(rt, wire, &mut outgoing, out, teller)
         }
         None => {
             let reader = rt.reader();
             let is_terminal = reader.is_terminal();
             let wire = TtyWire::new(rt, reader, io::writer(rt), is_terminal, Role::Sender);
-            send_through(rt, alloc, wire, &mut records, &mut sender, out, teller)
+            send_through(rt, wire, &mut outgoing, out, teller)
         }
     }
 }
 
-/// Receives files into a folder over the terminal at the path `line`, or over standard input and
-/// output, and prints them and how the receiver has ended.
+/// Receives files into a folder over a line, and prints them and how the receiver has ended.
 pub fn receive_line<R, O, E>(
     rt: &R,
-    alloc: Global,
-    line: Option<&str>,
-    order: Order<'_>,
+    asked: OnLine<'_, Order<'_>>,
     out: &mut O,
     teller: &mut Teller<E>,
 ) -> Result<u8, CommandFault>
 where
-    R: Files<File = File> + Clock + io::Input + Print,
+    R: Files<File = File> + Clock + io::Input + Print + AllocGlobal,
     R::Reader: IsTerminal,
     O: Output,
     E: Write + Drop,
-    ensures { ReceiveGives order.entry.confirm
+    ensures { ReceiveGives asked.entry.order.confirm
         (page (O.contents out.old) (O.failures out.old)) result
         (page (O.contents out.new) (O.failures out.new)) }
 {
-    look_at(rt, alloc, order.dir, teller)?;
-    let mut records = Records::open(rt, alloc, order.record_path, &[], teller)?;
+    let OnLine { line, order } = asked;
+    look_at(rt, rt.alloc(), order.dir, teller)?;
+    let mut records = Records::open(rt, rt.alloc(), order.record_path, &[], teller)?;
     match line {
         Some(path) => {
             let file = open_line(rt, path, teller)?;
             let wire = TtyWire::new(rt, &file, &file, true, Role::Receiver);
-            receive_through(rt, alloc, wire, &mut records, order, out, teller)
+            receive_through(rt, wire, order, &mut records, out, teller)
         }
         None => {
             let reader = rt.reader();
             let is_terminal = reader.is_terminal();
             let wire = TtyWire::new(rt, reader, io::writer(rt), is_terminal, Role::Receiver);
-            receive_through(rt, alloc, wire, &mut records, order, out, teller)
+            receive_through(rt, wire, order, &mut records, out, teller)
         }
     }
 }

@@ -22,7 +22,8 @@ pub trait Store: Sink {
 
     /// Lets go of the file that is open, if there is one. It never answers [`SinkFault::Memory`].
     fn close(&mut self) -> Result<(), SinkFault>
-        ensures { Closes (Self.kept self.old) (Self.failures self.old) result (Self.kept self.new) (Self.failures self.new) };
+        ensures { Closes (Self.kept self.old) (Self.failures self.old) result
+            (Self.kept self.new) (Self.failures self.new) };
 }
 
 impl<D: Folder + Drop> Store for DirSink<D> {

@@ -4,7 +4,7 @@ use Rattle.ym_core.specs.Place.{IsPlace}
 use Rattle.ym_core.specs.Reading.{controls_in}
 use Rattle.ym_core.specs.Standing as table
 use Rattle.ym_core.specs.declared.standing.Standing.{Standing}
-use Rattle.ym_core.specs.declared.state.SendState.TheVariants.{Running}
+use Rattle.ym_core.specs.declared.state.SendState.TheVariants.{Running, Finished}
 use Rattle.ym_machine.specs.declared.limits.TheConstants.{GIVE_UP}
 
 -- in how many data blocks each file is sent, and where the sender stands
@@ -26,3 +26,6 @@ hears_on t bytes = record t {
 
 abbrev pub HasEnded : Standing → Type 0
 HasEnded standing = standing.state ≢ Running
+
+abbrev pub HasFinished : Standing → Type 0
+HasFinished standing = standing.state ≡ Finished

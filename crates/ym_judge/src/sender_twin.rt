@@ -43,7 +43,7 @@ impl<'a> Model for SenderTwin<'a> {
 }
 
 impl<'a> SenderTwin<'a> {
-    ghost use Rattle.ym_judge.specs.TwinSender.{HasEnded, hears_on, new_at};
+    ghost use Rattle.ym_judge.specs.TwinSender.{HasEnded, HasFinished, hears_on, new_at};
     ghost use Rattle.ym_judge.specs.Acts.{act_of};
 
     /// It waits at the first frame of a batch of which each file is sent in so many data blocks.
@@ -79,5 +79,12 @@ impl<'a> SenderTwin<'a> {
         ensures { (result ≡ true) ↔ HasEnded self.now.standing }
     {
         self.standing.state != SendState::Running
+    }
+
+    /// Whether it has ended by the end of the batch.
+    pub fn has_finished(&self) -> bool
+        ensures { (result ≡ true) ↔ HasFinished self.now.standing }
+    {
+        self.standing.state == SendState::Finished
     }
 }

@@ -1,3 +1,5 @@
 pub mod Contents
 pub mod JudgedSteps
+pub mod Listening
 pub mod Manners
+pub mod SentFrames

@@ -4,6 +4,8 @@ use Rattle.ym_judge.specs.Carriage.{carried_as}
 use Rattle.ym_judge.specs.declared.case.Case.{Case}
 use Rattle.ym_judge.specs.declared.case.Case.TheVariants as case
 use Rattle.ym_judge.specs.declared.twist.Twist.{Twist}
+use Rattle.ym_judge.specs.declared.twist.Twist.TheVariants.{Cancel}
+use Rattle.ym_judging.specs.declared.line.TheConstants.{ENDED_MS, STILL_MS}
 
 -- what of a case has no place of its own is everywhere
 abbrev pub is_everywhere : Case → Bool
@@ -11,6 +13,17 @@ is_everywhere case.Plain = true
 is_everywhere (case.Frame spot twist) = false
 is_everywhere (case.Sends parcel) = true
 is_everywhere (case.Answer spot twist) = false
+
+-- how long it is listened at the end: longer where CAN CAN was written
+abbrev pub rest_behind : Twist → ℕ
+rest_behind Cancel = ENDED_MS
+rest_behind _ = STILL_MS
+
+abbrev pub rest_ms : Case → ℕ
+rest_ms case.Plain = STILL_MS
+rest_ms (case.Frame spot twist) = rest_behind twist
+rest_ms (case.Sends parcel) = STILL_MS
+rest_ms (case.Answer spot twist) = rest_behind twist
 
 -- what goes out: the bytes as they are, or what becomes of them
 abbrev pub twisted_as : Option Twist → List ℕ → List ℕ

@@ -1,5 +1,11 @@
 //! The line to a peer that is tried.
 
+ghost use Rattle.std.specs.Prelude.{◌≡◌, ◌++◌, [], IfOk, OnOk, false, not};
+ghost use Rattle.ym_judging.specs.Listening.{brought, said_in, written_on};
+ghost use Rattle.ym_judging.specs.declared.line.TheConstants.{PIECE};
+ghost use Rattle.ym_link.specs.Port.{read_gives};
+ghost use Rattle.ym_port.specs.Wire.{Tape, after_read};
+
 use crate::manner::Manner;
 use crate::turn::{Heard, Turn};
 use std::alloc::{AllocError, Global};
@@ -13,6 +19,15 @@ pub(crate) const ANSWER_MS: u64 = 20_000;
 pub(crate) const FIRST_MS: u64 = 30_000;
 
 pub(crate) const STILL_MS: u64 = 1_500;
+
+/// For how many milliseconds C is waited for behind an ACK at the end of what came. A boot loader
+/// may say it late: one erases its flash before, and U-Boot says it only when it has asked for data
+/// and heard nothing. It is taken as soon as it is there, so who says it at once is not slowed.
+const START_MS: u64 = 30_000;
+
+/// For how many milliseconds it is listened for a peer that was sent CAN CAN and is to have ended.
+/// One that has not asks again: U-Boot after 4 seconds, and `rb` of lrzsz after 10.
+pub(crate) const ENDED_MS: u64 = 12_000;
 
 /// After so many milliseconds without a byte nothing more comes.
 const SETTLE_MS: u64 = 300;
@@ -59,7 +74,10 @@ pub(crate) struct Line<'w, W: Wire> {
 
 impl<'w, W: Wire> Line<'w, W> {
     /// A line on which a case begins.
-    pub(crate) fn new(alloc: Global, wire: &'w mut W, ear: Ear) -> Line<'w, W> {
+    pub(crate) fn new(alloc: Global, wire: &'w mut W, ear: Ear) -> Line<'w, W>
+        ensures ear { result.ear ≡ ear }
+        ensures open { result.is_closed ≡ false }
+    {
         let end = wire.moment().saturating_add(CASE_MS);
         Line {
             wire,
@@ -77,14 +95,21 @@ impl<'w, W: Wire> Line<'w, W> {
     }
 
     /// Writes these bytes. A peer that has gone takes none.
-    pub(crate) fn write(&mut self, bytes: &[u8]) {
+    pub(crate) fn write(&mut self, bytes: &[u8])
+        ensures told { (u : Tape) → W.tells self.new.wire.now u → (t : Tape)
+            × W.tells self.old.wire.now t
+            × (u ≡ written_on self.old.is_closed (not self.new.is_closed) bytes.now t) }
+        ensures ear { self.new.ear ≡ self.old.ear }
+    {
         if !bytes.is_empty() && !self.is_closed && self.wire.write(bytes).is_err() {
             self.is_closed = true;
         }
     }
 
     /// What of these bytes is listened for.
-    fn said(&self, bytes: &[u8]) -> Result<Vec<u8>, AllocError> {
+    fn said(&self, bytes: &[u8]) -> Result<Vec<u8>, AllocError>
+        ensures { IfOk result (λ said. said.items ≡ said_in self.now.ear bytes.now) }
+    {
         match self.ear {
             Ear::Answers => answer_bytes(self.alloc, bytes),
             Ear::Frames => Vec::from_slice(self.alloc, bytes),
@@ -93,7 +118,13 @@ impl<'w, W: Wire> Line<'w, W> {
 
     /// Takes a piece that comes within this time, behind the others. The answer is whether more may
     /// come.
-    fn take_piece(&mut self, millis: u64, bytes: &mut Vec<u8>) -> Result<bool, AllocError> {
+    fn take_piece(&mut self, millis: u64, bytes: &mut Vec<u8>) -> Result<bool, AllocError>
+        ensures told { (u : Tape) → W.tells self.new.wire.now u → (t : Tape)
+            × W.tells self.old.wire.now t × (u ≡ after_read millis PIECE t)
+            × OnOk result (bytes.new.items
+            ≡ bytes.old.items ++ brought (read_gives PIECE t.coming)) }
+        ensures ear { self.new.ear ≡ self.old.ear }
+    {
         let mut piece = [0; PIECE];
         match self.wire.read(millis, &mut piece) {
             Ok(Got::Bytes(count)) => {
@@ -115,12 +146,23 @@ impl<'w, W: Wire> Line<'w, W> {
 
     /// Takes pieces until one is missing for a while.
     fn take_pieces(&mut self, bytes: &mut Vec<u8>) -> Result<(), AllocError> {
-        for _ in 0..MOST_READS {
+        for _done in 0..MOST_READS {
             if !self.take_piece(SETTLE_MS, bytes)? {
                 break;
             }
         }
         Ok(())
+    }
+
+    /// Takes what comes within this time and behind it, behind the others. The answer is the moment
+    /// at which it came, or at which the time was over.
+    fn take_delivery(&mut self, millis: u64, bytes: &mut Vec<u8>) -> Result<u64, AllocError> {
+        let more = self.take_piece(millis, bytes)?;
+        let now = self.wire.moment();
+        if more {
+            self.take_pieces(bytes)?;
+        }
+        Ok(now)
     }
 
     /// What comes within so many milliseconds, until it is said.
@@ -130,15 +172,11 @@ impl<'w, W: Wire> Line<'w, W> {
         let mut bytes = Vec::new(self.alloc);
         let mut said = Vec::new(self.alloc);
         let mut now = start;
-        for _ in 0..MOST_READS {
+        for _done in 0..MOST_READS {
             if self.is_closed || now >= until || !said.is_empty() {
                 break;
             }
-            let more = self.take_piece(until - now, &mut bytes)?;
-            now = self.wire.moment();
-            if more {
-                self.take_pieces(&mut bytes)?;
-            }
+            now = self.take_delivery(until - now, &mut bytes)?;
             said = self.said(bytes.as_slice())?;
         }
         Ok((said, now.saturating_sub(start) / 100))
@@ -148,7 +186,7 @@ impl<'w, W: Wire> Line<'w, W> {
     fn linger(&mut self) -> Result<Vec<u8>, AllocError> {
         let until = self.wire.moment().saturating_add(LATE_MS);
         let mut bytes = Vec::new(self.alloc);
-        for _ in 0..MOST_READS {
+        for _done in 0..MOST_READS {
             let left = until.saturating_sub(self.wire.moment());
             if left == 0 || self.is_closed {
                 break;
@@ -159,7 +197,9 @@ impl<'w, W: Wire> Line<'w, W> {
     }
 
     /// What comes before the turn's bytes are written for the last time.
-    pub(crate) fn before(&mut self, turn: &Turn) -> Result<Vec<u8>, AllocError> {
+    pub(crate) fn before(&mut self, turn: &Turn) -> Result<Vec<u8>, AllocError>
+        ensures { turn.now.manner ≡ Manner.Once → IfOk result (λ said. said.items ≡ []) }
+    {
         match turn.manner {
             Manner::Once => Ok(Vec::new(self.alloc)),
             Manner::Again => {
@@ -178,7 +218,10 @@ impl<'w, W: Wire> Line<'w, W> {
         turn: &Turn,
         before: Vec<u8>,
         millis: u64,
-    ) -> Result<Heard, AllocError> {
+    ) -> Result<Heard, AllocError>
+        ensures before { IfOk result (λ heard. heard.before ≡ before) }
+        ensures gone { IfOk result (λ heard. heard.is_gone ≡ self.old.is_closed) }
+    {
         let is_gone = self.is_closed;
         self.write(turn.out.as_slice());
         let (bytes, tenths) = self.listen(millis)?;
@@ -190,10 +233,14 @@ impl<'w, W: Wire> Line<'w, W> {
         })
     }
 
-    /// Takes what comes behind an ACK that stands alone, where C is to come.
-    pub(crate) fn wait_for_start(&mut self, heard: &mut Heard) -> Result<(), AllocError> {
-        if heard.bytes.as_slice() == [ACK].as_slice() && !self.is_closed {
-            let (rest, _) = self.listen(STILL_MS)?;
+    /// Takes what comes behind an ACK at the end, where C is to come.
+    pub(crate) fn wait_for_start(&mut self, heard: &mut Heard) -> Result<(), AllocError>
+        ensures before { heard.new.before ≡ heard.old.before }
+        ensures tenths { heard.new.tenths ≡ heard.old.tenths }
+        ensures gone { heard.new.is_gone ≡ heard.old.is_gone }
+    {
+        if heard.bytes.as_slice().ends_with(&[ACK]) && !self.is_closed {
+            let (rest, _) = self.listen(START_MS)?;
             heard.bytes.extend_from_slice(rest.as_slice())?;
         }
         Ok(())

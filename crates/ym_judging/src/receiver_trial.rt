@@ -13,8 +13,8 @@ use crate::manner::{Manner, manner_of};
 use crate::outcome::Outcome;
 use crate::payload::{Payload, files_of, parcel_of};
 use crate::sent_frame::{counts_of, sent_frame};
-use crate::turn::{Heard, Turn};
-use crate::twisted::{frame_twist, is_everywhere, twisted};
+use crate::turn::{Heard, Replies, Turn};
+use crate::twisted::{frame_twist, is_everywhere, rest_ms, twisted};
 use std::alloc::{AllocError, Global};
 use ym_core::RecvState;
 use ym_frame::{CAN, Reply};
@@ -118,7 +118,7 @@ impl<'a> ReceiverTrial<'a> {
 
     /// Whether the peer has heard the end of the batch: its answer ended the sender.
     fn has_finished(&self) -> bool {
-        self.sender.has_ended() && self.sender.asked() != Act::Cancel && !self.is_cancelled
+        self.sender.has_finished() && !self.is_cancelled
     }
 
     /// Whether it has ended as it does with the reference.
@@ -237,19 +237,20 @@ impl<'a> ReceiverTrial<'a> {
     }
 
     /// Notes what it did where the reference answers so.
-    fn note(&mut self, first: Answers, second: Answers, said: &[u8], turn: &Turn, tenths: u64)
+    fn note(&mut self, replies: Replies, said: &[u8], turn: &Turn, tenths: u64)
         ensures noted { GoesOn (answer_in said.now) self.old.notes self.new.notes }
         ensures case { self.new.case ≡ self.old.case }
     {
+        let Replies { before, last } = replies;
         let was_twice = self.fits.twice;
         self.fits = self.fits.behind(
-            gave(first.twice, second.twice, said),
-            gave(first.once, second.once, said),
+            gave(before.twice, last.twice, said),
+            gave(before.once, last.once, said),
         );
         let asked = if self.fits.twice || (was_twice && !self.fits.once) {
-            asked_of_receiver(first.twice, second.twice)
+            asked_of_receiver(before.twice, last.twice)
         } else {
-            asked_of_receiver(first.once, second.once)
+            asked_of_receiver(before.once, last.once)
         };
         self.notes = self.notes.behind(Passage {
             asked,
@@ -291,13 +292,14 @@ impl<'a> ReceiverTrial<'a> {
             OnOk result (GoesOn (answer_in said) self.old.notes self.new.notes) }
         ensures case { self.new.case ≡ self.old.case }
     {
-        let first = self.deliver_before(turn, heard);
-        let second = self.deliver_last(turn, heard);
+        let before = self.deliver_before(turn, heard);
+        let last = self.deliver_last(turn, heard);
         self.is_refused = self.twins.has_stopped() && (self.notes.fits || turn.twist.is_some());
         self.deliver_keenly(alloc, turn)?;
         let mut said = Vec::from_slice(alloc, heard.before.as_slice())?;
         said.extend_from_slice(heard.bytes.as_slice())?;
-        self.note(first, second, said.as_slice(), turn, heard.tenths);
+        let replies = Replies { before, last };
+        self.note(replies, said.as_slice(), turn, heard.tenths);
         self.take_claim(turn, answered(said.as_slice()));
         if turn.act == Act::Eot {
             self.eots = self.eots.saturating_add(1);
@@ -347,7 +349,7 @@ fn hear_rest<W: Wire>(
     ensures { GrowsBy 1 trial.old.notes trial.new.notes }
 {
     if trial.is_over() && !line.is_closed {
-        let (said, tenths) = line.listen(STILL_MS)?;
+        let (said, tenths) = line.listen(rest_ms(trial.case))?;
         trial.take_rest(said.as_slice(), tenths);
     }
     Ok(())

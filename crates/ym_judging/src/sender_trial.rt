@@ -10,7 +10,7 @@ use crate::line::{ANSWER_MS, Ear, FIRST_MS, Line, STILL_MS};
 use crate::manner::{Manner, manner_of};
 use crate::outcome::Outcome;
 use crate::turn::{Heard, Turn};
-use crate::twisted::{answer_twist, is_everywhere, twisted};
+use crate::twisted::{answer_twist, is_everywhere, rest_ms, twisted};
 use crate::usual::{LONG_COUNTS, SHORT_COUNTS, usual};
 use std::alloc::{AllocError, Global};
 use ym_core::Heard as Delivery;
@@ -315,7 +315,7 @@ fn hear_rest<W: Wire>(line: &mut Line<'_, W>, trial: &mut SenderTrial) -> Result
     ensures { GrowsBy 1 trial.old.notes trial.new.notes }
 {
     if trial.is_over() && !line.is_closed {
-        let (said, tenths) = line.listen(STILL_MS)?;
+        let (said, tenths) = line.listen(rest_ms(trial.case))?;
         let did = delivered(false, said.as_slice());
         trial.note(Act::Nothing, did, tenths, false);
     }

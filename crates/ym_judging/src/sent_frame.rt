@@ -1,5 +1,10 @@
 //! The frames of the files that are sent to a receiver.
 
+ghost use Rattle.std.specs.Prelude.{◌≡◌, IfOk, option_map};
+ghost use Rattle.ym_frame.specs.Frame.{IsFrame};
+ghost use Rattle.ym_judging.specs.SentFrames.{IsBlock, IsDataBlock, IsWritten, header_body};
+ghost use Rattle.ym_judging.specs.SentFrames.{sent_of};
+
 use crate::payload::{Payload, content};
 use std::alloc::{AllocError, Global};
 use ym_file::{Shape, block_at, block_count};
@@ -17,12 +22,16 @@ pub(crate) fn counts_of(alloc: Global, files: &[Payload]) -> Result<Vec<u64>, Al
 }
 
 /// The frame of an item.
-fn frame_of(alloc: Global, item: &Item) -> Result<Vec<u8>, AllocError> {
+fn frame_of(alloc: Global, item: &Item) -> Result<Vec<u8>, AllocError>
+    ensures { IfOk result (λ frame. IsFrame item.now frame.items) }
+{
     Vec::from_slice(alloc, encode(item).as_bytes())
 }
 
 /// The body of a file's block 0.
-fn header_body(alloc: Global, file: &Payload) -> Result<Vec<u8>, AllocError> {
+fn header_body(alloc: Global, file: &Payload) -> Result<Vec<u8>, AllocError>
+    ensures { IfOk result (λ body. body.items ≡ header_body (sent_of file.now)) }
+{
     let mut body = Vec::from_slice(alloc, file.name.as_bytes())?;
     body.push(0)?;
     body.extend_from_slice(file.fields.as_bytes())?;
@@ -32,7 +41,9 @@ fn header_body(alloc: Global, file: &Payload) -> Result<Vec<u8>, AllocError> {
 }
 
 /// The frame of a file's block 0.
-fn header_frame(alloc: Global, file: &Payload) -> Result<Vec<u8>, AllocError> {
+fn header_frame(alloc: Global, file: &Payload) -> Result<Vec<u8>, AllocError>
+    ensures { IfOk result (λ frame. IsBlock 0 (header_body (sent_of file.now)) frame.items) }
+{
     let body = header_body(alloc, file)?;
     match Block::new(0, body.as_slice()) {
         Ok(block) => frame_of(alloc, &Item::Block(block)),
@@ -42,7 +53,9 @@ fn header_frame(alloc: Global, file: &Payload) -> Result<Vec<u8>, AllocError> {
 
 /// The frame of a file's data block, counted from 1. A block that it has not has none.
 #[tactic(auto, using(crate::proofs::ContentLemmas::content_length))]
-fn block_frame(alloc: Global, file: &Payload, number: u8) -> Result<Vec<u8>, AllocError> {
+fn block_frame(alloc: Global, file: &Payload, number: u8) -> Result<Vec<u8>, AllocError>
+    ensures { IfOk result (λ frame. IsDataBlock (sent_of file.now) number frame.items) }
+{
     let place = u64::from(number);
     if place == 0 || place > block_count(u64::from(file.length), Shape::Mixed) {
         return Ok(Vec::new(alloc));
@@ -57,7 +70,10 @@ pub(crate) fn sent_frame(
     alloc: Global,
     file: Option<&Payload>,
     act: Act,
-) -> Result<Vec<u8>, AllocError> {
+) -> Result<Vec<u8>, AllocError>
+    ensures { IfOk result (λ frame.
+        IsWritten (option_map (λ it. sent_of it.now) file.entry) act frame.items) }
+{
     match (act, file) {
         (Act::Header, Some(file)) => header_frame(alloc, file),
         (Act::Block(number), Some(file)) => block_frame(alloc, file, number),

@@ -1,7 +1,7 @@
 //! What is written in a turn of a session, and what comes then.
 
 use crate::manner::Manner;
-use ym_judge::{Act, Twist};
+use ym_judge::{Act, Answers, Twist};
 
 /// What is written in a turn.
 #[derive(Drop)]
@@ -27,4 +27,13 @@ pub(crate) struct Heard {
     pub(crate) tenths: u64,
     /// The peer had closed the line before all was written.
     pub(crate) is_gone: bool,
+}
+
+/// What the reference answers in a turn.
+#[derive(Clone, Copy)]
+pub(crate) struct Replies {
+    /// To what came before the turn's last writing.
+    pub(crate) before: Answers,
+    /// To that.
+    pub(crate) last: Answers,
 }

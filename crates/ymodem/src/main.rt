@@ -1,11 +1,11 @@
-//! `ymodem`: YMODEM batch file transfer. It plays scripts of sessions, in memory or over a connection to itself, and sends and receives files
-//! over a connection or a serial line.
+//! `ymodem`: YMODEM batch file transfer. It plays scripts of sessions, in memory or over a
+//! connection to itself, and sends and receives files over a connection or a serial line.
 #![tactic(auto)]
 
 use std::io::{ErrorKind, IsTerminal, Write};
 use std::process::ExitCode;
 use std::{env, io};
-use ym_command::{Charted, command};
+use ym_command::{Charted, Outputs, Streams, command};
 use ym_show::{Look, Teller};
 use ym_text::ShownOut;
 
@@ -63,22 +63,19 @@ fn run(rt: &HostRuntime) -> u8 {
     let look = look(rt);
     let mut teller = Teller::new(rt.stderr(), look);
     let shown = ShownOut::new(rt.alloc(), rt.stdout(), rt.stdout().is_terminal());
-    let mut out = Charted::new(rt.alloc(), shown);
-    let mut err = ShownOut::new(rt.alloc(), rt.stderr(), look.at_err);
+    let mut streams = Streams {
+        input: rt.stdin(),
+        outputs: Outputs {
+            out: Charted::new(rt.alloc(), shown),
+            err: ShownOut::new(rt.alloc(), rt.stderr(), look.at_err),
+        },
+    };
     let words = words(rt);
     if let Ok(words) = &words {
         greet(rt, words.as_slice(), &mut teller);
     }
     match words {
-        Ok(words) => command(
-            rt,
-            rt.alloc(),
-            words,
-            &mut rt.stdin(),
-            &mut out,
-            &mut err,
-            &mut teller,
-        ),
+        Ok(words) => command(rt, rt.alloc(), words, &mut streams, &mut teller),
         Err(error) if error.kind() == ErrorKind::InvalidData => {
             let _ = rt.eprintln("error: a word is not UTF-8");
             REFUSED

@@ -1,4 +1,4 @@
-use Rattle.std.proofs.Common.{◌≤◌, ◌-◌, ◌≡◌, length}
+use Rattle.std.proofs.Common.{◌≤◌, ◌-◌, length}
 use Rattle.ym_command.proofs.judged_files.read_front.Given as goal
 
 abbrev pub invariant-loop-length : goal.invariant-loop-length

@@ -1,13 +1,16 @@
 -- Each connection so far had its session.
 use Rattle.std.proofs.Common.{◌≡◌}
 use Rattle.ym_jobs.specs.Keeping.{Sessions}
+use Rattle.ym_jobs.specs.Page.{page}
 use Rattle.ym_jobs.proofs.keeping.receive_each.Given as goal
 
 abbrev pub invariant-loop-session : goal.invariant-loop-session
 invariant-loop-session g l = record {
-  taken : g.C.Connections.taken l.connections ≡ l._session;
-  failed : g.C.Connections.failures l.connections ≡ g.C.Connections.failures l.fn.connections;
-  sessions : Sessions l.fn.order.confirm l._session
-      (record { holds = g.O.Output.contents l.fn.out; failed = g.O.Output.failures l.fn.out }) (record { holds = g.F.Output.contents l.fn.err; failed = g.F.Output.failures l.fn.err })
-      (record { holds = g.O.Output.contents l.out; failed = g.O.Output.failures l.out }) (record { holds = g.F.Output.contents l.err; failed = g.F.Output.failures l.err });
+  taken : g.C.Connections.taken l.intake.connections ≡ l._session;
+  failed : g.C.Connections.failures l.intake.connections ≡ g.C.Connections.failures l.fn.intake.connections;
+  sessions : Sessions l.fn.intake.order.confirm l._session
+      (page (g.O.Output.contents l.fn.outputs.out) (g.O.Output.failures l.fn.outputs.out))
+      (page (g.F.Output.contents l.fn.outputs.err) (g.F.Output.failures l.fn.outputs.err))
+      (page (g.O.Output.contents l.outputs.out) (g.O.Output.failures l.outputs.out))
+      (page (g.F.Output.contents l.outputs.err) (g.F.Output.failures l.outputs.err));
 }

@@ -3,7 +3,7 @@
 use std::alloc::{AllocError, Global};
 use std::fmt::Write;
 use std::test::Fail;
-use ym_command::{Charted, command};
+use ym_command::{Charted, Outputs, Streams, command};
 use ym_show::{Look, Teller};
 
 /// What a command did.
@@ -28,25 +28,22 @@ fn words_of(alloc: Global, line: &str) -> Result<Vec<String>, AllocError> {
 /// Runs these words, on this input.
 fn ran_words(rt: &HostRuntime, words: Vec<String>, input: &[u8]) -> Ending {
     let alloc = rt.alloc();
-    let mut input = input;
-    let mut out = Charted::new(alloc, Vec::new(alloc));
-    let mut err = Vec::new(alloc);
+    let mut streams = Streams {
+        input,
+        outputs: Outputs {
+            out: Charted::new(alloc, Vec::new(alloc)),
+            err: Vec::new(alloc),
+        },
+    };
     let look = Look {
         at_err: false,
         columns: 80,
         is_exact: true,
     };
     let mut teller = Teller::new(Vec::new(alloc), look);
-    let status = command(
-        rt,
-        alloc,
-        words,
-        &mut input,
-        &mut out,
-        &mut err,
-        &mut teller,
-    );
+    let status = command(rt, alloc, words, &mut streams, &mut teller);
     let told = teller.err;
+    let Outputs { out, err } = streams.outputs;
     Ending {
         status,
         out: out.into_out(),

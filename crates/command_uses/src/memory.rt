@@ -3,7 +3,7 @@
 use super::fixtures::with_file;
 use std::io::Cursor;
 use std::test::Fail;
-use ym_command::{Charted, command};
+use ym_command::{Charted, Outputs, Streams, command};
 use ym_show::{Look, Teller};
 
 /// What a test answers whose command met want of memory.
@@ -29,16 +29,21 @@ fn run(rt: &HostRuntime, words: &[&str], input: &[u8], status: u8, line: &str) -
     for word in words {
         list.push(String::from_str(alloc, word)?)?;
     }
-    let mut input = input;
-    let mut out = Charted::new(alloc, page());
-    let mut err = page();
+    let mut streams = Streams {
+        input,
+        outputs: Outputs {
+            out: Charted::new(alloc, page()),
+            err: page(),
+        },
+    };
     let look = Look {
         at_err: false,
         columns: 80,
         is_exact: true,
     };
     let mut teller = Teller::new(page(), look);
-    let ended = command(rt, alloc, list, &mut input, &mut out, &mut err, &mut teller);
+    let ended = command(rt, alloc, list, &mut streams, &mut teller);
+    let Outputs { out, err } = streams.outputs;
     if ended == status && text(&err) == line.as_bytes() {
         return Ok(());
     }

@@ -1,4 +1,0 @@
-mod fixtures;
-mod jobs;
-mod memory;
-mod words;

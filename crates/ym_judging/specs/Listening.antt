@@ -1,0 +1,26 @@
+-- What passes on the line to a peer: what came, what of it is said, and what was written.
+use Rattle.std.specs.Prelude.{ℕ, Bool, true, false, List, [], ◌∷◌}
+use Rattle.ym_judge.specs.AnswerBytes.{answers_in}
+use Rattle.ym_judging.specs.declared.line.Ear.{Ear}
+use Rattle.ym_judging.specs.declared.line.Ear.TheVariants.{Answers, Frames}
+use Rattle.ym_link.specs.Port.{Seen, Data, Silence, End, Failed}
+use Rattle.ym_port.specs.Wire.{Tape, after_write}
+
+-- what an end takes for said of bytes that came
+abbrev pub said_in : Ear → List ℕ → List ℕ
+said_in Answers bytes = answers_in 0 bytes
+said_in Frames bytes = bytes
+
+-- the bytes that a read brings
+abbrev pub brought : Seen → List ℕ
+brought (Data bytes) = bytes
+brought Silence = []
+brought End = []
+brought Failed = []
+
+-- What a write of these bytes leaves, which may fail. Nothing is written where there are none, and
+-- where the line is closed.
+abbrev pub written_on : Bool → Bool → List ℕ → Tape → Tape
+written_on true made bytes t = t
+written_on false made [] t = t
+written_on false made (byte ∷ more) t = after_write made t (byte ∷ more)
