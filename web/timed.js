@@ -178,7 +178,7 @@ export class TimedLine {
     this.#calls.ym_line_wrote(this.#state, this.#clearing, at, length, this.#now);
     this.#engine.bytes.copyWithin(this.#written, at, at + length);
     this.#writtenLength = length;
-    this.#since = [];
+    this.#since.length = 0;
     return this.#line.write(this.#looked, this.#engine.piece(at, length));
   }
 
