@@ -22,7 +22,8 @@ pub struct YmHeader {
     pub length: u64,
     /// At 1: the time, where `stamp` is 1 or 2.
     pub time: u64,
-    /// 0: nothing; 1: a file begins, and its name stands at the front of the body; 2: the batch ends.
+    /// 0: nothing; 1: a file begins, and its name stands at the front of the body; 2: the batch
+    /// ends.
     pub kind: u32,
     /// At 0: the number of the fault; 0 where the body has neither 128 nor 1024 bytes.
     pub fault: u32,
@@ -109,9 +110,9 @@ pub fn header_of(name: &[u8], length: u64, stamp: Stamp) -> Result<HeaderRef<'_>
     }
 }
 
-/// Writes the body of a file's block 0 to the front of `body`, which has room for 1024 bytes: stamp 0
-/// none, 1 the time, 2 the time and the mode. Answers how many bytes it has, 128 or 1024; or the number
-/// of the header's fault, 1 to 5; or 0 where there is less room.
+/// Writes the body of a file's block 0 to the front of `body`, which has room for 1024 bytes:
+/// stamp 0 none, 1 the time, 2 the time and the mode. Answers how many bytes it has, 128 or 1024;
+/// or the number of the header's fault, 1 to 5; or 0 where there is less room.
 #[unsafe(no_mangle)]
 pub extern "C" fn ym_header_write(
     name: &[u8],

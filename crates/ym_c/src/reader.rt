@@ -89,9 +89,9 @@ fn tell(reader: &mut YmReader, front: &mut YmFront)
     }
 }
 
-/// Takes bytes of a piece, and tells how many, and what they make of the bytes before: up to the end of
-/// a frame, or of what can be one; it may take fewer than that, and then tells that a frame may come.
-/// Where none can come any more it takes all, until it is made new.
+/// Takes bytes of a piece, and tells how many, and what they make of the bytes before: up to the
+/// end of a frame, or of what can be one; it may take fewer than that, and then tells that a frame
+/// may come. Where none can come any more it takes all, until it is made new.
 #[unsafe(no_mangle)]
 pub extern "C" fn ym_reader_feed(reader: &mut YmReader, bytes: &[u8], front: &mut YmFront) -> usize
     ensures none { (reader.old.why ≢ 0) ⊎ (1029 < reader.old.len) →

@@ -73,7 +73,8 @@ impl Batch for Counts<'_> {
     }
 }
 
-/// Makes a sender that waits at the first frame of a batch, of which each file has so many data blocks.
+/// Makes a sender that waits at the first frame of a batch, of which each file has so many data
+/// blocks.
 #[unsafe(no_mangle)]
 pub extern "C" fn ym_sender_init(sender: &mut YmSender, blocks: &[u64])
     ensures stands { KeepsStanding sender.new (table.new_standing blocks.now) }

@@ -47,8 +47,8 @@ impl<F: ReadAt + Drop> ReadAhead<F> {
         }
     }
 
-    /// Reads the bytes from place `at` on of a file of this length: from those that were read ahead,
-    /// after more were where some are missing there.
+    /// Reads the bytes from place `at` on of a file of this length: from those that were read
+    /// ahead, after more were where some are missing there.
     pub(crate) fn read(&mut self, size: u64, at: u64, into: &mut [u8]) -> io::Result<()>
         requires { at + length into.old ≤ size }
         ensures told { self.new.told ≡ self.old.told }

@@ -33,9 +33,9 @@ at_moment at way.Back now = record at {
   last_back = Some now;
 }
 
--- What was read so far, byte by byte with its way, and what was told of it: bytes come and are held,
--- moments pass, and what stands at the front of a way is told, where that is sure, and let go.
--- Nothing else is written, and nothing else becomes of what came.
+-- What was read so far, byte by byte with its way, and what was told of it: bytes come and are
+-- held, moments pass, and what stands at the front of a way is told, where that is sure, and let
+-- go. Nothing else is written, and nothing else becomes of what came.
 pub data Tells :
     Parts → Option (List ℕ) → List (Direction × ℕ) → Parts → Option (List ℕ) → Type 0 where
   nothing : (at : Parts) (out : Option (List ℕ)) → Tells at out [] at out

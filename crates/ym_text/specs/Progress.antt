@@ -1,7 +1,8 @@
 -- How far a file is, and how long it took, in words.
 use Rattle.std.specs.Prelude.{ℕ, ◌*◌, ◌/◌, ◌%◌, ◌-◌, ◌^◌, ◌==◌, List, [], ◌++◌, Option, Some, None, codes, decimal, if◌then◌else◌, min, nat_lt}
 
--- bytes a second, all of them where it took no millisecond; a product past 64 bits counts as the greatest number
+-- bytes a second, all of them where it took no millisecond; a product past 64 bits counts as the
+-- greatest number
 abbrev pub rate_of : ℕ → ℕ → ℕ
 rate_of bytes millis = if millis == 0 then bytes else min (bytes * 1000) (2 ^ 64 - 1) / millis
 

@@ -9,7 +9,8 @@ use std::fmt;
 use ym_header::HeaderFault;
 use ym_link::{RecvState, SendState};
 
-/// Why an end has ended before its batch was whole. Its `Display` is the line that tells it, without its end.
+/// Why an end has ended before its batch was whole. Its `Display` is the line that tells it,
+/// without its end.
 #[derive(Clone, Copy)]
 pub enum EndMessage {
     /// The other end cancelled.

@@ -1,5 +1,5 @@
-//! What the program tells people beside its results, in words: what it does, how far a file is, whom
-//! it waits for, and why it failed. A line that tells how far a file is fits its terminal.
+//! What the program tells people beside its results, in words: what it does, how far a file is,
+//! whom it waits for, and why it failed. A line that tells how far a file is fits its terminal.
 #![tactic(auto)]
 
 mod came;

@@ -195,7 +195,8 @@ impl fmt::Display for Whole<'_> {
     }
 }
 
-/// How many bytes a second so many bytes in so many milliseconds are; all of them where it took no millisecond.
+/// How many bytes a second so many bytes in so many milliseconds are; all of them where it took no
+/// millisecond.
 pub fn rate_of(bytes: u64, millis: u64) -> u64
     ensures { result ≡ rate_of bytes millis }
 {
