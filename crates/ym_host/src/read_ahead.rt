@@ -69,7 +69,8 @@ impl<F: ReadAt + Drop> ReadAhead<F> {
     /// them. Otherwise it copies none.
     fn copy(&self, at: u64, into: &mut [u8]) -> bool
         ensures holds { IsTrue result ↔
-            ((self.now.start ≤ at) × (at + length into.old ≤ self.now.start + length self.now.bytes)) }
+            ((self.now.start ≤ at)
+            × (at + length into.old ≤ self.now.start + length self.now.bytes)) }
         ensures bytes { result ≡ true → StandsIn into.new at self.now.told }
     {
         if at < self.start {

@@ -183,7 +183,8 @@ impl fmt::Display for EndMessage {
             EndMessage::LineHungUp => write!(f, "the line hung up"),
             EndMessage::LineEndless => write!(
                 f,
-                "reads of the line do not end by themselves: set it by `stty raw -echo clocal min 0 time 1`"
+                "reads of the line do not end by themselves: \
+                set it by `stty raw -echo clocal min 0 time 1`"
             ),
             EndMessage::LineRefused(why) => write!(f, "the line failed: {why}"),
             EndMessage::NoReply(lately) => {

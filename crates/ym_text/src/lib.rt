@@ -26,7 +26,7 @@ pub use end_message::EndMessage;
 pub use file_message::FileMessage;
 pub use line_message::LineMessage;
 pub use moment::{DAY_SECONDS, Moment};
-pub use progress::{Brief, Detail, Progress, Took, Whole, rate_of};
+pub use progress::{Brief, Detail, Progress, Took, WholeFile, rate_of};
 pub use reason::Reason;
 pub use rights::Rights;
 pub use shown::Shown;
