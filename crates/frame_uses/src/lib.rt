@@ -17,7 +17,8 @@ use ym_header::{HeaderRef, ZeroRef, read_borrowed};
 /// is.
 pub fn announced(bytes: &[u8]) -> Option<HeaderRef<'_>>
     ensures { IfSome result (λ header. (block : BlockParts) × (len : ℕ) ×
-        (verdict_of bytes.entry.now ≡ Ok (item.Block block, len)) × (block.number ≡ 0) × ReadsHeader length_limit block.body header) }
+        (verdict_of bytes.entry.now ≡ Ok (item.Block block, len)) × (block.number ≡ 0)
+        × ReadsHeader length_limit block.body header) }
 {
     let Ok((ItemRef::Block(block), _)) = verdict(bytes) else {
         return None;
@@ -34,7 +35,8 @@ pub fn announced(bytes: &[u8]) -> Option<HeaderRef<'_>>
 /// The frame of a short block with this text in front, and SUB (1A) behind it, or `None` where the
 /// text has more than 128 bytes.
 pub fn text_block(number: u8, text: &[u8]) -> Option<FrameBuf>
-    ensures frame { IfSome result (λ frame. (block : BlockParts) × (block.number ≡ number) × IsFrame (item.Block block) frame) }
+    ensures frame { IfSome result (λ frame. (block : BlockParts) ×
+        (block.number ≡ number) × IsFrame (item.Block block) frame) }
     ensures fits { IsSome result ↔ (length text.now ≤ 128) }
 {
     let mut body = [0x1A; 128];

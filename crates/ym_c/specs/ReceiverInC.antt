@@ -35,7 +35,9 @@ IsStamped ask (TimeMode time mode) = (ask.stamp ≡ 2) × (ask.time ≡ time) ×
 -- what the ask tells of a call
 abbrev pub IsAsk : Call → YmAsk → Type 0
 IsAsk No_call ask = ask.kind ≡ 0
-IsAsk (Begins header) ask = (ask.kind ≡ 1) × (ask.length ≡ header.length) × (ask.count ≡ length header.name) × IsStamped ask header.stamp
+IsAsk (Begins header) ask =
+    (ask.kind ≡ 1) × (ask.length ≡ header.length) × (ask.count ≡ length header.name)
+    × IsStamped ask header.stamp
 IsAsk (Adds bytes) ask = (ask.kind ≡ 2) × (ask.count ≡ length bytes)
 IsAsk Commits ask = ask.kind ≡ 3
 

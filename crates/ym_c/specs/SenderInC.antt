@@ -64,10 +64,18 @@ IsNoSender blocks kept = (s : Standing) → KeepsStanding kept s → ¬ Stands b
 
 -- what they count as: a sender that has ended, with nothing to send
 abbrev pub ended_standing : Standing
-ended_standing = record { place = End; mode = Waiting; retries = 0; state = NoReply; cancel_pending = false }
+ended_standing = record {
+  place = End;
+  mode = Waiting;
+  retries = 0;
+  state = NoReply;
+  cancel_pending = false;
+}
 
 -- whatever such a one hears, it stays, and fills nothing
-stays_ended : (blocks : List ℕ) (controls : List Control) → hears blocks ended_standing controls ≡ step ended_standing
+stays_ended :
+    (blocks : List ℕ) (controls : List Control) →
+    hears blocks ended_standing controls ≡ step ended_standing
 stays_ended blocks controls = refl
 
 -- A sender that runs has a frame of this kind out that its host has still to fill: of the block 0

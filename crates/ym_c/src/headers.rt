@@ -95,7 +95,8 @@ pub fn stamp_from(kind: u32, time: u64, mode: u32) -> Stamp
 
 /// The header of these parts, or its first fault.
 pub fn header_of(name: &[u8], length: u64, stamp: Stamp) -> Result<HeaderRef<'_>, HeaderFault>
-    ensures ok { IfOk result (λ header. header ≡ record { name = name.entry.now; length = length; stamp = stamp }) }
+    ensures ok { IfOk result (λ header.
+        header ≡ record { name = name.entry.now; length = length; stamp = stamp }) }
     ensures refused { IfErr result (λ fault. IsUnfit length_limit name.entry.now length fault) }
 {
     if name.is_empty() {
@@ -123,7 +124,8 @@ pub extern "C" fn ym_header_write(
     body: &mut [u8],
 ) -> u32
     ensures written { 5 < result →
-        take result body.new ≡ text (record { name = name.now; length = length; stamp = stamp_of stamp time mode }) }
+        take result body.new
+        ≡ text (record { name = name.now; length = length; stamp = stamp_of stamp time mode }) }
     ensures refused { 0 < result → result ≤ 5 → IsRefusal name.now length result }
     ensures behind { 5 < result → drop result body.new ≡ drop result body.old }
     ensures same { result ≤ 5 → body.new ≡ body.old }

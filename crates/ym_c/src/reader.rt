@@ -50,8 +50,10 @@ pub extern "C" fn ym_reader_init(reader: &mut YmReader)
 fn tell(reader: &mut YmReader, front: &mut YmFront)
     requires whole { reader.old.why ≡ 0 }
     requires room { reader.old.len ≤ 1029 }
-    ensures reading { KeepsReading reader.new (reading_left (verdict_of (take reader.old.len reader.old.held)) (take reader.old.len reader.old.held)) }
-    ensures found { IsFound (verdict_of (take reader.old.len reader.old.held)) front.new reader.new.held }
+    ensures reading { KeepsReading reader.new (reading_left
+        (verdict_of (take reader.old.len reader.old.held)) (take reader.old.len reader.old.held)) }
+    ensures found { IsFound (verdict_of (take reader.old.len reader.old.held))
+        front.new reader.new.held }
 {
     a_body_stands_behind_three_bytes();
     front.number = 0;
