@@ -1,2 +1,3 @@
+pub mod FolderWords
 mod MemFolderLemmas
 mod StoredLemmas

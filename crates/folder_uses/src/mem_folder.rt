@@ -11,7 +11,7 @@ use std::alloc::{AllocError, Global};
 use std::io;
 use std::io::ErrorKind;
 use std::marker::Model;
-use ym_folder::{Folder, Place};
+use ym_folder::{FilePlace, Folder};
 
 /// A file in memory.
 #[derive(Drop)]
@@ -88,14 +88,14 @@ fn bytes_of<'a>(files: &'a [MemFile], name: &str) -> Option<&'a [u8]>
 }
 
 /// Whether a file has another name.
-fn has_other_name(file: &MemFile, at: &Place) -> bool
+fn has_other_name(file: &MemFile, at: &FilePlace) -> bool
     ensures { result ≡ not (bytes_eq file.now.name (name_of at.now)) }
 {
     file.name() != at.name()
 }
 
 /// Takes a name away.
-fn remove_name(files: &mut Vec<MemFile>, at: &Place)
+fn remove_name(files: &mut Vec<MemFile>, at: &FilePlace)
     ensures removed { files.new.items ≡ without (name_of at.now) files.old.items }
     ensures room { vec_len files.new ≤ vec_len files.old }
     ensures capacity { vec_capacity files.new ≡ vec_capacity files.old }
@@ -104,7 +104,12 @@ fn remove_name(files: &mut Vec<MemFile>, at: &Place)
 }
 
 /// Puts a file there in place of what stands there.
-fn put(files: &mut Vec<MemFile>, alloc: Global, at: &Place, bytes: &[u8]) -> Result<(), AllocError>
+fn put(
+    files: &mut Vec<MemFile>,
+    alloc: Global,
+    at: &FilePlace,
+    bytes: &[u8],
+) -> Result<(), AllocError>
     ensures put { OnOk result
         (files.new.items ≡ with_file (name_of at.now) bytes.now files.old.items) }
     ensures kept { OnErr result (files.new.items ≡ files.old.items) }
@@ -117,7 +122,7 @@ fn put(files: &mut Vec<MemFile>, alloc: Global, at: &Place, bytes: &[u8]) -> Res
 }
 
 /// Puts bytes behind those of the file at this place.
-fn add(files: &mut Vec<MemFile>, alloc: Global, at: &Place, more: &[u8]) -> io::Result<()>
+fn add(files: &mut Vec<MemFile>, alloc: Global, at: &FilePlace, more: &[u8]) -> io::Result<()>
     ensures kept { OnErr result (files.new.items ≡ files.old.items) }
     ensures added { OnOk result
         (Adds (name_of at.now) more.now files.old.items files.new.items) }
@@ -132,7 +137,7 @@ fn add(files: &mut Vec<MemFile>, alloc: Global, at: &Place, more: &[u8]) -> io::
 }
 
 /// Puts the bytes of one file at another place, too.
-fn copy(files: &mut Vec<MemFile>, alloc: Global, from: &Place, to: &Place) -> io::Result<()>
+fn copy(files: &mut Vec<MemFile>, alloc: Global, from: &FilePlace, to: &FilePlace) -> io::Result<()>
     ensures kept { OnErr result (files.new.items ≡ files.old.items) }
     ensures copied { OnOk result (Copies (name_of from.now) (name_of to.now)
         files.old.items files.new.items) }
@@ -188,7 +193,7 @@ impl MemFolder {
     }
 
     /// Puts a file there, as somebody else may do.
-    pub fn put(&mut self, at: &Place, bytes: &[u8]) -> Result<(), AllocError>
+    pub fn put(&mut self, at: &FilePlace, bytes: &[u8]) -> Result<(), AllocError>
         ensures links { self.new.links ≡ self.old.links }
         ensures refused { self.new.refused ≡ self.old.refused }
         ensures put { OnOk result (self.new.files.items
@@ -208,7 +213,7 @@ impl MemFolder {
     }
 
     /// Refuses a place at which something stands.
-    fn check_free(&self, at: &Place) -> io::Result<()>
+    fn check_free(&self, at: &FilePlace) -> io::Result<()>
         ensures { OnOk result (bytes_in self.now.files.items (name_of at.now) ≡ None) }
     {
         match self.bytes(at.name()) {
@@ -218,7 +223,7 @@ impl MemFolder {
     }
 
     /// Gives a file one more name, where nothing stands there and the change is not to fail.
-    fn link_new(&mut self, from: &Place, to: &Place) -> io::Result<()>
+    fn link_new(&mut self, from: &FilePlace, to: &FilePlace) -> io::Result<()>
         ensures links { self.new.links ≡ self.old.links }
         ensures refused { self.new.refused ≡ self.old.refused }
         ensures kept { OnErr result (self.new.files.items ≡ self.old.files.items) }
@@ -242,14 +247,14 @@ impl Folder for MemFolder {
 
     ghost is_of = { λ file name. string_bytes file.name ≡ name };
 
-    fn is_regular(&self, at: &Place) -> io::Result<bool> {
+    fn is_regular(&self, at: &FilePlace) -> io::Result<bool> {
         match self.bytes(at.name()) {
             Some(_) => Ok(true),
             None => Err(fault(ErrorKind::NotFound)),
         }
     }
 
-    fn open(&self, at: &Place) -> io::Result<MemOpen> {
+    fn open(&self, at: &FilePlace) -> io::Result<MemOpen> {
         self.opened(at.name())
     }
 
@@ -261,7 +266,7 @@ impl Folder for MemFolder {
         Ok(())
     }
 
-    fn stands_at(&self, file: &MemOpen, at: &Place) -> bool {
+    fn stands_at(&self, file: &MemOpen, at: &FilePlace) -> bool {
         file.name.as_str() == at.name() && self.bytes(at.name()).is_some()
     }
 
@@ -269,8 +274,8 @@ impl Folder for MemFolder {
         Ok(())
     }
 
-    #[tactic(auto, unfolding(ym_folder::specs::Folder::under, ym_folder::specs::Folder::empty_in, ym_folder::specs::Folder::has_links, ym_folder::specs::Folder::has_refused))]
-    fn create_new(&mut self, at: &Place) -> io::Result<MemOpen> {
+    #[tactic(auto, unfolding(crate::proofs::FolderWords::folder_words))]
+    fn create_new(&mut self, at: &FilePlace) -> io::Result<MemOpen> {
         count(&mut self.failing)?;
         self.check_free(at)?;
         let file = self.opened(at.name())?;
@@ -278,8 +283,8 @@ impl Folder for MemFolder {
         Ok(file)
     }
 
-    #[tactic(auto, using(crate::proofs::MemFolderLemmas::front_from), unfolding(ym_folder::specs::Folder::under, ym_folder::specs::Folder::empty_in, ym_folder::specs::Folder::has_links, ym_folder::specs::Folder::has_refused))]
-    fn append(&mut self, _file: &mut MemOpen, at: &Place, bytes: &[u8]) -> io::Result<()> {
+    #[tactic(auto, unfolding(crate::proofs::FolderWords::folder_words))]
+    fn append(&mut self, _file: &mut MemOpen, at: &FilePlace, bytes: &[u8]) -> io::Result<()> {
         if let Err(error) = count(&mut self.failing) {
             add(&mut self.files, self.alloc, at, &bytes[..bytes.len() / 2])?;
             return Err(error);
@@ -288,8 +293,8 @@ impl Folder for MemFolder {
         Ok(())
     }
 
-    #[tactic(auto, unfolding(ym_folder::specs::Folder::under, ym_folder::specs::Folder::empty_in, ym_folder::specs::Folder::has_links, ym_folder::specs::Folder::has_refused))]
-    fn link(&mut self, from: &Place, to: &Place) -> io::Result<()> {
+    #[tactic(auto, unfolding(crate::proofs::FolderWords::folder_words))]
+    fn link(&mut self, from: &FilePlace, to: &FilePlace) -> io::Result<()> {
         if !self.links {
             return Err(io::Error::from_raw_os_error(95));
         }
@@ -299,8 +304,8 @@ impl Folder for MemFolder {
         }
     }
 
-    #[tactic(auto, unfolding(ym_folder::specs::Folder::under, ym_folder::specs::Folder::empty_in, ym_folder::specs::Folder::has_links, ym_folder::specs::Folder::has_refused))]
-    fn rename(&mut self, from: &Place, to: &Place) -> io::Result<()> {
+    #[tactic(auto, unfolding(crate::proofs::FolderWords::folder_words))]
+    fn rename(&mut self, from: &FilePlace, to: &FilePlace) -> io::Result<()> {
         count(&mut self.failing)?;
         copy(&mut self.files, self.alloc, from, to)?;
         if from.name() == to.name() {
@@ -310,8 +315,8 @@ impl Folder for MemFolder {
         Ok(())
     }
 
-    #[tactic(auto, unfolding(ym_folder::specs::Folder::under, ym_folder::specs::Folder::empty_in, ym_folder::specs::Folder::has_links, ym_folder::specs::Folder::has_refused))]
-    fn remove(&mut self, at: &Place) -> io::Result<()> {
+    #[tactic(auto, unfolding(crate::proofs::FolderWords::folder_words))]
+    fn remove(&mut self, at: &FilePlace) -> io::Result<()> {
         if let Err(error) = count(&mut self.failing) {
             self.refused = true;
             return Err(error);

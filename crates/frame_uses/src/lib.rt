@@ -1,5 +1,5 @@
-//! Three uses of `ym_frame` and `ym_header`, as a caller writes them who wants frames and block 0, and neither end of a transfer. None of them
-//! takes memory.
+//! Three uses of `ym_frame` and `ym_header`, as a caller writes them who wants frames and block 0,
+//! and neither end of a transfer. None of them takes memory.
 #![tactic(auto)]
 
 ghost use Rattle.std.specs.Prelude.{◌≡◌, ◌↔◌, ◌≤◌, ℕ, Ok, IfSome, IsSome, is_some, length};
@@ -13,10 +13,12 @@ ghost use Rattle.ym_header.specs.HeaderReading.{ReadsHeader};
 use ym_frame::{Block, FrameBuf, FrameReader, Item, ItemRef, encode, verdict};
 use ym_header::{HeaderRef, ZeroRef, read_borrowed};
 
-/// The file that is announced by the block 0 at the front of these bytes. Its name stays where it is.
+/// The file that is announced by the block 0 at the front of these bytes. Its name stays where it
+/// is.
 pub fn announced(bytes: &[u8]) -> Option<HeaderRef<'_>>
     ensures { IfSome result (λ header. (block : BlockParts) × (len : ℕ) ×
-        (verdict_of bytes.entry.now ≡ Ok (item.Block block, len)) × (block.number ≡ 0) × ReadsHeader length_limit block.body header) }
+        (verdict_of bytes.entry.now ≡ Ok (item.Block block, len)) × (block.number ≡ 0)
+        × ReadsHeader length_limit block.body header) }
 {
     let Ok((ItemRef::Block(block), _)) = verdict(bytes) else {
         return None;
@@ -30,9 +32,11 @@ pub fn announced(bytes: &[u8]) -> Option<HeaderRef<'_>>
     }
 }
 
-/// The frame of a short block with this text in front, and SUB (1A) behind it, or `None` where the text has more than 128 bytes.
+/// The frame of a short block with this text in front, and SUB (1A) behind it, or `None` where the
+/// text has more than 128 bytes.
 pub fn text_block(number: u8, text: &[u8]) -> Option<FrameBuf>
-    ensures frame { IfSome result (λ frame. (block : BlockParts) × (block.number ≡ number) × IsFrame (item.Block block) frame) }
+    ensures frame { IfSome result (λ frame. (block : BlockParts) ×
+        (block.number ≡ number) × IsFrame (item.Block block) frame) }
     ensures fits { IsSome result ↔ (length text.now ≤ 128) }
 {
     let mut body = [0x1A; 128];

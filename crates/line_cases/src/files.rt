@@ -122,6 +122,7 @@ pub fn collected(alloc: Global, head: &str, parts: &[&str]) -> Result<String, Un
     let as_came = are_first(alloc, bytes.as_slice(), pieces.as_slice(), length)?;
     let count = bytes.len();
     Ok(format!(in alloc;
-        "  took {taken}, open before {before}, covered: {is_covered}, {count} bytes as they came: {as_came}\n"
+        "  took {taken}, open before {before}, covered: {is_covered}, \
+        {count} bytes as they came: {as_came}\n"
     )?)
 }

@@ -41,3 +41,6 @@ module _ (counts : List ℕ) (place : Place) (mode : Mode) where
   -- the second one is read where the first one came to
   pub read_on : (c other : Control) (r : Reading) → c ≢ Can → r ≡ reads_control counts mode c place → is_some r.stop ≡ false → reads_control counts r.mode other r.place ≡ reads counts place mode (c ∷ other ∷ [])
   read_on c other r apart is on = one_control counts r.place r.mode other ∙ sym (by_reading c other r apart is ∙ ap (λ b. cond b r (reads counts r.place r.mode (other ∷ []))) on)
+
+-- how the second one is read, for each way that the first one is
+pub ruleset two_controls = (behind_can, stopped, read_on)

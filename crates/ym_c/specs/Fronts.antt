@@ -15,14 +15,17 @@ use Rattle.ym_c.specs.declared.reader.YmReader.{YmReader}
 
 -- a frame of so many bytes, or none yet (0), or none at all (4)
 abbrev pub IsFront : Result (Item × ℕ) Broken → YmFront → Type 0
-IsFront (Ok (Block b, len)) f = (f.kind ≡ 1) × (f.length ≡ len) × (f.number ≡ b.number) × (f.size ≡ length b.body)
+IsFront (Ok (Block b, len)) f =
+    (f.kind ≡ 1) × (f.length ≡ len) × (f.number ≡ b.number) × (f.size ≡ length b.body)
 IsFront (Ok (Eot, len)) f = (f.kind ≡ 2) × (f.length ≡ len)
 IsFront (Ok (Cancel, len)) f = (f.kind ≡ 3) × (f.length ≡ len)
 IsFront (Err broken) f = (f.kind ≡ (if is_cut broken.why then 0 else 4)) × (f.length ≡ broken.place)
 
 -- the stamp of these numbers: 0 none, 1 the time, any other the time and the mode
 abbrev pub stamp_of : ℕ → ℕ → ℕ → Stamp
-stamp_of kind time mode = if kind == 0 then Nothing else (if kind == 1 then Time time else TimeMode time mode)
+stamp_of kind time mode =
+    if kind == 0 then Nothing else
+    (if kind == 1 then Time time else TimeMode time mode)
 
 -- ---- A reader of frames in pieces
 
@@ -45,7 +48,8 @@ Takes (refused broken) piece used = used ≡ length piece
 
 -- what is told of the bytes held; the body of a block stands behind their first three
 abbrev pub IsFound : Result (Item × ℕ) Broken → YmFront → List ℕ → Type 0
-IsFound (Ok (Block b, len)) f held = IsFront (Ok (Block b, len)) f × (take f.size (drop 3 held) ≡ b.body)
+IsFound (Ok (Block b, len)) f held =
+    IsFront (Ok (Block b, len)) f × (take f.size (drop 3 held) ≡ b.body)
 IsFound other f held = IsFront other f
 
 abbrev pub IsRead : Reading → List ℕ → YmFront → List ℕ → Type 0

@@ -16,10 +16,13 @@ IsStampTold (TimeMode time mode) out = (out.stamp ≡ 2) × (out.time ≡ time) 
 
 -- what the numbers tell of a block 0 that was read: a file, the end, or a fault
 abbrev pub IsTold : Result ZeroRef HeaderFault → YmHeader → Type 0
-IsTold (Ok (File h)) out = (out.kind ≡ 1) × (out.length ≡ h.length) × (out.name_len ≡ length h.name) × IsStampTold h.stamp out
+IsTold (Ok (File h)) out =
+    (out.kind ≡ 1) × (out.length ≡ h.length) × (out.name_len ≡ length h.name)
+    × IsStampTold h.stamp out
 IsTold (Ok End) out = out.kind ≡ 2
 IsTold (Err fault) out = (out.kind ≡ 0) × (out.fault ≡ header_fault_code fault)
 
 -- the number of why there is no header of this name and length
 abbrev pub IsRefusal : List ℕ → ℕ → ℕ → Type 0
-IsRefusal name len code = (fault : HeaderFault) × (code ≡ header_fault_code fault) × IsUnfit length_limit name len fault
+IsRefusal name len code =
+    (fault : HeaderFault) × (code ≡ header_fault_code fault) × IsUnfit length_limit name len fault

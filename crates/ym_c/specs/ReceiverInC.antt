@@ -19,7 +19,8 @@ pub record Holds (r : YmReceiver) (core : Receiver) (held : List ℕ) : Type 0 w
   pub room : r.len ≤ 1029
   pub bytes : take r.len r.held ≡ held
 
--- a receiver that has heard its delivery, and waits for the word that its host has done what the step asks
+-- a receiver that has heard its delivery, and waits for the word that its host has done what the
+-- step asks
 pub record Awaits (r : YmReceiver) (core : Receiver) (step : Step) : Type 0 where
   pub stand : Keeps r.stand core
   pub next : Keeps r.next step.receiver
@@ -34,7 +35,9 @@ IsStamped ask (TimeMode time mode) = (ask.stamp ≡ 2) × (ask.time ≡ time) ×
 -- what the ask tells of a call
 abbrev pub IsAsk : Call → YmAsk → Type 0
 IsAsk No_call ask = ask.kind ≡ 0
-IsAsk (Begins header) ask = (ask.kind ≡ 1) × (ask.length ≡ header.length) × (ask.count ≡ length header.name) × IsStamped ask header.stamp
+IsAsk (Begins header) ask =
+    (ask.kind ≡ 1) × (ask.length ≡ header.length) × (ask.count ≡ length header.name)
+    × IsStamped ask header.stamp
 IsAsk (Adds bytes) ask = (ask.kind ≡ 2) × (ask.count ≡ length bytes)
 IsAsk Commits ask = ask.kind ≡ 3
 
@@ -49,7 +52,8 @@ abbrev pub bad_code : Heard → ℕ
 bad_code (heard.Item item) = 0
 bad_code heard.Bad = 1
 
--- what is taken of a step where the host fails: a receiver that runs ends, and one that has ended is not failed
+-- what is taken of a step where the host fails: a receiver that runs ends, and one that has ended
+-- is not failed
 abbrev pub failing : RecvState → Receiver → Step → Step
 failing Running core step = ends core SinkFailed Cancel
 failing ended core step = step

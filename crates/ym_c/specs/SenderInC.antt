@@ -50,7 +50,8 @@ pub record KeepsStanding (s : YmSender) (standing : Standing) : Type 0 where
   pub cancel_pending : s.cancel_pending ≡ bool_code standing.cancel_pending
   pub room : s.len ≤ 1029
 
--- where a sender of a batch of so many blocks a file can come to stand; a batch has at most 65,535 files
+-- where a sender of a batch of so many blocks a file can come to stand; a batch has at most 65,535
+-- files
 pub record Stands (blocks : List ℕ) (standing : Standing) : Type 0 where
   pub place : IsPlace blocks standing.place
   pub retries : standing.retries ≤ GIVE_UP
@@ -63,13 +64,22 @@ IsNoSender blocks kept = (s : Standing) → KeepsStanding kept s → ¬ Stands b
 
 -- what they count as: a sender that has ended, with nothing to send
 abbrev pub ended_standing : Standing
-ended_standing = record { place = End; mode = Waiting; retries = 0; state = NoReply; cancel_pending = false }
+ended_standing = record {
+  place = End;
+  mode = Waiting;
+  retries = 0;
+  state = NoReply;
+  cancel_pending = false;
+}
 
 -- whatever such a one hears, it stays, and fills nothing
-stays_ended : (blocks : List ℕ) (controls : List Control) → hears blocks ended_standing controls ≡ step ended_standing
+stays_ended :
+    (blocks : List ℕ) (controls : List Control) →
+    hears blocks ended_standing controls ≡ step ended_standing
 stays_ended blocks controls = refl
 
--- A sender that runs has a frame of this kind out that its host has still to fill: of the block 0 of a file, or of a data block.
+-- A sender that runs has a frame of this kind out that its host has still to fill: of the block 0
+-- of a file, or of a data block.
 pub record IsUnfilled (s : YmSender) (place : ℕ) : Type 0 where
   pub at : s.place ≡ place
   pub out : s.mode ≡ mode_code Sent
@@ -83,8 +93,9 @@ IsFill (Some (Header file)) fill = (fill.kind ≡ 1) × (fill.file ≡ file)
 IsFill (Some (Block file k)) fill = (fill.kind ≡ 2) × (fill.file ≡ file) × (fill.number ≡ k)
 IsFill _ fill = fill.kind ≡ 0
 
--- what becomes of the frame: an EOT and an end block are filled without the host; what the host is to fill is empty until it does; and
--- where nothing is to be filled, the frame stays as it was, to be sent again
+-- what becomes of the frame: an EOT and an end block are filled without the host; what the host is
+-- to fill is empty until it does; and where nothing is to be filled, the frame stays as it was, to
+-- be sent again
 abbrev pub IsFilled : Option Place → YmSender → YmSender → Type 0
 IsFilled (Some (Header file)) old new = new.len ≡ 0
 IsFilled (Some (Block file k)) old new = new.len ≡ 0

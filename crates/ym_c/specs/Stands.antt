@@ -16,7 +16,8 @@ use Rattle.ym_c.specs.Codes.{state_code, fault_code, confirm_code, bool_code}
 abbrev pub KeepsStage : YmStand → Stage → Type 0
 KeepsStage kept AwaitHeader = kept.in_file ≡ 0
 KeepsStage kept (InFile file) =
-    (kept.in_file ≡ 1) × (kept.length ≡ file.length) × (kept.taken ≡ file.taken) × (kept.blocks ≡ file.blocks) × (kept.first_eot ≡ bool_code file.first_eot)
+    (kept.in_file ≡ 1) × (kept.length ≡ file.length) × (kept.taken ≡ file.taken)
+    × (kept.blocks ≡ file.blocks) × (kept.first_eot ≡ bool_code file.first_eot)
 
 -- the numbers are those of this receiver, which is one that a receiver can come to be
 pub record Keeps (kept : YmStand) (core : Receiver) : Type 0 where
@@ -37,5 +38,8 @@ abbrev pub ended_receiver : Receiver
 ended_receiver = record (new_receiver Twice) { state = SinkFailed }
 
 -- whatever such a one hears, it asks nothing, says nothing, and stands where it stood
-stays_ended : (zero : Result Zero HeaderFault) (h : Heard) → hears ended_receiver zero h ≡ record { receiver = ended_receiver; reply = Silence; call = No_call }
+stays_ended :
+    (zero : Result Zero HeaderFault) (h : Heard) →
+    hears ended_receiver zero h
+    ≡ record { receiver = ended_receiver; reply = Silence; call = No_call }
 stays_ended zero h = refl

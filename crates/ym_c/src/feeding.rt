@@ -32,8 +32,8 @@ fn wanted_of_block(bytes: &[u8], size: usize) -> usize
     size + 5 - len
 }
 
-/// How many bytes have to come at least before these are decided: 0 where they are a frame or can go
-/// on to none.
+/// How many bytes have to come at least before these are decided: 0 where they are a frame or can
+/// go on to none.
 pub fn wanted(bytes: &[u8]) -> usize
     ensures wanted { (more : List ℕ) → length more < result →
         IsOpen (verdict_of (bytes.now ++ more)) }

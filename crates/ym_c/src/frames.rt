@@ -58,8 +58,9 @@ pub extern "C" fn ym_frame_read(bytes: &[u8], front: &mut YmFront)
     }
 }
 
-/// Makes the frame of the block of this number, modulo 256, and this body at the front of `frame`, and
-/// answers its length; 0 where the body has neither 128 nor 1024 bytes, or the frame has no room.
+/// Makes the frame of the block of this number, modulo 256, and this body at the front of `frame`,
+/// and answers its length; 0 where the body has neither 128 nor 1024 bytes, or the frame has no
+/// room.
 #[unsafe(no_mangle)]
 pub extern "C" fn ym_frame_write(number: u32, body: &[u8], frame: &mut [u8]) -> usize
     ensures made { 0 < result → IsBlockFrame (number % 256) body.now (take result frame.new) }

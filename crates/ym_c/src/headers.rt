@@ -22,7 +22,8 @@ pub struct YmHeader {
     pub length: u64,
     /// At 1: the time, where `stamp` is 1 or 2.
     pub time: u64,
-    /// 0: nothing; 1: a file begins, and its name stands at the front of the body; 2: the batch ends.
+    /// 0: nothing; 1: a file begins, and its name stands at the front of the body; 2: the batch
+    /// ends.
     pub kind: u32,
     /// At 0: the number of the fault; 0 where the body has neither 128 nor 1024 bytes.
     pub fault: u32,
@@ -94,7 +95,8 @@ pub fn stamp_from(kind: u32, time: u64, mode: u32) -> Stamp
 
 /// The header of these parts, or its first fault.
 pub fn header_of(name: &[u8], length: u64, stamp: Stamp) -> Result<HeaderRef<'_>, HeaderFault>
-    ensures ok { IfOk result (λ header. header ≡ record { name = name.entry.now; length = length; stamp = stamp }) }
+    ensures ok { IfOk result (λ header.
+        header ≡ record { name = name.entry.now; length = length; stamp = stamp }) }
     ensures refused { IfErr result (λ fault. IsUnfit length_limit name.entry.now length fault) }
 {
     if name.is_empty() {
@@ -109,9 +111,9 @@ pub fn header_of(name: &[u8], length: u64, stamp: Stamp) -> Result<HeaderRef<'_>
     }
 }
 
-/// Writes the body of a file's block 0 to the front of `body`, which has room for 1024 bytes: stamp 0
-/// none, 1 the time, 2 the time and the mode. Answers how many bytes it has, 128 or 1024; or the number
-/// of the header's fault, 1 to 5; or 0 where there is less room.
+/// Writes the body of a file's block 0 to the front of `body`, which has room for 1024 bytes:
+/// stamp 0 none, 1 the time, 2 the time and the mode. Answers how many bytes it has, 128 or 1024;
+/// or the number of the header's fault, 1 to 5; or 0 where there is less room.
 #[unsafe(no_mangle)]
 pub extern "C" fn ym_header_write(
     name: &[u8],
@@ -122,7 +124,8 @@ pub extern "C" fn ym_header_write(
     body: &mut [u8],
 ) -> u32
     ensures written { 5 < result →
-        take result body.new ≡ text (record { name = name.now; length = length; stamp = stamp_of stamp time mode }) }
+        take result body.new
+        ≡ text (record { name = name.now; length = length; stamp = stamp_of stamp time mode }) }
     ensures refused { 0 < result → result ≤ 5 → IsRefusal name.now length result }
     ensures behind { 5 < result → drop result body.new ≡ drop result body.old }
     ensures same { result ≤ 5 → body.new ≡ body.old }

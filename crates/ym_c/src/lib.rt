@@ -1,6 +1,6 @@
 //! Both ends of a transfer, what an end knows of its line, frames, the check and block 0, for
-//! callers in C. Nothing here takes memory, keeps anything between calls or calls back. Each function
-//! returns, whatever stands in what it is given.
+//! callers in C. Nothing here takes memory, keeps anything between calls or calls back. Each
+//! function returns, whatever stands in what it is given.
 #![tactic(auto)]
 
 mod codes;

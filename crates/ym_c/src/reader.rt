@@ -50,8 +50,10 @@ pub extern "C" fn ym_reader_init(reader: &mut YmReader)
 fn tell(reader: &mut YmReader, front: &mut YmFront)
     requires whole { reader.old.why ≡ 0 }
     requires room { reader.old.len ≤ 1029 }
-    ensures reading { KeepsReading reader.new (reading_left (verdict_of (take reader.old.len reader.old.held)) (take reader.old.len reader.old.held)) }
-    ensures found { IsFound (verdict_of (take reader.old.len reader.old.held)) front.new reader.new.held }
+    ensures reading { KeepsReading reader.new (reading_left
+        (verdict_of (take reader.old.len reader.old.held)) (take reader.old.len reader.old.held)) }
+    ensures found { IsFound (verdict_of (take reader.old.len reader.old.held))
+        front.new reader.new.held }
 {
     a_body_stands_behind_three_bytes();
     front.number = 0;
@@ -89,9 +91,9 @@ fn tell(reader: &mut YmReader, front: &mut YmFront)
     }
 }
 
-/// Takes bytes of a piece, and tells how many, and what they make of the bytes before: up to the end of
-/// a frame, or of what can be one; it may take fewer than that, and then tells that a frame may come.
-/// Where none can come any more it takes all, until it is made new.
+/// Takes bytes of a piece, and tells how many, and what they make of the bytes before: up to the
+/// end of a frame, or of what can be one; it may take fewer than that, and then tells that a frame
+/// may come. Where none can come any more it takes all, until it is made new.
 #[unsafe(no_mangle)]
 pub extern "C" fn ym_reader_feed(reader: &mut YmReader, bytes: &[u8], front: &mut YmFront) -> usize
     ensures none { (reader.old.why ≢ 0) ⊎ (1029 < reader.old.len) →

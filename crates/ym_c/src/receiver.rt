@@ -115,8 +115,8 @@ pub extern "C" fn ym_receiver_feed(receiver: &mut YmReceiver, bytes: &[u8]) -> u
     used
 }
 
-/// How many bytes have to come at least before the delivery can be heard without a wait: 0 where it is
-/// to be heard now, or was heard.
+/// How many bytes have to come at least before the delivery can be heard without a wait: 0 where it
+/// is to be heard now, or was heard.
 #[unsafe(no_mangle)]
 pub extern "C" fn ym_receiver_wants(receiver: &YmReceiver) -> usize
     ensures whether { (core : Receiver) (held : List ℕ) → Holds receiver.now core held →
@@ -225,8 +225,8 @@ fn hearer(receiver: &YmReceiver) -> ReceiverCore
     }
 }
 
-/// Hears the delivery, and tells what the host has to do before `ym_receiver_answer`. It may be called
-/// again, and tells the same.
+/// Hears the delivery, and tells what the host has to do before `ym_receiver_answer`. It may be
+/// called again, and tells the same.
 #[unsafe(no_mangle)]
 pub extern "C" fn ym_receiver_hear(receiver: &mut YmReceiver, ask: &mut YmAsk)
     ensures rubbish { IsNoReceiver receiver.old → Ignores receiver.new ask.new }
@@ -277,9 +277,9 @@ fn step_of(receiver: &YmReceiver, done: u32, heard: Reply) -> (ReceiverCore, Rep
     (next, heard)
 }
 
-/// Takes the step that was heard, after the host did what was asked (`done` is not 0) or failed at it,
-/// writes the reply, and tells how many bytes that has, 0 to 2. The next delivery begins. Where nothing
-/// was heard, nothing is done; and a receiver that has ended does not fail.
+/// Takes the step that was heard, after the host did what was asked (`done` is not 0) or failed at
+/// it, writes the reply, and tells how many bytes that has, 0 to 2. The next delivery begins. Where
+/// nothing was heard, nothing is done; and a receiver that has ended does not fail.
 #[unsafe(no_mangle)]
 pub extern "C" fn ym_receiver_answer(
     receiver: &mut YmReceiver,

@@ -73,7 +73,8 @@ impl Batch for Counts<'_> {
     }
 }
 
-/// Makes a sender that waits at the first frame of a batch, of which each file has so many data blocks.
+/// Makes a sender that waits at the first frame of a batch, of which each file has so many data
+/// blocks.
 #[unsafe(no_mangle)]
 pub extern "C" fn ym_sender_init(sender: &mut YmSender, blocks: &[u64])
     ensures stands { KeepsStanding sender.new (table.new_standing blocks.now) }
@@ -224,7 +225,9 @@ pub extern "C" fn ym_sender_header(
     mode: u32,
 ) -> u32
     ensures frame { result ≡ 0 →
-        IsBlockFrame 0 (text (record { name = name.now; length = length; stamp = stamp_of stamp time mode })) (take sender.new.len sender.new.frame) }
+        IsBlockFrame 0
+        (text (record { name = name.now; length = length; stamp = stamp_of stamp time mode }))
+        (take sender.new.len sender.new.frame) }
     ensures stands { (s : Stood) → KeepsStanding sender.old s → KeepsStanding sender.new s }
     ensures rubbish { (blocks : List ℕ) → IsNoSender blocks sender.old →
         IsNoSender blocks sender.new }
@@ -279,7 +282,8 @@ pub extern "C" fn ym_sender_block(sender: &mut YmSender, body: &[u8]) -> u32
 pub extern "C" fn ym_sender_failed(sender: &mut YmSender, blocks: &[u64])
     ensures ends { (s : Stood) → KeepsStanding sender.old s → Stands blocks.now s →
         s.state ≡ Running →
-        KeepsStanding sender.new (record s { state = SendState.SourceFailed; cancel_pending = true }) }
+        KeepsStanding sender.new
+        (record s { state = SendState.SourceFailed; cancel_pending = true }) }
     ensures ended { (s : Stood) → KeepsStanding sender.old s → s.state ≢ Running →
         sender.new ≡ sender.old }
     ensures rubbish { IsNoSender blocks.now sender.old → sender.new ≡ sender.old }

@@ -6,8 +6,8 @@ use Rattle.ym_capture.specs.CaptureNumbers.{two, four}
 use Rattle.ym_capture.specs.Flow.{seen_of}
 use Rattle.ym_capture.specs.PacketParts.{number, opens, tcp_header_len, data_of}
 use Rattle.ym_capture.specs.TwoSides.{first_way_of}
-use Rattle.ym_capture.specs.declared.head.Kind.TheVariants as kind
-use Rattle.ym_capture.specs.declared.head.Order.TheVariants.{LowFirst}
+use Rattle.ym_capture.specs.declared.head.CaptureKind.TheVariants as kind
+use Rattle.ym_capture.specs.declared.head.ByteOrder.TheVariants.{LowFirst}
 use Rattle.ym_capture.specs.declared.head.Part.TheVariants.{Micros}
 use Rattle.ym_capture.specs.declared.sides.Side.TheVariants.{First, Second}
 
@@ -23,8 +23,8 @@ record_of_lines = refl
 -- number 2^32 - 2, and three bytes behind a header of 20
 abbrev segment : List ℕ
 segment =
-    0 ∷ 1 ∷ 0 ∷ 2 ∷ 0xff ∷ 0xff ∷ 0xff ∷ 0xfe ∷ 0 ∷ 0 ∷ 0 ∷ 0 ∷ 0x50 ∷ 0x10 ∷ 0xff ∷ 0xff ∷ 0 ∷ 0 ∷ 0 ∷ 0
-    ∷ 0x43 ∷ 0x06 ∷ 0x15 ∷ []
+    0 ∷ 1 ∷ 0 ∷ 2 ∷ 0xff ∷ 0xff ∷ 0xff ∷ 0xfe ∷ 0 ∷ 0 ∷ 0 ∷ 0
+    ∷ 0x50 ∷ 0x10 ∷ 0xff ∷ 0xff ∷ 0 ∷ 0 ∷ 0 ∷ 0 ∷ 0x43 ∷ 0x06 ∷ 0x15 ∷ []
 
 its_number : number segment ≡ 4294967294
 unfolding number four two

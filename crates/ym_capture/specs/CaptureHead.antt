@@ -4,18 +4,18 @@ use Rattle.ym_capture.specs.CaptureNumbers.{four, four_in}
 use Rattle.ym_capture.specs.declared.fault.CaptureFault.{CaptureFault}
 use Rattle.ym_capture.specs.declared.fault.CaptureFault.TheVariants as fault
 use Rattle.ym_capture.specs.declared.head.Form.{Form}
-use Rattle.ym_capture.specs.declared.head.Kind.{Kind}
-use Rattle.ym_capture.specs.declared.head.Kind.TheVariants as kind
+use Rattle.ym_capture.specs.declared.head.CaptureKind.{CaptureKind}
+use Rattle.ym_capture.specs.declared.head.CaptureKind.TheVariants as kind
 use Rattle.ym_capture.specs.declared.head.Link.{Link}
 use Rattle.ym_capture.specs.declared.head.Link.TheVariants as link
-use Rattle.ym_capture.specs.declared.head.Order.{Order}
-use Rattle.ym_capture.specs.declared.head.Order.TheVariants.{HighFirst, LowFirst}
+use Rattle.ym_capture.specs.declared.head.ByteOrder.{ByteOrder}
+use Rattle.ym_capture.specs.declared.head.ByteOrder.TheVariants.{HighFirst, LowFirst}
 use Rattle.ym_capture.specs.declared.head.PacketHead.{PacketHead}
 use Rattle.ym_capture.specs.declared.head.Part.{Part}
 use Rattle.ym_capture.specs.declared.head.Part.TheVariants.{Micros, Nanos}
 
 -- what a number of the first four bytes says
-abbrev pub kind_for : ℕ → Kind
+abbrev pub kind_for : ℕ → CaptureKind
 kind_for magic =
     if magic == 0xa1b2c3d4 then kind.Pcap HighFirst Micros else
     if magic == 0xa1b23c4d then kind.Pcap HighFirst Nanos else
@@ -24,7 +24,7 @@ kind_for magic =
     if magic == 0x0a0d0d0a then kind.Pcapng else
     kind.Other
 
-abbrev pub kind_of : List ℕ → Kind
+abbrev pub kind_of : List ℕ → CaptureKind
 kind_of front = kind_for (four front)
 
 abbrev pub link_of : ℕ → Option Link
@@ -36,12 +36,12 @@ link_of number =
     if number == 276 then Some link.CookedAgain else
     None
 
-abbrev pub form_for : Order → Part → ℕ → Option Link → Result Form CaptureFault
+abbrev pub form_for : ByteOrder → Part → ℕ → Option Link → Result Form CaptureFault
 form_for order part number (Some link) = Ok (record { order = order; part = part; link = link })
 form_for order part number None = Err (fault.Link number)
 
 -- the number of the link stands behind 20 bytes, and its upper half means something else
-abbrev pub form_of : Order → Part → List ℕ → Result Form CaptureFault
+abbrev pub form_of : ByteOrder → Part → List ℕ → Result Form CaptureFault
 form_of order part head =
     let number = four_in order (drop 20 head) % 65536 in form_for order part number (link_of number)
 

@@ -1,7 +1,7 @@
 -- Numbers in the bytes of a capture. A byte that is not there counts as 0.
 use Rattle.std.specs.Prelude.{ℕ, ◌+◌, ◌*◌, ◌^◌, List, drop, slice_index}
-use Rattle.ym_capture.specs.declared.head.Order.{Order}
-use Rattle.ym_capture.specs.declared.head.Order.TheVariants.{HighFirst, LowFirst}
+use Rattle.ym_capture.specs.declared.head.ByteOrder.{ByteOrder}
+use Rattle.ym_capture.specs.declared.head.ByteOrder.TheVariants.{HighFirst, LowFirst}
 
 -- of two bytes, the higher one first
 unfoldable pub two : List ℕ → ℕ
@@ -17,7 +17,7 @@ four bytes = two bytes * 65536 + two (drop 2 bytes)
 unfoldable pub four_up : List ℕ → ℕ
 four_up bytes = two_up (drop 2 bytes) * 65536 + two_up bytes
 
-abbrev pub four_in : Order → List ℕ → ℕ
+abbrev pub four_in : ByteOrder → List ℕ → ℕ
 four_in HighFirst bytes = four bytes
 four_in LowFirst bytes = four_up bytes
 

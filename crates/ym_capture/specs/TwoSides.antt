@@ -69,7 +69,8 @@ asks byte = byte == 0x43 || byte == 0x15 || byte == 0x47
 abbrev pub begins : ℕ → Bool
 begins byte = byte == 0x01 || byte == 0x02
 
--- who begins by asking receives files, who begins by a block sends them, and else the first end does
+-- who begins by asking receives files, who begins by a block sends them, and else the first end
+-- does
 abbrev pub first_way_of : Side → ℕ → Direction
 first_way_of First byte = if asks byte then Back else There
 first_way_of Second byte = if begins byte then Back else There

@@ -19,7 +19,7 @@ pub const MOST_PACKET: u32 = 262_144;
 
 /// In which order the bytes of a number stand.
 #[derive(Clone, Copy, Debug, PartialEq, Eq)]
-pub enum Order {
+pub enum ByteOrder {
     /// The highest one first.
     HighFirst,
     /// The lowest one first.
@@ -52,9 +52,9 @@ pub enum Link {
 
 /// What a file is, by its first four bytes.
 #[derive(Clone, Copy, Debug, PartialEq, Eq)]
-pub enum Kind {
+pub enum CaptureKind {
     /// A capture of packets.
-    Pcap(Order, Part),
+    Pcap(ByteOrder, Part),
     /// One in the form that came after it, which is not read.
     Pcapng,
     /// Neither.
@@ -65,7 +65,7 @@ pub enum Kind {
 #[derive(Clone, Copy, Debug, PartialEq, Eq)]
 pub struct Form {
     /// The order of its numbers' bytes.
-    pub order: Order,
+    pub order: ByteOrder,
     /// What it counts parts of a second in.
     pub part: Part,
     /// What its packets begin with.
@@ -82,16 +82,16 @@ pub struct PacketHead {
 }
 
 /// What a file that begins so is.
-pub fn kind_of(front: &[u8]) -> Kind
+pub fn kind_of(front: &[u8]) -> CaptureKind
     ensures { result ≡ kind_by front.now }
 {
     match four(front) {
-        0xa1b2_c3d4 => Kind::Pcap(Order::HighFirst, Part::Micros),
-        0xa1b2_3c4d => Kind::Pcap(Order::HighFirst, Part::Nanos),
-        0xd4c3_b2a1 => Kind::Pcap(Order::LowFirst, Part::Micros),
-        0x4d3c_b2a1 => Kind::Pcap(Order::LowFirst, Part::Nanos),
-        0x0a0d_0d0a => Kind::Pcapng,
-        _ => Kind::Other,
+        0xa1b2_c3d4 => CaptureKind::Pcap(ByteOrder::HighFirst, Part::Micros),
+        0xa1b2_3c4d => CaptureKind::Pcap(ByteOrder::HighFirst, Part::Nanos),
+        0xd4c3_b2a1 => CaptureKind::Pcap(ByteOrder::LowFirst, Part::Micros),
+        0x4d3c_b2a1 => CaptureKind::Pcap(ByteOrder::LowFirst, Part::Nanos),
+        0x0a0d_0d0a => CaptureKind::Pcapng,
+        _ => CaptureKind::Other,
     }
 }
 
@@ -114,7 +114,7 @@ fn link_of(number: u32) -> Option<Link>
 /// # Errors
 ///
 /// Where its packets are of a link that is not read.
-pub fn form_of(order: Order, part: Part, head: &[u8]) -> Result<Form, CaptureFault>
+pub fn form_of(order: ByteOrder, part: Part, head: &[u8]) -> Result<Form, CaptureFault>
     ensures { result ≡ form_by order part head.now }
 {
     let number = four_in(order, behind(head, 20)) % 65536;

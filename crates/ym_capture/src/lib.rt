@@ -14,7 +14,7 @@ mod tcp;
 pub use connection::Connection;
 pub use fault::CaptureFault;
 pub use head::{
-    Form, HEAD, Kind, Link, MOST_PACKET, Order, PACKET_HEAD, PacketHead, Part, form_of, kind_of,
-    packet_head,
+    ByteOrder, CaptureKind, Form, HEAD, Link, MOST_PACKET, PACKET_HEAD, PacketHead, Part, form_of,
+    kind_of, packet_head,
 };
 pub use sides::{End, Sides};

@@ -5,7 +5,7 @@ ghost use Rattle.ym_capture.specs.CaptureNumbers.{two as two_of, two_up as two_u
 ghost use Rattle.ym_capture.specs.CaptureNumbers.{four as four_of, four_up as four_up_of};
 ghost use Rattle.ym_capture.specs.CaptureNumbers.{four_in as four_by, eight as eight_of};
 
-use crate::head::Order;
+use crate::head::ByteOrder;
 
 /// The bytes behind so many; none where there are fewer.
 #[tactic(auto, using(std::proofs::lemmas::List::drop_min))]
@@ -63,12 +63,12 @@ fn four_up(bytes: &[u8]) -> u32
 }
 
 /// A number of four bytes in this order.
-pub(crate) fn four_in(order: Order, bytes: &[u8]) -> u32
+pub(crate) fn four_in(order: ByteOrder, bytes: &[u8]) -> u32
     ensures { result ≡ four_by order bytes.now }
 {
     match order {
-        Order::HighFirst => four(bytes),
-        Order::LowFirst => four_up(bytes),
+        ByteOrder::HighFirst => four(bytes),
+        ByteOrder::LowFirst => four_up(bytes),
     }
 }
 

@@ -1,4 +1,5 @@
--- Sessions on a line that is not prompt: whatever the times are, one whose deliveries do not pair up.
+-- Sessions on a line that is not prompt: whatever the times are, one whose deliveries do not pair
+-- up.
 use Rattle.std.specs.Prelude.{◌+◌, ◌-◌, min, ℕ, List, [], ◌∷◌}
 use Rattle.ym_frame.specs.declared.control.Reply.TheVariants.{Start, AckStart}
 use Rattle.ym_core.specs.declared.delivery.Heard.TheVariants as heard

@@ -74,8 +74,8 @@ pub record CopiesSoon (times : Times) (led : ℕ) (s : SpokeAt) : Type 0 where
   pub since : s.by ≤ timing.heard.since
   pub waits : soon timing + times.oldest ≤ times.receiver_waits
 
--- It goes on at once to another frame: behind the ACK that it heard so many were dropped that by its
--- count each copy of the block was answered.
+-- It goes on at once to another frame: behind the ACK that it heard so many were dropped that by
+-- its count each copy of the block was answered.
 pub record CountsByRule (more dropped : ℕ) (s next : SpokeAt) : Type 0 where
   pub timing : Timing
   pub clearing : Clearing

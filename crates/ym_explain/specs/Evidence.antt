@@ -16,7 +16,8 @@ shows Zmodem seen = seen.zmodem
 shows Echo seen = seen.echoed
 shows SevenBits seen = seen.damaged && not seen.high
 shows Noise seen =
-    (seen.junk && seen.high || seen.back_high && not seen.asked) && not seen.framed && not seen.headed
+    (seen.junk && seen.high || seen.back_high && not seen.asked)
+    && not seen.framed && not seen.headed
 shows Xmodem seen = seen.unnamed
 shows XmodemReceiver seen = seen.nak_first && not seen.asked
 shows NobodyAsked seen = not seen.asked

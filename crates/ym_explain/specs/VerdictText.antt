@@ -1,5 +1,5 @@
 -- The sentence of each verdict: what went wrong, and what to try.
-use Rattle.std.specs.Prelude.{ℕ, List, codes}
+use Rattle.std.specs.Prelude.{ℕ, List, ◌++◌, codes}
 use Rattle.ym_explain.specs.declared.verdict.Verdict.{Verdict}
 use Rattle.ym_explain.specs.declared.verdict.Verdict.TheVariants.{Whole, Mended, SenderDone, Zmodem, Echo, SevenBits, Noise, Xmodem, XmodemReceiver, NobodyAsked, NobodyAnswered, FlowControl, SubEaten, EatenBytes, NoRoom, CutLength, TooManyErrors, Damage, SenderCancelled, ReceiverCancelled, ReplyAhead, Stopped, Unheard}
 
@@ -22,11 +22,13 @@ verdict_text NobodyAsked =
     codes "no receiver asked for a file: start one, and see that its line is connected"
 verdict_text NobodyAnswered = codes "the receiver asked and no frame came: start the sender"
 verdict_text FlowControl =
-    codes "frames came short, and no 11 or 13 in them: turn XON/XOFF off at both ends and between them"
+    codes "frames came short, and no 11 or 13 in them: "
+    ++ codes "turn XON/XOFF off at both ends and between them"
 verdict_text SubEaten =
     codes "frames came short, and no 1A in them: set the line to raw, so that it carries every byte"
 verdict_text EatenBytes =
-    codes "frames came short, with no 11 and 13 and no 1A: turn flow control off and set the line to raw"
+    codes "frames came short, with no 11 and 13 and no 1A: "
+    ++ codes "turn flow control off and set the line to raw"
 verdict_text NoRoom =
     codes "block 0 had no room for the whole length: send the file under a shorter name"
 verdict_text CutLength =

@@ -213,13 +213,16 @@ impl Verdict {
             }
             Verdict::NobodyAnswered => "the receiver asked and no frame came: start the sender",
             Verdict::FlowControl => {
-                "frames came short, and no 11 or 13 in them: turn XON/XOFF off at both ends and between them"
+                "frames came short, and no 11 or 13 in them: \
+                turn XON/XOFF off at both ends and between them"
             }
             Verdict::SubEaten => {
-                "frames came short, and no 1A in them: set the line to raw, so that it carries every byte"
+                "frames came short, and no 1A in them: \
+                set the line to raw, so that it carries every byte"
             }
             Verdict::EatenBytes => {
-                "frames came short, with no 11 and 13 and no 1A: turn flow control off and set the line to raw"
+                "frames came short, with no 11 and 13 and no 1A: \
+                turn flow control off and set the line to raw"
             }
             Verdict::NoRoom => {
                 "block 0 had no room for the whole length: send the file under a shorter name"
@@ -241,7 +244,8 @@ impl Verdict {
                 "the receiver acknowledged what was not sent yet: start both ends again"
             }
             Verdict::Stopped => {
-                "the session stopped before its end: see whether the line was cut or an end was closed"
+                "the session stopped before its end: \
+                see whether the line was cut or an end was closed"
             }
             Verdict::Unheard => {
                 "nothing wrong is seen one way: record both ways to see what was answered"

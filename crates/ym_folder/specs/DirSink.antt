@@ -55,9 +55,9 @@ abbrev pub IsSafe : Leftover → List ℕ → Type 0
 IsSafe Refused name = Unit {0}
 IsSafe Discarded name = ¬ EndsInPart name
 
--- Nothing is overwritten: each file that was there, but for the part that is open, is there with the
--- bytes that it had, and is not the part that is open then. Where parts of earlier runs are to be
--- removed, that is said of names that do not end in `.part`.
+-- Nothing is overwritten: each file that was there, but for the part that is open, is there with
+-- the bytes that it had, and is not the part that is open then. Where parts of earlier runs are to
+-- be removed, that is said of names that do not end in `.part`.
 pub record Keeps (old new : DirSinkParts) : Type 0 where
   pub leftover : new.leftover ≡ old.leftover
   pub kept : (name bytes : List ℕ) → ¬ IsOwn old name → IsSafe old.leftover name →
@@ -76,8 +76,8 @@ pub record Adds (old new : DirSinkParts) : Type 0 where
       (stands old name ≡ Some bytes) ⊎ EndsInPart name ⊎ IsWhole old name bytes
       ⊎ ((has_links old.folder ≡ false) × (bytes ≡ []))
 
--- the file of this name has all bytes that were put, and its part has gone, or the folder refused to
--- remove it
+-- the file of this name has all bytes that were put, and its part has gone, or the folder refused
+-- to remove it
 pub record IsStored (old new : DirSinkParts) : Type 0 where
   pub whole : (bytes : List ℕ) → put old ≡ Some bytes →
       IfSome old.opened (λ header. stands new header.name ≡ Some bytes)

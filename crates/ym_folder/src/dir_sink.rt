@@ -13,7 +13,7 @@ ghost use Rattle.ym_folder.specs.WriteBehind.{GrowsByFront};
 use crate::folder::Folder;
 use crate::open_part::{self, OpenPart, Standing};
 use crate::part::{make_part, places, remove_part, replace_part};
-use crate::place::Place;
+use crate::place::FilePlace;
 use crate::write_behind::WriteBehind;
 use std::alloc::{AllocError, Global};
 use std::io;
@@ -100,7 +100,7 @@ impl<D: Folder + Drop> Model for DirSink<D> {
 }
 
 /// Refuses a place at which something stands. What cannot be told counts as something.
-fn check_free<D: Folder>(folder: &D, at: &Place) -> Result<(), StoreFault> {
+fn check_free<D: Folder>(folder: &D, at: &FilePlace) -> Result<(), StoreFault> {
     match folder.is_regular(at) {
         Ok(_) => Err(StoreFault::IsThere),
         Err(error) if error.kind() == ErrorKind::NotFound => Ok(()),
@@ -108,8 +108,8 @@ fn check_free<D: Folder>(folder: &D, at: &Place) -> Result<(), StoreFault> {
     }
 }
 
-/// Whether a part of this name may be removed: where that is wanted, and none of the files that were
-/// stored has the name.
+/// Whether a part of this name may be removed: where that is wanted, and none of the files that
+/// were stored has the name.
 fn may_discard(leftover: Leftover, stored: &[Header], part_name: &str) -> bool
     ensures asked { result ≡ true → leftover ≡ Leftover.Discarded }
     ensures not_stored { result ≡ true →
@@ -122,7 +122,7 @@ fn may_discard(leftover: Leftover, stored: &[Header], part_name: &str) -> bool
 /// is wanted; and tells whether one was.
 fn open_part<D: Folder>(
     folder: &mut D,
-    part: &Place,
+    part: &FilePlace,
     leftover: Leftover,
     stored: &[Header],
 ) -> io::Result<(D::File, bool)>

@@ -6,7 +6,7 @@ ghost use Rattle.ym_folder.specs.Folder.{Linked, Renamed, Removed, TellsNoLinks}
 ghost use Rattle.ym_folder.specs.Folder.{has_links, has_refused};
 ghost use Rattle.ym_folder.specs.FilePlace.{name_of};
 
-use crate::place::Place;
+use crate::place::FilePlace;
 use std::io;
 
 /// A folder of files, as a system has it. What a look at it tells may be out of date when it is
@@ -22,10 +22,10 @@ pub trait Folder {
     ghost is_of: { Self.File → List ℕ → Type 0 };
 
     /// Whether what stands at this place is a regular file. A link there is none.
-    fn is_regular(&self, at: &Place) -> io::Result<bool>;
+    fn is_regular(&self, at: &FilePlace) -> io::Result<bool>;
 
     /// Opens what stands at this place, to be written.
-    fn open(&self, at: &Place) -> io::Result<Self::File>
+    fn open(&self, at: &FilePlace) -> io::Result<Self::File>
         ensures { IfOk result (λ file. is_of file (name_of at.now)) };
 
     /// Opens the folder itself, which is at this path, to be forced out to the disk.
@@ -35,13 +35,13 @@ pub trait Folder {
     fn lock(&self, file: &Self::File) -> io::Result<()>;
 
     /// Whether this file is what stands at the place. What cannot be told counts as another file.
-    fn stands_at(&self, file: &Self::File, at: &Place) -> bool;
+    fn stands_at(&self, file: &Self::File, at: &FilePlace) -> bool;
 
     /// Forces out to the disk what was written into a file, or what was done in the folder.
     fn sync(&self, file: &Self::File) -> io::Result<()>;
 
     /// Makes a file of no bytes, where nothing stands at the place.
-    fn create_new(&mut self, at: &Place) -> io::Result<Self::File>
+    fn create_new(&mut self, at: &FilePlace) -> io::Result<Self::File>
         ensures of { IfOk result (λ file. is_of file (name_of at.now)) }
         ensures made { OnOk result (Made (name_of at.now) (seen self.old) (seen self.new)) }
         ensures refused { OnErr result (AllStay (seen self.old) (seen self.new)) }
@@ -49,7 +49,7 @@ pub trait Folder {
 
     /// Puts bytes behind those of a file that was made at this place. Where that fails a front of
     /// them may have been put.
-    fn append(&mut self, file: &mut Self::File, at: &Place, bytes: &[u8]) -> io::Result<()>
+    fn append(&mut self, file: &mut Self::File, at: &FilePlace, bytes: &[u8]) -> io::Result<()>
         requires { is_of file.old (name_of at.now) }
         ensures of { is_of file.new (name_of at.now) }
         ensures grown { OnOk result
@@ -59,7 +59,7 @@ pub trait Folder {
         ensures calm { has_refused (seen self.new) ≡ has_refused (seen self.old) };
 
     /// Gives a file one more name, where nothing stands there.
-    fn link(&mut self, from: &Place, to: &Place) -> io::Result<()>
+    fn link(&mut self, from: &FilePlace, to: &FilePlace) -> io::Result<()>
         ensures linked { OnOk result
             (Linked (name_of from.now) (name_of to.now) (seen self.old) (seen self.new)) }
         ensures refused { OnErr result (AllStay (seen self.old) (seen self.new)) }
@@ -68,14 +68,14 @@ pub trait Folder {
         ensures calm { has_refused (seen self.new) ≡ has_refused (seen self.old) };
 
     /// Gives a file another name in place of its own, whatever stands there.
-    fn rename(&mut self, from: &Place, to: &Place) -> io::Result<()>
+    fn rename(&mut self, from: &FilePlace, to: &FilePlace) -> io::Result<()>
         ensures renamed { OnOk result
             (Renamed (name_of from.now) (name_of to.now) (seen self.old) (seen self.new)) }
         ensures refused { OnErr result (AllStay (seen self.old) (seen self.new)) }
         ensures calm { has_refused (seen self.new) ≡ has_refused (seen self.old) };
 
     /// Takes a name away.
-    fn remove(&mut self, at: &Place) -> io::Result<()>
+    fn remove(&mut self, at: &FilePlace) -> io::Result<()>
         ensures removed { OnOk result (Removed (name_of at.now) (seen self.old) (seen self.new)) }
         ensures calm { OnOk result
             (has_refused (seen self.new) ≡ has_refused (seen self.old)) }

@@ -14,5 +14,5 @@ mod write_behind;
 pub use dir_sink::{DirSink, Durability, Leftover, StoreFault};
 pub use folder::Folder;
 pub use part::part_name;
-pub use place::Place;
+pub use place::FilePlace;
 pub use probe::check_folder;

@@ -12,7 +12,7 @@ ghost use Rattle.ym_folder.specs.WriteBehind.{put_so_far, GrowsByFront};
 use crate::dir_sink::Durability;
 use crate::folder::Folder;
 use crate::part::give_name;
-use crate::place::Place;
+use crate::place::FilePlace;
 use crate::write_behind::WriteBehind;
 use std::io;
 use std::io::ErrorKind;
@@ -35,9 +35,9 @@ pub(crate) struct OpenPart<F: Drop> {
     pub(crate) header: Header,
     pub(crate) file: F,
     /// Where NAME.part stands.
-    pub(crate) part: Place,
+    pub(crate) part: FilePlace,
     /// Where NAME is to stand.
-    pub(crate) target: Place,
+    pub(crate) target: FilePlace,
     pub(crate) taken: u64,
     pub(crate) standing: Standing,
     /// A part of an earlier run was removed for it.
@@ -73,7 +73,8 @@ pub(crate) fn put<D: Folder>(
     ensures untouched { opened.old.standing ≢ Standing.Sound →
         D.seen folder.new ≡ D.seen folder.old }
     ensures stays { opened.old.standing ≡ Standing.Named → opened.new.standing ≡ Standing.Named }
-    ensures not_named { opened.new.standing ≡ Standing.Named → opened.old.standing ≡ Standing.Named }
+    ensures not_named { opened.new.standing ≡ Standing.Named →
+        opened.old.standing ≡ Standing.Named }
     ensures all { OnOk result
         (put_so_far (under (D.seen folder.new) (name_of opened.old.part)) behind.new
         ≡ append_known (put_so_far (under (D.seen folder.old) (name_of opened.old.part)) behind.old)
@@ -105,7 +106,8 @@ fn write_out<D: Folder>(
     ensures untouched { opened.old.standing ≢ Standing.Sound →
         D.seen folder.new ≡ D.seen folder.old }
     ensures stays { opened.old.standing ≡ Standing.Named → opened.new.standing ≡ Standing.Named }
-    ensures not_named { opened.new.standing ≡ Standing.Named → opened.old.standing ≡ Standing.Named }
+    ensures not_named { opened.new.standing ≡ Standing.Named →
+        opened.old.standing ≡ Standing.Named }
     ensures written { OnOk result (under (D.seen folder.new) (name_of opened.old.part)
         ≡ put_so_far (under (D.seen folder.old) (name_of opened.old.part)) behind.old) }
 {

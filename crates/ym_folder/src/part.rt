@@ -8,7 +8,7 @@ ghost use Rattle.ym_folder.specs.Part.{IsPartName, MayAdd, NameGiven, NameNotGiv
 ghost use Rattle.ym_folder.specs.FilePlace.{name_of};
 
 use crate::folder::Folder;
-use crate::place::Place;
+use crate::place::FilePlace;
 use std::alloc::{AllocError, Global};
 use std::io;
 use std::io::ErrorKind;
@@ -31,18 +31,22 @@ pub fn part_name(alloc: Global, name: &str) -> Result<String, AllocError>
 }
 
 /// The place of the part of a file of this name in a folder, and the place of the file.
-pub(crate) fn places(alloc: Global, dir: &str, name: &str) -> Result<(Place, Place), AllocError>
+pub(crate) fn places(
+    alloc: Global,
+    dir: &str,
+    name: &str,
+) -> Result<(FilePlace, FilePlace), AllocError>
     ensures part { IfOk result (λ made. IsPartName name.now (name_of made.0)) }
     ensures target { IfOk result (λ made. name_of made.1 ≡ name.now) }
 {
-    let part = Place::new(alloc, dir, part_name(alloc, name)?.as_str())?;
-    let target = Place::new(alloc, dir, name)?;
+    let part = FilePlace::new(alloc, dir, part_name(alloc, name)?.as_str())?;
+    let target = FilePlace::new(alloc, dir, name)?;
     Ok((part, target))
 }
 
 /// Locks a file that was opened at this place, against every other program that does, and sees that
 /// it still stands there: between its opening and its lock somebody may have removed it.
-fn hold<D: Folder>(folder: &D, file: &D::File, at: &Place) -> io::Result<()> {
+fn hold<D: Folder>(folder: &D, file: &D::File, at: &FilePlace) -> io::Result<()> {
     folder.lock(file)?;
     if folder.stands_at(file, at) {
         Ok(())
@@ -52,7 +56,11 @@ fn hold<D: Folder>(folder: &D, file: &D::File, at: &Place) -> io::Result<()> {
 }
 
 /// Removes a part that is open, where it still stands at its place.
-pub(crate) fn remove_part<D: Folder>(folder: &mut D, file: &D::File, part: &Place) -> io::Result<()>
+pub(crate) fn remove_part<D: Folder>(
+    folder: &mut D,
+    file: &D::File,
+    part: &FilePlace,
+) -> io::Result<()>
     ensures removed { OnOk result
         (Removed (name_of part.now) (D.seen folder.old) (D.seen folder.new)) }
     ensures kept { OnErr result (AllStay (D.seen folder.old) (D.seen folder.new)) }
@@ -64,7 +72,7 @@ pub(crate) fn remove_part<D: Folder>(folder: &mut D, file: &D::File, part: &Plac
 }
 
 /// Lets go of a part that was made and could not be locked. Who has it locked removes it.
-fn let_go<D: Folder>(folder: &mut D, file: &D::File, part: &Place, why: &io::Error)
+fn let_go<D: Folder>(folder: &mut D, file: &D::File, part: &FilePlace, why: &io::Error)
     ensures { OthersStay (name_of part.now) (D.seen folder.old) (D.seen folder.new) }
 {
     if why.kind() != ErrorKind::WouldBlock {
@@ -74,7 +82,7 @@ fn let_go<D: Folder>(folder: &mut D, file: &D::File, part: &Place, why: &io::Err
 
 /// Makes a part new, and locks it for as long as it is open. Where it cannot be locked, none is
 /// left.
-pub(crate) fn make_part<D: Folder>(folder: &mut D, part: &Place) -> io::Result<D::File>
+pub(crate) fn make_part<D: Folder>(folder: &mut D, part: &FilePlace) -> io::Result<D::File>
     ensures of { IfOk result (λ file. D.is_of file (name_of part.now)) }
     ensures made { OnOk result (Made (name_of part.now) (D.seen folder.old) (D.seen folder.new)) }
     ensures left { OnErr result
@@ -90,7 +98,7 @@ pub(crate) fn make_part<D: Folder>(folder: &mut D, part: &Place) -> io::Result<D
 
 /// Removes a part that an earlier run left. What somebody has locked is being written, and what is
 /// no regular file is no part: both are refused.
-fn discard_part<D: Folder>(folder: &mut D, part: &Place) -> io::Result<()>
+fn discard_part<D: Folder>(folder: &mut D, part: &FilePlace) -> io::Result<()>
     ensures removed { OnOk result
         (Removed (name_of part.now) (D.seen folder.old) (D.seen folder.new)) }
     ensures kept { OnErr result (AllStay (D.seen folder.old) (D.seen folder.new)) }
@@ -105,7 +113,7 @@ fn discard_part<D: Folder>(folder: &mut D, part: &Place) -> io::Result<()>
 }
 
 /// Makes a part new in place of one that an earlier run left.
-pub(crate) fn replace_part<D: Folder>(folder: &mut D, part: &Place) -> io::Result<D::File>
+pub(crate) fn replace_part<D: Folder>(folder: &mut D, part: &FilePlace) -> io::Result<D::File>
     ensures of { IfOk result (λ file. D.is_of file (name_of part.now)) }
     ensures empty { OnOk result
         (under (D.seen folder.new) (name_of part.now) ≡ empty_in (D.seen folder.new)) }
@@ -117,9 +125,13 @@ pub(crate) fn replace_part<D: Folder>(folder: &mut D, part: &Place) -> io::Resul
 
 /// Gives a part the file's own name, where nothing stands there, and takes the name of the part
 /// away.
-pub(crate) fn give_name<D: Folder>(folder: &mut D, part: &Place, target: &Place) -> io::Result<()>
-    ensures named { OnOk result
-        (NameGiven (name_of part.now) (name_of target.now) (D.seen folder.old) (D.seen folder.new)) }
+pub(crate) fn give_name<D: Folder>(
+    folder: &mut D,
+    part: &FilePlace,
+    target: &FilePlace,
+) -> io::Result<()>
+    ensures named { OnOk result (NameGiven (name_of part.now) (name_of target.now)
+        (D.seen folder.old) (D.seen folder.new)) }
     ensures unnamed { OnErr result
         (NameNotGiven (name_of target.now) (D.seen folder.old) (D.seen folder.new)) }
 {
@@ -145,7 +157,7 @@ fn has_no_links(error: &io::Error) -> bool
 }
 
 /// Takes a name away again, where what was made under it still stands there.
-fn take_back<D: Folder>(folder: &mut D, made: &D::File, target: &Place)
+fn take_back<D: Folder>(folder: &mut D, made: &D::File, target: &FilePlace)
     ensures { AllStay (D.seen folder.old) (D.seen folder.new)
         ⊎ Removed (name_of target.now) (D.seen folder.old) (D.seen folder.new) }
 {
@@ -156,10 +168,14 @@ fn take_back<D: Folder>(folder: &mut D, made: &D::File, target: &Place)
 
 /// Makes the name new, as an empty file, and renames the part over it. Where the rename fails, the
 /// name is taken away again.
-fn rename_over_new<D: Folder>(folder: &mut D, part: &Place, target: &Place) -> io::Result<()>
+fn rename_over_new<D: Folder>(
+    folder: &mut D,
+    part: &FilePlace,
+    target: &FilePlace,
+) -> io::Result<()>
     requires { has_links (D.seen folder.old) ≡ false }
-    ensures named { OnOk result
-        (NameGiven (name_of part.now) (name_of target.now) (D.seen folder.old) (D.seen folder.new)) }
+    ensures named { OnOk result (NameGiven (name_of part.now) (name_of target.now)
+        (D.seen folder.old) (D.seen folder.new)) }
     ensures unnamed { OnErr result
         (NameNotGiven (name_of target.now) (D.seen folder.old) (D.seen folder.new)) }
 {

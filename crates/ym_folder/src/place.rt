@@ -9,21 +9,21 @@ use std::path::{Path, PathBuf};
 
 /// Where a file stands: its name, and the path of that in a folder.
 #[derive(Drop)]
-pub struct Place {
+pub struct FilePlace {
     name: String,
     path: PathBuf,
 }
 
-impl Place {
+impl FilePlace {
     /// The place of this name in the folder at this path.
-    pub fn new(alloc: Global, dir: &str, name: &str) -> Result<Place, AllocError>
+    pub fn new(alloc: Global, dir: &str, name: &str) -> Result<FilePlace, AllocError>
         ensures name { IfOk result (λ place. name_of place ≡ name.now) }
         ensures path { IfOk result (λ place.
             path_buf_bytes place.path ≡ path_join dir.now name.now) }
     {
         let path = Path::new(dir).join(alloc, name)?;
         let name = String::from_str(alloc, name)?;
-        Ok(Place { name, path })
+        Ok(FilePlace { name, path })
     }
 
     /// Its name.

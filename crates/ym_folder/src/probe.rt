@@ -5,7 +5,7 @@ ghost use Rattle.ym_folder.specs.Folder.{AllStay};
 ghost use Rattle.ym_folder.specs.Part.{MayAdd};
 
 use crate::folder::Folder;
-use crate::place::Place;
+use crate::place::FilePlace;
 use std::alloc::Global;
 use std::io;
 use std::io::ErrorKind;
@@ -18,7 +18,7 @@ pub fn check_folder<D: Folder>(folder: &mut D, alloc: Global, dir: &str) -> io::
     ensures nothing_left { OnOk result (AllStay (D.seen folder.old) (D.seen folder.new)) }
     ensures nothing_lost { MayAdd (codes ".ymodem.part") (D.seen folder.old) (D.seen folder.new) }
 {
-    let probe = Place::new(alloc, dir, PROBE)?;
+    let probe = FilePlace::new(alloc, dir, PROBE)?;
     match folder.create_new(&probe) {
         Ok(_) => folder.remove(&probe),
         // Another receiver is looking at this moment.

@@ -7,7 +7,7 @@ ghost use Rattle.ym_folder.specs.FilePlace.{name_of};
 ghost use Rattle.ym_folder.specs.WriteBehind.{put_so_far, GrowsByFront};
 
 use crate::folder::Folder;
-use crate::place::Place;
+use crate::place::FilePlace;
 use std::alloc::{AllocError, Global};
 use std::io;
 use std::marker::Model;
@@ -30,7 +30,12 @@ impl Model for WriteBehind {
 }
 
 /// Puts bytes behind those of a file at this place.
-fn append<D: Folder>(folder: &mut D, file: &mut D::File, at: &Place, bytes: &[u8]) -> io::Result<()>
+fn append<D: Folder>(
+    folder: &mut D,
+    file: &mut D::File,
+    at: &FilePlace,
+    bytes: &[u8],
+) -> io::Result<()>
     requires { D.is_of file.old (name_of at.now) }
     ensures of { D.is_of file.new (name_of at.now) }
     ensures others { OthersStay (name_of at.now) (D.seen folder.old) (D.seen folder.new) }
@@ -64,7 +69,7 @@ impl WriteBehind {
         &mut self,
         folder: &mut D,
         file: &mut D::File,
-        at: &Place,
+        at: &FilePlace,
     ) -> io::Result<()>
         requires { D.is_of file.old (name_of at.now) }
         ensures of { D.is_of file.new (name_of at.now) }
@@ -86,7 +91,7 @@ impl WriteBehind {
         &mut self,
         folder: &mut D,
         file: &mut D::File,
-        at: &Place,
+        at: &FilePlace,
         bytes: &[u8],
     ) -> io::Result<()>
         requires { D.is_of file.old (name_of at.now) }

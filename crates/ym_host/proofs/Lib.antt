@@ -1,1 +1,2 @@
+pub mod FolderWords
 mod StandsInLemmas

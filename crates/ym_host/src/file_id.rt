@@ -6,7 +6,8 @@ use std::os::unix::fs::MetadataExt;
 use std::path::AsPath;
 use std::{fs, io};
 
-/// Which file of the system it is: the same device and the same inode mean the same file, under whatever names.
+/// Which file of the system it is: the same device and the same inode mean the same file, under
+/// whatever names.
 #[derive(Clone, Copy, PartialEq, Eq)]
 pub(crate) struct FileId {
     device: u64,
@@ -23,8 +24,8 @@ impl FileId {
     }
 }
 
-/// Whether this open file is what stands at the path. A link there is a file of its own, wherever it leads. What cannot be told counts as another
-/// file.
+/// Whether this open file is what stands at the path. A link there is a file of its own, wherever
+/// it leads. What cannot be told counts as another file.
 pub(crate) fn stands_at<R: Files, P: AsPath>(rt: &R, file: &File, path: P) -> bool {
     match (file.metadata(), fs::symlink_metadata(rt, path)) {
         (Ok(opened), Ok(there)) => FileId::of(&opened) == FileId::of(&there),

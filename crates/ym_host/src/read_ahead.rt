@@ -47,8 +47,8 @@ impl<F: ReadAt + Drop> ReadAhead<F> {
         }
     }
 
-    /// Reads the bytes from place `at` on of a file of this length: from those that were read ahead,
-    /// after more were where some are missing there.
+    /// Reads the bytes from place `at` on of a file of this length: from those that were read
+    /// ahead, after more were where some are missing there.
     pub(crate) fn read(&mut self, size: u64, at: u64, into: &mut [u8]) -> io::Result<()>
         requires { at + length into.old ≤ size }
         ensures told { self.new.told ≡ self.old.told }
@@ -69,7 +69,8 @@ impl<F: ReadAt + Drop> ReadAhead<F> {
     /// them. Otherwise it copies none.
     fn copy(&self, at: u64, into: &mut [u8]) -> bool
         ensures holds { IsTrue result ↔
-            ((self.now.start ≤ at) × (at + length into.old ≤ self.now.start + length self.now.bytes)) }
+            ((self.now.start ≤ at)
+            × (at + length into.old ≤ self.now.start + length self.now.bytes)) }
         ensures bytes { result ≡ true → StandsIn into.new at self.now.told }
     {
         if at < self.start {

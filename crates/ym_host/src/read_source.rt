@@ -49,7 +49,12 @@ impl<O: Opens + Drop> Model for ReadSource<O> {
 
     ghost Value = { ReadSourceParts };
 
-    ghost view = { λ s. record { size = O.size s.opens; told = O.bytes s.opens; failures = s.failed; fills = s.fills } };
+    ghost view = { λ s. record {
+      size = O.size s.opens;
+      told = O.bytes s.opens;
+      failures = s.failed;
+      fills = s.fills;
+    } };
 
     ghost invariant = { λ s. IfSome s.reading (λ r. r.told ≡ O.bytes s.opens) };
 }

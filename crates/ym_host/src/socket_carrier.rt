@@ -15,8 +15,9 @@ use ym_link::DELIVERY_LIMIT;
 /// How many seconds a delivery may take from one end of the connection to the other.
 const WAIT_SECONDS: u64 = 10;
 
-/// A carrier over the two ends of one TCP connection: what is written at one end is read at the other, and compared with what was handed
-/// over. It tells no deliveries. After a device fault every later carry is one: what is still under way would be taken for its bytes.
+/// A carrier over the two ends of one TCP connection: what is written at one end is read at the
+/// other, and compared with what was handed over. It tells no deliveries. After a device fault
+/// every later carry is one: what is still under way would be taken for its bytes.
 #[derive(Drop)]
 pub struct SocketCarrier {
     near: TcpStream,
@@ -50,7 +51,8 @@ fn pass(from: &mut TcpStream, to: &mut TcpStream, bytes: &[u8], into: &mut [u8])
 }
 
 impl SocketCarrier {
-    /// A carrier over a connection: what goes there is written to `near` and read from `far`, and what goes back the other way round.
+    /// A carrier over a connection: what goes there is written to `near` and read from `far`, and
+    /// what goes back the other way round.
     pub fn new(near: TcpStream, far: TcpStream) -> SocketCarrier
         ensures { result ≡ 0 }
     {

@@ -21,8 +21,8 @@ const WRITE_MS: u64 = 10_000;
 
 /// A TCP connection with a clock. Nobody knows what it tells. Where bytes have been coming for ten
 /// of its end's first waits with no pause as long as a wait, and nothing was written, it counts as
-/// quiet once: a peer that sends one byte after another holds nothing for longer. A write that makes
-/// no headway for ten seconds fails.
+/// quiet once: a peer that sends one byte after another holds nothing for longer. A write that
+/// makes no headway for ten seconds fails.
 #[derive(Drop)]
 pub struct SocketWire<R: Clock + Drop> {
     clock: R,
@@ -87,7 +87,8 @@ impl<R: Clock + Drop> SocketWire<R> {
         }
     }
 
-    /// Sets how long reads wait, where that changes: a millisecond at least, since none is no limit.
+    /// Sets how long reads wait, where that changes: a millisecond at least, since none is no
+    /// limit.
     fn set_wait(&mut self, millis: u64) -> io::Result<()>
         ensures { self.new ≡ self.old }
     {

@@ -6,7 +6,7 @@ use crate::file_id::stands_at;
 use std::fs::{File, Files};
 use std::io::Write;
 use std::{fs, io};
-use ym_folder::{Folder, Place};
+use ym_folder::{FilePlace, Folder};
 
 /// The folders of the system. Nobody knows what stands in them.
 #[derive(Drop)]
@@ -28,11 +28,11 @@ impl<R: Files<File = File> + Drop> Folder for SystemFolder<R> {
 
     ghost is_of = { λ _ _. Unit {0} };
 
-    fn is_regular(&self, at: &Place) -> io::Result<bool> {
+    fn is_regular(&self, at: &FilePlace) -> io::Result<bool> {
         Ok(fs::symlink_metadata(&self.rt, at.path())?.is_file())
     }
 
-    fn open(&self, at: &Place) -> io::Result<File> {
+    fn open(&self, at: &FilePlace) -> io::Result<File> {
         File::options()
             .read(true)
             .write(true)
@@ -49,7 +49,7 @@ impl<R: Files<File = File> + Drop> Folder for SystemFolder<R> {
         Ok(())
     }
 
-    fn stands_at(&self, file: &File, at: &Place) -> bool {
+    fn stands_at(&self, file: &File, at: &FilePlace) -> bool {
         stands_at(&self.rt, file, at.path())
     }
 
@@ -57,28 +57,28 @@ impl<R: Files<File = File> + Drop> Folder for SystemFolder<R> {
         file.sync_all()
     }
 
-    #[tactic(auto, unfolding(ym_folder::specs::Folder::under, ym_folder::specs::Folder::empty_in, ym_folder::specs::Folder::has_links))]
-    fn create_new(&mut self, at: &Place) -> io::Result<File> {
+    #[tactic(auto, unfolding(crate::proofs::FolderWords::folder_words))]
+    fn create_new(&mut self, at: &FilePlace) -> io::Result<File> {
         File::create_new(&self.rt, at.path())
     }
 
-    #[tactic(auto, unfolding(ym_folder::specs::Folder::under, ym_folder::specs::Folder::has_links))]
-    fn append(&mut self, file: &mut File, _at: &Place, bytes: &[u8]) -> io::Result<()> {
+    #[tactic(auto, unfolding(crate::proofs::FolderWords::folder_words))]
+    fn append(&mut self, file: &mut File, _at: &FilePlace, bytes: &[u8]) -> io::Result<()> {
         file.write_all(bytes)
     }
 
-    #[tactic(auto, unfolding(ym_folder::specs::Folder::under, ym_folder::specs::Folder::has_links))]
-    fn link(&mut self, from: &Place, to: &Place) -> io::Result<()> {
+    #[tactic(auto, unfolding(crate::proofs::FolderWords::folder_words))]
+    fn link(&mut self, from: &FilePlace, to: &FilePlace) -> io::Result<()> {
         fs::hard_link(&self.rt, from.path(), to.path())
     }
 
-    #[tactic(auto, unfolding(ym_folder::specs::Folder::under, ym_folder::specs::Folder::has_links))]
-    fn rename(&mut self, from: &Place, to: &Place) -> io::Result<()> {
+    #[tactic(auto, unfolding(crate::proofs::FolderWords::folder_words))]
+    fn rename(&mut self, from: &FilePlace, to: &FilePlace) -> io::Result<()> {
         fs::rename(&self.rt, from.path(), to.path())
     }
 
-    #[tactic(auto, unfolding(ym_folder::specs::Folder::under, ym_folder::specs::Folder::has_links, ym_folder::specs::Folder::has_refused))]
-    fn remove(&mut self, at: &Place) -> io::Result<()> {
+    #[tactic(auto, unfolding(crate::proofs::FolderWords::folder_words))]
+    fn remove(&mut self, at: &FilePlace) -> io::Result<()> {
         fs::remove_file(&self.rt, at.path())
     }
 }

@@ -9,9 +9,9 @@ use Rattle.ym_capture.specs.declared.connection.Connection.{Connection}
 use Rattle.ym_capture.specs.declared.fault.CaptureFault.{CaptureFault}
 use Rattle.ym_capture.specs.declared.fault.CaptureFault.TheVariants.{Cut, Long}
 use Rattle.ym_capture.specs.declared.head.Form.{Form}
-use Rattle.ym_capture.specs.declared.head.Kind.{Kind}
-use Rattle.ym_capture.specs.declared.head.Kind.TheVariants as kinds
-use Rattle.ym_capture.specs.declared.head.Order.{Order}
+use Rattle.ym_capture.specs.declared.head.CaptureKind.{CaptureKind}
+use Rattle.ym_capture.specs.declared.head.CaptureKind.TheVariants as kinds
+use Rattle.ym_capture.specs.declared.head.ByteOrder.{ByteOrder}
 use Rattle.ym_capture.specs.declared.head.TheConstants.{HEAD, PACKET_HEAD, MOST_PACKET}
 use Rattle.ym_capture.specs.declared.head.Part.{Part}
 use Rattle.ym_explain.specs.declared.verdict.Verdict.{Verdict}
@@ -83,7 +83,7 @@ packet_told old new count out after behind there stated ok tells at_is held_is =
 
 -- where the rest of what was read, and more, is wrong
 stops :
-    (turned : Bool) (order : Order) (part : Part) (text more rest : List ℕ) (before : Option (List ℕ)) (now : Underway) (out : Option (List ℕ)) (why : CaptureFault)
+    (turned : Bool) (order : ByteOrder) (part : Part) (text more rest : List ℕ) (before : Option (List ℕ)) (now : Underway) (out : Option (List ℕ)) (why : CaptureFault)
     → PacketsTold turned order part text before now out → rest ≡ now.held ++ more → IsWrong now.at rest why → Stops turned order part (text ++ more) now.at.place why
 stops turned order part text more rest before now out why so e wrong = at_packet turned order part (text ++ more) now.at.place why (record {
   front = so.front;
@@ -148,7 +148,7 @@ ends_cut now out found unfinished some is = λ turned order part text before so.
 -- ---- What is no fault of a packet
 
 pub no_packet :
-    (turned : Bool) (order : Order) (part : Part) (found : InspectFault) (text : List ℕ) → ((place : ℕ) (why : CaptureFault) → found ≢ fault.Packet place why)
+    (turned : Bool) (order : ByteOrder) (part : Part) (found : InspectFault) (text : List ℕ) → ((place : ℕ) (why : CaptureFault) → found ≢ fault.Packet place why)
     → SaysPlace turned order part found text
 no_packet turned order part (fault.Packet place why) text never = absurd (never place why refl)
 no_packet turned order part fault.Pcapng text never = tt
@@ -280,7 +280,7 @@ head_is_whole front text first there =
 
 -- a capture is written so, and none of its packets was read
 pub first_packets :
-    (turned : Bool) (order : Order) (part : Part) (front text : List ℕ) (form : Form) (before : Option (List ℕ)) (now : Underway)
+    (turned : Bool) (order : ByteOrder) (part : Part) (front text : List ℕ) (form : Form) (before : Option (List ℕ)) (now : Underway)
     → now ≡ record { at = at_first form turned; held = []; parts = nothing_held } → front ≡ take HEAD text → HEAD ≤ length front → form_of order part front ≡ Ok form
     → PacketsTold turned order part front before now before
 first_packets turned order part front text form before now is first there ok =
@@ -293,14 +293,14 @@ first_packets turned order part front text form before now is first there ok =
     })
 
 -- it ends in its head
-pub head_cut : (turned : Bool) (order : Order) (part : Part) (front text : List ℕ) → front ≡ take HEAD text → length front < HEAD → Stops turned order part text 0 Cut
+pub head_cut : (turned : Bool) (order : ByteOrder) (part : Part) (front text : List ℕ) → front ≡ take HEAD text → length front < HEAD → Stops turned order part text 0 Cut
 head_cut turned order part front text first short =
     let e : length front ≡ min HEAD (length text) = ap (λ (xs : List ℕ). length xs) first ∙ length-take HEAD text in
     at_head turned order part text (omega (arith, e, short))
 
 -- it is of a link that is not read
 pub head_wrong :
-    (turned : Bool) (order : Order) (part : Part) (front text : List ℕ) (left : Option (List ℕ)) (why : CaptureFault) → Begins front text left → HEAD ≤ length front
+    (turned : Bool) (order : ByteOrder) (part : Part) (front text : List ℕ) (left : Option (List ℕ)) (why : CaptureFault) → Begins front text left → HEAD ≤ length front
     → form_of order part front ≡ Err why → Stops turned order part text 0 why
 head_wrong turned order part front text left why b there wrong =
     subst (λ (t : List ℕ). Stops turned order part t 0 why) (sym b.split)
@@ -356,7 +356,7 @@ tail_is m xs =
 
 -- nothing that a file has is wrong
 pub no_fault_of :
-    (kind : Kind) (turned : Bool) (found : InspectFault) (text : List ℕ) → ((number : ℕ) (why : RecordFault) → found ≢ fault.Line number why)
+    (kind : CaptureKind) (turned : Bool) (found : InspectFault) (text : List ℕ) → ((number : ℕ) (why : RecordFault) → found ≢ fault.Line number why)
     → ((place : ℕ) (why : CaptureFault) → found ≢ fault.Packet place why) → FaultOfKind kind turned found text
 no_fault_of (kinds.Pcap order part) turned found text no_line never = no_packet turned order part found text never
 no_fault_of kinds.Pcapng turned found text no_line never = tt

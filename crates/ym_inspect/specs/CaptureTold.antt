@@ -8,10 +8,10 @@ use Rattle.ym_explain.specs.declared.verdict.Verdict.{Verdict}
 use Rattle.ym_explain.specs.declared.verdict.Ways.{Ways}
 use Rattle.ym_explain.specs.declared.verdict.Ways.TheVariants as ways
 use Rattle.ym_told.specs.RunText.{end_words}
-use Rattle.ym_told.specs.declared.front.Front.{Front}
+use Rattle.ym_told.specs.declared.front.HeldFront.{HeldFront}
 use Rattle.ym_told.specs.declared.front.Settle.{Settle}
 use Rattle.ym_told.specs.declared.front.Settle.TheVariants.{All}
-use Rattle.ym_told.specs.declared.moment.Moment.{Moment}
+use Rattle.ym_told.specs.declared.moment.CaptureMoment.{CaptureMoment}
 use Rattle.ym_told.specs.declared.way.Direction.{Direction}
 use Rattle.ym_told.specs.declared.way.Direction.TheVariants as way
 use Rattle.ym_inspect.specs.EndWords.{parting_words}
@@ -33,9 +33,9 @@ at_moment at way.Back now = record at {
   last_back = Some now;
 }
 
--- What was read so far, byte by byte with its way, and what was told of it: bytes come and are held,
--- moments pass, and what stands at the front of a way is told, where that is sure, and let go.
--- Nothing else is written, and nothing else becomes of what came.
+-- What was read so far, byte by byte with its way, and what was told of it: bytes come and are
+-- held, moments pass, and what stands at the front of a way is told, where that is sure, and let
+-- go. Nothing else is written, and nothing else becomes of what came.
 pub data Tells :
     Parts → Option (List ℕ) → List (Direction × ℕ) → Parts → Option (List ℕ) → Type 0 where
   nothing : (at : Parts) (out : Option (List ℕ)) → Tells at out [] at out
@@ -51,7 +51,7 @@ pub data Tells :
       → Tells old before read (at_moment mid way now) between
   told :
       (old : Parts) (before : Option (List ℕ)) (read : List (Direction × ℕ)) (mid : Parts)
-      (between : Option (List ℕ)) (way : Direction) (settle : Settle) (front : Front)
+      (between : Option (List ℕ)) (way : Direction) (settle : Settle) (front : HeldFront)
       (new : Parts) (after : Option (List ℕ))
       → Tells old before read mid between
       → IsFront mid way settle (Some front)
@@ -65,7 +65,7 @@ pub record TellsAll (old : Parts) (before : Option (List ℕ)) (way : Direction)
   pub sure : IsFront new way settle None
 
 -- where the two ends parted is told where both ways are known
-abbrev pub parting_told : Ways → Option Moment → Option Moment
+abbrev pub parting_told : Ways → Option CaptureMoment → Option CaptureMoment
 parting_told ways.Both at = at
 parting_told ways.There at = None
 parting_told ways.Back at = None

@@ -8,9 +8,9 @@ use Rattle.ym_told.specs.Announcing.{IsAnnounced}
 use Rattle.ym_told.specs.TellFront.{front_there, front_back, used_by}
 use Rattle.ym_told.specs.RunText.{is_in_text}
 use Rattle.ym_told.specs.Scenes.{first_scene, scene_words, scene_behind}
-use Rattle.ym_told.specs.declared.front.Front.{Front}
+use Rattle.ym_told.specs.declared.front.HeldFront.{HeldFront}
 use Rattle.ym_told.specs.declared.front.Settle.{Settle}
-use Rattle.ym_told.specs.declared.moment.Moment.{Moment}
+use Rattle.ym_told.specs.declared.moment.CaptureMoment.{CaptureMoment}
 use Rattle.ym_told.specs.declared.scene.Scene.{Scene}
 use Rattle.ym_told.specs.declared.stated.Announced.{Announced}
 use Rattle.ym_told.specs.declared.way.Direction.{Direction}
@@ -23,7 +23,7 @@ pub record Parts : Type 0 where
   pub scene : Scene
   pub last_there : Option ℕ
   pub last_back : Option ℕ
-  pub parted_at : Option Moment
+  pub parted_at : Option CaptureMoment
 
 abbrev pub nothing_held : Parts
 nothing_held = record {
@@ -52,7 +52,7 @@ with_piece at way.There piece = record at {
 with_piece at way.Back piece = record at { back = at.back ++ piece }
 
 -- what stands at the front of a way, where that is sure
-abbrev pub IsFront : Parts → Direction → Settle → Option Front → Type 0
+abbrev pub IsFront : Parts → Direction → Settle → Option HeldFront → Type 0
 IsFront at way.There settle front =
     (told : Option SentTold) × IsToldSent at.scene.standing.place at.there told
     × (front ≡ front_there at.there told settle)
@@ -63,7 +63,7 @@ IsFront at way.Back settle front =
 pub record Step : Type 0 where
   pub way : Direction
   pub settle : Settle
-  pub front : Front
+  pub front : HeldFront
   pub file : Announced
 
 abbrev pub bytes_in : Parts → Step → List ℕ
@@ -74,7 +74,7 @@ without at way.There count = record at { there = drop count at.there }
 without at way.Back count = record at { back = drop count at.back }
 
 -- the first moment at which they part
-abbrev pub parting_at : Parts → Scene → Option Moment
+abbrev pub parting_at : Parts → Scene → Option CaptureMoment
 parting_at at behind =
     if behind.standing.parted && not at.scene.standing.parted
     then Some at.scene.moment
@@ -100,7 +100,7 @@ IsStep at step =
 
 -- this front is told, and let go
 abbrev pub TellsFront :
-    Parts → Direction → Front → Parts → Option (List ℕ) → Option (List ℕ) → Type 0
+    Parts → Direction → HeldFront → Parts → Option (List ℕ) → Option (List ℕ) → Type 0
 TellsFront old way front new before after =
     (file : Announced)
     × IsAnnounced front (take (used_by front) (held_of old way)) file
@@ -115,6 +115,7 @@ TellsFront old way front new before after =
 abbrev pub IsTold :
     Parts → Direction → Settle → Bool → Parts → Option (List ℕ) → Option (List ℕ) → Type 0
 IsTold old way settle true new before after =
-    (front : Front) × IsFront old way settle (Some front) × TellsFront old way front new before after
+    (front : HeldFront) × IsFront old way settle (Some front)
+    × TellsFront old way front new before after
 IsTold old way settle false new before after =
     IsFront old way settle None × (new ≡ old) × (after ≡ before)

@@ -6,9 +6,9 @@ use Rattle.ym_capture.specs.declared.connection.Connection.{Connection}
 use Rattle.ym_capture.specs.declared.fault.CaptureFault.{CaptureFault}
 use Rattle.ym_capture.specs.declared.fault.CaptureFault.TheVariants.{Cut, Long}
 use Rattle.ym_capture.specs.declared.head.Form.{Form}
-use Rattle.ym_capture.specs.declared.head.Kind.{Kind}
-use Rattle.ym_capture.specs.declared.head.Kind.TheVariants as kind
-use Rattle.ym_capture.specs.declared.head.Order.{Order}
+use Rattle.ym_capture.specs.declared.head.CaptureKind.{CaptureKind}
+use Rattle.ym_capture.specs.declared.head.CaptureKind.TheVariants as kind
+use Rattle.ym_capture.specs.declared.head.ByteOrder.{ByteOrder}
 use Rattle.ym_capture.specs.declared.head.TheConstants.{HEAD, PACKET_HEAD, MOST_PACKET}
 use Rattle.ym_capture.specs.declared.head.Part.{Part}
 use Rattle.ym_explain.specs.declared.verdict.Verdict.{Verdict}
@@ -50,13 +50,13 @@ brings at body behind = tagged (way_in behind body) (fresh_in at.connection body
 -- These bytes are the front of a capture up to the end of a packet. They bring these, each with its
 -- way.
 pub data Captured :
-    Bool → Order → Part → List ℕ → Reached → List (Direction × ℕ) → Type 0 where
+    Bool → ByteOrder → Part → List ℕ → Reached → List (Direction × ℕ) → Type 0 where
   begins :
-      (turned : Bool) (order : Order) (part : Part) (head : List ℕ) (form : Form)
+      (turned : Bool) (order : ByteOrder) (part : Part) (head : List ℕ) (form : Form)
       → length head ≡ HEAD → form_of order part head ≡ Ok form
       → Captured turned order part head (at_first form turned) []
   packet :
-      (turned : Bool) (order : Order) (part : Part) (text : List ℕ) (at : Reached)
+      (turned : Bool) (order : ByteOrder) (part : Part) (text : List ℕ) (at : Reached)
       (read : List (Direction × ℕ)) (head body : List ℕ) (behind : Connection)
       → Captured turned order part text at read
       → length head ≡ PACKET_HEAD → length body ≡ length_in at.form head
@@ -81,7 +81,7 @@ pub data IsWrong : Reached → List ℕ → CaptureFault → Type 0 where
       → IsWrong at (head ++ (body ++ more)) why
 
 -- A capture cannot be read on behind so many bytes, for this reason.
-pub record StopsAt (turned : Bool) (order : Order) (part : Part) (text : List ℕ) (place : ℕ)
+pub record StopsAt (turned : Bool) (order : ByteOrder) (part : Part) (text : List ℕ) (place : ℕ)
     (why : CaptureFault) : Type 0 where
   pub front : List ℕ
   pub rest : List ℕ
@@ -92,21 +92,21 @@ pub record StopsAt (turned : Bool) (order : Order) (part : Part) (text : List �
   pub place_is : place ≡ at.place
   pub wrong : IsWrong at rest why
 
-pub data Stops : Bool → Order → Part → List ℕ → ℕ → CaptureFault → Type 0 where
+pub data Stops : Bool → ByteOrder → Part → List ℕ → ℕ → CaptureFault → Type 0 where
   at_head :
-      (turned : Bool) (order : Order) (part : Part) (text : List ℕ)
+      (turned : Bool) (order : ByteOrder) (part : Part) (text : List ℕ)
       → length text < HEAD → Stops turned order part text 0 Cut
   at_link :
-      (turned : Bool) (order : Order) (part : Part) (head rest : List ℕ) (why : CaptureFault)
+      (turned : Bool) (order : ByteOrder) (part : Part) (head rest : List ℕ) (why : CaptureFault)
       → length head ≡ HEAD → form_of order part head ≡ Err why
       → Stops turned order part (head ++ rest) 0 why
   at_packet :
-      (turned : Bool) (order : Order) (part : Part) (text : List ℕ) (place : ℕ)
+      (turned : Bool) (order : ByteOrder) (part : Part) (text : List ℕ) (place : ℕ)
       (why : CaptureFault) → StopsAt turned order part text place why
       → Stops turned order part text place why
 
 -- A fault of a packet is that of the capture.
-abbrev pub SaysPlace : Bool → Order → Part → InspectFault → List ℕ → Type 0
+abbrev pub SaysPlace : Bool → ByteOrder → Part → InspectFault → List ℕ → Type 0
 SaysPlace turned order part (fault.Packet place why) text =
     Stops turned order part text place why
 SaysPlace turned order part fault.Pcapng text = Unit {0}
@@ -128,7 +128,7 @@ none_read form turned =
     record { at = at_first form turned; held = []; parts = nothing_held }
 
 -- what was read of a capture and told of it: all but the packet under way, which is held
-pub record PacketsTold (turned : Bool) (order : Order) (part : Part) (text : List ℕ)
+pub record PacketsTold (turned : Bool) (order : ByteOrder) (part : Part) (text : List ℕ)
     (before : Option (List ℕ)) (now : Underway) (out : Option (List ℕ)) : Type 0 where
   pub front : List ℕ
   pub read : List (Direction × ℕ)
@@ -140,14 +140,14 @@ pub record PacketsTold (turned : Bool) (order : Order) (part : Part) (text : Lis
 abbrev pub TellsOn :
     List ℕ → Underway → Option (List ℕ) → Underway → Option (List ℕ) → Type 0
 TellsOn more old out new after =
-    (turned : Bool) (order : Order) (part : Part) (text : List ℕ) (before : Option (List ℕ))
+    (turned : Bool) (order : ByteOrder) (part : Part) (text : List ℕ) (before : Option (List ℕ))
     → PacketsTold turned order part text before old out
     → PacketsTold turned order part (text ++ more) before new after
 
 -- Or it does not go on, with these bytes more, for a fault that says where.
 abbrev pub StopsWith : List ℕ → Underway → Option (List ℕ) → InspectFault → Type 0
 StopsWith more old out fault =
-    (turned : Bool) (order : Order) (part : Part) (text : List ℕ) (before : Option (List ℕ))
+    (turned : Bool) (order : ByteOrder) (part : Part) (text : List ℕ) (before : Option (List ℕ))
     → PacketsTold turned order part text before old out
     → SaysPlace turned order part fault (text ++ more)
 
@@ -159,7 +159,7 @@ IsOpen now =
     × (length now.held < PACKET_HEAD + length_in now.at.form (take PACKET_HEAD now.held)))
 
 -- all that a capture brings is told in its order, and nothing else
-pub record TellsPcap (turned : Bool) (order : Order) (part : Part) (text : List ℕ)
+pub record TellsPcap (turned : Bool) (order : ByteOrder) (part : Part) (text : List ℕ)
     (before : Option (List ℕ)) (verdict : Verdict) (after : Option (List ℕ)) : Type 0 where
   pub at : Reached
   pub read : List (Direction × ℕ)
@@ -170,14 +170,14 @@ pub record TellsPcap (turned : Bool) (order : Order) (part : Part) (text : List 
 abbrev pub TellsAllOf :
     List ℕ → Underway → Option (List ℕ) → Verdict → Option (List ℕ) → Type 0
 TellsAllOf rest old out verdict after =
-    (turned : Bool) (order : Order) (part : Part) (text : List ℕ) (before : Option (List ℕ))
+    (turned : Bool) (order : ByteOrder) (part : Part) (text : List ℕ) (before : Option (List ℕ))
     → PacketsTold turned order part text before old out
     → TellsPcap turned order part (text ++ rest) before verdict after
 
 -- ---- A file of either kind
 
 abbrev pub TellsKind :
-    Kind → Bool → List ℕ → Option (List ℕ) → Verdict → Option (List ℕ) → Type 0
+    CaptureKind → Bool → List ℕ → Option (List ℕ) → Verdict → Option (List ℕ) → Type 0
 TellsKind (kind.Pcap order part) turned text before verdict after =
     TellsPcap turned order part text before verdict after
 TellsKind kind.Pcapng turned text before verdict after = ⊥
@@ -189,7 +189,7 @@ abbrev pub TellsCapture :
 TellsCapture turned text before verdict after =
     TellsKind (kind_of (front_of_text text)) turned text before verdict after
 
-abbrev pub FaultOfKind : Kind → Bool → InspectFault → List ℕ → Type 0
+abbrev pub FaultOfKind : CaptureKind → Bool → InspectFault → List ℕ → Type 0
 FaultOfKind (kind.Pcap order part) turned fault text = SaysPlace turned order part fault text
 FaultOfKind kind.Pcapng turned fault text = Unit {0}
 FaultOfKind kind.Other turned fault text = IsFirstLine fault text

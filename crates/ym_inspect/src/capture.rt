@@ -12,7 +12,7 @@ use crate::pcap::Packets;
 use crate::reading::read_some;
 use crate::record::tell_record;
 use std::alloc::Global;
-use ym_capture::{CaptureFault, Form, HEAD, Kind, Order, Part, form_of, kind_of};
+use ym_capture::{ByteOrder, CaptureFault, CaptureKind, Form, HEAD, Part, form_of, kind_of};
 use ym_explain::{Verdict, Ways};
 use ym_play::{Input, Output};
 
@@ -37,7 +37,7 @@ fn first_bytes<I: Input>(alloc: Global, input: &mut I) -> Result<Vec<u8>, Inspec
 }
 
 /// How a capture that begins so is written.
-fn form_at(order: Order, part: Part, front: &[u8]) -> Result<Form, InspectFault>
+fn form_at(order: ByteOrder, part: Part, front: &[u8]) -> Result<Form, InspectFault>
     ensures there { IfOk result (λ _. HEAD ≤ length front.now) }
     ensures form { IfOk result (λ form. form_by order part front.now ≡ Ok form) }
     ensures place { IfErr result (λ fault.
@@ -85,9 +85,9 @@ pub fn explain_capture<I: Input, O: Output>(
     let front = first_bytes(alloc, input)?;
     let front = front.as_slice();
     match kind_of(front) {
-        Kind::Other => tell_record(alloc, front, input, out),
-        Kind::Pcapng => Err(InspectFault::Pcapng),
-        Kind::Pcap(order, part) => {
+        CaptureKind::Other => tell_record(alloc, front, input, out),
+        CaptureKind::Pcapng => Err(InspectFault::Pcapng),
+        CaptureKind::Pcap(order, part) => {
             let form = form_at(order, part, front)?;
             let mut packets = Packets::new(alloc, form, turned);
             packets.explain(input, out)

@@ -16,7 +16,8 @@ use std::marker::Model;
 use ym_explain::{Verdict, Ways, tell_sent, verdict_of};
 use ym_play::Output;
 use ym_told::{
-    Direction, Front, Moment, RunEnd, Scene, Settle, Standing, Stretch, front_back, front_there,
+    BothStanding, CaptureMoment, Direction, HeldFront, RunEnd, Scene, Settle, Stretch, front_back,
+    front_there,
 };
 
 /// A frame that is not whole is over where nothing more came for so many microseconds.
@@ -34,7 +35,7 @@ pub(crate) struct Inspection {
     scene: Scene,
     last_there: Option<u64>,
     last_back: Option<u64>,
-    parted_at: Option<Moment>,
+    parted_at: Option<CaptureMoment>,
 }
 
 impl Model for Inspection {
@@ -69,7 +70,7 @@ impl Inspection {
     }
 
     /// Where both ends stand.
-    pub(crate) fn standing(&self) -> Standing
+    pub(crate) fn standing(&self) -> BothStanding
         ensures { result ≡ self.now.scene.standing }
     {
         self.scene.standing
@@ -149,7 +150,7 @@ impl Inspection {
     fn pass(&mut self, way: Direction, at: u64)
         ensures { self.new ≡ at_moment self.old way at }
     {
-        self.scene.moment = Moment(Some(at));
+        self.scene.moment = CaptureMoment(Some(at));
         match way {
             Direction::There => self.last_there = Some(at),
             Direction::Back => self.last_back = Some(at),
@@ -177,7 +178,7 @@ impl Inspection {
     }
 
     /// What stands at the front of what is held of this way, where that is sure.
-    fn front(&self, way: Direction, settle: Settle) -> Option<Front>
+    fn front(&self, way: Direction, settle: Settle) -> Option<HeldFront>
         ensures { IsFront self.now way settle result }
     {
         match way {
@@ -219,7 +220,7 @@ impl Inspection {
     fn tell_front<O: Output>(
         &mut self,
         way: Direction,
-        front: Front,
+        front: HeldFront,
         out: &mut O,
     ) -> Result<(), InspectFault>
         ensures tells { OnOk result (TellsFront self.old way front self.new
@@ -238,7 +239,7 @@ impl Inspection {
     }
 
     /// Goes on behind this front, where the scene is this.
-    fn go_on(&mut self, way: Direction, front: Front, behind: Scene)
+    fn go_on(&mut self, way: Direction, front: HeldFront, behind: Scene)
         ensures { self.new ≡ without (with_scene self.old behind) way (used_by front) }
     {
         if behind.standing.parted && !self.scene.standing.parted {

@@ -1,5 +1,5 @@
-//! Two files of bytes, one for each way. They tell no moments: what the receiver wrote is told where
-//! the protocol has it.
+//! Two files of bytes, one for each way. They tell no moments: what the receiver wrote is told
+//! where the protocol has it.
 
 ghost use Rattle.std.specs.Prelude.{◌≡◌, ◌≢◌, ℕ, List, Option, Some, Ok, Err, true, false, OnOk, IfOk};
 ghost use Rattle.std.specs.Io.KnownBytes.{IsAtEnd};

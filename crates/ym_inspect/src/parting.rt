@@ -4,11 +4,11 @@ ghost use Rattle.std.specs.Prelude.{Some};
 ghost use Rattle.ym_inspect.specs.EndWords.{parting_words};
 
 use std::fmt;
-use ym_told::Moment;
+use ym_told::CaptureMoment;
 
 /// Where the two ends parted, in a line of its own; nothing where they have not.
 #[derive(Clone, Copy)]
-pub(crate) struct Parting(pub(crate) Option<Moment>);
+pub(crate) struct Parting(pub(crate) Option<CaptureMoment>);
 
 impl fmt::Display for Parting {
     ghost output = { λ parting. Some (parting_words parting.0) };

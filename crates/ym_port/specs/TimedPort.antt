@@ -311,8 +311,8 @@ writes bytes c l = record l {
 }
 
 -- What a write comes to: where the line fails while it clears, nothing is written.
-abbrev pub WritesAs : Result Clearing PortFault → List ℕ → Line → Tape → Result Unit PortFault → Line
-    → Tape → Type 0
+abbrev pub WritesAs :
+    Result Clearing PortFault → List ℕ → Line → Tape → Result Unit PortFault → Line → Tape → Type 0
 WritesAs (Ok c) bytes l t result new u =
     (new ≡ writes bytes c l) × (u ≡ after_write (is_ok result) t bytes)
 WritesAs (Err e) bytes l t result new u = (new ≡ l) × (result ≡ Err e) × (u ≡ t)

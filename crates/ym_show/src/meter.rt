@@ -5,7 +5,7 @@ use std::alloc::Global;
 use std::io::Write;
 use std::time::{Clock, Duration, Instant};
 use ym_text::{
-    Awaited, Came, Coming, EchoMessage, FileMessage, Lately, Progress, Took, Waiting, Whole,
+    Awaited, Came, Coming, EchoMessage, FileMessage, Lately, Progress, Took, Waiting, WholeFile,
     progress_line, rate_of, waiting_line,
 };
 
@@ -152,7 +152,7 @@ impl<'t, E: Write + Drop, C: Clock + Drop> Meter<'t, E, C> {
             millis: millis_between(course.start, now),
             repeats,
         };
-        self.teller.tell(Whole {
+        self.teller.tell(WholeFile {
             name: course.name.as_str(),
             took,
         });

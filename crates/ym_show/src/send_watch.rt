@@ -18,7 +18,7 @@ const EOT: u8 = 0x04;
 
 /// Where the frames of a sender are.
 #[derive(Clone, Copy, PartialEq, Eq)]
-enum Stage {
+enum SendStage {
     /// No file is under way, or its end was told.
     Between,
     /// The block of this number was written last, with so many bytes.
@@ -30,7 +30,7 @@ enum Stage {
 #[derive(Drop)]
 pub struct Sending<'t, E: Write + Drop, C: Clock + Drop> {
     meter: Meter<'t, E, C>,
-    stage: Stage,
+    stage: SendStage,
     /// What it waits for.
     awaited: Awaited,
     done: u64,
@@ -42,7 +42,7 @@ impl<'t, E: Write + Drop, C: Clock + Drop> Sending<'t, E, C> {
     pub fn new(meter: Meter<'t, E, C>) -> Sending<'t, E, C> {
         Sending {
             meter,
-            stage: Stage::Between,
+            stage: SendStage::Between,
             awaited: Awaited::Asking,
             done: 0,
             repeats: 0,
@@ -65,7 +65,7 @@ impl<'t, E: Write + Drop, C: Clock + Drop> Sending<'t, E, C> {
         }
         if let Ok(ZeroRef::File(header)) = read_borrowed(body) {
             self.meter.begin(header.name(), header.length());
-            self.stage = Stage::In {
+            self.stage = SendStage::In {
                 number: 0,
                 count: 0,
             };
@@ -75,17 +75,17 @@ impl<'t, E: Write + Drop, C: Clock + Drop> Sending<'t, E, C> {
     /// A block was written.
     fn block(&mut self, number: u8, body: &[u8]) {
         match self.stage {
-            Stage::Between => {
+            SendStage::Between => {
                 self.meter.get_on();
                 self.header(body);
             }
-            Stage::In { number: last, .. } if last == number => {
+            SendStage::In { number: last, .. } if last == number => {
                 self.repeats = self.repeats.saturating_add(1);
             }
-            Stage::In { count, .. } => {
+            SendStage::In { count, .. } => {
                 self.meter.get_on();
                 self.done = self.done.saturating_add(count);
-                self.stage = Stage::In {
+                self.stage = SendStage::In {
                     number,
                     count: body.len() as u64,
                 };
@@ -106,10 +106,10 @@ impl<'t, E: Write + Drop, C: Clock + Drop> Sending<'t, E, C> {
 
     /// An EOT was written.
     fn end_file(&mut self) {
-        if self.stage != Stage::Between {
+        if self.stage != SendStage::Between {
             self.meter.get_on();
         }
-        self.stage = Stage::Between;
+        self.stage = SendStage::Between;
     }
 }
 

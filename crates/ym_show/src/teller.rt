@@ -7,7 +7,8 @@ use std::io;
 use std::io::Write;
 use unicode_width::UnicodeWidthStr;
 
-/// How many milliseconds pass between two showings of a line that is rewritten in place, and of one that is not.
+/// How many milliseconds pass between two showings of a line that is rewritten in place, and of one
+/// that is not.
 const LIVE_MS: u64 = 100;
 
 const LINES_MS: u64 = 10_000;
@@ -107,7 +108,8 @@ impl<E: Write + Drop> Teller<E> {
         write!(self.err, "{before}\r{:width$}\r{behind}", "")
     }
 
-    /// Tells a line. Where it cannot be written it is lost: it is no part of what the program is asked to do.
+    /// Tells a line. Where it cannot be written it is lost: it is no part of what the program is
+    /// asked to do.
     pub fn tell<D: Display + Drop>(&mut self, text: D)
         ensures quiet { self.old.is_loud ≡ false → self.new ≡ self.old }
         ensures loud { self.new.is_loud ≡ self.old.is_loud }
@@ -129,7 +131,8 @@ impl<E: Write + Drop> Teller<E> {
         }
     }
 
-    /// Shows a line in the place of the one that was shown last, on a terminal; elsewhere it tells it.
+    /// Shows a line in the place of the one that was shown last, on a terminal; elsewhere it tells
+    /// it.
     pub fn show(&mut self, line: &str)
         ensures quiet { self.old.is_loud ≡ false → self.new ≡ self.old }
         ensures loud { self.new.is_loud ≡ self.old.is_loud }

@@ -30,7 +30,8 @@ line_text (line.InUse port) =
     codes "port " ++ (decimal port ++ codes " is in use by another program: choose another one")
 line_text (line.Refused port) =
     codes "nobody listens on 127.0.0.1:" ++ (decimal port ++ codes ": is the receiver running?")
-line_text (line.Failed port why) = codes "no connection at 127.0.0.1:" ++ (decimal port ++ (codes ": " ++ reason_text why))
+line_text (line.Failed port why) =
+    codes "no connection at 127.0.0.1:" ++ (decimal port ++ (codes ": " ++ reason_text why))
 
 -- why there is no connection
 abbrev pub no_line_for : ℕ → ErrorKind → Reason → LineMessage

@@ -1,7 +1,8 @@
 -- How far a file is, and how long it took, in words.
 use Rattle.std.specs.Prelude.{ℕ, ◌*◌, ◌/◌, ◌%◌, ◌-◌, ◌^◌, ◌==◌, List, [], ◌++◌, Option, Some, None, codes, decimal, if◌then◌else◌, min, nat_lt}
 
--- bytes a second, all of them where it took no millisecond; a product past 64 bits counts as the greatest number
+-- bytes a second, all of them where it took no millisecond; a product past 64 bits counts as the
+-- greatest number
 abbrev pub rate_of : ℕ → ℕ → ℕ
 rate_of bytes millis = if millis == 0 then bytes else min (bytes * 1000) (2 ^ 64 - 1) / millis
 
@@ -13,21 +14,27 @@ abbrev pub left_of : ℕ → ℕ → ℕ → Option ℕ
 left_of done length rate = if rate == 0 then None else Some ((length - done) / rate)
 
 abbrev pub rate_text : ℕ → List ℕ
-rate_text rate = if nat_lt rate 10000 then decimal rate ++ codes " B/s" else decimal (rate / 1000) ++ codes " kB/s"
+rate_text rate =
+    if nat_lt rate 10000 then decimal rate ++ codes " B/s"
+    else decimal (rate / 1000) ++ codes " kB/s"
 
 abbrev pub repeats_text : ℕ → List ℕ
 repeats_text count = if count == 0 then [] else codes ", " ++ (decimal count ++ codes " repeated")
 
 abbrev pub left_text : Option ℕ → List ℕ
 left_text None = []
-left_text (Some left) = codes ", " ++ (decimal (left / 60) ++ (codes ":" ++ (decimal (left % 60 / 10) ++ (decimal (left % 10) ++ codes " left"))))
+left_text (Some left) =
+    codes ", " ++ (decimal (left / 60) ++ (codes ":" ++ (decimal (left % 60 / 10)
+    ++ (decimal (left % 10) ++ codes " left"))))
 
 abbrev pub progress_text : ℕ → ℕ → ℕ → ℕ → List ℕ
 progress_text done length rate repeats =
-    decimal (percent_of done length) ++ (codes "%, " ++ (decimal done ++ (codes " of " ++ (decimal length ++ (codes " bytes, "
+    decimal (percent_of done length) ++ (codes "%, " ++ (decimal done
+    ++ (codes " of " ++ (decimal length ++ (codes " bytes, "
     ++ (rate_text rate ++ (left_text (left_of done length rate) ++ repeats_text repeats)))))))
 
 abbrev pub took_text : ℕ → ℕ → ℕ → List ℕ
 took_text length millis repeats =
-    decimal length ++ (codes " bytes in " ++ (decimal (millis / 1000) ++ (codes "." ++ (decimal (millis / 100 % 10)
+    decimal length ++ (codes " bytes in "
+    ++ (decimal (millis / 1000) ++ (codes "." ++ (decimal (millis / 100 % 10)
     ++ (codes " s, " ++ (rate_text (rate_of length millis) ++ repeats_text repeats))))))

@@ -7,7 +7,9 @@ abbrev pub right_text : ℕ → List ℕ → List ℕ
 right_text bits letter = if bits % 2 == 1 then letter else codes "-"
 
 abbrev pub class_text : ℕ → List ℕ
-class_text bits = right_text (bits / 4) (codes "r") ++ (right_text (bits / 2) (codes "w") ++ right_text bits (codes "x"))
+class_text bits =
+    right_text (bits / 4) (codes "r")
+    ++ (right_text (bits / 2) (codes "w") ++ right_text bits (codes "x"))
 
 abbrev pub rights_text : ℕ → List ℕ
 rights_text mode = class_text (mode / 64) ++ (class_text (mode / 8) ++ class_text mode)

@@ -9,7 +9,8 @@ use std::fmt;
 use ym_header::HeaderFault;
 use ym_link::{RecvState, SendState};
 
-/// Why an end has ended before its batch was whole. Its `Display` is the line that tells it, without its end.
+/// Why an end has ended before its batch was whole. Its `Display` is the line that tells it,
+/// without its end.
 #[derive(Clone, Copy)]
 pub enum EndMessage {
     /// The other end cancelled.
@@ -182,7 +183,8 @@ impl fmt::Display for EndMessage {
             EndMessage::LineHungUp => write!(f, "the line hung up"),
             EndMessage::LineEndless => write!(
                 f,
-                "reads of the line do not end by themselves: set it by `stty raw -echo clocal min 0 time 1`"
+                "reads of the line do not end by themselves: \
+                set it by `stty raw -echo clocal min 0 time 1`"
             ),
             EndMessage::LineRefused(why) => write!(f, "the line failed: {why}"),
             EndMessage::NoReply(lately) => {

@@ -63,7 +63,8 @@ impl fmt::Display for FileMessage<'_> {
                 let part = Shown(part);
                 write!(
                     f,
-                    "cannot store '{name}': '{part}' is left from an earlier run; --discard-parts removes such parts"
+                    "cannot store '{name}': '{part}' is left from an earlier run; \
+                    --discard-parts removes such parts"
                 )
             }
             FileMessage::PartIsInUse(name, part) => {
@@ -71,7 +72,8 @@ impl fmt::Display for FileMessage<'_> {
                 let part = Shown(part);
                 write!(
                     f,
-                    "cannot store '{name}': '{part}' is in use by another program, or is no regular file; wait for that program, or move it away"
+                    "cannot store '{name}': '{part}' is in use by another program, or is no \
+                    regular file; wait for that program, or move it away"
                 )
             }
             FileMessage::PartIsReplaced(part) => {

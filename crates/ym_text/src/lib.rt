@@ -1,5 +1,5 @@
-//! What the program tells people beside its results, in words: what it does, how far a file is, whom
-//! it waits for, and why it failed. A line that tells how far a file is fits its terminal.
+//! What the program tells people beside its results, in words: what it does, how far a file is,
+//! whom it waits for, and why it failed. A line that tells how far a file is fits its terminal.
 #![tactic(auto)]
 
 mod came;
@@ -26,7 +26,7 @@ pub use end_message::EndMessage;
 pub use file_message::FileMessage;
 pub use line_message::LineMessage;
 pub use moment::{DAY_SECONDS, Moment};
-pub use progress::{Brief, Detail, Progress, Took, Whole, rate_of};
+pub use progress::{Brief, Detail, Progress, Took, WholeFile, rate_of};
 pub use reason::Reason;
 pub use rights::Rights;
 pub use shown::Shown;

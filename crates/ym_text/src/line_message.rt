@@ -7,7 +7,8 @@ use crate::reason::Reason;
 use std::io::ErrorKind;
 use std::{fmt, io};
 
-/// What the program does to be connected, or why it is not. Its `Display` is the line that tells it, without its end.
+/// What the program does to be connected, or why it is not. Its `Display` is the line that tells
+/// it, without its end.
 #[derive(Clone, Copy)]
 pub enum LineMessage {
     /// It waits for a connection at this port of 127.0.0.1.

@@ -180,14 +180,14 @@ impl fmt::Display for Took {
 
 /// A file that is whole.
 #[derive(Clone, Copy)]
-pub struct Whole<'a> {
+pub struct WholeFile<'a> {
     /// Its name.
     pub name: &'a str,
     /// How long it took.
     pub took: Took,
 }
 
-impl fmt::Display for Whole<'_> {
+impl fmt::Display for WholeFile<'_> {
     fn fmt<W: fmt::Write>(&self, f: &mut fmt::Formatter<W>) -> fmt::Result {
         let name = Shown(self.name);
         let took = self.took;
@@ -195,7 +195,8 @@ impl fmt::Display for Whole<'_> {
     }
 }
 
-/// How many bytes a second so many bytes in so many milliseconds are; all of them where it took no millisecond.
+/// How many bytes a second so many bytes in so many milliseconds are; all of them where it took no
+/// millisecond.
 pub fn rate_of(bytes: u64, millis: u64) -> u64
     ensures { result ≡ rate_of bytes millis }
 {

@@ -2,13 +2,14 @@
 
 use std::fmt;
 
-/// A text in which control characters, and marks that turn the direction of text, are written as escapes: shown on a terminal it moves nothing and hides
-/// nothing.
+/// A text in which control characters, and marks that turn the direction of text, are written as
+/// escapes: shown on a terminal it moves nothing and hides nothing.
 #[derive(Clone, Copy)]
 pub struct Shown<'a>(pub &'a str);
 
-/// Whether a character could change what a terminal shows of its neighbours: the controls below space, DEL, the controls of C1, the ends of lines and
-/// paragraphs, and the marks by which text turns its direction.
+/// Whether a character could change what a terminal shows of its neighbours: the controls below
+/// space, DEL, the controls of C1, the ends of lines and paragraphs, and the marks by which text
+/// turns its direction.
 fn is_hidden(c: char) -> bool {
     c.is_control()
         || matches!(

@@ -21,15 +21,15 @@ use Rattle.ym_explain.specs.declared.told.FrameKind.{FrameKind}
 use Rattle.ym_explain.specs.declared.told.FrameKind.TheVariants as kind
 use Rattle.ym_explain.specs.declared.told.SendPlace.{SendPlace}
 use Rattle.ym_explain.specs.declared.told.SendPlace.TheVariants as place
-use Rattle.ym_told.specs.declared.front.Front.{Front}
-use Rattle.ym_told.specs.declared.front.Front.TheVariants as front
-use Rattle.ym_told.specs.declared.standing.Standing.{Standing}
+use Rattle.ym_told.specs.declared.front.HeldFront.{HeldFront}
+use Rattle.ym_told.specs.declared.front.HeldFront.TheVariants as front
+use Rattle.ym_told.specs.declared.standing.BothStanding.{BothStanding}
 use Rattle.ym_told.specs.declared.way.Direction.{Direction}
 use Rattle.ym_told.specs.declared.way.Direction.TheVariants as way
 use Rattle.ym_told.specs.declared.stated.Stated.{Stated}
 use Rattle.ym_told.specs.declared.stated.Stated.TheVariants.{Length, NoRoom, Nothing}
 
-abbrev pub at_start : Standing
+abbrev pub at_start : BothStanding
 at_start = record {
   place = place.Before;
   fate = fate.Start;
@@ -39,22 +39,22 @@ at_start = record {
 }
 
 -- what a block 0 states of its file
-abbrev pub with_stated : Standing → Stated → Standing
+abbrev pub with_stated : BothStanding → Stated → BothStanding
 with_stated at (Length length) = record at { left = length }
 with_stated at NoRoom = record at { signs = noted at.signs sign.NoRoom; left = 0 }
 with_stated at Nothing = record at { left = 0 }
 
 -- so many bytes of the file came
-abbrev pub with_data : Standing → Whole → Standing
+abbrev pub with_data : BothStanding → Whole → BothStanding
 with_data at (whole.Block size) = record at { left = at.left - length_of size }
 with_data at whole.Eot = at
 with_data at whole.Cancel = at
 
 -- the file ends here
-abbrev pub with_end : Standing → Standing
+abbrev pub with_end : BothStanding → BothStanding
 with_end at = if nat_lt 0 at.left then record at { signs = noted at.signs sign.CutLength } else at
 
-abbrev pub counted : Standing → Whole → FrameKind → Stated → Standing
+abbrev pub counted : BothStanding → Whole → FrameKind → Stated → BothStanding
 counted at whole kind.Name stated = with_stated at stated
 counted at whole kind.Data stated = with_data at whole
 counted at whole kind.Eot stated = with_end at
@@ -73,7 +73,7 @@ fate_of now kind.End = fate.Out
 fate_of now kind.Copy = fate.Out
 fate_of now kind.OutOfTurn = fate.Out
 
-abbrev pub behind_frame : Standing → Whole → FrameKind → SendPlace → Stated → Standing
+abbrev pub behind_frame : BothStanding → Whole → FrameKind → SendPlace → Stated → BothStanding
 behind_frame at whole kind place stated = record (counted at whole kind stated) {
   place = place;
   fate = fate_of at.fate kind;
@@ -82,14 +82,14 @@ behind_frame at whole kind place stated = record (counted at whole kind stated) 
 }
 
 -- a damaged frame is out, and has moved nobody
-abbrev pub behind_damage : Standing → SentLine → Standing
+abbrev pub behind_damage : BothStanding → SentLine → BothStanding
 behind_damage at told = record at {
   fate = fate.Damaged;
   signs = noted at.signs (sign_of at.place told);
 }
 
 -- With its third byte the complement came, and it agreed: the frame was not damaged until it ended.
-abbrev pub behind_cut : Standing → ℕ → Standing
+abbrev pub behind_cut : BothStanding → ℕ → BothStanding
 behind_cut at used = record at {
   fate = fate.Damaged;
   signs = noted at.signs (sign.Damage true (nat_lt 2 used));
@@ -106,16 +106,16 @@ fate_at now (answer.Echo used) = now
 fate_at now answer.Junk = now
 
 -- a frame, or a copy of one, has no answer yet
-abbrev pub owes : Standing → Bool
+abbrev pub owes : BothStanding → Bool
 owes at = nat_lt 0 at.signs.out
 
-abbrev pub runs_ahead : Standing → AnswerLine → Bool
+abbrev pub runs_ahead : BothStanding → AnswerLine → Bool
 runs_ahead at (answer.Answer control) = is_ahead (meaning_of at.place at.fate (owes at) control)
 runs_ahead at answer.Cancel = false
 runs_ahead at (answer.Echo used) = false
 runs_ahead at answer.Junk = false
 
-abbrev pub behind_answer : Standing → AnswerLine → Standing
+abbrev pub behind_answer : BothStanding → AnswerLine → BothStanding
 behind_answer at line = record at {
   fate = fate_at at.fate line;
   signs = with_sign at.signs (answer_sign line);
@@ -127,17 +127,17 @@ other_way way.There = way.Back
 other_way way.Back = way.There
 
 -- bytes that are no frame and no answer move nobody
-abbrev pub behind_run : Standing → Direction → List ℕ → Standing
+abbrev pub behind_run : BothStanding → Direction → List ℕ → BothStanding
 behind_run at way.There bytes = record at { signs = noted at.signs sign.Junk }
 behind_run at way.Back bytes = record at { signs = with_answer_junk at.signs bytes }
 
-abbrev pub behind_line : Standing → SentLine → SendPlace → Stated → Standing
+abbrev pub behind_line : BothStanding → SentLine → SendPlace → Stated → BothStanding
 behind_line at (line.Frame whole kind) place stated = behind_frame at whole kind place stated
 behind_line at (line.Damage broken short) place stated = behind_damage at (line.Damage broken short)
 behind_line at line.Junk place stated = behind_damage at line.Junk
 
 -- behind a front of this way, with these bytes, which states so much of its file
-abbrev pub behind_front : Standing → Direction → Front → List ℕ → Stated → Standing
+abbrev pub behind_front : BothStanding → Direction → HeldFront → List ℕ → Stated → BothStanding
 behind_front at way (front.Run used) bytes stated = behind_run at way bytes
 behind_front at way front.Zmodem bytes stated = record at { signs = noted at.signs sign.Zmodem }
 behind_front at way (front.Cut used) bytes stated = behind_cut at used

@@ -9,28 +9,28 @@ use Rattle.ym_explain.specs.declared.sent.SentLine.{SentLine}
 use Rattle.ym_explain.specs.declared.sent.SentLine.TheVariants as sent
 use Rattle.ym_explain.specs.declared.sent.SentTold.{SentTold}
 use Rattle.ym_explain.specs.declared.told.FrameKind.{FrameKind}
-use Rattle.ym_told.specs.declared.front.Front.{Front}
-use Rattle.ym_told.specs.declared.front.Front.TheVariants as front
+use Rattle.ym_told.specs.declared.front.HeldFront.{HeldFront}
+use Rattle.ym_told.specs.declared.front.HeldFront.TheVariants as front
 use Rattle.ym_told.specs.declared.line.Telling.{Telling}
 use Rattle.ym_told.specs.declared.line.Telling.TheVariants as line
 use Rattle.ym_told.specs.BothStand.{owes}
-use Rattle.ym_told.specs.declared.standing.Standing.{Standing}
+use Rattle.ym_told.specs.declared.standing.BothStanding.{BothStanding}
 
-abbrev pub frame_line : Standing → Whole → FrameKind → ℕ → ℕ → Telling
+abbrev pub frame_line : BothStanding → Whole → FrameKind → ℕ → ℕ → Telling
 frame_line at (whole.Block size) kind used number =
     line.Block number used kind (footing_of at.fate kind)
 frame_line at whole.Eot kind used number = line.Eot kind (footing_of at.fate kind)
 frame_line at whole.Cancel kind used number = line.Cancel
 
-abbrev pub line_of_sent : Standing → SentLine → ℕ → ℕ → Option Telling
+abbrev pub line_of_sent : BothStanding → SentLine → ℕ → ℕ → Option Telling
 line_of_sent at sent.Junk used number = None
 line_of_sent at (sent.Damage broken short) used number = Some (line.Damage broken used short)
 line_of_sent at (sent.Frame whole kind) used number = Some (frame_line at whole kind used number)
 
-abbrev pub line_sent : Standing → SentTold → ℕ → Option Telling
+abbrev pub line_sent : BothStanding → SentTold → ℕ → Option Telling
 line_sent at told number = line_of_sent at told.line told.used number
 
-abbrev pub line_answered : Standing → AnswerLine → Option Telling
+abbrev pub line_answered : BothStanding → AnswerLine → Option Telling
 line_answered at answer.Junk = None
 line_answered at answer.Cancel = Some line.ReceiverCancel
 line_answered at (answer.Echo used) = Some (line.Echo used)
@@ -38,7 +38,7 @@ line_answered at (answer.Answer control) =
     Some (line.Answer control (meaning_of at.place at.fate (owes at) control))
 
 -- a run has no line of its own
-abbrev pub line_told : Standing → Front → ℕ → Option Telling
+abbrev pub line_told : BothStanding → HeldFront → ℕ → Option Telling
 line_told at (front.Run used) number = None
 line_told at front.Zmodem number = Some line.Zmodem
 line_told at (front.Cut used) number = Some (line.Cut used)

@@ -65,8 +65,10 @@ line_words (line.Block number used kind footing) =
 line_words (line.Eot kind footing) = codes "EOT: " ++ (kind_words kind ++ footing_words footing)
 line_words line.Cancel = codes "CAN CAN: the sender cancels"
 line_words (line.Damage broken used short) =
-    codes "damaged, " ++ (decimal used ++ (codes " bytes, " ++ (broken_text broken ++ short_words short)))
-line_words (line.Cut used) = codes "cut, " ++ (decimal used ++ codes " bytes of a frame and no more")
+    codes "damaged, " ++ (decimal used ++ (codes " bytes, "
+    ++ (broken_text broken ++ short_words short)))
+line_words (line.Cut used) =
+    codes "cut, " ++ (decimal used ++ codes " bytes of a frame and no more")
 line_words (line.Answer control meaning) =
     control_words control ++ (codes ": " ++ meaning_words meaning)
 line_words line.ReceiverCancel = codes "CAN CAN: the receiver cancels"

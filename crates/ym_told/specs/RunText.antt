@@ -2,7 +2,7 @@
 use Rattle.std.specs.Prelude.{ℕ, ◌+◌, ◌-◌, ◌^◌, min, nat_lt, ◌&&◌, Bool, true, false, if◌then◌else◌, List, [], ◌∷◌, ◌++◌, length, take, slice_get, flat_map, unwrap_or, codes, decimal}
 use Rattle.ym_told.specs.LineWords.{moment_words, way_words}
 use Rattle.ym_told.specs.Runs.{escaped, is_printable}
-use Rattle.ym_told.specs.declared.moment.Moment.{Moment}
+use Rattle.ym_told.specs.declared.moment.CaptureMoment.{CaptureMoment}
 use Rattle.ym_told.specs.declared.run.Run.{Run}
 use Rattle.ym_told.specs.declared.way.Direction.{Direction}
 use Rattle.ym_told.specs.declared.way.Direction.TheVariants as way
@@ -45,7 +45,7 @@ end_words run =
     else 10 ∷ []
     else []
 
-abbrev pub part_words : Run → Moment → Direction → List ℕ → List ℕ
+abbrev pub part_words : Run → CaptureMoment → Direction → List ℕ → List ℕ
 part_words run at way bytes =
     if goes_on run way
     then flat_map escaped (take (64 - run.shown) bytes)

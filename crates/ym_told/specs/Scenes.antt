@@ -5,8 +5,8 @@ use Rattle.ym_told.specs.LineWords.{told_words}
 use Rattle.ym_told.specs.LineOf.{line_told}
 use Rattle.ym_told.specs.RunText.{no_run, run_behind, part_words, end_words}
 use Rattle.ym_told.specs.BothStand.{at_start, behind_front}
-use Rattle.ym_told.specs.declared.front.Front.{Front}
-use Rattle.ym_told.specs.declared.front.Front.TheVariants as front
+use Rattle.ym_told.specs.declared.front.HeldFront.{HeldFront}
+use Rattle.ym_told.specs.declared.front.HeldFront.TheVariants as front
 use Rattle.ym_told.specs.declared.line.Telling.{Telling}
 use Rattle.ym_told.specs.declared.run.Run.{Run}
 use Rattle.ym_told.specs.declared.scene.Scene.{Scene}
@@ -27,19 +27,19 @@ words_with (Some line) scene way bytes file = line_words_in scene way line file
 words_with None scene way bytes file = part_words scene.run scene.moment way bytes
 
 -- what tells a front of this way, with these bytes, which announces a file or not
-abbrev pub scene_words : Scene → Direction → Front → List ℕ → Announced → List ℕ
+abbrev pub scene_words : Scene → Direction → HeldFront → List ℕ → Announced → List ℕ
 scene_words scene way front bytes file =
     words_with (line_told scene.standing front (slice_index bytes 1)) scene way bytes file
 
 -- a run goes on, and anything else ends it
-abbrev pub run_after : Run → Direction → Front → List ℕ → Run
+abbrev pub run_after : Run → Direction → HeldFront → List ℕ → Run
 run_after run way (front.Run used) bytes = run_behind run way bytes
 run_after run way front.Zmodem bytes = no_run
 run_after run way (front.Cut used) bytes = no_run
 run_after run way (front.Sent told) bytes = no_run
 run_after run way (front.Answer line) bytes = no_run
 
-abbrev pub scene_behind : Scene → Direction → Front → List ℕ → Announced → Scene
+abbrev pub scene_behind : Scene → Direction → HeldFront → List ℕ → Announced → Scene
 scene_behind scene way front bytes file = record {
   standing = behind_front scene.standing way front bytes (stated_by file);
   run = run_after scene.run way front bytes;

@@ -23,7 +23,7 @@ pub enum Settle {
 
 /// What stands at the front.
 #[derive(Clone, Copy)]
-pub enum Front {
+pub enum HeldFront {
     /// So many bytes that are no frame and no answer.
     Run(usize),
     /// A header of ZMODEM, of which `**`, CAN and `B` are let go.
@@ -36,18 +36,18 @@ pub enum Front {
     Answer(AnswerLine),
 }
 
-impl Front {
+impl HeldFront {
     /// How many bytes it has.
     pub fn used(self) -> usize
         ensures { result ≡ used_by self }
     {
         match self {
-            Front::Run(used) | Front::Cut(used) => used,
-            Front::Zmodem => 4,
-            Front::Sent(told) => told.used,
-            Front::Answer(AnswerLine::Cancel) => 2,
-            Front::Answer(AnswerLine::Echo { used }) => used,
-            Front::Answer(AnswerLine::Answer(_) | AnswerLine::Junk) => 1,
+            HeldFront::Run(used) | HeldFront::Cut(used) => used,
+            HeldFront::Zmodem => 4,
+            HeldFront::Sent(told) => told.used,
+            HeldFront::Answer(AnswerLine::Cancel) => 2,
+            HeldFront::Answer(AnswerLine::Echo { used }) => used,
+            HeldFront::Answer(AnswerLine::Answer(_) | AnswerLine::Junk) => 1,
         }
     }
 }
@@ -68,18 +68,18 @@ fn may_greet(held: &[u8], settle: Settle) -> bool
 }
 
 /// The front of what the sender wrote, of which this is told.
-pub fn front_there(held: &[u8], told: Option<SentTold>, settle: Settle) -> Option<Front>
+pub fn front_there(held: &[u8], told: Option<SentTold>, settle: Settle) -> Option<HeldFront>
     ensures { result ≡ front_of_there held.now told settle }
 {
     if held.is_empty() || may_greet(held, settle) {
         return None;
     }
     if is_zmodem(held) {
-        return Some(Front::Zmodem);
+        return Some(HeldFront::Zmodem);
     }
     let run = sent_run_len(held);
     if run > 0 {
-        return Some(Front::Run(run));
+        return Some(HeldFront::Run(run));
     }
     match told {
         None => open_front(held, settle),
@@ -88,30 +88,30 @@ pub fn front_there(held: &[u8], told: Option<SentTold>, settle: Settle) -> Optio
 }
 
 /// The same where the bytes may go on to a frame. A CAN that does not is none.
-fn open_front(held: &[u8], settle: Settle) -> Option<Front>
+fn open_front(held: &[u8], settle: Settle) -> Option<HeldFront>
     ensures { result ≡ front_open held.now settle }
 {
     match (settle, held) {
         (Settle::Nothing | Settle::Damage, _) => None,
-        (Settle::All, [0x18, ..]) => Some(Front::Run(1)),
-        (Settle::All, _) => Some(Front::Cut(held.len())),
+        (Settle::All, [0x18, ..]) => Some(HeldFront::Run(1)),
+        (Settle::All, _) => Some(HeldFront::Cut(held.len())),
     }
 }
 
 /// The same where this is told of so many bytes.
-fn told_front(told: SentTold, count: usize, settle: Settle) -> Option<Front>
+fn told_front(told: SentTold, count: usize, settle: Settle) -> Option<HeldFront>
     ensures { result ≡ front_told told count settle }
 {
     match told.line {
-        SentLine::Junk => Some(Front::Run(1)),
-        SentLine::Frame { .. } => Some(Front::Sent(told)),
+        SentLine::Junk => Some(HeldFront::Run(1)),
+        SentLine::Frame { .. } => Some(HeldFront::Sent(told)),
         SentLine::Damage { broken, .. } => match broken.why {
-            Why::SecondCan => Some(Front::Run(1)),
+            Why::SecondCan => Some(HeldFront::Run(1)),
             Why::FirstByte | Why::Complement | Why::Check | Why::Cut => {
                 if settle == Settle::Nothing && count < ENOUGH {
                     None
                 } else {
-                    Some(Front::Sent(told))
+                    Some(HeldFront::Sent(told))
                 }
             }
         },
@@ -119,26 +119,26 @@ fn told_front(told: SentTold, count: usize, settle: Settle) -> Option<Front>
 }
 
 /// The front of what the receiver wrote, behind printed text or not.
-pub fn front_back(in_text: bool, held: &[u8], settle: Settle) -> Option<Front>
+pub fn front_back(in_text: bool, held: &[u8], settle: Settle) -> Option<HeldFront>
     ensures { result ≡ front_of_back in_text held.now settle }
 {
     if held.is_empty() || may_greet(held, settle) {
         return None;
     }
     if is_zmodem(held) {
-        return Some(Front::Zmodem);
+        return Some(HeldFront::Zmodem);
     }
     let run = answer_run_len(in_text, held);
     if run > 0 {
-        return Some(Front::Run(run));
+        return Some(HeldFront::Run(run));
     }
     match tell_answer(held) {
-        Some(AnswerLine::Junk) => Some(Front::Run(1)),
-        Some(line) => Some(Front::Answer(line)),
+        Some(AnswerLine::Junk) => Some(HeldFront::Run(1)),
+        Some(line) => Some(HeldFront::Answer(line)),
         None => match (settle, held) {
             (Settle::Nothing | Settle::Damage, _) => None,
-            (Settle::All, [0x18, ..]) => Some(Front::Answer(AnswerLine::Answer(Control::Can))),
-            (Settle::All, _) => Some(Front::Run(1)),
+            (Settle::All, [0x18, ..]) => Some(HeldFront::Answer(AnswerLine::Answer(Control::Can))),
+            (Settle::All, _) => Some(HeldFront::Run(1)),
         },
     }
 }

@@ -13,11 +13,11 @@ mod stated;
 mod way;
 mod words;
 
-pub use front::{ENOUGH, Front, Settle, front_back, front_there};
+pub use front::{ENOUGH, HeldFront, Settle, front_back, front_there};
 pub use line::{Telling, line_of};
-pub use moment::Moment;
+pub use moment::CaptureMoment;
 pub use run::{Run, RunEnd, SHOWN};
 pub use scene::{Dated, Scene};
-pub use standing::Standing;
+pub use standing::BothStanding;
 pub use stated::{Announced, Stated, Stretch};
 pub use way::Direction;

@@ -4,8 +4,8 @@ ghost use Rattle.std.specs.Prelude.{◌≡◌, Some};
 ghost use Rattle.ym_told.specs.LineWords.{line_words, short_words};
 ghost use Rattle.ym_told.specs.LineOf.{line_told, line_sent, line_answered};
 
-use crate::front::Front;
-use crate::standing::Standing;
+use crate::front::HeldFront;
+use crate::standing::BothStanding;
 use crate::words::{ControlWords, FootingWords, KindWords, MeaningWords};
 use std::fmt;
 use ym_explain::{
@@ -127,20 +127,20 @@ impl fmt::Display for Telling {
 
 /// The line that tells a front, where both ends stand so: a run has none of its own. The number is
 /// that of a block.
-pub fn line_of(standing: &Standing, front: Front, number: u8) -> Option<Telling>
+pub fn line_of(standing: &BothStanding, front: HeldFront, number: u8) -> Option<Telling>
     ensures { result ≡ line_told standing.now front number }
 {
     match front {
-        Front::Run(_) => None,
-        Front::Zmodem => Some(Telling::Zmodem),
-        Front::Cut(used) => Some(Telling::Cut { used }),
-        Front::Sent(told) => sent_line(standing, told, number),
-        Front::Answer(line) => answer_line(standing, line),
+        HeldFront::Run(_) => None,
+        HeldFront::Zmodem => Some(Telling::Zmodem),
+        HeldFront::Cut(used) => Some(Telling::Cut { used }),
+        HeldFront::Sent(told) => sent_line(standing, told, number),
+        HeldFront::Answer(line) => answer_line(standing, line),
     }
 }
 
 /// The line that tells what the sender wrote.
-fn sent_line(standing: &Standing, told: SentTold, number: u8) -> Option<Telling>
+fn sent_line(standing: &BothStanding, told: SentTold, number: u8) -> Option<Telling>
     ensures { result ≡ line_sent standing.now told number }
 {
     let used = told.used;
@@ -168,7 +168,7 @@ fn sent_line(standing: &Standing, told: SentTold, number: u8) -> Option<Telling>
 }
 
 /// The line that tells what the receiver wrote.
-fn answer_line(standing: &Standing, line: AnswerLine) -> Option<Telling>
+fn answer_line(standing: &BothStanding, line: AnswerLine) -> Option<Telling>
     ensures { result ≡ line_answered standing.now line }
 {
     match line {

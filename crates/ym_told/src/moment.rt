@@ -4,9 +4,9 @@ use std::fmt;
 
 /// A moment of a capture, in microseconds from its beginning; none where it tells none.
 #[derive(Clone, Copy)]
-pub struct Moment(pub Option<u64>);
+pub struct CaptureMoment(pub Option<u64>);
 
-impl fmt::Display for Moment {
+impl fmt::Display for CaptureMoment {
     ghost use Rattle.std.specs.Prelude.{Some};
     ghost use Rattle.ym_told.specs.LineWords.{moment_words};
 

@@ -3,7 +3,7 @@
 ghost use Rattle.std.specs.Prelude.{◌≡◌, IfOk, string_bytes};
 ghost use Rattle.ym_told.specs.RunText.{no_run, run_behind, goes_on, is_in_text, part_words, end_words};
 
-use crate::moment::Moment;
+use crate::moment::CaptureMoment;
 use crate::runs::{front_of, is_printable, shown};
 use crate::way::Direction;
 use std::alloc::{AllocError, Global};
@@ -78,7 +78,7 @@ impl Run {
     pub fn part(
         self,
         alloc: Global,
-        at: Moment,
+        at: CaptureMoment,
         way: Direction,
         bytes: &[u8],
     ) -> Result<String, AllocError>

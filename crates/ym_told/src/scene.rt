@@ -3,11 +3,11 @@
 ghost use Rattle.std.specs.Prelude.{◌≡◌, IfOk, string_bytes};
 ghost use Rattle.ym_told.specs.Scenes.{first_scene, scene_behind, scene_words, line_words_in, run_after};
 
-use crate::front::Front;
+use crate::front::HeldFront;
 use crate::line::{Telling, line_of};
-use crate::moment::Moment;
+use crate::moment::CaptureMoment;
 use crate::run::{Run, RunEnd};
-use crate::standing::Standing;
+use crate::standing::BothStanding;
 use crate::stated::Stretch;
 use crate::way::Direction;
 use std::alloc::{AllocError, Global};
@@ -17,7 +17,7 @@ use std::fmt;
 #[derive(Clone, Copy)]
 pub struct Dated {
     /// When it was over.
-    pub at: Moment,
+    pub at: CaptureMoment,
     /// Which end wrote it.
     pub way: Direction,
     /// What is told.
@@ -42,11 +42,11 @@ impl fmt::Display for Dated {
 #[derive(Clone, Copy)]
 pub struct Scene {
     /// Where both ends stand.
-    pub standing: Standing,
+    pub standing: BothStanding,
     /// The run that was told last.
     pub run: Run,
     /// The moment.
-    pub moment: Moment,
+    pub moment: CaptureMoment,
 }
 
 impl Scene {
@@ -55,9 +55,9 @@ impl Scene {
         ensures { result ≡ first_scene }
     {
         Scene {
-            standing: Standing::new(),
+            standing: BothStanding::new(),
             run: Run::none(),
-            moment: Moment(None),
+            moment: CaptureMoment(None),
         }
     }
 
@@ -69,7 +69,8 @@ impl Scene {
         stretch: &Stretch<'_>,
     ) -> Result<String, AllocError>
         ensures { IfOk result (λ text. string_bytes text
-            ≡ scene_words self.now way stretch.entry.now.front stretch.entry.now.bytes.now stretch.entry.now.file) }
+            ≡ scene_words self.now way stretch.entry.now.front stretch.entry.now.bytes.now
+            stretch.entry.now.file) }
     {
         let number = stretch.bytes.get(1).copied().unwrap_or(0);
         match line_of(&self.standing, stretch.front, number) {
@@ -102,7 +103,8 @@ impl Scene {
     /// The scene behind this stretch of this way.
     pub fn behind(&self, way: Direction, stretch: &Stretch<'_>) -> Scene
         ensures { result
-            ≡ scene_behind self.now way stretch.entry.now.front stretch.entry.now.bytes.now stretch.entry.now.file }
+            ≡ scene_behind self.now way stretch.entry.now.front stretch.entry.now.bytes.now
+            stretch.entry.now.file }
     {
         let stated = stretch.file.stated();
         Scene {
@@ -115,12 +117,13 @@ impl Scene {
     }
 
     /// The run that was told last, behind a front with these bytes.
-    fn run_after(&self, way: Direction, front: Front, bytes: &[u8]) -> Run
+    fn run_after(&self, way: Direction, front: HeldFront, bytes: &[u8]) -> Run
         ensures { result ≡ run_after self.now.run way front bytes.now }
     {
         match front {
-            Front::Run(_) => self.run.behind(way, bytes),
-            Front::Zmodem | Front::Cut(_) | Front::Sent(_) | Front::Answer(_) => Run::none(),
+            HeldFront::Run(_) => self.run.behind(way, bytes),
+            HeldFront::Zmodem | HeldFront::Cut(_) | HeldFront::Sent(_) | HeldFront::Answer(_) =>
+                Run::none(),
         }
     }
 }

@@ -4,7 +4,7 @@ ghost use Rattle.std.specs.Prelude.{◌≡◌};
 ghost use Rattle.ym_explain.specs.Noting.{noted};
 ghost use Rattle.ym_told.specs.BothStand.{at_start, behind_front, behind_run, behind_frame, behind_damage, behind_cut, behind_answer, counted, owes as owes_one};
 
-use crate::front::Front;
+use crate::front::HeldFront;
 use crate::stated::Stated;
 use crate::way::Direction;
 use ym_explain::{
@@ -15,7 +15,7 @@ use ym_frame::{Control, Whole};
 
 /// Where both ends stand, and what was seen so far.
 #[derive(Clone, Copy)]
-pub struct Standing {
+pub struct BothStanding {
     /// Where the sender stands, by its frames.
     pub place: SendPlace,
     /// What became of its last frame.
@@ -28,12 +28,12 @@ pub struct Standing {
     pub parted: bool,
 }
 
-impl Standing {
+impl BothStanding {
     /// Nothing passed.
-    pub fn new() -> Standing
+    pub fn new() -> BothStanding
         ensures { result ≡ at_start }
     {
-        Standing {
+        BothStanding {
             place: SendPlace::Before,
             fate: Fate::Start,
             signs: Signs::new(),
@@ -50,25 +50,31 @@ impl Standing {
     }
 
     /// Behind a front of this way, with these bytes, which announces a file or not.
-    pub fn behind(self, way: Direction, front: Front, bytes: &[u8], stated: Stated) -> Standing
+    pub fn behind(
+        self,
+        way: Direction,
+        front: HeldFront,
+        bytes: &[u8],
+        stated: Stated,
+    ) -> BothStanding
         ensures { result ≡ behind_front self way front bytes.now stated }
     {
         match front {
-            Front::Run(_) => self.behind_run(way, bytes),
-            Front::Zmodem => self.seeing(Sign::Zmodem),
-            Front::Cut(used) => self.behind_cut(used),
-            Front::Sent(told) => match told.line {
+            HeldFront::Run(_) => self.behind_run(way, bytes),
+            HeldFront::Zmodem => self.seeing(Sign::Zmodem),
+            HeldFront::Cut(used) => self.behind_cut(used),
+            HeldFront::Sent(told) => match told.line {
                 SentLine::Frame { whole, kind } => {
                     self.behind_frame(whole, kind, told.place, stated)
                 }
                 SentLine::Damage { .. } | SentLine::Junk => self.behind_damage(told.line),
             },
-            Front::Answer(line) => self.behind_answer(line),
+            HeldFront::Answer(line) => self.behind_answer(line),
         }
     }
 
     /// Behind a run of these bytes.
-    fn behind_run(self, way: Direction, bytes: &[u8]) -> Standing
+    fn behind_run(self, way: Direction, bytes: &[u8]) -> BothStanding
         ensures { result ≡ behind_run self way bytes.now }
     {
         match way {
@@ -89,7 +95,7 @@ impl Standing {
         kind: FrameKind,
         place: SendPlace,
         stated: Stated,
-    ) -> Standing
+    ) -> BothStanding
         ensures { result ≡ behind_frame self whole kind place stated }
     {
         let mut behind = self.counted(whole, kind, stated);
@@ -106,7 +112,7 @@ impl Standing {
     }
 
     /// With the bytes of the file under way counted.
-    fn counted(self, whole: Whole, kind: FrameKind, stated: Stated) -> Standing
+    fn counted(self, whole: Whole, kind: FrameKind, stated: Stated) -> BothStanding
         ensures { result ≡ counted self whole kind stated }
     {
         let mut behind = self;
@@ -129,7 +135,7 @@ impl Standing {
     }
 
     /// Behind a damaged frame: it is out, and has moved nobody.
-    fn behind_damage(self, line: SentLine) -> Standing
+    fn behind_damage(self, line: SentLine) -> BothStanding
         ensures { result ≡ behind_damage self line }
     {
         let mut behind = self;
@@ -139,7 +145,7 @@ impl Standing {
     }
 
     /// Behind a frame that ended before its end, of which so many bytes came.
-    fn behind_cut(self, used: usize) -> Standing
+    fn behind_cut(self, used: usize) -> BothStanding
         ensures { result ≡ behind_cut self used }
     {
         let mut behind = self;
@@ -152,7 +158,7 @@ impl Standing {
     }
 
     /// Behind what is told of the receiver.
-    fn behind_answer(self, line: AnswerLine) -> Standing
+    fn behind_answer(self, line: AnswerLine) -> BothStanding
         ensures { result ≡ behind_answer self line }
     {
         let mut behind = self;
@@ -168,7 +174,7 @@ impl Standing {
     }
 
     /// Behind a sign that moves nobody.
-    fn seeing(self, sign: Sign) -> Standing
+    fn seeing(self, sign: Sign) -> BothStanding
         ensures { result ≡ record self { signs = noted self.signs sign } }
     {
         let mut behind = self;

@@ -5,7 +5,7 @@ ghost use Rattle.ym_frame.specs.Frame.{verdict_of};
 ghost use Rattle.ym_told.specs.TellFront.{used_by};
 ghost use Rattle.ym_told.specs.Announcing.{stated_by, announced_words, after_name, fills, is_digit as digit_byte, IsAnnounced, IsFileIn, names_file};
 
-use crate::front::Front;
+use crate::front::HeldFront;
 use crate::runs::front_of;
 use std::fmt;
 use ym_explain::{FrameKind, SentLine};
@@ -120,7 +120,7 @@ fn behind_zero(body: &[u8]) -> &[u8]
 #[derive(Drop)]
 pub struct Stretch<'a> {
     /// The front.
-    pub front: Front,
+    pub front: HeldFront,
     /// Its bytes.
     pub bytes: &'a [u8],
     /// What it announces.
@@ -129,7 +129,7 @@ pub struct Stretch<'a> {
 
 impl<'a> Stretch<'a> {
     /// This front of these bytes.
-    pub fn of(front: Front, held: &'a [u8]) -> Stretch<'a>
+    pub fn of(front: HeldFront, held: &'a [u8]) -> Stretch<'a>
         ensures front { result.front ≡ front }
         ensures bytes { result.bytes.now ≡ take (used_by front) held.entry.now }
         ensures file { IsAnnounced front result.bytes.now result.file }
@@ -159,14 +159,14 @@ fn file_in(bytes: &[u8]) -> Announced<'_>
 }
 
 /// Whether the front is the block 0 of a file.
-fn is_name(front: Front) -> bool
+fn is_name(front: HeldFront) -> bool
     ensures { result ≡ names_file front }
 {
     match front {
-        Front::Sent(told) => match told.line {
+        HeldFront::Sent(told) => match told.line {
             SentLine::Frame { kind, .. } => kind == FrameKind::Name,
             SentLine::Damage { .. } | SentLine::Junk => false,
         },
-        Front::Run(_) | Front::Zmodem | Front::Cut(_) | Front::Answer(_) => false,
+        HeldFront::Run(_) | HeldFront::Zmodem | HeldFront::Cut(_) | HeldFront::Answer(_) => false,
     }
 }

@@ -1,4 +1,5 @@
-//! Folders and files for the tests. Each test has a folder of its own below the folder for temporary files, and removes it.
+//! Folders and files for the tests. Each test has a folder of its own below the folder for
+//! temporary files, and removes it.
 
 use std::alloc::{AllocError, Global};
 use std::path::PathBuf;
@@ -18,7 +19,8 @@ pub(super) fn is_removed(rt: &HostRuntime, dir: &PathBuf) -> bool {
     fs::remove_dir_all(rt, dir).is_ok()
 }
 
-/// Whether the file of this name in the folder holds these bytes, or is missing where none are given.
+/// Whether the file of this name in the folder holds these bytes, or is missing where none are
+/// given.
 pub(super) fn holds(rt: &HostRuntime, dir: &PathBuf, name: &str, want: Option<&[u8]>) -> bool {
     let Ok(path) = dir.join(rt.alloc(), name) else {
         return false;
@@ -39,7 +41,8 @@ pub(super) fn counted(alloc: Global, count: u32) -> Result<Vec<u8>, AllocError> 
     Ok(all)
 }
 
-/// Whether two values are the same. It tells a proof nothing of them, and so costs it little, as the other helpers of these tests.
+/// Whether two values are the same. It tells a proof nothing of them, and so costs it little, as
+/// the other helpers of these tests.
 pub(super) fn same<T: PartialEq>(left: &T, right: &T) -> bool {
     left == right
 }

@@ -33,7 +33,8 @@ pub(super) enum Step<'a> {
     Stores(&'a str, &'a [u8], &'a [Act<'a>]),
     /// The same, but it is not stored.
     Fails(&'a str, &'a [u8], &'a [Act<'a>]),
-    /// A file of this name takes all of its bytes but one, this is done meanwhile, and then it is let go.
+    /// A file of this name takes all of its bytes but one, this is done meanwhile, and then it is
+    /// let go.
     LetsGo(&'a str, &'a [Act<'a>]),
     /// The same, but its part cannot be removed.
     Leaves(&'a str, &'a [Act<'a>]),

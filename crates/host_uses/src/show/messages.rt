@@ -59,7 +59,8 @@ fn tell_files(rt: &HostRuntime) -> bool {
     ) && shows(
         rt,
         &FileMessage::PartIsLeft("a", "a.part"),
-        "cannot store 'a': 'a.part' is left from an earlier run; --discard-parts removes such parts",
+        "cannot store 'a': 'a.part' is left from an earlier run; \
+        --discard-parts removes such parts",
     ) && shows(
         rt,
         &FileMessage::CannotStore("a", Reason::Full),
@@ -75,7 +76,8 @@ fn tell_files(rt: &HostRuntime) -> bool {
     ) && shows(
         rt,
         &FileMessage::PartIsInUse("a", "a.part"),
-        "cannot store 'a': 'a.part' is in use by another program, or is no regular file; wait for that program, or move it away",
+        "cannot store 'a': 'a.part' is in use by another program, or is no regular file; \
+        wait for that program, or move it away",
     ) && shows(
         rt,
         &FileMessage::PartIsReplaced("a.part"),

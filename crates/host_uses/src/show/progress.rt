@@ -4,7 +4,7 @@ use super::shows;
 use std::io;
 use std::io::Write;
 use ym_show::{Look, Teller};
-use ym_text::{Progress, ShownOut, Took, Whole, progress_line};
+use ym_text::{Progress, ShownOut, Took, WholeFile, progress_line};
 
 const HALF: Progress = Progress {
     done: 14500,
@@ -124,7 +124,7 @@ fn cells_of_names(rt: HostRuntime) {
 
 /// Whether this is told of a whole file.
 fn is_whole(rt: &HostRuntime, name: &str, took: Took, want: &str) -> bool {
-    shows(rt, &Whole { name, took }, want)
+    shows(rt, &WholeFile { name, took }, want)
 }
 
 /// What a file of 29,000 bytes took.

@@ -29,7 +29,8 @@ fn stand_of(core: &ReceiverCore) -> Stand
     ensures stand { result ≡ core.now }
     ensures files { result.files ≤ 65535 }
     ensures runs { result.state ≡ RecvState.Running → result.retries < 10 }
-    ensures blocks { (file : OpenFile) → result.stage ≡ Stage.InFile file → file.blocks < 2 ^ 64 - 1 }
+    ensures blocks { (file : OpenFile) → result.stage ≡ Stage.InFile file →
+        file.blocks < 2 ^ 64 - 1 }
 {
     core.stand()
 }

@@ -55,7 +55,8 @@ impl Model for Stood {
 
     ghost view = { λ s. s.standing };
 
-    ghost invariant = { λ s. IsPlace (3 ∷ 0 ∷ []) s.standing.place × (s.standing.state ≡ Running → s.standing.retries < 10) };
+    ghost invariant = { λ s. IsPlace (3 ∷ 0 ∷ []) s.standing.place
+        × (s.standing.state ≡ Running → s.standing.retries < 10) };
 }
 
 impl Stood {

@@ -84,8 +84,10 @@ fn zero_heard(stand: Stand, zero: &Result<Zero, HeaderFault>) -> (Stand, Reply)
 fn block_heard(stand: Stand, file: OpenFile, block: &Block) -> (Stand, Reply)
     requires retries { stand.retries < 10 }
     requires blocks { file.blocks < 2 ^ 64 - 1 }
-    ensures stand { result.0 ≡ (table.block_heard stand file block.now.number block.now.body).receiver }
-    ensures reply { result.1 ≡ (table.block_heard stand file block.now.number block.now.body).reply }
+    ensures stand { result.0
+        ≡ (table.block_heard stand file block.now.number block.now.body).receiver }
+    ensures reply { result.1
+        ≡ (table.block_heard stand file block.now.number block.now.body).reply }
 {
     let number = u64::from(block.number());
     let blocks = file.blocks + 1;
@@ -149,7 +151,8 @@ fn eot_heard(stand: Stand, file: OpenFile) -> (Stand, Reply)
 fn running_hears(stand: Stand, zero: &Result<Zero, HeaderFault>, heard: &Heard) -> (Stand, Reply)
     requires retries { stand.retries < 10 }
     requires files { stand.files ≤ 65535 }
-    requires blocks { (file : OpenFile) → stand.stage ≡ Stage.InFile file → file.blocks < 2 ^ 64 - 1 }
+    requires blocks { (file : OpenFile) → stand.stage ≡ Stage.InFile file →
+        file.blocks < 2 ^ 64 - 1 }
     ensures stand { result.0 ≡ (table.running_hears stand stand.stage zero.now heard.now).receiver }
     ensures reply { result.1 ≡ (table.running_hears stand stand.stage zero.now heard.now).reply }
 {
@@ -189,7 +192,8 @@ fn running_hears(stand: Stand, zero: &Result<Zero, HeaderFault>, heard: &Heard) 
 pub fn hears(stand: Stand, zero: &Result<Zero, HeaderFault>, heard: &Heard) -> (Stand, Reply)
     requires retries { stand.state ≡ RecvState.Running → stand.retries < 10 }
     requires files { stand.files ≤ 65535 }
-    requires blocks { (file : OpenFile) → stand.stage ≡ Stage.InFile file → file.blocks < 2 ^ 64 - 1 }
+    requires blocks { (file : OpenFile) → stand.stage ≡ Stage.InFile file →
+        file.blocks < 2 ^ 64 - 1 }
     ensures stand { result.0 ≡ (table.hears stand zero.now heard.now).receiver }
     ensures reply { result.1 ≡ (table.hears stand zero.now heard.now).reply }
 {

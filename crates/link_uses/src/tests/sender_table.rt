@@ -63,7 +63,7 @@ fn read_control(counts: &[u64], mode: Mode, control: Control, place: Place) -> R
 }
 
 /// Reads two control bytes.
-#[tactic(auto, using(crate::proofs::TwoControls::behind_can, crate::proofs::TwoControls::stopped, crate::proofs::TwoControls::read_on))]
+#[tactic(auto, using(crate::proofs::TwoControls::two_controls))]
 fn reads_two(counts: &[u64], place: Place, mode: Mode, one: Control, other: Control) -> Reading
     ensures { result ≡ reading.reads counts.now place mode (one ∷ other ∷ []) }
 {
@@ -93,7 +93,8 @@ fn reads(
     first: Option<Control>,
     second: Option<Control>,
 ) -> Reading
-    ensures { result ≡ reading.reads counts.now place mode (cons_option first (cons_option second [])) }
+    ensures { result
+        ≡ reading.reads counts.now place mode (cons_option first (cons_option second [])) }
 {
     match (first, second) {
         (None, None) => Reading {

@@ -1,6 +1,6 @@
 use Rattle.std.proofs.Common.{◌≡◌, ◌∙◌, ℕ, List, Err, sym, subst, ap, rules}
 use Rattle.ym_capture.specs.CaptureHead.{kind_of}
-use Rattle.ym_capture.specs.declared.head.Kind.{Kind}
+use Rattle.ym_capture.specs.declared.head.CaptureKind.{CaptureKind}
 use Rattle.ym_inspect.specs.FirstBytes.{Begins}
 use Rattle.ym_inspect.specs.PcapRead.{FaultOfKind, SaysPlace, TellsKind, TellsPcap}
 use Rattle.ym_inspect.specs.declared.fault.InspectFault.{InspectFault}
@@ -17,14 +17,14 @@ pub returns-in-Other-clause-told : goal.returns-in-Other-clause-told
 returns-in-Other-clause-told g c = also_ok c.tell_record.result _ _ c.tell_record.ensures.told (λ verdict told. λ text e.
     let b = subst (λ (xs : List ℕ). Begins xs text (g.I.Input.remaining c.first_bytes.new.input)) (sym c.as_slice-front.ensures.value)
     (c.in_ok-front.ensures.begins text e) in
-    subst (λ (k : Kind). TellsKind k c.args.turned text (g.O.Output.contents c.args.out.now) verdict (g.O.Output.contents c.tell_record.new.out))
+    subst (λ (k : CaptureKind). TellsKind k c.args.turned text (g.O.Output.contents c.args.out.now) verdict (g.O.Output.contents c.tell_record.new.out))
     (sym (ap kind_of (sym b.first) ∙ sym c.kind_of.ensures ∙ c.in-Other.is)) (told text b))
 
 pub returns-in-Other-clause-fault : goal.returns-in-Other-clause-fault
 returns-in-Other-clause-fault g c = also_err c.tell_record.result _ _ c.tell_record.ensures.line (λ fault says. λ text e.
     let b = subst (λ (xs : List ℕ). Begins xs text (g.I.Input.remaining c.first_bytes.new.input)) (sym c.as_slice-front.ensures.value)
     (c.in_ok-front.ensures.begins text e) in
-    subst (λ (k : Kind). FaultOfKind k c.args.turned fault text)
+    subst (λ (k : CaptureKind). FaultOfKind k c.args.turned fault text)
     (sym (ap kind_of (sym b.first) ∙ sym c.kind_of.ensures ∙ c.in-Other.is)) (says text b))
 
 pub returns-in_err-form-in-Pcap-clause-fault : goal.returns-in_err-form-in-Pcap-clause-fault
@@ -32,7 +32,7 @@ returns-in_err-form-in-Pcap-clause-fault g c =
     if_err c.from_residual-in_err-form-in-Pcap.result c.in_err-form-in-Pcap.field-0.0 _ (search rules) (λ text e.
     let b = subst (λ (xs : List ℕ). Begins xs text (g.I.Input.remaining c.first_bytes.new.input)) (sym c.as_slice-front.ensures.value)
     (c.in_ok-front.ensures.begins text e) in
-    subst (λ (k : Kind). FaultOfKind k c.args.turned c.in_err-form-in-Pcap.field-0.0 text)
+    subst (λ (k : CaptureKind). FaultOfKind k c.args.turned c.in_err-form-in-Pcap.field-0.0 text)
     (sym (ap kind_of (sym b.first) ∙ sym c.kind_of.ensures ∙ c.in-Pcap.is))
     (c.in_err-form-in-Pcap.ensures.place c.args.turned text _ b))
 
@@ -43,7 +43,7 @@ returns-clause-told g c = also_ok c.explain.result _ _ c.explain.ensures.told (�
     let before = g.O.Output.contents c.args.out.now in
     let first = first_packets c.args.turned c.in-Pcap.order c.in-Pcap.part c.as_slice-front.result.now text c.in_ok-form-in-Pcap.form before
     c.new-packets.result c.new-packets.ensures b.first c.in_ok-form-in-Pcap.ensures.there c.in_ok-form-in-Pcap.ensures.form in
-    subst (λ (k : Kind). TellsKind k c.args.turned text before verdict (g.O.Output.contents c.explain.new.out))
+    subst (λ (k : CaptureKind). TellsKind k c.args.turned text before verdict (g.O.Output.contents c.explain.new.out))
     (sym (ap kind_of (sym b.first) ∙ sym c.kind_of.ensures ∙ c.in-Pcap.is))
     (subst (λ (t : List ℕ). TellsPcap c.args.turned c.in-Pcap.order c.in-Pcap.part t before verdict (g.O.Output.contents c.explain.new.out)) (sym b.split)
     (told b.rest b.left_is c.args.turned c.in-Pcap.order c.in-Pcap.part c.as_slice-front.result.now before first)))
@@ -55,7 +55,7 @@ returns-clause-fault g c = also_err c.explain.result _ _ c.explain.ensures.place
     let before = g.O.Output.contents c.args.out.now in
     let first = first_packets c.args.turned c.in-Pcap.order c.in-Pcap.part c.as_slice-front.result.now text c.in_ok-form-in-Pcap.form before
     c.new-packets.result c.new-packets.ensures b.first c.in_ok-form-in-Pcap.ensures.there c.in_ok-form-in-Pcap.ensures.form in
-    subst (λ (k : Kind). FaultOfKind k c.args.turned fault text)
+    subst (λ (k : CaptureKind). FaultOfKind k c.args.turned fault text)
     (sym (ap kind_of (sym b.first) ∙ sym c.kind_of.ensures ∙ c.in-Pcap.is))
     (subst (λ (t : List ℕ). SaysPlace c.args.turned c.in-Pcap.order c.in-Pcap.part fault t) (sym b.split)
     (stop b.rest b.left_is c.args.turned c.in-Pcap.order c.in-Pcap.part c.as_slice-front.result.now before first)))
