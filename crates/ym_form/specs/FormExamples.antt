@@ -1,12 +1,12 @@
 -- Blocks of known senders, beside their fields.
-use Rattle.std.specs.Prelude.{◌≡◌, ℕ, ◌-◌, List, [], ◌∷◌, ◌++◌, Ok, length, replicate, codes, refl}
+use Rattle.std.specs.Prelude.{◌≡◌, ℕ, ◌-◌, List, ◌∷◌, ◌++◌, Ok, length, replicate, codes, refl}
 use Rattle.std.specs.Fmt.{digits}
 use Rattle.ym_form.specs.Forms.{file_form, form_of}
 use Rattle.ym_form.specs.declared.form.BlockForm.TheVariants.{Fields, OtherLength, TypedMode, More}
 use Rattle.ym_header.specs.Header.{HeaderParts}
 use Rattle.ym_header.specs.Text.{text}
 use Rattle.ym_header.specs.declared.reading.ZeroRef.TheVariants as zero
-use Rattle.ym_header.specs.declared.stamp.Stamp.TheVariants.{Nothing, Time, TimeMode}
+use Rattle.ym_header.specs.declared.stamp.Stamp.TheVariants.{Nothing, TimeMode}
 
 -- these bytes, and 00 up to the end of a short block
 abbrev pub short : List ℕ → List ℕ

@@ -1,6 +1,6 @@
 -- What the body of a block 0, or of an end block, is beside the fields that are read from it: what
 -- the profile writes of them, in a short block or in a long one, or what else it has.
-use Rattle.std.specs.Prelude.{◌≡◌, ℕ, ◌-◌, ◌==◌, Bool, true, false, not, nat_le, if◌then◌else◌, List, ◌++◌, Option, Some, None, Result, Ok, Err, length, take, replicate, position, codes}
+use Rattle.std.specs.Prelude.{◌≡◌, ℕ, ◌==◌, Bool, true, false, not, nat_le, if◌then◌else◌, List, ◌++◌, Option, Some, None, Result, Ok, Err, length, take, drop, replicate, position, codes}
 use Rattle.std.specs.List.{list_all}
 use Rattle.std.specs.Str.{bytes_eq}
 use Rattle.ym_core.specs.declared.delivery.Heard.{Heard}
@@ -24,9 +24,9 @@ is_typed stamp.Nothing = false
 is_typed (stamp.Time time) = false
 is_typed (stamp.TimeMode time mode) = not (nat_le mode 4095)
 
--- a text, and 00 behind it up to the end of a block of this size
+-- a text, and what is left behind it of a long block of 00, up to the end of a block of this size
 abbrev pub in_block : ℕ → List ℕ → List ℕ
-in_block size text = take size (text ++ replicate (1024 - length text) 0)
+in_block size text = take size (text ++ drop (length text) (replicate 1024 0))
 
 abbrev pub is_bare : List ℕ → List ℕ → Bool
 is_bare body text = bytes_eq body (in_block (length body) text)

@@ -1,6 +1,6 @@
 -- What a sender tells of its files: by the next file's block 0, and by the end block, it takes
 -- those that it began before for done. A block 0 before an EOT is the same one once more.
-use Rattle.std.specs.Prelude.{ℕ, ◌+◌, ◌-◌, ◌^◌, Bool, true, false, min}
+use Rattle.std.specs.Prelude.{◌+◌, ◌-◌, ◌^◌, Bool, true, false, min}
 use Rattle.ym_judge.specs.declared.act.Act.{Act}
 use Rattle.ym_judge.specs.declared.act.Act.TheVariants.{Nothing, Header, Block, Eot, End, Cancel, Noise, Answer, Answers, Form}
 use Rattle.ym_judge.specs.declared.claims.Claims.{Claims}

@@ -207,7 +207,7 @@ impl fmt::Display for Harm {
     ghost use Rattle.std.specs.Prelude.{Some};
     ghost use Rattle.ym_judge.specs.JudgeText.{harm_text};
 
-    ghost output = { λ it. Some (harm_text it.0) };
+    ghost output = { λ it. Some (harm_text it.0.finding it.0.takes_back) };
 
     fn fmt<W: fmt::Write>(&self, f: &mut fmt::Formatter<W>) -> fmt::Result {
         match (self.0.finding, self.0.takes_back) {
