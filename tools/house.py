@@ -28,8 +28,8 @@ EDITS = 50
 # Crates of which the gate tries no edit: a try costs the crate's whole proof once more, and the main
 # theorems do not stand on what these tell, record, draw or ask of a system. `make edits` tries theirs.
 UNTRIED = {
-    *("ym_c", "ym_capture", "ym_explain", "ym_host", "ym_inspect", "ym_jobs", "ym_judge", "ym_play"),
-    *("ym_judging", "ym_chart", "ym_record", "ym_show", "ym_text", "ym_told", "ym_words"),
+    *("ym_c", "ym_capture", "ym_explain", "ym_form", "ym_host", "ym_inspect", "ym_jobs", "ym_judge"),
+    *("ym_play", "ym_judging", "ym_chart", "ym_record", "ym_show", "ym_text", "ym_told", "ym_words"),
 }
 README, README_LINES = "README.md", 80
 MAP = "docs/map.md"

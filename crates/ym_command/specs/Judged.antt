@@ -90,6 +90,7 @@ cases_in tried = map (λ it. it.case) tried
 pub record IsShown (outcome : Outcome) (it : Tried) : Type 0 where
   pub step : IsStep outcome.notes.shown it
   pub finished : it.finished ≡ outcome.is_finished
+  pub takes_back : it.takes_back ≡ outcome.notes.takes_back
   pub found : IsFound outcome it.finding
 
 -- the line failed in one of them

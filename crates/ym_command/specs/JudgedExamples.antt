@@ -17,6 +17,7 @@ plain = record {
   tenths = 12;
   finding = Conforms;
   finished = true;
+  takes_back = false;
 }
 
 abbrev pub lost : Tried
@@ -27,6 +28,7 @@ lost = record {
   tenths = 0;
   finding = Loses;
   finished = true;
+  takes_back = false;
 }
 
 -- two cases of a sender, of which one is to be avoided
@@ -48,10 +50,11 @@ early = record {
   tenths = 0;
   finding = Differs;
   finished = true;
+  takes_back = false;
 }
 
 for_machines : report_text true (early ∷ [])
     ≡ codes "{\"case\":\"plain\",\"asks\":\"block 0\",\"did\":\"EOT\","
-    ++ codes "\"seconds\":0.0,\"finding\":\"differs\",\"finished\":true}\n"
+    ++ codes "\"seconds\":0.0,\"finding\":\"differs\",\"finished\":true,\"takes_back\":false}\n"
 unfolding digits
 for_machines = refl

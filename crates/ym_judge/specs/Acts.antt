@@ -1,6 +1,7 @@
 -- What an end does in its turn: the frame of a place, the item of what a sender wrote, and the
 -- answers of which a receiver's bytes are made.
-use Rattle.std.specs.Prelude.{◌≡◌, ℕ, ◌%◌, ◌==◌, Bool, true, false, List, [], ◌∷◌, Option, Some, None, if◌then◌else◌, slice_index}
+use Rattle.std.specs.Prelude.{ℕ, ◌%◌, ◌==◌, Bool, true, false, List, [], ◌∷◌, Option, Some, None, if◌then◌else◌, slice_index}
+use Rattle.std.specs.List.{list_all}
 use Rattle.ym_frame.specs.declared.control.Reply.{Reply}
 use Rattle.ym_frame.specs.declared.control.Reply.TheVariants as reply
 use Rattle.ym_frame.specs.declared.frame.Item.TheVariants as item
@@ -86,10 +87,21 @@ front_answer (byte ∷ more) =
     if byte == 0x43 then Some (reply.Start, more) else
     None
 
+abbrev pub is_can : ℕ → Bool
+is_can byte = byte == 0x18
+
+abbrev pub are_cans : List ℕ → Bool
+are_cans bytes = list_all is_can bytes
+
+-- the second answer is the last one, and who cancels by it may say more CAN
+abbrev pub is_last : Reply → List ℕ → Bool
+is_last second [] = true
+is_last reply.Cancel (byte ∷ more) = are_cans (byte ∷ more)
+is_last second (byte ∷ more) = false
+
 abbrev pub second_in : Reply → Option (Reply × List ℕ) → Act
 second_in first None = Noise
-second_in first (Some (second, [])) = Answers first second
-second_in first (Some (second, byte ∷ more)) = Noise
+second_in first (Some (second, more)) = if is_last second more then Answers first second else Noise
 
 abbrev pub first_in : Option (Reply × List ℕ) → Act
 first_in None = Noise

@@ -1,6 +1,6 @@
 -- What of a receiver's bytes is an answer. A boot loader prints text, and a C beside a letter of it
 -- is a letter too; and who asks by several C asks once.
-use Rattle.std.specs.Prelude.{ℕ, ◌==◌, ◌&&◌, ◌||◌, nat_le, not, Bool, false, List, [], ◌∷◌, if◌then◌else◌}
+use Rattle.std.specs.Prelude.{ℕ, ◌==◌, ◌&&◌, ◌||◌, nat_le, not, Bool, List, [], ◌∷◌, if◌then◌else◌}
 use Rattle.ym_frame.specs.Control.{is_control}
 
 abbrev pub is_text : ℕ → Bool

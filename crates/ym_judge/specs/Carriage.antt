@@ -38,3 +38,4 @@ carried_as twist.Refused bytes = 0x15 ∷ []
 carried_as twist.Asked bytes = 0x43 ∷ []
 carried_as twist.Taken bytes = 0x06 ∷ []
 carried_as twist.Behind bytes = bytes ++ 0x15 ∷ []
+carried_as twist.Prompt bytes = bytes

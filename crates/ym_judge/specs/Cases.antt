@@ -34,3 +34,4 @@ spot_at act.Cancel eots = None
 spot_at act.Noise eots = None
 spot_at (act.Answer reply) eots = None
 spot_at (act.Answers first second) eots = None
+spot_at (act.Form form) eots = None

@@ -1,8 +1,8 @@
 -- What a sender tells of its files: by the next file's block 0, and by the end block, it takes
 -- those that it began before for done. A block 0 before an EOT is the same one once more.
-use Rattle.std.specs.Prelude.{ℕ, ◌+◌, ◌-◌, ◌^◌, Bool, true, false, min}
+use Rattle.std.specs.Prelude.{◌+◌, ◌-◌, ◌^◌, Bool, true, false, min}
 use Rattle.ym_judge.specs.declared.act.Act.{Act}
-use Rattle.ym_judge.specs.declared.act.Act.TheVariants.{Nothing, Header, Block, Eot, End, Cancel, Noise, Answer, Answers}
+use Rattle.ym_judge.specs.declared.act.Act.TheVariants.{Nothing, Header, Block, Eot, End, Cancel, Noise, Answer, Answers, Form}
 use Rattle.ym_judge.specs.declared.claims.Claims.{Claims}
 
 abbrev pub no_claims : Claims
@@ -22,3 +22,4 @@ claims_behind Cancel it = it
 claims_behind Noise it = it
 claims_behind (Answer reply) it = it
 claims_behind (Answers first second) it = it
+claims_behind (Form form) it = it

@@ -6,7 +6,7 @@ use Rattle.ym_judge.specs.AnswerBytes.{answers_in}
 use Rattle.ym_judge.specs.Acts.{act_at, answer_in}
 use Rattle.ym_judge.specs.Carriage.{carried_as}
 use Rattle.ym_judge.specs.Claiming.{claims_behind, no_claims}
-use Rattle.ym_judge.specs.Noted.{asks_both}
+use Rattle.ym_judge.specs.Noted.{asks_both, has_taken_back}
 use Rattle.ym_judge.specs.declared.act.Act.TheVariants as act
 use Rattle.ym_judge.specs.declared.claims.Claims.{Claims}
 use Rattle.ym_judge.specs.declared.twist.Twist.TheVariants as twist
@@ -25,6 +25,14 @@ two_acks = refl
 -- one CAN is no answer
 one_can : answer_in (0x18 ∷ []) ≡ act.Noise
 one_can = refl
+
+-- who gives up may say ACK before, and more CAN and backspaces behind
+taken_back : answer_in (answers_in 0 (0x06 ∷ 0x18 ∷ 0x18 ∷ 0x18 ∷ 0x08 ∷ 0x08 ∷ []))
+    ≡ act.Answers reply.Ack reply.Cancel
+taken_back = refl
+
+is_taken_back : has_taken_back (act.Answers reply.Ack reply.Cancel) ≡ true
+is_taken_back = refl
 
 -- "CRC" is a text, and C C C asks once
 letters : answers_in 0 (0x20 ∷ 0x43 ∷ 0x52 ∷ 0x43 ∷ []) ≡ []

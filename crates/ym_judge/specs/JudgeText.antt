@@ -1,5 +1,6 @@
 -- The words of cases, of what ends do, of what is found, and of the lines of a report.
-use Rattle.std.specs.Prelude.{ℕ, ◌+◌, ◌/◌, ◌%◌, Bool, true, false, List, [], ◌++◌, codes, decimal}
+use Rattle.std.specs.Prelude.{ℕ, ◌/◌, ◌%◌, Bool, true, false, List, ◌++◌, codes, decimal}
+use Rattle.ym_form.specs.Forms.{form_text}
 use Rattle.ym_frame.specs.declared.control.Reply.{Reply}
 use Rattle.ym_frame.specs.declared.control.Reply.TheVariants as reply
 use Rattle.ym_judge.specs.declared.act.Act.{Act}
@@ -46,6 +47,7 @@ twist_text twist.Refused = codes "NAK in its place"
 twist_text twist.Asked = codes "C in its place"
 twist_text twist.Taken = codes "ACK in its place"
 twist_text twist.Behind = codes "NAK behind it"
+twist_text twist.Prompt = codes "C with its ACK"
 
 abbrev pub parcel_text : Parcel → List ℕ
 parcel_text parcel.Usual = codes "a file of two blocks"
@@ -70,6 +72,7 @@ case_text (case.Frame spot twist) = spot_text spot ++ (codes ": " ++ twist_text 
 case_text (case.Sends parcel) = parcel_text parcel
 case_text (case.Answer spot twist) =
     codes "answer to " ++ (spot_text spot ++ (codes ": " ++ twist_text twist))
+case_text (case.Bytes spot) = spot_text spot ++ codes ": its bytes"
 
 -- ---- What ends do
 
@@ -91,6 +94,7 @@ act_text act.Cancel = codes "CAN CAN"
 act_text act.Noise = codes "other bytes"
 act_text (act.Answer reply) = answer_text reply
 act_text (act.Answers first second) = answer_text first ++ (codes ", " ++ answer_text second)
+act_text (act.Form form) = form_text form
 
 -- ---- What is found
 
@@ -133,7 +137,8 @@ json_acts it =
 abbrev pub json_found : Tried → List ℕ
 json_found it =
     codes "\"seconds\":" ++ (seconds_text it.tenths ++ (codes ",\"finding\":\""
-    ++ (finding_word it.finding ++ (codes "\",\"finished\":" ++ truth_text it.finished))))
+    ++ (finding_word it.finding ++ (codes "\",\"finished\":" ++ (truth_text it.finished
+    ++ (codes ",\"takes_back\":" ++ truth_text it.takes_back))))))
 
 abbrev pub case_json : Tried → List ℕ
 case_json it = codes "{" ++ (json_acts it ++ (codes "," ++ (json_found it ++ codes "}")))
@@ -141,17 +146,22 @@ case_json it = codes "{" ++ (json_acts it ++ (codes "," ++ (json_found it ++ cod
 abbrev pub start_line : Case → List ℕ
 start_line case = codes "start the peer: " ++ case_text case
 
+-- how a session stops short
+abbrev pub stop_text : Bool → List ℕ
+stop_text true = codes "it takes an ACK back"
+stop_text false = codes "it does not come to the end"
+
 -- why a case is to be avoided
-abbrev pub harm_text : Finding → List ℕ
-harm_text Loses = codes "it loses data"
-harm_text NoAnswer = codes "it does not answer"
-harm_text Conforms = codes "it does not come to the end"
-harm_text Differs = codes "it does not come to the end"
-harm_text NotTried = codes "it does not come to the end"
+abbrev pub harm_text : Finding → Bool → List ℕ
+harm_text Loses takes_back = codes "it loses data"
+harm_text NoAnswer takes_back = codes "it does not answer"
+harm_text Conforms takes_back = stop_text takes_back
+harm_text Differs takes_back = stop_text takes_back
+harm_text NotTried takes_back = stop_text takes_back
 
 abbrev pub avoid_line : Tried → List ℕ
 avoid_line it =
-    codes "avoid " ++ (case_text it.case ++ (codes ": " ++ harm_text it.finding))
+    codes "avoid " ++ (case_text it.case ++ (codes ": " ++ harm_text it.finding it.takes_back))
 
 abbrev pub sums_line : Sums → List ℕ
 sums_line it =

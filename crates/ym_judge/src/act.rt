@@ -2,11 +2,12 @@
 
 ghost use Rattle.std.specs.Prelude.{◌≡◌, MatchOption, None, Some};
 ghost use Rattle.ym_core.specs.Hearing.{heard_of};
-ghost use Rattle.ym_judge.specs.Acts.{act_at, act_of, act_heard, answer_in, front_answer};
+ghost use Rattle.ym_judge.specs.Acts.{act_at, act_of, act_heard, answer_in, are_cans, front_answer};
 
 use std::fmt;
 use ym_core::{HeardRef, Mode, Place, SendState, Standing, heard_in};
-use ym_frame::{ItemRef, Reply};
+use ym_form::BlockForm;
+use ym_frame::{CAN, ItemRef, Reply};
 
 /// What an end does in its turn.
 #[derive(Clone, Copy, Debug, PartialEq, Eq)]
@@ -29,6 +30,8 @@ pub enum Act {
     Answer(Reply),
     /// It answers so, and then so.
     Answers(Reply, Reply),
+    /// It sends a block 0 or an end block of this form.
+    Form(BlockForm),
 }
 
 /// The frame of a place.
@@ -95,7 +98,14 @@ fn front_answer(bytes: &[u8]) -> Option<(Reply, &[u8])>
     }
 }
 
-/// What a receiver did that wrote these bytes.
+/// Whether each byte is CAN.
+fn are_cans(bytes: &[u8]) -> bool
+    ensures { result ≡ are_cans bytes.now }
+{
+    bytes.iter().all(|byte| *byte == CAN)
+}
+
+/// What a receiver did that wrote these bytes. Who cancels behind an answer may say more CAN.
 pub fn answered(bytes: &[u8]) -> Act
     ensures { result ≡ answer_in bytes.now }
 {
@@ -107,6 +117,7 @@ pub fn answered(bytes: &[u8]) -> Act
         Some((first, [])) => Act::Answer(first),
         Some((first, rest)) => match front_answer(rest) {
             Some((second, [])) => Act::Answers(first, second),
+            Some((Reply::Cancel, more)) if are_cans(more) => Act::Answers(first, Reply::Cancel),
             _ => Act::Noise,
         },
     }
@@ -158,6 +169,7 @@ impl fmt::Display for Act {
                 let other = AnswerWords(second);
                 write!(f, "{one}, {other}")
             }
+            Act::Form(form) => write!(f, "{form}"),
         }
     }
 }

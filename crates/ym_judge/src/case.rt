@@ -12,10 +12,12 @@ pub enum Case {
     Plain,
     /// The usual file is sent, and this becomes of one frame.
     Frame(Spot, Twist),
-    /// This is sent, and nothing goes wrong.
+    /// This is sent, by this end or by the peer, and nothing goes wrong.
     Sends(Parcel),
     /// What the peer sends is received, and this becomes of the answer to one frame.
     Answer(Spot, Twist),
+    /// What the peer sends is received, and the bytes of this frame are looked at.
+    Bytes(Spot),
 }
 
 impl fmt::Display for Case {
@@ -30,6 +32,7 @@ impl fmt::Display for Case {
             Case::Frame(spot, twist) => write!(f, "{spot}: {twist}"),
             Case::Sends(parcel) => write!(f, "{parcel}"),
             Case::Answer(spot, twist) => write!(f, "answer to {spot}: {twist}"),
+            Case::Bytes(spot) => write!(f, "{spot}: its bytes"),
         }
     }
 }

@@ -18,7 +18,7 @@ pub enum Peer {
 }
 
 /// The cases of a receiver.
-pub const RECEIVER_CASES: [Case; 68] = [
+pub const RECEIVER_CASES: [Case; 69] = [
     Case::Plain,
     Case::Sends(Parcel::OneByte),
     Case::Sends(Parcel::Empty),
@@ -35,6 +35,7 @@ pub const RECEIVER_CASES: [Case; 68] = [
     Case::Sends(Parcel::NoLength),
     Case::Sends(Parcel::Path),
     Case::Frame(Spot::Start, Twist::Late),
+    Case::Frame(Spot::Header, Twist::Prompt),
     Case::Frame(Spot::Start, Twist::Cancel),
     Case::Frame(Spot::Header, Twist::Lost),
     Case::Frame(Spot::First, Twist::Lost),
@@ -90,8 +91,11 @@ pub const RECEIVER_CASES: [Case; 68] = [
 ];
 
 /// The cases of a sender.
-pub const SENDER_CASES: [Case; 67] = [
+pub const SENDER_CASES: [Case; 70] = [
     Case::Plain,
+    Case::Bytes(Spot::Header),
+    Case::Bytes(Spot::End),
+    Case::Sends(Parcel::LongName),
     Case::Answer(Spot::Start, Twist::Lost),
     Case::Answer(Spot::Start, Twist::Doubled),
     Case::Answer(Spot::Start, Twist::Late),

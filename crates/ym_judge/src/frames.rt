@@ -71,7 +71,7 @@ pub fn carried(alloc: Global, twist: Twist, written: &[u8]) -> Result<Vec<u8>, A
         Twist::Damaged => damaged(alloc, written),
         Twist::Garbled => garbled(alloc, written),
         Twist::Cut => Vec::from_slice(alloc, &written[..written.len() / 2]),
-        Twist::Doubled | Twist::Late | Twist::AnswerLost | Twist::Unheard => {
+        Twist::Doubled | Twist::Late | Twist::AnswerLost | Twist::Unheard | Twist::Prompt => {
             Vec::from_slice(alloc, written)
         }
         Twist::Junk => joined(alloc, &JUNK, written),

@@ -2,6 +2,7 @@
 
 ghost use Rattle.std.specs.Prelude.{◌≡◌, ◌↔◌, ◌⊎◌, true};
 ghost use Rattle.ym_judge.specs.Noted.{asks_both, fits_behind, no_notes, notes_behind};
+ghost use Rattle.ym_judge.specs.Noted.{has_taken_back};
 
 use crate::act::Act;
 use ym_frame::Reply;
@@ -32,6 +33,18 @@ pub struct Notes {
     pub tried: bool,
     /// The peer wrote something.
     pub answered: bool,
+    /// It cancelled right behind an ACK.
+    pub takes_back: bool,
+}
+
+/// Whether who did this has taken an ACK back.
+fn has_taken_back(did: Act) -> bool
+    ensures { result ≡ has_taken_back did }
+{
+    matches!(
+        did,
+        Act::Answers(Reply::Ack | Reply::AckStart, Reply::Cancel)
+    )
 }
 
 impl Notes {
@@ -51,6 +64,7 @@ impl Notes {
             fits: true,
             tried: false,
             answered: false,
+            takes_back: false,
         }
     }
 
@@ -68,6 +82,7 @@ impl Notes {
             fits: self.fits && turn.fits,
             tried: self.tried || turn.here,
             answered: self.answered || turn.did != Act::Nothing,
+            takes_back: self.takes_back || has_taken_back(turn.did),
         }
     }
 }

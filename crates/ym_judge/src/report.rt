@@ -24,6 +24,8 @@ pub struct Tried {
     pub finding: Finding,
     /// The session came to the end that it has with the reference.
     pub finished: bool,
+    /// The peer cancelled right behind an ACK.
+    pub takes_back: bool,
 }
 
 impl Tried {
@@ -155,9 +157,11 @@ impl fmt::Display for JsonFound {
         let seconds = Seconds(self.0.tenths);
         let finding = FindingWord(self.0.finding);
         let finished = Truth(self.0.finished);
+        let takes_back = Truth(self.0.takes_back);
         write!(
             f,
-            "\"seconds\":{seconds},\"finding\":\"{finding}\",\"finished\":{finished}"
+            "\"seconds\":{seconds},\"finding\":\"{finding}\",\"finished\":{finished},\
+             \"takes_back\":{takes_back}"
         )
     }
 }
@@ -197,21 +201,20 @@ impl fmt::Display for StartLine {
 
 /// Why a case is to be avoided.
 #[derive(Clone, Copy)]
-struct Harm(Finding);
+struct Harm(Tried);
 
 impl fmt::Display for Harm {
     ghost use Rattle.std.specs.Prelude.{Some};
     ghost use Rattle.ym_judge.specs.JudgeText.{harm_text};
 
-    ghost output = { λ it. Some (harm_text it.0) };
+    ghost output = { λ it. Some (harm_text it.0.finding it.0.takes_back) };
 
     fn fmt<W: fmt::Write>(&self, f: &mut fmt::Formatter<W>) -> fmt::Result {
-        match self.0 {
-            Finding::Loses => write!(f, "it loses data"),
-            Finding::NoAnswer => write!(f, "it does not answer"),
-            Finding::Conforms | Finding::Differs | Finding::NotTried => {
-                write!(f, "it does not come to the end")
-            }
+        match (self.0.finding, self.0.takes_back) {
+            (Finding::Loses, _) => write!(f, "it loses data"),
+            (Finding::NoAnswer, _) => write!(f, "it does not answer"),
+            (_, true) => write!(f, "it takes an ACK back"),
+            (_, false) => write!(f, "it does not come to the end"),
         }
     }
 }
@@ -228,7 +231,7 @@ impl fmt::Display for Avoided {
 
     fn fmt<W: fmt::Write>(&self, f: &mut fmt::Formatter<W>) -> fmt::Result {
         let case = self.0.case;
-        let harm = Harm(self.0.finding);
+        let harm = Harm(self.0);
         write!(f, "avoid {case}: {harm}")
     }
 }

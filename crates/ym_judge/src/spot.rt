@@ -42,7 +42,12 @@ pub fn spot_of(act: Act, eots: u8) -> Option<Spot>
             }
         }
         Act::End => Some(Spot::End),
-        Act::Block(_) | Act::Cancel | Act::Noise | Act::Answer(_) | Act::Answers(_, _) => None,
+        Act::Block(_)
+        | Act::Cancel
+        | Act::Noise
+        | Act::Answer(_)
+        | Act::Answers(_, _)
+        | Act::Form(_) => None,
     }
 }
 

@@ -39,6 +39,8 @@ pub enum Twist {
     Taken,
     /// NAK is written behind it.
     Behind,
+    /// The C of its answer has to come with the ACK.
+    Prompt,
 }
 
 impl fmt::Display for Twist {
@@ -66,6 +68,7 @@ impl fmt::Display for Twist {
             Twist::Asked => write!(f, "C in its place"),
             Twist::Taken => write!(f, "ACK in its place"),
             Twist::Behind => write!(f, "NAK behind it"),
+            Twist::Prompt => write!(f, "C with its ACK"),
         }
     }
 }

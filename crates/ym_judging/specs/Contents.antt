@@ -20,3 +20,4 @@ parcel_in case.Plain = Usual
 parcel_in (case.Frame spot twist) = Usual
 parcel_in (case.Sends parcel) = parcel
 parcel_in (case.Answer spot twist) = Usual
+parcel_in (case.Bytes spot) = Usual

@@ -1,8 +1,6 @@
 -- What a report rests on: the steps that a session had, in order.
 use Rattle.std.specs.Prelude.{◌≡◌, ◌≤◌, ◌+◌, ℕ, Bool, true, false, List, [], ◌∷◌, ◌||◌, length}
-use Rattle.ym_frame.specs.declared.control.Reply.{Reply}
-use Rattle.ym_frame.specs.declared.control.Reply.TheVariants.{Silence, Start, Ack, AckStart, Nak, Cancel}
-use Rattle.ym_judge.specs.Noted.{no_notes, notes_behind}
+use Rattle.ym_judge.specs.Noted.{is_ack, is_cancel, no_notes, notes_behind}
 use Rattle.ym_judge.specs.declared.act.Act.{Act}
 use Rattle.ym_judge.specs.declared.act.Act.TheVariants as act
 use Rattle.ym_judge.specs.Judging.{IsLoss, Conforms as Conforming}
@@ -35,15 +33,6 @@ pub record GoesOn (did : Act) (old new : Notes) : Type 0 where
   pub does : step.did ≡ did
   pub goes : new ≡ notes_behind step old
 
--- a reply that acknowledges
-abbrev pub is_ack : Reply → Bool
-is_ack Silence = false
-is_ack Start = false
-is_ack Ack = true
-is_ack AckStart = true
-is_ack Nak = false
-is_ack Cancel = false
-
 abbrev pub either : Bool → Bool → Bool
 either true other = true
 either false other = other
@@ -58,15 +47,7 @@ has_acknowledged act.Cancel = false
 has_acknowledged act.Noise = false
 has_acknowledged (act.Answer reply) = is_ack reply
 has_acknowledged (act.Answers first second) = either (is_ack first) (is_ack second)
-
--- a reply that cancels
-abbrev pub is_cancel : Reply → Bool
-is_cancel Silence = false
-is_cancel Start = false
-is_cancel Ack = false
-is_cancel AckStart = false
-is_cancel Nak = false
-is_cancel Cancel = true
+has_acknowledged (act.Form form) = false
 
 abbrev pub has_cancelled : Act → Bool
 has_cancelled act.Nothing = false
@@ -78,6 +59,7 @@ has_cancelled act.Cancel = false
 has_cancelled act.Noise = false
 has_cancelled (act.Answer reply) = is_cancel reply
 has_cancelled (act.Answers first second) = either (is_cancel first) (is_cancel second)
+has_cancelled (act.Form form) = false
 
 -- the evidence of an outcome
 abbrev pub evidence_of : Outcome → Evidence

@@ -1,8 +1,11 @@
 -- What passes on the line to a peer: what came, what of it is said, and what was written.
-use Rattle.std.specs.Prelude.{ℕ, Bool, true, false, List, [], ◌∷◌}
+use Rattle.std.specs.Prelude.{ℕ, Bool, true, false, List, [], ◌∷◌, ◌++◌, Option, Some, None}
 use Rattle.ym_judge.specs.AnswerBytes.{answers_in}
+use Rattle.ym_judge.specs.declared.twist.Twist.{Twist}
+use Rattle.ym_judge.specs.declared.twist.Twist.TheVariants as twist
 use Rattle.ym_judging.specs.declared.line.Ear.{Ear}
 use Rattle.ym_judging.specs.declared.line.Ear.TheVariants.{Answers, Frames}
+use Rattle.ym_judging.specs.declared.turn.Heard.{Heard}
 use Rattle.ym_link.specs.Port.{Seen, Data, Silence, End, Failed}
 use Rattle.ym_port.specs.Wire.{Tape, after_write}
 
@@ -24,3 +27,14 @@ abbrev pub written_on : Bool → Bool → List ℕ → Tape → Tape
 written_on true made bytes t = t
 written_on false made [] t = t
 written_on false made (byte ∷ more) t = after_write made t (byte ∷ more)
+
+-- a C that is to come with the ACK counts only so, and else it may come late
+abbrev pub late_of : Option Twist → List ℕ → List ℕ
+late_of None late = late
+late_of (Some twist.Prompt) late = []
+late_of (Some twist) late = late
+
+-- what counts as the answer of a turn
+abbrev pub said_by : Option Twist → Heard → List ℕ
+said_by twist heard =
+    heard.before.items ++ heard.bytes.items ++ late_of twist heard.late.items

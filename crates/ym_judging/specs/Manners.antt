@@ -13,6 +13,7 @@ is_everywhere case.Plain = true
 is_everywhere (case.Frame spot twist) = false
 is_everywhere (case.Sends parcel) = true
 is_everywhere (case.Answer spot twist) = false
+is_everywhere (case.Bytes spot) = false
 
 -- how long it is listened at the end: longer where CAN CAN was written
 abbrev pub rest_behind : Twist → ℕ
@@ -24,6 +25,7 @@ rest_ms case.Plain = STILL_MS
 rest_ms (case.Frame spot twist) = rest_behind twist
 rest_ms (case.Sends parcel) = STILL_MS
 rest_ms (case.Answer spot twist) = rest_behind twist
+rest_ms (case.Bytes spot) = STILL_MS
 
 -- what goes out: the bytes as they are, or what becomes of them
 abbrev pub twisted_as : Option Twist → List ℕ → List ℕ

@@ -67,3 +67,4 @@ IsWritten file act.Cancel bytes = IsFrame item.Cancel bytes
 IsWritten file act.Noise bytes = bytes ≡ []
 IsWritten file (act.Answer reply) bytes = bytes ≡ []
 IsWritten file (act.Answers first second) bytes = bytes ≡ []
+IsWritten file (act.Form form) bytes = bytes ≡ []

@@ -3,6 +3,7 @@
 #![tactic(auto)]
 
 mod line;
+mod looks;
 mod manner;
 mod outcome;
 mod payload;

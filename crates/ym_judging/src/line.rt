@@ -221,6 +221,7 @@ impl<'w, W: Wire> Line<'w, W> {
     ) -> Result<Heard, AllocError>
         ensures before { IfOk result (λ heard. heard.before ≡ before) }
         ensures gone { IfOk result (λ heard. heard.is_gone ≡ self.old.is_closed) }
+        ensures late { IfOk result (λ heard. heard.late.items ≡ []) }
     {
         let is_gone = self.is_closed;
         self.write(turn.out.as_slice());
@@ -228,6 +229,7 @@ impl<'w, W: Wire> Line<'w, W> {
         Ok(Heard {
             before,
             bytes,
+            late: Vec::new(self.alloc),
             tenths,
             is_gone,
         })
@@ -236,12 +238,13 @@ impl<'w, W: Wire> Line<'w, W> {
     /// Takes what comes behind an ACK at the end, where C is to come.
     pub(crate) fn wait_for_start(&mut self, heard: &mut Heard) -> Result<(), AllocError>
         ensures before { heard.new.before ≡ heard.old.before }
+        ensures bytes { heard.new.bytes ≡ heard.old.bytes }
         ensures tenths { heard.new.tenths ≡ heard.old.tenths }
         ensures gone { heard.new.is_gone ≡ heard.old.is_gone }
     {
         if heard.bytes.as_slice().ends_with(&[ACK]) && !self.is_closed {
             let (rest, _) = self.listen(START_MS)?;
-            heard.bytes.extend_from_slice(rest.as_slice())?;
+            heard.late = rest;
         }
         Ok(())
     }

@@ -62,6 +62,7 @@ impl Outcome {
         ensures case { result.case ≡ case }
         ensures step { IsStep self.now.notes.shown result }
         ensures finished { result.finished ≡ self.now.is_finished }
+        ensures takes_back { result.takes_back ≡ self.now.notes.takes_back }
         ensures found { IsFound self.now result.finding }
     {
         let shown = self.notes.shown;
@@ -72,6 +73,7 @@ impl Outcome {
             tenths: shown.tenths,
             finding: self.evidence().finding(),
             finished: self.is_finished,
+            takes_back: self.notes.takes_back,
         }
     }
 }

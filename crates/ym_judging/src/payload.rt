@@ -164,7 +164,7 @@ pub(crate) fn parcel_of(case: Case) -> Parcel
 {
     match case {
         Case::Sends(parcel) => parcel,
-        Case::Plain | Case::Frame(_, _) | Case::Answer(_, _) => Parcel::Usual,
+        Case::Plain | Case::Frame(_, _) | Case::Answer(_, _) | Case::Bytes(_) => Parcel::Usual,
     }
 }
 

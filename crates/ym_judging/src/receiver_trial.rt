@@ -3,6 +3,7 @@
 ghost use Rattle.std.specs.Prelude.{◌≡◌, ◌++◌, ◌+◌, ℕ, List, IfOk, OnOk, Some};
 ghost use Rattle.ym_judge.specs.Acts.{answer_in};
 ghost use Rattle.ym_judge.specs.Noted.{no_notes};
+ghost use Rattle.ym_judging.specs.Listening.{said_by};
 ghost use Rattle.ym_judging.specs.Manners.{twisted_as};
 ghost use Rattle.ym_judging.specs.JudgedSteps.{GoesOn, GrowsBy, IsNoted, has_acknowledged};
 ghost use Rattle.ym_judging.specs.JudgedSteps.{has_cancelled};
@@ -84,6 +85,26 @@ fn has_cancelled(did: Act) -> bool
 /// Whether a frame stands whole in what goes out, behind other bytes.
 fn is_behind_others(twist: Option<Twist>) -> bool {
     matches!(twist, Some(Twist::Junk | Twist::LoneCan))
+}
+
+/// These bytes, and those behind them.
+fn joined(alloc: Global, front: &[u8], rest: &[u8]) -> Result<Vec<u8>, AllocError>
+    ensures { IfOk result (λ bytes. bytes.items ≡ front.now ++ rest.now) }
+{
+    let mut bytes = Vec::from_slice(alloc, front)?;
+    bytes.extend_from_slice(rest)?;
+    Ok(bytes)
+}
+
+/// What counts as the answer of a turn.
+fn said_by(alloc: Global, turn: &Turn, heard: &Heard) -> Result<Vec<u8>, AllocError>
+    ensures { IfOk result (λ said. said.items ≡ said_by turn.now.twist heard.now) }
+{
+    let mut said = joined(alloc, heard.before.as_slice(), heard.bytes.as_slice())?;
+    if turn.twist != Some(Twist::Prompt) {
+        said.extend_from_slice(heard.late.as_slice())?;
+    }
+    Ok(said)
 }
 
 impl<'a> ReceiverTrial<'a> {
@@ -273,31 +294,32 @@ impl<'a> ReceiverTrial<'a> {
     }
 
     /// Has the sender hear what it answered.
-    fn answer(&mut self, turn: &Turn, heard: &Heard)
+    fn answer(&mut self, alloc: Global, turn: &Turn, heard: &Heard) -> Result<(), AllocError>
         ensures notes { self.new.notes ≡ self.old.notes }
         ensures case { self.new.case ≡ self.old.case }
     {
         if turn.twist == Some(Twist::AnswerLost) {
             self.sender.hear(&[]);
         } else if heard.before.is_empty() || turn.manner != Manner::Again {
-            self.sender.hear(heard.bytes.as_slice());
+            let answer = joined(alloc, heard.bytes.as_slice(), heard.late.as_slice())?;
+            self.sender.hear(answer.as_slice());
         } else {
             self.sender.hear(heard.before.as_slice());
         }
+        Ok(())
     }
 
     /// Takes what came in a turn.
     fn take(&mut self, alloc: Global, turn: &Turn, heard: &Heard) -> Result<(), AllocError>
-        ensures noted { let said = heard.now.before.items ++ heard.now.bytes.items in
-            OnOk result (GoesOn (answer_in said) self.old.notes self.new.notes) }
+        ensures noted { OnOk result
+            (GoesOn (answer_in (said_by turn.now.twist heard.now)) self.old.notes self.new.notes) }
         ensures case { self.new.case ≡ self.old.case }
     {
         let before = self.deliver_before(turn, heard);
         let last = self.deliver_last(turn, heard);
         self.is_refused = self.twins.has_stopped() && (self.notes.fits || turn.twist.is_some());
         self.deliver_keenly(alloc, turn)?;
-        let mut said = Vec::from_slice(alloc, heard.before.as_slice())?;
-        said.extend_from_slice(heard.bytes.as_slice())?;
+        let said = said_by(alloc, turn, heard)?;
         let replies = Replies { before, last };
         self.note(replies, said.as_slice(), turn, heard.tenths);
         self.take_claim(turn, answered(said.as_slice()));
@@ -305,8 +327,7 @@ impl<'a> ReceiverTrial<'a> {
             self.eots = self.eots.saturating_add(1);
         }
         self.is_used = self.is_used || turn.twist.is_some();
-        self.answer(turn, heard);
-        Ok(())
+        self.answer(alloc, turn, heard)
     }
 
     /// Takes what came when the session was over.

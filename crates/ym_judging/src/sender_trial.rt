@@ -7,13 +7,15 @@ ghost use Rattle.ym_judging.specs.JudgedSteps.{GoesOn, GrowsBy, IsNoted};
 ghost use Rattle.ym_judging.specs.declared.sender_trial.TheConstants.{MOST_TURNS};
 
 use crate::line::{ANSWER_MS, Ear, FIRST_MS, Line, STILL_MS};
+use crate::looks::form_seen;
 use crate::manner::{Manner, manner_of};
 use crate::outcome::Outcome;
 use crate::turn::{Heard, Turn};
-use crate::twisted::{answer_twist, is_everywhere, rest_ms, twisted};
+use crate::twisted::{answer_twist, rest_ms, twisted};
 use crate::usual::{LONG_COUNTS, SHORT_COUNTS, usual};
 use std::alloc::{AllocError, Global};
 use ym_core::Heard as Delivery;
+use ym_form::BlockForm;
 use ym_frame::{CAN, Reply, SOH, verdict};
 use ym_judge::{
     Act, Case, Claims, Notes, Passage, SenderTwin, Spot, Twins, Twist, delivered, spot_of,
@@ -260,8 +262,15 @@ impl SenderTrial {
         self.take_size(did, bytes);
         self.take_twist(turn.twist);
         let asked = self.twin().asked();
-        let here = turn.twist.is_some() || is_everywhere(self.case);
-        self.note(asked, did, tenths, here);
+        match form_seen(self.case, did, bytes) {
+            Some(form) if asked == did => {
+                self.note(Act::Form(BlockForm::Fields), Act::Form(form), tenths, true);
+            }
+            _ => {
+                let here = turn.twist.is_some() || self.case == Case::Plain;
+                self.note(asked, did, tenths, here);
+            }
+        }
     }
 
     /// Takes what came behind the frame, where the reference waits for an answer.

@@ -23,6 +23,8 @@ pub(crate) struct Heard {
     pub(crate) before: Vec<u8>,
     /// After all was written.
     pub(crate) bytes: Vec<u8>,
+    /// Behind an ACK at its end, where C was waited for.
+    pub(crate) late: Vec<u8>,
     /// After how many tenths of a second its first byte came.
     pub(crate) tenths: u64,
     /// The peer had closed the line before all was written.

@@ -10,6 +10,9 @@ pub(crate) const LONG_COUNTS: [u64; 1] = [2];
 
 pub(crate) const SHORT_COUNTS: [u64; 1] = [9];
 
+/// How many bytes it has.
+pub(crate) const LENGTH: u64 = 1100;
+
 /// Its bytes.
 pub(crate) fn usual(alloc: Global) -> Result<Vec<u8>, AllocError> {
     let mut bytes = Vec::new(alloc);

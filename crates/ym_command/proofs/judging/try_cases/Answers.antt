@@ -18,7 +18,7 @@ pub loop-case-preserved : goal.loop-case-preserved
 loop-case-preserved g c =
     let it = c.tried-tried.ensures in
     let taken = c.in_ok-take.ensures in
-    one_more c.args.cases.now c.loop-case.case-index _ _ _ _ _ _ _ _ _ (search rules) it.case (record { step = it.step; finished = it.finished; found = it.found })
+    one_more c.args.cases.now c.loop-case.case-index _ _ _ _ _ _ _ _ _ (search rules) it.case (record { step = it.step; finished = it.finished; takes_back = it.takes_back; found = it.found })
     taken.sums taken.avoided taken.failed c.in_ok-print_case.ensures c.loop-case.invariant
 
 pub returns-clause-gives : goal.returns-clause-gives
