@@ -9,12 +9,17 @@ from support.tree import tree
 
 
 PAGE, SOURCE, LIMITS = "docs/commands.md", "crates/ym_check/src/check.rt", "tools/house.json"
-WIDE = "lines of code and clauses over 100 columns"
+RECORDS = "record literals in contracts"
 
 
 def appended(it, name, line):
     with open(os.path.join(it.top, name), "a", encoding="utf-8") as file:
         file.write(line + "\n")
+
+
+def lines_of(name):
+    with open(os.path.join(ROOT, name), encoding="utf-8") as file:
+        return len(file.read().splitlines())
 
 
 def told(it):
@@ -33,14 +38,15 @@ def test_as_it_stands():
 def test_broken_rules():
     """Each broken rule is told, with its place."""
     with tree() as it:
-        with open(os.path.join(ROOT, PAGE), encoding="utf-8") as file:
-            lines = len(file.read().splitlines())
         appended(it, PAGE, "\n[nowhere](nowhere.md) " + "x" * 100)
+        appended(it, SOURCE, "// " + "x" * 100)
         assert told(it) == (
             True,
             [
                 "links that lead nowhere: %s: nowhere.md" % PAGE,
-                "lines of a page over 100 columns: %s:%d" % (PAGE, lines + 2),
+                "lines of a page over 100 columns: %s:%d" % (PAGE, lines_of(PAGE) + 2),
+                "lines of code and clauses over 100 columns: %s:%d"
+                % (SOURCE, lines_of(SOURCE) + 1),
             ],
         ), "what it tells"
 
@@ -63,12 +69,12 @@ def test_counts_that_rose():
         with open(os.path.join(it.top, LIMITS), encoding="utf-8") as file:
             kept = json.load(file)
         assert kept["lines of proofs"] == 0, "what a copy of the tree has none of"
-        appended(it, SOURCE, "// " + "x" * 100)
-        rose = "%s: %d, which rose from %d" % (WIDE, kept[WIDE] + 1, kept[WIDE])
+        appended(it, SOURCE, "// record { .. }")
+        rose = "%s: %d, which rose from %d" % (RECORDS, kept[RECORDS] + 1, kept[RECORDS])
         refuses, lines = told(it)
         assert (refuses, lines[0]) == (True, rose), "whether it refuses, and what it tells first"
         found = it.run("tools/house.py", "list")[1]
-        assert ("%s: %s:" % (WIDE, SOURCE) in found) == True, "the place"
+        assert ("%s: %s:" % (RECORDS, SOURCE) in found) == True, "the place"
 
 
 PLANT = """file: src/system_folder.rt

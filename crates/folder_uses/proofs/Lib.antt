@@ -1,3 +1,2 @@
-pub mod FolderWords
 mod MemFolderLemmas
 mod StoredLemmas

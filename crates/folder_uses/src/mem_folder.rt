@@ -274,7 +274,7 @@ impl Folder for MemFolder {
         Ok(())
     }
 
-    #[tactic(auto, unfolding(crate::proofs::FolderWords::folder_words))]
+    #[tactic(auto, unfolding(ym_folder::specs::Folder::folder_words))]
     fn create_new(&mut self, at: &FilePlace) -> io::Result<MemOpen> {
         count(&mut self.failing)?;
         self.check_free(at)?;
@@ -283,7 +283,7 @@ impl Folder for MemFolder {
         Ok(file)
     }
 
-    #[tactic(auto, unfolding(crate::proofs::FolderWords::folder_words))]
+    #[tactic(auto, unfolding(ym_folder::specs::Folder::folder_words))]
     fn append(&mut self, _file: &mut MemOpen, at: &FilePlace, bytes: &[u8]) -> io::Result<()> {
         if let Err(error) = count(&mut self.failing) {
             add(&mut self.files, self.alloc, at, &bytes[..bytes.len() / 2])?;
@@ -293,7 +293,7 @@ impl Folder for MemFolder {
         Ok(())
     }
 
-    #[tactic(auto, unfolding(crate::proofs::FolderWords::folder_words))]
+    #[tactic(auto, unfolding(ym_folder::specs::Folder::folder_words))]
     fn link(&mut self, from: &FilePlace, to: &FilePlace) -> io::Result<()> {
         if !self.links {
             return Err(io::Error::from_raw_os_error(95));
@@ -304,7 +304,7 @@ impl Folder for MemFolder {
         }
     }
 
-    #[tactic(auto, unfolding(crate::proofs::FolderWords::folder_words))]
+    #[tactic(auto, unfolding(ym_folder::specs::Folder::folder_words))]
     fn rename(&mut self, from: &FilePlace, to: &FilePlace) -> io::Result<()> {
         count(&mut self.failing)?;
         copy(&mut self.files, self.alloc, from, to)?;
@@ -315,7 +315,7 @@ impl Folder for MemFolder {
         Ok(())
     }
 
-    #[tactic(auto, unfolding(crate::proofs::FolderWords::folder_words))]
+    #[tactic(auto, unfolding(ym_folder::specs::Folder::folder_words))]
     fn remove(&mut self, at: &FilePlace) -> io::Result<()> {
         if let Err(error) = count(&mut self.failing) {
             self.refused = true;

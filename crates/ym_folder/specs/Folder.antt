@@ -1,5 +1,5 @@
 -- What stands in a folder, and what its calls make of that (this profile's choice).
-use Rattle.std.specs.Prelude.{◌≡◌, ◌⊎◌, ℕ, ℤ, pos, List, [], ◌∷◌, Bool, true, false, Option, Some, None, if◌then◌else◌, take}
+use Rattle.std.specs.Prelude.{◌≡◌, ◌⊎◌, ℕ, ℤ, pos, List, [], ◌∷◌, Bool, true, false, Option, Some, None, if◌then◌else◌, take, ⊤}
 use Rattle.std.specs.Io.KnownBytes.{append_known}
 use Rattle.std.specs.IoError.{raw_os_error}
 use Rattle.std.specs.Str.{bytes_eq}
@@ -44,6 +44,11 @@ has_links (Some folder) = folder.links
 unfoldable pub has_refused : Option FolderParts → Bool
 has_refused None = true
 has_refused (Some folder) = folder.refused
+
+-- what a proof unfolds to compute these four words
+unfoldable pub folder_words : ⊤
+unfolding under empty_in has_links has_refused
+folder_words = tt
 
 -- ---- What a call does
 

@@ -1,2 +1,1 @@
-pub mod FolderWords
 mod StandsInLemmas

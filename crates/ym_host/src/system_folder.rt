@@ -57,27 +57,27 @@ impl<R: Files<File = File> + Drop> Folder for SystemFolder<R> {
         file.sync_all()
     }
 
-    #[tactic(auto, unfolding(crate::proofs::FolderWords::folder_words))]
+    #[tactic(auto, unfolding(ym_folder::specs::Folder::folder_words))]
     fn create_new(&mut self, at: &FilePlace) -> io::Result<File> {
         File::create_new(&self.rt, at.path())
     }
 
-    #[tactic(auto, unfolding(crate::proofs::FolderWords::folder_words))]
+    #[tactic(auto, unfolding(ym_folder::specs::Folder::folder_words))]
     fn append(&mut self, file: &mut File, _at: &FilePlace, bytes: &[u8]) -> io::Result<()> {
         file.write_all(bytes)
     }
 
-    #[tactic(auto, unfolding(crate::proofs::FolderWords::folder_words))]
+    #[tactic(auto, unfolding(ym_folder::specs::Folder::folder_words))]
     fn link(&mut self, from: &FilePlace, to: &FilePlace) -> io::Result<()> {
         fs::hard_link(&self.rt, from.path(), to.path())
     }
 
-    #[tactic(auto, unfolding(crate::proofs::FolderWords::folder_words))]
+    #[tactic(auto, unfolding(ym_folder::specs::Folder::folder_words))]
     fn rename(&mut self, from: &FilePlace, to: &FilePlace) -> io::Result<()> {
         fs::rename(&self.rt, from.path(), to.path())
     }
 
-    #[tactic(auto, unfolding(crate::proofs::FolderWords::folder_words))]
+    #[tactic(auto, unfolding(ym_folder::specs::Folder::folder_words))]
     fn remove(&mut self, at: &FilePlace) -> io::Result<()> {
         fs::remove_file(&self.rt, at.path())
     }
