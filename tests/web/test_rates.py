@@ -43,13 +43,14 @@ class Rates:
         assert is_quick or not self.room.are_rates_wanted, "%.1f MiB/s" % self.best[what]
 
 
-# From the moment at which the file begins to the one at which all of it is there. Behind it come the
-# EOT, the end block and the tenth of a second behind the last ACK, as behind a file of any size.
+# From the moment at which the file begins to the one at which all of it is there. Behind it come
+# the EOT, the end block and the tenth of a second behind the last ACK, as behind any file.
 IN_ONE_PAGE = """(async () => {
   const [here, there] = tools.pair();
   const data = new Uint8Array(%d << 20);
   let began = 0, end = 0;
-  const onFile = () => { began = performance.now(); return { write() {}, close() { end = performance.now(); } }; };
+  const sink = { write() {}, close() { end = performance.now(); } };
+  const onFile = () => { began = performance.now(); return sink; };
   await Promise.all([y.send(here, [{ name: "big", data }]), y.receive(there, { onFile })]);
   return %d / ((end - began) / 1000);
 })()"""
