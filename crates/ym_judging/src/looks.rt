@@ -1,8 +1,8 @@
-//! Which frames of a sender a case looks at.
+//! What is noted of a frame that a sender wrote.
 
-ghost use Rattle.std.specs.Prelude.{◌≡◌};
+ghost use Rattle.std.specs.Prelude.{◌≡◌, ◌≢◌, ◌⊎◌, true, false};
 ghost use Rattle.ym_core.specs.Hearing.{heard_of};
-ghost use Rattle.ym_judging.specs.Looking.{IsSeen, looks_at};
+ghost use Rattle.ym_judging.specs.Looking.{IsActLook, IsFormLook, looks_at};
 
 use crate::usual::LENGTH;
 use ym_form::{BlockForm, form_in, has_name_of};
@@ -10,6 +10,17 @@ use ym_judge::{Act, Case, Parcel, Spot};
 
 /// How many bytes the long name has.
 const LONG_NAME: usize = 124;
+
+/// What is noted of a frame that a sender wrote.
+#[derive(Clone, Copy)]
+pub(crate) struct Look {
+    /// What the reference does.
+    pub(crate) asked: Act,
+    /// What the peer did.
+    pub(crate) did: Act,
+    /// They are the forms of the frame.
+    pub(crate) is_form: bool,
+}
 
 /// Whether the case looks at the bytes of a frame, by which a sender does this.
 fn looks_at(case: Case, act: Act, bytes: &[u8]) -> bool
@@ -22,13 +33,25 @@ fn looks_at(case: Case, act: Act, bytes: &[u8]) -> bool
     }
 }
 
-/// The form of a frame by which a sender does this, where the case looks at it.
-pub(crate) fn form_seen(case: Case, act: Act, bytes: &[u8]) -> Option<BlockForm>
-    ensures { IsSeen (looks_at case act (heard_of bytes.now)) (heard_of bytes.now) result }
+/// What is noted of a frame by which a sender does this: its form, where it is the frame that is
+/// asked for, and the case looks at it.
+pub(crate) fn look_of(case: Case, asked: Act, did: Act, bytes: &[u8]) -> Look
+    ensures form { asked ≡ did → looks_at case did (heard_of bytes.now) ≡ true →
+        IsFormLook (heard_of bytes.now) result }
+    ensures act { (asked ≢ did) ⊎ (looks_at case did (heard_of bytes.now) ≡ false) →
+        IsActLook asked did result }
 {
-    if looks_at(case, act, bytes) {
-        Some(form_in(bytes, LENGTH))
+    if asked == did && looks_at(case, did, bytes) {
+        Look {
+            asked: Act::Form(BlockForm::Fields),
+            did: Act::Form(form_in(bytes, LENGTH)),
+            is_form: true,
+        }
     } else {
-        None
+        Look {
+            asked,
+            did,
+            is_form: false,
+        }
     }
 }

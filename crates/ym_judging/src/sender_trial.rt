@@ -7,7 +7,7 @@ ghost use Rattle.ym_judging.specs.JudgedSteps.{GoesOn, GrowsBy, IsNoted};
 ghost use Rattle.ym_judging.specs.declared.sender_trial.TheConstants.{MOST_TURNS};
 
 use crate::line::{ANSWER_MS, Ear, FIRST_MS, Line, STILL_MS};
-use crate::looks::form_seen;
+use crate::looks::look_of;
 use crate::manner::{Manner, manner_of};
 use crate::outcome::Outcome;
 use crate::turn::{Heard, Turn};
@@ -15,7 +15,6 @@ use crate::twisted::{answer_twist, rest_ms, twisted};
 use crate::usual::{LONG_COUNTS, SHORT_COUNTS, usual};
 use std::alloc::{AllocError, Global};
 use ym_core::Heard as Delivery;
-use ym_form::BlockForm;
 use ym_frame::{CAN, Reply, SOH, verdict};
 use ym_judge::{
     Act, Case, Claims, Notes, Passage, SenderTwin, Spot, Twins, Twist, delivered, spot_of,
@@ -261,16 +260,9 @@ impl SenderTrial {
         let did = delivered(false, bytes);
         self.take_size(did, bytes);
         self.take_twist(turn.twist);
-        let asked = self.twin().asked();
-        match form_seen(self.case, did, bytes) {
-            Some(form) if asked == did => {
-                self.note(Act::Form(BlockForm::Fields), Act::Form(form), tenths, true);
-            }
-            _ => {
-                let here = turn.twist.is_some() || self.case == Case::Plain;
-                self.note(asked, did, tenths, here);
-            }
-        }
+        let look = look_of(self.case, self.twin().asked(), did, bytes);
+        let here = look.is_form || turn.twist.is_some() || self.case == Case::Plain;
+        self.note(look.asked, look.did, tenths, here);
     }
 
     /// Takes what came behind the frame, where the reference waits for an answer.
