@@ -18,6 +18,7 @@ LOST = (
     "cuts long names",
     "takes a repeat as new",
     "states a length that is cut",
+    "cuts a length that has no room",
 )
 
 

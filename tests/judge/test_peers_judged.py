@@ -6,7 +6,7 @@ import shlex
 import pytest
 
 from support.cases import case, cases, sentence
-from support.judged import PEER, judged, judged_by_all, told
+from support.judged import PEER, judged, judged_by_all, ran, told
 from support.program import PROGRAM
 
 
@@ -20,7 +20,7 @@ OURS = shlex.quote(PROGRAM)
         "receiver",
         OURS + " receive --eager --port $PORT .",
     ),
-    case("judge: send conforms in every case", "sender", OURS + " send --port $PORT judge.txt"),
+    case("judge: send conforms in every case", "sender", OURS + " send --port $PORT $FILE"),
     case("judge: a plain receiver conforms", "receiver", PEER + " receiver"),
     case("judge: a plain sender conforms", "sender", PEER + " sender"),
 )
@@ -29,12 +29,14 @@ def test_conforms(kind, command):
     status, found = judged_by_all(kind, command)
     wrong = [told(it) for it in found.values() if it["finding"] != "conforms"]
     assert not wrong, "; ".join(wrong)
+    back = [name for name, it in found.items() if it["takes_back"]]
+    assert not back, "an ACK is taken back: %r" % back
     assert status == 0, "status %d" % status
 
 
 @cases(
     case("judge: rb of lrzsz", "receiver", "rb", marks=pytest.mark.needs("rb")),
-    case("judge: sb of lrzsz", "sender", "sb judge.txt", marks=pytest.mark.needs("sb")),
+    case("judge: sb of lrzsz", "sender", "sb $FILE", marks=pytest.mark.needs("sb")),
 )
 def test_loses_nothing(kind, command):
     """A peer that is used differs where it does, and loses no data where it is used as it is."""
@@ -51,4 +53,30 @@ def test_waits_for_a_late_start():
     """Who says C as late as U-Boot does conforms all the same."""
     status, found = judged("receiver", PEER + ' receiver "says C late"', "--only", "plain")
     assert found["plain"]["finding"] == "conforms", told(found["plain"])
+    assert status == 0, "status %d" % status
+
+
+@sentence("judge: an ACK that is taken back is told")
+def test_tells_that_an_ack_is_taken_back():
+    """Who acknowledges what did not come, and cancels behind it, is said to do so."""
+    name, command = "end block: late", PEER + ' receiver "takes its ACK back"'
+    status, found = judged("receiver", command, "--only", name)
+    assert status == 1 and found[name]["takes_back"], told(found[name])
+    status, lines = ran("receiver", command, "--only", name)
+    assert status == 1 and lines[1:] == [
+        "avoid end block: late: it takes an ACK back",
+        "0 conform, 1 differ (harmless), 0 lose data, 0 left open",
+    ], "%r" % lines
+
+
+# The plain sender, which sends judge.txt whatever it is asked for.
+ONE_NAME = "FILE=judge.txt %s sender" % PEER
+
+
+@sentence("judge: a sender of another name is not tried by the long one")
+def test_is_not_tried_by_a_name():
+    """A command that sends judge.txt alone leaves the case of a long name open, and that one."""
+    status, found = judged("sender", ONE_NAME, "--only", "a name of 124 bytes", "--only", "plain")
+    findings = {name: it["finding"] for name, it in found.items()}
+    assert findings == {"plain": "conforms", "a name of 124 bytes": "not-tried"}, "%r" % findings
     assert status == 0, "status %d" % status

@@ -4,7 +4,8 @@ standard input and output, but for what the board tells people before a session 
 
 usage: board_peer.py receiver|sender PROGRAM QEMU WORD..
 
-A receiver is sum.elf. A sender is back.elf, which is first sent the judge.txt that it sends.
+A receiver is sum.elf. A sender is back.elf, which is first sent the file that it sends. The
+environment variable FILE names that file.
 """
 
 import contextlib
@@ -33,7 +34,7 @@ def load(board):
     """Sends the board the file of this folder, up to where it says that it sends it back. The
     program does that, since a board asks again and again while a busy machine starts a sender."""
     here, there = socket.socketpair()
-    sender = subprocess.Popen([PROGRAM, "sb", "judge.txt"], stdin=there, stdout=there)
+    sender = subprocess.Popen([PROGRAM, "sb", os.environ["FILE"]], stdin=there, stdout=there)
     there.close()
     out, said = board.stdout.fileno(), b""
     while AGAIN not in said:

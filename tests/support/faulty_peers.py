@@ -4,6 +4,8 @@ them, into which faults can be planted by name.
 
 usage: faulty_peers.py receiver|sender [FAULT..]
        faulty_peers.py u-boot
+
+The environment variable FILE names what the sender sends.
 """
 
 import os
@@ -36,9 +38,10 @@ U_BOOT = os.environ.get("U_BOOT", "/usr/lib/u-boot/qemu_arm64/u-boot.bin")
 # Seconds after which an end acts that hears nothing, and after which what came is a whole delivery.
 QUIET = 2
 WITHIN = 0.1
-# Seconds after which U-Boot's `loady` says C behind its ACK of block 0. It is no fault, and a
-# receiver does so that "says C late".
+# Seconds after which U-Boot's `loady` says C behind its ACK of block 0, and what it says where it
+# gives up.
 LATE = 4.25
+ABORT = 4 * CANCEL[:1] + 4 * b"\b"
 # After so many deliveries without progress it gives up.
 GIVE_UP = 10
 
@@ -71,6 +74,8 @@ RECEIVER_FAULTS = {
     "takes short blocks alone": "plain",
     "commits at an EOT that is lost": "EOT: lost",
     "takes one file": "two files",
+    "says C late": "block 0: C with its ACK",
+    "takes its ACK back": "end block: late",
 }
 
 SENDER_FAULTS = {
@@ -95,6 +100,10 @@ SENDER_FAULTS = {
     "gives up at the first NAK": "answer to data block 1: NAK in its place",
     "answers each C": "answer to start: doubled",
     "needs no C behind block 0": "answer to block 0: cut",
+    "states the type in its mode": "block 0: its bytes",
+    "adds fields": "block 0: its bytes",
+    "has bytes behind the empty name": "end block: its bytes",
+    "cuts a length that has no room": "a name of 124 bytes",
 }
 
 
@@ -236,6 +245,9 @@ class Receiver:
 
     def silence(self):
         """What it does where nothing comes."""
+        if self.has("takes its ACK back") and self.name is None and self.files:
+            self.is_over = True
+            return bytes((ACK,)) + ABORT
         if (
             self.has("commits at an EOT that is lost")
             and self.name
@@ -281,7 +293,7 @@ class Receiver:
                 say(bytes((ACK,)))
 
     def is_finished(self):
-        return self.name is None
+        return self.name is None and not self.has("takes its ACK back")
 
 
 class Sender:
@@ -304,8 +316,8 @@ class Sender:
         if self.has("writes the check in the other order"):
             blocks = [turned(it) for it in blocks]
         eot = bytes((EOT,)) * (2 if self.has("doubles the EOT") else 1)
-        end = block(0, bytes(128)) * (2 if self.has("doubles the end block") else 1)
-        self.frames = [header(name, length), *blocks, eot]
+        end = self.end() * (2 if self.has("doubles the end block") else 1)
+        self.frames = [self.first(name, length), *blocks, eot]
         if not self.has("skips the end block"):
             self.frames.append(end)
         self.place, self.is_sent, self.retries = 0, False, 0
@@ -313,6 +325,21 @@ class Sender:
 
     def has(self, fault):
         return fault in self.faults
+
+    def first(self, name, length):
+        """Its block 0."""
+        fields = length
+        if self.has("states the type in its mode"):
+            fields += b" 14700000000 100644"
+        if self.has("adds fields"):
+            fields += b" 14700000000 644 0 1 " + length
+        if self.has("cuts a length that has no room"):
+            return block(0, (name + b"\0" + fields)[:128].ljust(128, b"\0"))
+        return header(name, fields)
+
+    def end(self):
+        """Its end block."""
+        return header(b"", b"more" if self.has("has bytes behind the empty name") else b"")
 
     def is_file(self):
         """Whether a block 0 or an EOT is out, behind which it waits for C."""
@@ -438,8 +465,9 @@ def main(words):
     elif kind == "receiver":
         Receiver(faults).run()
     else:
-        with open("judge.txt", "rb") as it:
-            Sender(faults, b"judge.txt", it.read()).run()
+        name = os.environ["FILE"]
+        with open(name, "rb") as it:
+            Sender(faults, name.encode(), it.read()).run()
 
 
 if __name__ == "__main__":

@@ -14,13 +14,13 @@ SCRIPT = os.path.join(ROOT, "share", "ymodem-judge")
 PEER = shlex.join([sys.executable, os.path.join(ROOT, "tests", "support", "faulty_peers.py")])
 AT_ONCE = "16"
 # How many cases each kind of peer is tried by.
-COUNTS = {"receiver": 68, "sender": 67}
+COUNTS = {"receiver": 69, "sender": 70}
 
 
-def judged(kind, command, *words):
-    """The status, and what is found of each case by its name."""
+def ran(kind, command, *words):
+    """The status, and the lines that it prints."""
     done = subprocess.run(
-        [SCRIPT, kind, "--json", "--jobs", AT_ONCE, *words, command],
+        [SCRIPT, kind, "--jobs", AT_ONCE, *words, command],
         stdin=subprocess.DEVNULL,
         capture_output=True,
         env={**os.environ, "YMODEM": PROGRAM},
@@ -29,8 +29,14 @@ def judged(kind, command, *words):
         check=False,
     )
     assert done.returncode in (0, 1), "status %d: %s" % (done.returncode, done.stderr[-500:])
-    found = [json.loads(line) for line in done.stdout.splitlines()]
-    return done.returncode, {it["case"]: it for it in found}
+    return done.returncode, done.stdout.splitlines()
+
+
+def judged(kind, command, *words):
+    """The status, and what is found of each case by its name."""
+    status, lines = ran(kind, command, "--json", *words)
+    found = [json.loads(line) for line in lines]
+    return status, {it["case"]: it for it in found}
 
 
 def judged_by_all(kind, command):
