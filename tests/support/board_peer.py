@@ -30,6 +30,14 @@ TOLD = {"receiver": b"\r\n", "sender": b"\r\nsending: "}
 ALONE = 0.05
 
 
+def came(line):
+    """What came on a line: nothing where the other end has gone with bytes that it did not read."""
+    try:
+        return line.recv(4096)
+    except ConnectionResetError:
+        return b""
+
+
 def load(board):
     """Sends the board the file of this folder, up to where it says that it sends it back. The
     program does that, since a board asks again and again while a busy machine starts a sender."""
@@ -47,7 +55,7 @@ def load(board):
             with contextlib.suppress(OSError):  # it has what it needs, and is gone
                 here.sendall(data)
         if here in ready:
-            board.stdin.write(here.recv(4096))
+            board.stdin.write(came(here))
             board.stdin.flush()
     here.close()
     sender.wait()
