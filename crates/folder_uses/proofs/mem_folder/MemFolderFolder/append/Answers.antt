@@ -1,17 +1,11 @@
-use Rattle.std.proofs.Common.{refl, arith}
+use Rattle.std.proofs.Common.{refl}
 use Rattle.ym_folder.specs.FilePlace.{name_of}
-use Rattle.folder_uses.proofs.MemFolderLemmas.{grown_from, front_from}
+use Rattle.folder_uses.proofs.MemFolderLemmas.{grown_from}
 use Rattle.folder_uses.proofs.mem_folder.MemFolderFolder.append.Goals as goal
 
 pub returns-in-Err-clause-front : goal.returns-in-Err-clause-front
 returns-in-Err-clause-front c =
     (_, grown_from (name_of c.args.at.now) _ c.args.self.now.files.items _ _ _ _ _ c.in_ok-add.ensures.added refl)
-
-pub returns-in_err-add-clause-front : goal.returns-in_err-add-clause-front
-returns-in_err-add-clause-front c = grind (arith, front_from)
-
-pub returns-in_err-add-2-clause-front : goal.returns-in_err-add-2-clause-front
-returns-in_err-add-2-clause-front c = grind (arith, front_from)
 
 pub returns-clause-grown : goal.returns-clause-grown
 returns-clause-grown c =
