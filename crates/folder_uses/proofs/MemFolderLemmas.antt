@@ -1,10 +1,10 @@
 -- A folder in memory after a name was taken away, or a file was put there.
-use Rattle.std.proofs.Common.{◌≡◌, ◌⊎◌, ℕ, List, [], ◌∷◌, ◌++◌, Bool, true, false, not, cond, Option, None, Some, sym, ◌∙◌, inl, inr, ap, refl, append-nil}
+use Rattle.std.proofs.Common.{◌≡◌, ◌⊎◌, ℕ, List, [], ◌∷◌, ◌++◌, Bool, true, false, not, cond, Option, None, Some, sym, ◌∙◌, inl, inr, ap, refl}
 use Rattle.std.proofs.lemmas.Bool.{cases_Bool}
 use Rattle.std.proofs.lemmas.Slice.Eq.{bytes_eq-Decides}
 use Rattle.std.specs.Str.{bytes_eq}
 use Rattle.std.specs.Io.KnownBytes.{append_known}
-use Rattle.ym_folder.specs.Folder.{Entry, entry, bytes_in, under, empty_in, has_links, OthersStay, Made, Grown, GrownByFront, Linked, Renamed, Removed}
+use Rattle.ym_folder.specs.Folder.{Entry, entry, bytes_in, under, empty_in, has_links, OthersStay, Made, Grown, Linked, Renamed, Removed}
 use Rattle.folder_uses.specs.MemFolder.{parts, without, with_file, Adds, Copies}
 
 -- two names are one, or their test says that they are not
@@ -107,21 +107,6 @@ grown_from name more a b l k r s adds links = record {
   grows = at _ b name adds.2 ∙ (put_same name (adds.0 ++ more) a ∙ sym (ap (λ o. append_known o more) adds.1));
   others = others_from name (adds.0 ++ more) a b l k r s adds.2 links;
 }
-
-none_more : (o : Option (List ℕ)) → o ≡ append_known o []
-none_more None = refl
-none_more (Some bytes) = ap Some (sym (append-nil bytes))
-
--- nothing was put
-pub front_from : (name bytes : List ℕ) (a b : List Entry) (l k r s : Bool) → b ≡ a → k ≡ l → GrownByFront name bytes (parts a l r) (parts b k s)
-unfolding under has_links
-front_from name bytes a b l k r s same links = (
-  0,
-  record {
-    grows = at a b name same ∙ none_more (bytes_in a name);
-    others = record { stays = λ other. inr (at a b other same); links = links };
-  },
-)
 
 pub linked_from : (from to : List ℕ) (a b : List Entry) (l k r s : Bool) → Copies from to a b → k ≡ l → bytes_in a to ≡ None → Linked from to (parts a l r) (parts b k s)
 unfolding under
