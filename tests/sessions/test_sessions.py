@@ -19,7 +19,7 @@ import time
 
 import pytest
 from support.cases import case, cases
-from support.pulse import TRIES, beating
+from support.pulse import beating
 from support.sessions import SOCKETS, TERMINALS, Line, Shape, session
 from support.skipping import needs
 
@@ -186,12 +186,13 @@ async def made(row, seed):
     """A session of a row, by its seed. One that is not as it has to be is made again where this
     machine did not keep time: the line stood still then, at any place."""
     async with AT_ONCE:
-        for _ in range(TRIES):
+        first = time.monotonic()
+        while True:
             began = time.monotonic()
             it = await row.make(seed)
-            if row.is_right(it) or not beating().was_late(began):
-                break
-    return seed, it
+            if row.is_right(it) or not beating().shows_nothing(began, first):
+                return seed, it
+            await asyncio.to_thread(beating().wait_for_calm)
 
 
 async def all_made(row):

@@ -72,4 +72,9 @@ def wants_true(files, kept, claims, wants_finished=False):
         )
         assert (
             not wants_finished or claim.is_finished
-        ), "%s did not finish; %d of %d files are kept" % (claim.who, count, len(files))
+        ), "%s did not finish; %d of %d files are kept; they are %s" % (
+            claim.who,
+            count,
+            len(files),
+            " and ".join(it.who for it in claims),
+        )

@@ -14,8 +14,8 @@ import time
 BEAT = 0.02
 TOLERATED = 0.25
 
-# How often a check is made on a machine that does not keep time.
-TRIES = 3
+# For so many seconds a check is made again and again on a machine that does not keep time.
+WORTH = 900
 
 # Before it is made again, the machine has to have kept time for so many seconds, or so many have
 # passed.
@@ -51,6 +51,11 @@ class Pulse(threading.Thread):
     def was_late(self, since):
         """Whether a beat was late since then."""
         return any(now > since for _, now in list(self.late))
+
+    def shows_nothing(self, since, first):
+        """Whether what has failed since then shows nothing, and is worth another try, where the
+        first one began at that time."""
+        return self.was_late(since) and time.monotonic() - first < WORTH
 
     def wait_for_calm(self):
         """Waits until the machine keeps time again, or for as long as that is worth."""

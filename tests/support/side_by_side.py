@@ -5,8 +5,8 @@ for each would cost more than the tests do. A test that takes nothing but its pa
 when the folder begins. One that takes a fixture is made by pytest, in its turn, and one that is
 marked `alone` is made before the others begin. Those marked `slow` begin first.
 
-A test that failed while this machine did not keep time is made again, once the machine keeps time:
-it shows nothing then.
+A test that failed while this machine did not keep time shows nothing. It is made again once the
+machine keeps time, and again where that did not last.
 """
 
 import os
@@ -15,7 +15,7 @@ from concurrent.futures import ThreadPoolExecutor
 
 import _pytest.runner
 import pytest
-from support.pulse import TRIES, beating
+from support.pulse import beating
 from support.storing import steadily
 from support.skipping import Skipped, needs
 
@@ -65,15 +65,14 @@ def made(item, arguments):
     """Makes a test, again where it failed and this machine did not keep time."""
     test = steadily(item.obj) if item.get_closest_marker("steadily") else item.obj
     wanted = [name for it in item.iter_markers("needs") for name in it.args]
-    for left in reversed(range(TRIES)):
-        began = time.monotonic()
+    first, tries = time.monotonic(), 0
+    while True:
+        began, tries = time.monotonic(), tries + 1
         fault = fault_of(lambda: needs(*wanted), {}) or fault_of(test, arguments)
         has_failed = fault is not None and not isinstance(fault, Skipped)
-        if not has_failed or not beating().was_late(began):
-            break
-        if left:
-            beating().wait_for_calm()
-    return Made(fault, time.monotonic() - began, left + 1 < TRIES)
+        if not has_failed or not beating().shows_nothing(began, first):
+            return Made(fault, time.monotonic() - began, tries > 1)
+        beating().wait_for_calm()
 
 
 def folder_of(item):
