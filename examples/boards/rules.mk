@@ -8,10 +8,11 @@ FLAGS = -std=c99 $(CPU) -Os -ffunction-sections -fdata-sections -Wall -Wextra -W
 HEADERS = $(wildcard $(BOARDS)/*.h) $(LIBRARY)/ymodem.h $(LIBRARY)/ymodem_io.h
 COMMON = $(addprefix $(OUT)/,$(OWN) print.o ymodem.o)
 
-all: $(OUT)/back.elf $(OUT)/sum.elf
+all: $(OUT)/back.elf $(OUT)/sum.elf $(OUT)/small.elf
 
 $(OUT)/back.elf: $(OUT)/back.o $(OUT)/store.o $(COMMON) board.ld
 $(OUT)/sum.elf: $(OUT)/sum.o $(COMMON) board.ld
+$(OUT)/small.elf: $(OUT)/small.o $(COMMON) board.ld
 # What blocks cost, for bench/blocks.py.
 $(OUT)/blocks.elf: $(OUT)/blocks.o $(COMMON) board.ld
 

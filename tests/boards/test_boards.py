@@ -74,6 +74,8 @@ RECEIVES_IN, SENDS_IN = 4096, 12288
 
 # A receiver's text, its RAM with the stack, and the text of both ends, on a Cortex-M3.
 LIMITS = (24 * 1024, 3584, 32 * 1024)
+# The text and the RAM of one that goes by the plainer rule of time.
+SMALL = (14 * 1024, 3584)
 
 
 NAMED = [(name, board, 72 + 100 * at) for at, (name, board) in enumerate(BOARDS.items())]
@@ -143,6 +145,15 @@ def test_there_and_back(board, send, receive, batch_of=files):
         wants_stored(there, batch)
 
 
+def receives_alone(board, program, send, batch):
+    """Has a receiver that keeps no file receive these, and tells the deepest stack."""
+    with folders() as (here, _), board.turned_on(program) as (port, _):
+        paths = write_files(here, batch)
+        port.sees(READY)
+        send(paths)(port)
+        return summed(port, batch)
+
+
 @cases(
     *(
         case("%s: a receiver alone" % name, board, LIMITS if board is M3 else None)
@@ -151,15 +162,31 @@ def test_there_and_back(board, send, receive, batch_of=files):
 )
 def test_receiver_alone(board, limits=None):
     """A receiver that keeps no file, and what it and both ends take, where that is bounded."""
-    batch = files()
-    with folders() as (here, _), board.turned_on("sum.elf") as (port, _):
-        paths = write_files(here, batch)
-        port.sees(READY)
-        from_program(paths)(port)
-        stack = summed(port, batch)
+    stack = receives_alone(board, "sum.elf", from_program, files())
     if not limits:
         return
     text, kept = board.sizes("sum.elf")
     both, _ = board.sizes("back.elf")
     told = "text %d, RAM %d, stack %d; both ends: text %d" % (text, kept, stack, both)
     assert text <= limits[0] and kept + stack <= limits[1] and both <= limits[2], told
+
+
+@cases(
+    *(
+        case("%s: with little room, %s" % (name, words), board, send, batch_of)
+        for name, board, seed in NAMED
+        for words, send, batch_of in (
+            ("from ymodem send", from_program, files),
+            ("from sb", sb(), files),
+            ("five deliveries damaged", damaged(seed + 50), few),
+            ("from sb that starts late", late(sb()), few),
+        )
+    )
+)
+def test_little_room(board, send, batch_of):
+    """A receiver that goes by the plainer rule of time, and what it takes on a Cortex-M3."""
+    stack = receives_alone(board, "small.elf", send, batch_of())
+    if board is M3:
+        text, kept = board.sizes("small.elf")
+        told = "text %d, RAM %d, stack %d" % (text, kept, stack)
+        assert text <= SMALL[0] and kept + stack <= SMALL[1], told
