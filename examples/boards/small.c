@@ -2,16 +2,11 @@
    time of docs/library.md, by which a second without a byte ends a delivery. It keeps no file, and
    tells how many there were, and the CRC-32 of their names and bytes, one behind the other; and
    again. */
-#include "board.h"
-#include "crc32.h"
 #include "port.h"
+#include "sum.h"
 
 /* Milliseconds without a byte behind which the line is quiet. */
 enum { QUIET = 1000 };
-
-struct sum {
-    uint32_t files, crc;
-};
 
 static ym_receiver receiver;
 static ym_ask ask;
@@ -67,12 +62,7 @@ int main(void) {
     for (;;) {
         struct sum sum = { 0, ~0u };
         print("send files by YMODEM\r\n");
-        print(receive(&sum) ? "\r\ndone: files " : "\r\nnot whole: files ");
-        print_number(sum.files);
-        print(", CRC-32 ");
-        print_hex(~sum.crc, 8);
-        print("; the stack was used to ");
-        print_number((uint32_t)stack_used());
-        print(" bytes\r\n");
+        int is_whole = receive(&sum);
+        sum_tell(&sum, is_whole ? "done" : "not whole");
     }
 }

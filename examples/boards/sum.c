@@ -1,12 +1,7 @@
 /* A receiver alone: receives files by YMODEM over the serial port, keeps none, and tells how many
    there were, and the CRC-32 of their names and bytes, one behind the other; and again. */
-#include "board.h"
-#include "crc32.h"
 #include "port.h"
-
-struct sum {
-    uint32_t files, crc;
-};
+#include "sum.h"
 
 static int begin(void *user, const ym_file *file) {
     struct sum *sum = user;
@@ -32,14 +27,6 @@ int main(void) {
         ym_sink sink = { &sum, begin, add, commit };
         print("send files by YMODEM\r\n");
         ym_error error = ym_receive(&port, &sink);
-        print("\r\n");
-        print(ym_text(error));
-        print(": files ");
-        print_number(sum.files);
-        print(", CRC-32 ");
-        print_hex(~sum.crc, 8);
-        print("; the stack was used to ");
-        print_number((uint32_t)stack_used());
-        print(" bytes\r\n");
+        sum_tell(&sum, ym_text(error));
     }
 }
