@@ -36,6 +36,8 @@ EDGES = re.compile(r"\n\s*")
 KEPT = r"""(`(?:\\.|[^`\\])*`|"(?:\\.|[^"\\])*"|'(?:\\.|[^'\\])*'|/(?![/*\s])(?:\\.|\[(?:\\.|[^\]\\])*\]|[^/\\\n\[])+/)"""
 KEPT_OR_SPACE = re.compile(KEPT + "| +", re.S)
 KEPT_OR_PRIVATE = re.compile(KEPT + r"|#([A-Za-z]\w*)", re.S)
+# The end of a line behind a sign that does not end there what it stands in.
+KEPT_OR_END = re.compile(KEPT + r"|(?<=[{;,(])\n", re.S)
 
 
 def read(name):
@@ -54,7 +56,8 @@ def joined(names):
 
 
 def shortened(text):
-    """Without what only a reader needs: comments, the space at the front of lines, and that between signs, and the long names of private fields."""
+    """Without what only a reader needs: comments, the space at the front of lines, that between signs, most ends of lines, and the long names of private
+    fields."""
     short = {}
 
     def renamed(found):
@@ -72,7 +75,9 @@ def shortened(text):
         around = text[found.start() - 1] + text[found.end()]
         return " " if re.fullmatch(r"[\w$#]{2}|\+\+|--", around) else ""
 
-    return KEPT_OR_PRIVATE.sub(renamed, KEPT_OR_SPACE.sub(squeezed, text))
+    text = KEPT_OR_PRIVATE.sub(renamed, KEPT_OR_SPACE.sub(squeezed, text))
+    # Behind that, since a pattern ends in its line.
+    return KEPT_OR_END.sub(lambda found: found.group(1) or "", text)
 
 
 def letters(number):

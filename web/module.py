@@ -37,6 +37,9 @@ TOOLS = ("wasm-opt", "wasm-metadce")
 # is looked at here.
 OFFSETS = ("--low-memory-unused", "--optimize-added-constants-propagate")
 PACKED = ("--rse", "--ssa-nomerge", *OFFSETS, "-Oz")
+# Then its control flow is taken apart and put together again, and what that leaves is packed.
+RELOOPED = ("--flatten", "--rereloop", "--licm", "--coalesce-locals-learning", "-Oz", "-Oz")
+AGAIN = ("--converge", "--rse", "-Oz")
 PROTOTYPE = re.compile(r"^(\w+) (ym_\w+)\(([^)]*)\);$", re.M)
 
 
@@ -107,6 +110,7 @@ def small(module):
     said("wasm-opt", *FEATURES, *PACKED, "-g", "-S", text, "-o", text)
     rewrite(text, zeros_filled)
     said("wasm-opt", *FEATURES, *PACKED, text, "-o", module)
+    said("wasm-opt", *FEATURES, *RELOOPED, *AGAIN, module, "-o", module)
 
 
 def roomy(text):
