@@ -20,7 +20,7 @@ import time
 import pytest
 from support.cases import case, cases
 from support.pulse import beating
-from support.sessions import SOCKETS, TERMINALS, Line, Shape, session
+from support.sessions import LRZSZ_SENDERS, SOCKETS, TERMINALS, Line, Shape, session
 from support.skipping import needs
 
 SIZES = (("a", 1), ("b", 300), ("c", 3000), ("d", 9000), ("e", 20000))
@@ -38,7 +38,7 @@ class Row:
     def __init__(self, name, make, ends=SOCKETS, wants=True, seeds=1):
         self.name = name + (", over terminals" if ends == TERMINALS else "")
         self.make, self.wants, self.seeds = make, wants, seeds
-        self.needs_lrzsz = "sb" in ends or "rb" in ends
+        self.needs_lrzsz = "rb" in ends or ends[0] in LRZSZ_SENDERS
 
     def is_right(self, it):
         return not it.fault and (it.is_whole or not self.wants)
@@ -120,6 +120,27 @@ NOISE = (
 )
 
 
+# How exact a median of sessions is, in seconds: of a file of 3000 bytes `send` cuts the last 952 into
+# eight short blocks, and `sb -k` makes a long one of them.
+EXACT = 0.1
+# Senders with blocks of one length, side by side: long ones, and short ones.
+ALIKE = (
+    ("long blocks", (), "sb -k"),
+    ("short blocks", ("--short",), "sb"),
+)
+
+
+def rows_alike(how, flags, other, seeds):
+    """`send` to `receive` and to `rb`, and `sb` to `rb`, across the same noise."""
+    for ends in (SOCKETS, ("send", "rb"), (other, "rb")):
+
+        def make(seed, ends=ends):
+            line = Line(Shape(rate=11520, **how), seed=seed)
+            return session(FILES, line, ends, (flags if ends[0] == "send" else (), ()))
+
+        yield Row(pair_name(ends), make, ends, False, seeds)
+
+
 def noise_rows(pairs, seeds):
     for name, how in NOISE:
         for ends in pairs:
@@ -199,6 +220,10 @@ async def all_made(row):
     return await asyncio.gather(*(made(row, seed) for seed in range(row.seeds)))
 
 
+async def all_rows_made(rows):
+    return await asyncio.gather(*map(all_made, rows))
+
+
 def is_as_it_has_to_be(row):
     """No report is false, and each session is whole that has to be."""
     if row.needs_lrzsz:
@@ -227,3 +252,23 @@ def test_of_short_form(row):
 @cases(*(case(it.name, it) for it in long_rows(int(os.environ.get("SEEDS", "20")))))
 def test_of_long_form(row):
     is_as_it_has_to_be(row)
+
+
+@pytest.mark.long
+@cases(*(case("%s, %s" % (name, it[0]), how, *it) for name, how in NOISE for it in ALIKE))
+def test_as_quick_as_sb_across_the_same_noise(how, blocks, flags, other):
+    """Neither `send` to `receive` nor `send` to `rb` takes longer than lrzsz's own two, by the median
+    of the whole ones, which is exact to a tenth of a second."""
+    needs("sb", "rb")
+    rows = list(rows_alike(how, flags, other, int(os.environ.get("SEEDS", "20"))))
+    told = asyncio.run_coroutine_threadsafe(all_rows_made(rows), LOOP).result()
+    medians, lines = [], []
+    for row, came in zip(rows, told):
+        whole = sorted(it.seconds for _, it in came if it.is_whole)
+        false = sum(bool(it.fault) for _, it in came)
+        medians.append(statistics.median(whole) if whole else float("inf"))
+        counts = (row.name, len(came), len(whole), false, medians[-1])
+        lines.append("%s: %d sessions, %d whole, %d false, median %.2f s" % counts)
+        assert not false, lines[-1]
+    print("%s; %s" % (blocks, "; ".join(lines)))
+    assert max(medians[:2]) <= medians[2] + EXACT, "; ".join(lines)

@@ -24,6 +24,8 @@ LIMIT = 1500
 SOCKETS = ("send", "receive")
 TERMINALS = ("ymodem sb", "ymodem rb")
 OURS = SOCKETS + TERMINALS
+# `sb` of lrzsz has short blocks, and long ones where it is asked for them.
+LRZSZ_SENDERS = ("sb", "sb -k")
 
 
 class Shape:
@@ -212,8 +214,8 @@ async def terminal_end(word, *words):
 
 
 async def sender(who, flags, paths):
-    if who == "sb":
-        return await piped_end("sb", *paths)
+    if who in LRZSZ_SENDERS:
+        return await piped_end(*who.split(), *paths)
     if who in TERMINALS:
         return await terminal_end("sb", *flags, *paths)
     return await send_end(flags, paths)

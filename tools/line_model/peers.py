@@ -130,7 +130,7 @@ def rb_sector(line, ask, wait):
 def rb(start=0):
     """lrzsz's receiver: ten seconds for each block, four once it has asked again.
 
-    Before it asks it drops what comes until a second was quiet.
+    Before it asks it drops what comes until a second was quiet. So it does behind the ACK of an EOT.
     """
     line, files = Bytes(), []
     if start:
@@ -140,6 +140,7 @@ def rb(start=0):
         item = yield from rb_sector(line, START, 10 * SECOND)
         while item and item[0] == "eot":
             yield Write(bytes([ACK]))
+            yield from line.purge(SECOND)
             yield Write(bytes([START]))
             item = yield from rb_sector(line, START, 10 * SECOND)
         if not item:
@@ -168,6 +169,7 @@ def rb(start=0):
             return "failed", files
         files.append((name.decode("latin-1"), data[:size]))
         yield Write(bytes([ACK]))
+        yield from line.purge(SECOND)
 
 
 WAIT = 2 * SECOND

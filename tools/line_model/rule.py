@@ -228,6 +228,16 @@ class Timing:
         elif self.out.owed == "several":
             self.doubtful(self.took(self.out.first_at))
         else:
+            self.learn_of_one()
+
+    def has_stored(self):
+        """Whether an answer says more of the peer than of the line."""
+        is_known = self.role == "sender" and self.sent.kind == "eot" and self.trust == "sure"
+        acked = max(0, self.hold.at - self.out.first_at)
+        return is_known and not self.heard.is_late and acked <= QUIET["sender"]
+
+    def learn_of_one(self):
+        if not self.has_stored():
             self.sure(self.took(self.out.first_at))
 
     def is_prompted(self):
@@ -263,7 +273,7 @@ class Timing:
         self.hold.wrote(following.kind == "opening", repeat, shaken and empty, now)
         if self.role == "receiver" and taken:
             self.front = (self.heard.first, self.heard.second)
-        self.led_at = self.heard.since if self.heard.count else now
+        self.led_at = self.heard.last if self.heard.count else now
         self.out, self.sent, self.is_shaken = out, following, shaken
         self.heard, self.echoed, self.ear.others = Heard(), 0, 0
 

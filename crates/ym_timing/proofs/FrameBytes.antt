@@ -1,7 +1,6 @@
 -- Bytes that come to a receiver at one moment, one by one and at once.
 use Rattle.std.proofs.Common.{◌≡◌, ℕ, ◌+◌, ◌<◌, ◌≤◌, suc, List, [], ◌∷◌, length, get_or, drop, min}
-use Rattle.std.proofs.Common.{true, false, ◌++◌, ◌∙◌, sym, ap, refl, arith, add-one}
-use Rattle.std.proofs.lemmas.Grind.{common_steps}
+use Rattle.std.proofs.Common.{true, false, ◌++◌, ◌∙◌, ap, refl, arith, add-one}
 use Rattle.std.proofs.Math.Seq.{drop-cons}
 use Rattle.ym_timing.specs.ByteRows.{bytes_of, heard_of, after_bytes}
 use Rattle.ym_timing.specs.Heard.{take_byte, take_bytes}

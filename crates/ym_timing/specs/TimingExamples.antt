@@ -106,6 +106,16 @@ opened = after_bytes start opening 10024 (after_bytes ack opening 5774 (writes o
 opened-clear : clear_at (clearing block_1 10024 opened) opened ≡ 12536
 opened-clear = refl
 
+-- Where block 0 came whole at once, its C comes 4250 behind its ACK too. A C that comes 100 behind
+-- that one answers the block that was struck.
+abbrev struck_first : Timing
+struck_first = writes block_1 5362 (after_bytes start block_1 5362 (writes block_1 5262
+    (after_bytes start opening 5262 (after_bytes ack opening 1012 (writes opening 1000
+    (new_timing Sender))))))
+
+struck_first-out : struck_first.out ≡ one 5362
+struck_first-out = refl
+
 -- it cancels behind the ACK of the end block: that ACK is not heard
 abbrev ended : Timing
 ended = writes end_block 9000 (after_bytes ack_start eot 9000 (writes eot 8988 quick))
@@ -120,6 +130,20 @@ cancelled_later = refl
 -- and where nothing comes behind it, it is waited for a tenth of a second
 end_until : until Reply 9000 (after_bytes ack end_block 9012 ended) ≡ 9112
 end_until = refl
+
+-- ---- rb, which waits a second behind an EOT, and another one behind its ACK
+
+-- that says nothing of how long the answer to a block takes
+abbrev stored_by_rb : Timing
+stored_by_rb = writes opening 3036 (after_bytes start eot 3036 (after_bytes ack eot 2036
+    (writes eot 1036 (after_bytes ack block_2 1036 quick))))
+
+stored_by_rb-pace : stored_by_rb.pace ≡ record { slowest = 12; trust = Sure }
+stored_by_rb-pace = refl
+
+-- so it asks behind a block 0 that lost a byte, and nothing has to clear
+asked_by_rb : (writes opening 5048 (after_bytes start opening 5048 stored_by_rb)).out ≡ one 5048
+asked_by_rb = refl
 
 -- ---- A line that delays by two seconds each way
 

@@ -16,7 +16,8 @@ use Rattle.ym_timing.specs.Times.{later}
 use Rattle.ym_timing.specs.declared.clearing.Clearing.{Clearing}
 use Rattle.ym_timing.specs.declared.clearing.Need.{Need}
 use Rattle.ym_timing.specs.declared.clearing.Need.TheVariants as need
-use Rattle.ym_timing.specs.declared.limits.TheConstants.{FRAGMENT, PATIENCE, SOON, UNASKED}
+use Rattle.ym_timing.specs.declared.limits.TheConstants.{FRAGMENT, PATIENCE}
+use Rattle.ym_timing.specs.declared.limits.TheConstants.{SENDER_QUIET, SOON, UNASKED}
 use Rattle.ym_timing.specs.declared.out.Out.{Out}
 use Rattle.ym_timing.specs.declared.out.Owed.{Owed}
 use Rattle.ym_timing.specs.declared.out.Owed.TheVariants as owed
@@ -79,9 +80,25 @@ took_by Receiver passed t = passed
 abbrev pub took : ℕ → Timing → ℕ
 took written_at t = took_by t.role (t.heard.since - written_at) t
 
+-- the ACK came as soon as the line is always let clear for
+abbrev pub is_acked_soon : Timing → Bool
+is_acked_soon t = not t.heard.is_late && nat_le (t.hold.at - t.out.first_at) SENDER_QUIET
+
+abbrev pub stored_by : Role → Kind → Trust → Timing → Bool
+stored_by Sender kind.Eot trust.Sure t = is_acked_soon t
+stored_by _ _ _ t = false
+
+-- the answer says more of the peer than of the line: behind an EOT a file is stored, and rb waits a
+-- second before its ACK, and another one before its C
+abbrev pub has_stored : Timing → Bool
+has_stored t = stored_by t.role t.sent.kind t.pace.trust t
+
+abbrev pub pace_of_one : Timing → Pace
+pace_of_one t = if has_stored t then t.pace else sure (took t.out.first_at t) t.pace
+
 abbrev pub sample : Owed → Timing → Pace
 sample owed.Several t = doubtful (took t.out.first_at t) t.pace
-sample _ t = sure (took t.out.first_at t) t.pace
+sample _ t = pace_of_one t
 
 -- Where a sender's line brought nothing while it cleared, the answer was that of the last write.
 abbrev pub pace_by : Role → Clearing → Timing → Pace
@@ -183,7 +200,7 @@ wrote_next n c now t = record {
   pace = if leads_on (is_taken n t) t then pace_after c t else t.pace;
   out = out_after (is_taken n t) now t;
   sent = n;
-  led_at = if nat_lt 0 t.heard.count then t.heard.since else now;
+  led_at = if nat_lt 0 t.heard.count then t.heard.last else now;
   heard = new_heard;
   ear = ear.wrote t.ear;
   hold = hold.wrote (is_opening n) (is_same t.sent n)

@@ -57,7 +57,7 @@ pub struct Timing {
     pub out: Out,
     /// What was written last.
     pub sent: Sent,
-    /// When that was heard which the last write answers.
+    /// When the last of that was heard which the last write answers.
     pub led_at: u64,
     /// What was heard since.
     pub heard: Heard,

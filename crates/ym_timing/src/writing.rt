@@ -6,7 +6,7 @@ ghost use Rattle.ym_timing.specs.Writing as table;
 
 use crate::clearing::{Clearing, Need, vain_after};
 use crate::heard::Heard;
-use crate::limits::{FRAGMENT, PATIENCE, SOON, UNASKED};
+use crate::limits::{FRAGMENT, PATIENCE, SENDER_QUIET, SOON, UNASKED};
 use crate::out::{Out, Owed};
 use crate::pace::{Pace, Trust};
 use crate::role::Role;
@@ -71,6 +71,31 @@ impl Timing {
         }
     }
 
+    /// Whether an answer says more of the peer than of the line. Behind an EOT a file is stored:
+    /// `rb` waits a second before its ACK, and another one before its C.
+    fn has_stored(&self) -> bool
+        ensures { result ≡ table.has_stored self.now }
+    {
+        let acked = self.hold.at.saturating_sub(self.out.first_at);
+        match (self.role, self.sent.kind, self.pace.trust) {
+            (Role::Sender, Kind::Eot, Trust::Sure) => {
+                !self.heard.is_late && acked <= SENDER_QUIET
+            }
+            _ => false,
+        }
+    }
+
+    /// What the answer to the only write that is out says of how long answers take.
+    fn pace_of_one(&self) -> Pace
+        ensures { result ≡ table.pace_of_one self.now }
+    {
+        if self.has_stored() {
+            self.pace
+        } else {
+            self.pace.sure(self.took(self.out.first_at))
+        }
+    }
+
     /// What an answer says of how long answers take. Where a sender let the line clear in vain, it
     /// was that of the last write.
     fn pace_after(&self, clearing: Clearing) -> Pace
@@ -81,7 +106,7 @@ impl Timing {
                 self.pace.sure(self.took(self.out.last_at))
             }
             (_, Owed::Several) => self.pace.doubtful(self.took(self.out.first_at)),
-            _ => self.pace.sure(self.took(self.out.first_at)),
+            _ => self.pace_of_one(),
         }
     }
 
@@ -184,7 +209,7 @@ impl Timing {
             out: self.out_after(is_taken, now),
             sent: next,
             led_at: if 0 < self.heard.count {
-                self.heard.since
+                self.heard.last
             } else {
                 now
             },
