@@ -2,11 +2,11 @@
 """Runs the gate, `rt ci`, and beside it all that is tried before a change lands.
 
 The gate proves every crate, tries the edits that have to be refused, and runs the crates' tests.
-Beside it come want of memory (tests/memory), the library for C with the page, made in a copy of the
-tree since the gate holds the crates' folders, over the crates that the gate proved, and, as soon as
-the gate has proved and built the program, the tests of that very program, folder by folder of
-tests/. So nothing of the program is proved twice, and most tests wait for lines and peers while the
-gate needs the processors.
+Beside it come want of memory (tests/memory), what the crates keep to (tests/house), and the library
+for C with the page, made in a copy of the tree since the gate holds the crates' folders, over the
+crates that the gate proved. As soon as the gate has proved and built the program, the tests of that
+very program come, folder by folder of tests/. So nothing of the program is proved twice, and most
+tests wait for lines and peers while the gate needs the processors.
 
 Of each folder a line tells how many tests passed, failed and were skipped, and others why they were
 skipped; where one fails, all that pytest said is told.
@@ -44,7 +44,7 @@ TRIED = {"YMODEM": "ymodem", "CASES": "port_cases", "LINE_CASES": "line_cases"}
 # What depends on how soon its process answers begins a row.
 ROWS = (
     ("line", "disk", "words"),
-    ("peers", "explain", "serial", "package", "house"),
+    ("peers", "explain", "serial", "package"),
     ("sessions",),
     ("judge",),
     ("library", "portable"),
@@ -204,9 +204,10 @@ def in_all():
     return checks.told(map(sum, zip(*COUNTS.values())))
 
 
-def memory(installed):
+def beside_proofs(name, installed):
+    """Makes the tests of a folder that need no program, beside the proofs."""
     installed.thread.join()
-    return made("memory", ahead=LATER)
+    return made(name, ahead=LATER)
 
 
 def library_and_page(installed, gate):
@@ -324,12 +325,14 @@ def judged(gate, beside):
     """Begins all that goes on beside the gate, and waits for its end. Gives the gate's status, or
     the name of what failed."""
     installed = Beside("packages", packages, gate)
+    made_library = lambda: library_and_page(installed, gate)
+    library = Beside("the library for C and the page", made_library, gate)
     works = {
-        "the library for C and the page": lambda: library_and_page(installed, gate),
-        "tests/memory": lambda: memory(installed),
+        "tests/memory": lambda: beside_proofs("memory", installed),
+        "tests/house": lambda: beside_proofs("house", installed),
     }
-    beside += [installed, *(Beside(name, work, gate) for name, work in works.items())]
-    failed = tried(gate, *beside[:2])
+    beside += [installed, library, *(Beside(name, work, gate) for name, work in works.items())]
+    failed = tried(gate, installed, library)
     for it in beside:
         failed = failed or (None if it.has_ended_well() else it.name)
     if COUNTS:

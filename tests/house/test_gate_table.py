@@ -13,11 +13,11 @@ from support.program import ROOT
 STAND_IN = """
 busy='import time
 while time.process_time() < 2: pass'
-"$1" -c "$busy" build --crate-name ym_file &
-"$1" -c "$busy" build --crate-name ym_file --test &
+"$1" -c "$busy" build --crate-name ym_frame &
+"$1" -c "$busy" build --crate-name ym_frame --test &
 wait
 cd "$2"
-"$1" -c "$busy" check --crate-name ym_file
+"$1" -c "$busy" check --crate-name ym_frame
 echo "12 passed, 1 failed"
 exit 1
 """
@@ -46,8 +46,8 @@ def test_table_of_the_gate():
             told = it.read()
         edits = sorted(
             it
-            for it in os.listdir(os.path.join(ROOT, "crates", "ym_file", "must-fail"))
+            for it in os.listdir(os.path.join(ROOT, "crates", "ym_frame", "must-fail"))
             if it.endswith(".edit")
         )
-        for wanted in ("ym_file: proof", "ym_file: tests", "ym_file: edits", "ym_file/" + edits[0]):
+        for wanted in ("ym_frame: proof", "ym_frame: tests", "ym_frame: edits", "ym_frame/" + edits[0]):
             assert wanted in told, "the table lacks %r: %s" % (wanted, told)

@@ -220,13 +220,15 @@ echo "2 passed, 1 skipped in 0.01s"
 """
 ROWS = (
     ("line", "disk", "words"),
-    ("peers", "explain", "serial", "package", "house"),
+    ("peers", "explain", "serial", "package"),
     ("sessions",),
     ("judge",),
     ("library", "portable"),
     ("web",),
     ("uboot", "boards"),
 )
+# Those that are made beside the proofs.
+BESIDE = ("memory", "house")
 TESTS = [name for row in ROWS for name in row]
 # The page is made of one of the archives once more.
 TARGETS = [
@@ -265,7 +267,7 @@ def test_gate():
             assert places == sorted(places), "%s in turn" % ", ".join(row)
         beside = [
             "ci",
-            "memory " + it.environment["YMODEM"],
+            *("%s %s" % (name, it.environment["YMODEM"]) for name in BESIDE),
             *("lib --target " + name for name in TARGETS),
         ]
         assert sorted(call for call in called if call not in tests) == sorted(
@@ -279,7 +281,7 @@ def test_gate():
             "tests/line: 2 passed, 0 failed, 1 skipped; 0.",
         )
         has(out, "SKIPPED [1] a_test.py:1: what the line need: not installed\n")
-        count = len(TESTS) + 1
+        count = len(TESTS) + len(BESIDE)
         told = "the tests of all folders: %d passed, 0 failed, %d skipped\n" % (2 * count, count)
         has(out, told)
         assert (it.make("build")[0], it.called()) == (0, []), "a build behind it"
