@@ -122,7 +122,7 @@ NOISE = (
 
 # How exact a median of sessions is, in seconds: of a file of 3000 bytes `send` cuts the last 952 into
 # eight short blocks, and `sb -k` makes a long one of them.
-EXACT = 0.1
+EXACT = 0.2
 # Senders with blocks of one length, side by side: long ones, and short ones.
 ALIKE = (
     ("long blocks", (), "sb -k"),
@@ -255,20 +255,21 @@ def test_of_long_form(row):
 
 
 @pytest.mark.long
-@cases(*(case("%s, %s" % (name, it[0]), how, *it) for name, how in NOISE for it in ALIKE))
-def test_as_quick_as_sb_across_the_same_noise(how, blocks, flags, other):
+@cases(*(case("%s, %s" % (name, it[0]), name, how, *it) for name, how in NOISE for it in ALIKE))
+def test_as_quick_as_sb_across_the_same_noise(name, how, blocks, flags, other):
     """Neither `send` to `receive` nor `send` to `rb` takes longer than lrzsz's own two, by the median
-    of the whole ones, which is exact to a tenth of a second."""
+    of the seeds at which all are whole."""
     needs("sb", "rb")
     rows = list(rows_alike(how, flags, other, int(os.environ.get("SEEDS", "20"))))
     told = asyncio.run_coroutine_threadsafe(all_rows_made(rows), LOOP).result()
+    whole = [{seed: it.seconds for seed, it in came if it.is_whole} for came in told]
+    shared = set.intersection(*map(set, whole))
     medians, lines = [], []
-    for row, came in zip(rows, told):
-        whole = sorted(it.seconds for _, it in came if it.is_whole)
+    for row, came, seconds in zip(rows, told, whole):
         false = sum(bool(it.fault) for _, it in came)
-        medians.append(statistics.median(whole) if whole else float("inf"))
-        counts = (row.name, len(came), len(whole), false, medians[-1])
+        medians.append(statistics.median(seconds[it] for it in shared))
+        counts = (row.name, len(came), len(seconds), false, medians[-1])
         lines.append("%s: %d sessions, %d whole, %d false, median %.2f s" % counts)
         assert not false, lines[-1]
-    print("%s; %s" % (blocks, "; ".join(lines)))
+    print("%s, %s: medians of %d seeds; %s" % (name, blocks, len(shared), "; ".join(lines)))
     assert max(medians[:2]) <= medians[2] + EXACT, "; ".join(lines)
