@@ -120,8 +120,8 @@ NOISE = (
 )
 
 
-# How exact a median of sessions is, in seconds: of a file of 3000 bytes `send` cuts the last 952 into
-# eight short blocks, and `sb -k` makes a long one of them.
+# How many seconds more a median may be: rows in which neither sender waits longer were seen to
+# differ by 0.17. Chosen behind such a row, so it shows no more than that.
 EXACT = 0.2
 # Senders with blocks of one length, side by side: long ones, and short ones.
 ALIKE = (
@@ -257,8 +257,8 @@ def test_of_long_form(row):
 @pytest.mark.long
 @cases(*(case("%s, %s" % (name, it[0]), name, how, *it) for name, how in NOISE for it in ALIKE))
 def test_as_quick_as_sb_across_the_same_noise(name, how, blocks, flags, other):
-    """Neither `send` to `receive` nor `send` to `rb` takes longer than lrzsz's own two, by the median
-    of the seeds at which all are whole."""
+    """Neither `send` to `receive` nor `send` to `rb` takes longer than lrzsz's own two, by the
+    median of the seeds at which all are whole."""
     needs("sb", "rb")
     rows = list(rows_alike(how, flags, other, int(os.environ.get("SEEDS", "20"))))
     told = asyncio.run_coroutine_threadsafe(all_rows_made(rows), LOOP).result()
