@@ -123,6 +123,8 @@ class Line:
 
     def __init__(self, seed, there=None, back=None, echoes=(None, None), log=None, flips=()):
         self.now, self.flips = 0, flips
+        # whether a write of either end counts among those of which a bit is flipped
+        self.counts = (True, True)
         self.chance = random.Random(seed)
         self.events, self.number = [], 0
         self.ways = [there or Way(), back or Way()]
@@ -148,7 +150,8 @@ class Line:
     def damage(self, side, data):
         way = self.ways[side]
         number = self.writes[side]
-        if sum(self.writes) + 1 in self.flips:
+        counted = sum(it for it, counts in zip(self.writes, self.counts) if counts)
+        if self.counts[side] and counted + 1 in self.flips:
             data = self.flip(data)
         self.writes[side] += 1
         if number in way.damaged and len(data) > 5:

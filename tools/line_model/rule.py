@@ -104,6 +104,11 @@ class Timing:
         first = FIRST[self.role]
         return first if self.trust == "unknown" else min(LONGEST, max(first, self.bound()))
 
+    def within(self):
+        """How long more of a delivery is waited for."""
+        is_known = self.role == "sender" and self.trust == "sure"
+        return min(WITHIN_MS, self.bound()) if is_known else WITHIN_MS
+
     # ---- waits and what comes
 
     def is_early(self, kind):
@@ -111,7 +116,7 @@ class Timing:
 
     def until(self, kind, start):
         if kind == WITHIN:
-            end = start + WITHIN_MS
+            end = start + self.within()
         else:
             end = start + (PATIENCE if self.is_early(kind) else self.wait())
         if not self.hold.is_held:

@@ -82,10 +82,12 @@ def session(
     twice=True,
     log=None,
     flips=(),
+    counts=(True, True),
 ):
     """Runs one session; an end is the name of a rule for our own engine, or of a peer."""
     files = files_of(seed) if files is None else files
     line = Line(seed, there or Way(), back or Way(), echoes, log, flips)
+    line.counts = counts
     if sender == "sb":
         near = peers.sb(files)
     else:

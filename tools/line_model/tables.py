@@ -7,6 +7,7 @@ import random
 import sys
 from statistics import median
 
+import peers
 from line import MS, SECOND, Echo, Way
 from sessions import files_of, session
 
@@ -178,6 +179,27 @@ def uboot(wanted):
             row("%s to uboot, %s" % (sender, name), told)
 
 
+# How long a boot loader waits for each byte: U-Boot two seconds, or half of that where its clock runs
+# fast, as on the x86 board in QEMU.
+WAITS = (500, 750, 850, 1000, 1200, 1500, 2000, 3000, 4000)
+
+
+def waits(wanted):
+    """A bit of five of the first frames, or replies, is flipped, and the boot loader waits so long."""
+    was = peers.WAIT
+    for wait in WAITS:
+        peers.WAIT = wait * MS
+        for name, counts in (("frames", (True, False)), ("replies", (False, True))):
+            for sender in ("rule", "sb"):
+                told = []
+                for seed in range(20):
+                    flips = random.Random(seed).sample(range(2, 14), 5)
+                    files = files_of(seed, (20000,))
+                    told.append(session(seed, sender, "uboot", files, flips=flips, counts=counts))
+                row("%s to uboot, waits of %d ms, %s flipped" % (sender, wait, name), told)
+    peers.WAIT = was
+
+
 BATCHES = ((1, 300, 3000), (0, 0, 5), (2000, 0, 100), (128, 1024, 0))
 
 
@@ -221,6 +243,7 @@ TABLES = {
     "noise": noise,
     "echo": echo,
     "uboot": uboot,
+    "waits": waits,
     "mixed": mixed,
 }
 

@@ -14,7 +14,7 @@
 
 use super::words::Unread;
 use std::alloc::Global;
-use ym_timing::{Clearing, Owed, Role, Say, Timing, Vain, Wait};
+use ym_timing::{Clearing, Expected, Owed, Role, Say, Timing, Vain};
 
 /// The frames that are written, and the replies.
 fn frame(index: Option<u8>) -> &'static [u8] {
@@ -32,10 +32,10 @@ fn frame(index: Option<u8>) -> &'static [u8] {
     }
 }
 
-fn wait_of(kind: u8) -> Wait {
+fn wait_of(kind: u8) -> Expected {
     match kind {
-        0 => Wait::Reply,
-        _ => Wait::Within,
+        0 => Expected::Reply,
+        _ => Expected::Within,
     }
 }
 

@@ -16,7 +16,7 @@ ghost use Rattle.ym_c.specs.SenderInC.{KeepsStanding, Stands, IsNoSender, ended_
 use crate::codes::code_of_fault;
 use crate::headers::{header_of, stamp_from};
 use crate::standing::{ended, load, store};
-use ym_core::{Batch, Mode, Place, SendState, Standing, first_place};
+use ym_core::{BatchShape, Mode, Place, SendState, Standing, first_place};
 use ym_frame::seal_block;
 use ym_header::{HeaderRef, write_body};
 use ym_machine::GIVE_UP;
@@ -61,7 +61,7 @@ struct Counts<'a> {
     blocks: &'a [u64],
 }
 
-impl Batch for Counts<'_> {
+impl BatchShape for Counts<'_> {
     ghost counts = { λ c. c.blocks.now };
 
     fn files(&self) -> usize {

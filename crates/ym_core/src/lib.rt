@@ -3,7 +3,7 @@
 #![tactic(auto)]
 
 mod ask;
-mod batch;
+mod batch_shape;
 mod delivery;
 mod hearing;
 mod place;
@@ -15,7 +15,7 @@ mod standing;
 mod state;
 
 pub use ask::{Ask, Step};
-pub use batch::Batch;
+pub use batch_shape::BatchShape;
 pub use delivery::{Heard, HeardRef};
 pub use hearing::{heard, heard_in};
 pub use place::{Mode, Place, first_place, next_place};

@@ -3,7 +3,7 @@
 ghost use Rattle.std.specs.Prelude.{◌≡◌};
 ghost use Rattle.ym_core.specs.Place.{IsPlace, first_of, next_of, done_at};
 
-use crate::batch::Batch;
+use crate::batch_shape::BatchShape;
 
 /// One frame of a batch. Files are counted from 0, and the data blocks of a file from 1.
 #[derive(Clone, Copy, Debug, PartialEq, Eq)]
@@ -28,7 +28,7 @@ pub enum Mode {
 }
 
 /// The first frame of the batch.
-pub fn first_place<B: Batch>(batch: &B) -> Place
+pub fn first_place<B: BatchShape>(batch: &B) -> Place
     ensures first { result ≡ first_of (B.counts batch.now) }
     ensures within { IsPlace (B.counts batch.now) result }
 {
@@ -40,7 +40,7 @@ pub fn first_place<B: Batch>(batch: &B) -> Place
 }
 
 /// The frame behind a place.
-pub fn next_place<B: Batch>(batch: &B, place: Place) -> Place
+pub fn next_place<B: BatchShape>(batch: &B, place: Place) -> Place
     requires { IsPlace (B.counts batch.now) place }
     ensures next { result ≡ next_of (B.counts batch.now) place }
     ensures within { IsPlace (B.counts batch.now) result }

@@ -4,7 +4,7 @@ ghost use Rattle.std.specs.Prelude.{◌≡◌};
 ghost use Rattle.ym_core.specs.Place.{IsPlace};
 ghost use Rattle.ym_core.specs.Reading as table;
 
-use crate::batch::Batch;
+use crate::batch_shape::BatchShape;
 use crate::place::{Mode, Place, next_place};
 use ym_frame::{Control, control_of};
 
@@ -33,7 +33,7 @@ pub struct Reading {
 }
 
 /// The frame that is out was acknowledged.
-fn acknowledged<B: Batch>(batch: &B, place: Place) -> Reading
+fn acknowledged<B: BatchShape>(batch: &B, place: Place) -> Reading
     requires { IsPlace (B.counts batch.now) place }
     ensures reads { result ≡ table.reads_control (B.counts batch.now) Mode.Sent Control.Ack place }
     ensures within { IsPlace (B.counts batch.now) result.place }
@@ -59,7 +59,7 @@ fn acknowledged<B: Batch>(batch: &B, place: Place) -> Reading
 }
 
 /// Reads one control that begins no CAN CAN.
-fn read_control<B: Batch>(batch: &B, place: Place, mode: Mode, control: Control) -> Reading
+fn read_control<B: BatchShape>(batch: &B, place: Place, mode: Mode, control: Control) -> Reading
     requires { IsPlace (B.counts batch.now) place }
     ensures reads { result ≡ table.reads_control (B.counts batch.now) mode control place }
     ensures within { IsPlace (B.counts batch.now) result.place }
@@ -86,7 +86,7 @@ fn read_control<B: Batch>(batch: &B, place: Place, mode: Mode, control: Control)
 
 /// Reads a delivery, from a place and a mode on.
 #[inline(always)]
-pub fn read_delivery<B: Batch>(batch: &B, place: Place, mode: Mode, bytes: &[u8]) -> Reading
+pub fn read_delivery<B: BatchShape>(batch: &B, place: Place, mode: Mode, bytes: &[u8]) -> Reading
     requires { IsPlace (B.counts batch.now) place }
     ensures reads { result ≡
         table.reads (B.counts batch.now) place mode (table.controls_in bytes.now) }

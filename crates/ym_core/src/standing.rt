@@ -6,7 +6,7 @@ ghost use Rattle.ym_core.specs.Reading.{controls_in};
 ghost use Rattle.ym_core.specs.Standing as table;
 ghost use Rattle.ym_machine.specs.declared.limits.TheConstants.{GIVE_UP};
 
-use crate::batch::Batch;
+use crate::batch_shape::BatchShape;
 use crate::place::{Mode, Place};
 use crate::reading::{Reading, Stop, read_delivery};
 use crate::state::SendState;
@@ -143,7 +143,7 @@ impl Standing {
 
     /// After a delivery of these bytes. Where a place is filled, the host sends its frame, and
     /// keeps it to send it again; where it cannot make that frame, it keeps `source_failed`.
-    pub fn after<B: Batch>(self, batch: &B, bytes: &[u8]) -> SendStep
+    pub fn after<B: BatchShape>(self, batch: &B, bytes: &[u8]) -> SendStep
         requires place { IsPlace (B.counts batch.now) self.place }
         requires retries { self.state ≡ SendState.Running → self.retries < GIVE_UP }
         ensures step { result ≡ table.hears (B.counts batch.now) self (controls_in bytes.now) }
@@ -165,7 +165,7 @@ impl Standing {
     }
 
     /// Whether more bytes cannot change what these make of it.
-    pub fn settled<B: Batch>(self, batch: &B, bytes: &[u8]) -> bool
+    pub fn settled<B: BatchShape>(self, batch: &B, bytes: &[u8]) -> bool
         requires { IsPlace (B.counts batch.now) self.place }
         ensures { result ≡ table.is_settled (B.counts batch.now) self (controls_in bytes.now) }
     {

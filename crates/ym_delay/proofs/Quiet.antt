@@ -21,7 +21,7 @@ use Rattle.ym_timing.specs.declared.role.Role.{Role}
 use Rattle.ym_timing.specs.declared.role.Role.TheVariants.{Sender, Receiver}
 use Rattle.ym_timing.specs.declared.timing.Timing.{Timing}
 use Rattle.ym_timing.specs.declared.timing.Vain.TheVariants as vain
-use Rattle.ym_timing.specs.declared.timing.Wait.TheVariants.{Reply}
+use Rattle.ym_timing.specs.declared.timing.Expected.TheVariants.{Reply}
 
 pub either : {A : Type 0} (P : A → Type 0) (b : Bool) (x y : A) → (b ≡ true → P x) → (b ≡ false → P y) → P (if b then x else y)
 either P true x y this that = this refl

@@ -15,7 +15,7 @@ use ym_header::Header;
 
 /// The file that a sink takes at present.
 #[derive(Drop)]
-struct OpenFile {
+struct MemFile {
     header: Header,
     collector: Collector,
 }
@@ -24,7 +24,7 @@ struct OpenFile {
 #[derive(Drop)]
 pub struct MemSink {
     alloc: Global,
-    taking: Option<OpenFile>,
+    taking: Option<MemFile>,
     committed: Vec<Received>,
     countdown: Countdown,
 }
@@ -32,7 +32,7 @@ pub struct MemSink {
 impl Model for MemSink {
     ghost use Rattle.ym_file.specs.MemSink.{MemSinkParts};
     ghost use Rattle.std.specs.Vec.{vec_len, vec_capacity};
-    ghost use Rattle.ym_file.specs.OpenFile.{opened_of, IsReady};
+    ghost use Rattle.ym_file.specs.MemFile.{opened_of, IsReady};
 
     ghost Value = { MemSinkParts };
 
@@ -89,7 +89,7 @@ impl Sink for MemSink {
             return Err(SinkFault::Memory);
         }
         let collector = Collector::new(self.alloc, header.length());
-        self.taking = Some(OpenFile { header, collector });
+        self.taking = Some(MemFile { header, collector });
         Ok(())
     }
 
@@ -127,7 +127,7 @@ impl Sink for MemSink {
             return Err(SinkFault::Failed);
         }
         match self.taking.take() {
-            Some(OpenFile { header, collector }) => match collector.into_bytes() {
+            Some(MemFile { header, collector }) => match collector.into_bytes() {
                 Ok(items) => self.committed.push_reserved(Received::new(header, items)),
                 Err(_) => unreachable!(),
             },

@@ -162,7 +162,7 @@ pub(crate) fn look_at<R: Files<File = File>, E: Write + Drop>(
 
 /// How a receiver has ended.
 #[derive(Drop)]
-struct Outcome {
+struct ReceiverFinish {
     /// Its own end.
     state: RecvState,
     /// The file that its sink was last given, where that is known.
@@ -180,10 +180,10 @@ fn tell_outcome<E: Write + Drop>(
     teller: &mut Teller<E>,
     alloc: Global,
     answer: &Result<u8, CommandFault>,
-    outcome: Outcome,
+    outcome: ReceiverFinish,
     leftover: Leftover,
 ) {
-    let Outcome {
+    let ReceiverFinish {
         state,
         last,
         why,
@@ -302,7 +302,7 @@ where
     let why = watched.sink.first_fault();
     drop(watched);
     let (last, lately) = shown.into_inner().end();
-    let outcome = Outcome {
+    let outcome = ReceiverFinish {
         state,
         last,
         why,

@@ -4,7 +4,7 @@ ghost use Rattle.std.specs.Prelude.{◌≡◌, ◌↔◌, true};
 
 use crate::act::{Act, asked_of_sender};
 use std::marker::Model;
-use ym_core::{Batch, SendState, Standing, first_place};
+use ym_core::{BatchShape, SendState, Standing, first_place};
 
 /// A batch of which is known in how many data blocks each file is sent.
 #[derive(Drop)]
@@ -13,7 +13,7 @@ struct BlockCounts<'a> {
     blocks: &'a [u64],
 }
 
-impl<'a> Batch for BlockCounts<'a> {
+impl<'a> BatchShape for BlockCounts<'a> {
     ghost counts = { λ batch. batch.blocks.now };
 
     fn files(&self) -> usize {

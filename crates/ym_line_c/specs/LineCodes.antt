@@ -16,8 +16,8 @@ use Rattle.ym_timing.specs.declared.role.Role.{Role}
 use Rattle.ym_timing.specs.declared.role.Role.TheVariants.{Sender, Receiver}
 use Rattle.ym_timing.specs.declared.sent.Kind.{Kind}
 use Rattle.ym_timing.specs.declared.sent.Kind.TheVariants as kind
-use Rattle.ym_timing.specs.declared.timing.Wait.{Wait}
-use Rattle.ym_timing.specs.declared.timing.Wait.TheVariants as wait
+use Rattle.ym_timing.specs.declared.timing.Expected.{Expected}
+use Rattle.ym_timing.specs.declared.timing.Expected.TheVariants as wait
 use Rattle.ym_timing.specs.declared.timing.Vain.{Vain}
 use Rattle.ym_timing.specs.declared.timing.Vain.TheVariants as vain
 
@@ -62,7 +62,7 @@ abbrev pub heed_of : ℕ → Heed
 heed_of n = if n == 0 then heed.Open else (if n == 1 then heed.Can else heed.Other)
 
 -- what a read waits for: 0 the first bytes of a delivery, any other more of it
-abbrev pub wait_of : ℕ → Wait
+abbrev pub wait_of : ℕ → Expected
 wait_of n = if n == 0 then wait.Reply else wait.Within
 
 -- what a read that waited in vain comes to

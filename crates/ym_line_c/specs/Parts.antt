@@ -1,6 +1,6 @@
 -- The parts of the machine that their numbers stand for.
 use Rattle.ym_timing.specs.declared.ear.Ear.{Ear}
-use Rattle.ym_timing.specs.declared.heard.Heard.{Heard}
+use Rattle.ym_timing.specs.declared.arrivals.Arrivals.{Arrivals}
 use Rattle.ym_timing.specs.declared.hold.Hold.{Hold}
 use Rattle.ym_timing.specs.declared.out.Out.{Out}
 use Rattle.ym_timing.specs.declared.pace.Pace.{Pace}
@@ -28,7 +28,7 @@ out_of k = record {
 abbrev pub sent_of : YmSent → Sent
 sent_of k = record { length = k.length; first = k.first; second = k.second; kind = kind_of k.kind }
 
-abbrev pub heard_of : YmHeard → Heard
+abbrev pub heard_of : YmHeard → Arrivals
 heard_of k = record {
   count = k.count;
   since = k.since;

@@ -3,7 +3,7 @@
 ghost use Rattle.std.specs.Prelude.{◌≡◌};
 ghost use Rattle.ym_line_c.specs.LineCodes as codes;
 
-use ym_timing::{Echo, Heed, Kind, Need, Owed, Role, Trust, Vain, Wait, Wary};
+use ym_timing::{Echo, Expected, Heed, Kind, Need, Owed, Role, Trust, Vain, Wary};
 
 /// Whether this number says yes.
 pub fn flag_of(code: u8) -> bool
@@ -208,12 +208,12 @@ pub fn code_of_heed(heed: Heed) -> u8
 }
 
 /// What a read waits for, by this number.
-pub fn wait_of(code: u32) -> Wait
+pub fn wait_of(code: u32) -> Expected
     ensures { result ≡ codes.wait_of code }
 {
     match code {
-        0 => Wait::Reply,
-        _ => Wait::Within,
+        0 => Expected::Reply,
+        _ => Expected::Within,
     }
 }
 

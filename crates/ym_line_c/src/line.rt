@@ -24,7 +24,7 @@ pub struct YmLine {
     pub ear: YmEar,
     /// What is held back of a reply.
     pub hold: YmHold,
-    /// When that was heard which the last write answers.
+    /// When the last of that was heard which the last write answers.
     pub led_at: u64,
     /// How many bytes of the last reply came back to a receiver.
     pub echoed: u64,

@@ -7,7 +7,7 @@ use crate::codes::{
     code_of_flag, code_of_kind, code_of_owed, code_of_trust, code_of_wary, codes_of_echo, echo_of,
     flag_of, kind_of, owed_of, trust_of, wary_of,
 };
-use ym_timing::{Ear, Heard, Hold, Out, Pace, Sent};
+use ym_timing::{Arrivals, Ear, Hold, Out, Pace, Sent};
 
 /// How long answers take.
 #[repr(C)]
@@ -143,10 +143,10 @@ pub struct YmHeard {
 
 impl YmHeard {
     /// What these numbers stand for.
-    pub fn load(&self) -> Heard
+    pub fn load(&self) -> Arrivals
         ensures { result ≡ parts.heard_of self.now }
     {
-        Heard {
+        Arrivals {
             count: self.count,
             since: self.since,
             last: self.last,
@@ -160,7 +160,7 @@ impl YmHeard {
     }
 
     /// Keeps this.
-    pub fn keep(&mut self, heard: Heard)
+    pub fn keep(&mut self, heard: Arrivals)
         ensures { parts.heard_of self.new ≡ heard }
     {
         self.count = heard.count;

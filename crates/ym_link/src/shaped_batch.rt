@@ -1,6 +1,6 @@
 //! A batch of files, as its sender counts it.
 
-use ym_core::Batch;
+use ym_core::BatchShape;
 use ym_file::{Shape, Source, SourceFile};
 
 /// The files of a batch, with the shape of the blocks that they are sent in.
@@ -12,7 +12,7 @@ pub(crate) struct ShapedBatch<'a, S: Source> {
     pub shape: Shape,
 }
 
-impl<'a, S: Source> Batch for ShapedBatch<'a, S> {
+impl<'a, S: Source> BatchShape for ShapedBatch<'a, S> {
     ghost use Rattle.ym_file.specs.SourceFile.{counts_of};
 
     ghost counts = { λ batch. counts_of batch.shape batch.files.now };

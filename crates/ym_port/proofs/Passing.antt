@@ -23,7 +23,7 @@ use Rattle.ym_port.specs.declared.deed.Deed.TheVariants.{Looked, Waited, Wrote}
 use Rattle.ym_port.specs.declared.line.Line.{Line}
 use Rattle.ym_timing.specs.Clears.{clear_at}
 use Rattle.ym_timing.specs.declared.clearing.Clearing.{Clearing}
-use Rattle.ym_timing.specs.declared.timing.Wait.{Wait}
+use Rattle.ym_timing.specs.declared.timing.Expected.{Expected}
 
 -- ---- What is written
 
@@ -42,18 +42,18 @@ pub waited-quiet : (millis room : ℕ) (t : Tape)
 waited-quiet millis room t =
     written-more t.done (Waited millis ∷ []) ∙ append-nil (written_of t.done)
 
-pub over-quiet : (over : Bool) (w : Wait) (l : Line) (t : Tape)
+pub over-quiet : (over : Bool) (w : Expected) (l : Line) (t : Tape)
     → written_of (if over then table.ends w l t else (record { answer = None; line = l; tape = t })).tape.done
     ≡ written_of t.done
 over-quiet true w l t = refl
 over-quiet false w l t = refl
 
-pub brings-quiet : (heard : List ℕ) (w : Wait) (start : ℕ) (l : Line) (t : Tape)
+pub brings-quiet : (heard : List ℕ) (w : Expected) (start : ℕ) (l : Line) (t : Tape)
     → written_of (table.brings_of heard w start l t).tape.done ≡ written_of t.done
 brings-quiet [] w start l t = over-quiet (table.is_over w start l) w l t
 brings-quiet (b ∷ heard) w start l t = refl
 
-pub step-quiet : (seen : Seen) (w : Wait) (start : ℕ) (l : Line) (t : Tape)
+pub step-quiet : (seen : Seen) (w : Expected) (start : ℕ) (l : Line) (t : Tape)
     → written_of (step_by seen w start l t).tape.done ≡ written_of t.done
 step-quiet (Data bytes) w start l t =
     let k : Line = table.looked (moment_of t) l in
@@ -69,7 +69,7 @@ pub behind-quiet : (on : Line → Tape → Read) → ((l : Line) (t : Tape) → 
 behind-quiet on quiet (Some seen) l t = refl
 behind-quiet on quiet None l t = quiet l t
 
-pub reads-quiet : (n : ℕ) (w : Wait) (start room : ℕ) (l : Line) (t : Tape)
+pub reads-quiet : (n : ℕ) (w : Expected) (start room : ℕ) (l : Line) (t : Tape)
     → written_of (reads n w start room l t).tape.done ≡ written_of t.done
 unfolding reads
 reads-quiet zero w start room l t = refl

@@ -30,8 +30,8 @@ use Rattle.ym_timing.specs.declared.role.Role.TheVariants.{Sender, Receiver}
 use Rattle.ym_timing.specs.declared.timing.Timing.{Timing}
 use Rattle.ym_timing.specs.declared.timing.Vain.{Vain}
 use Rattle.ym_timing.specs.declared.timing.Vain.TheVariants as vain
-use Rattle.ym_timing.specs.declared.timing.Wait.{Wait}
-use Rattle.ym_timing.specs.declared.timing.Wait.TheVariants as wait
+use Rattle.ym_timing.specs.declared.timing.Expected.{Expected}
+use Rattle.ym_timing.specs.declared.timing.Expected.TheVariants as wait
 
 -- nothing was said or heard
 abbrev pub new_line : Role → Line
@@ -96,10 +96,10 @@ abbrev pub slowest_of : Pace → Option ℕ
 slowest_of p = slowest_by p.trust p.slowest
 
 -- a wait is over
-abbrev pub vain_at : Wait → Line → Vain
+abbrev pub vain_at : Expected → Line → Vain
 vain_at w l = vain_of w l.timing
 
-abbrev pub gives_up : Wait → Line → Line
+abbrev pub gives_up : Expected → Line → Line
 gives_up w l = record l { timing = after_vain w l.clock.at l.timing }
 
 -- nothing came until then, where the clock tells this
@@ -126,45 +126,45 @@ vain_answers vain.Ack = Some (Data (0x06 ∷ []))
 vain_answers vain.Quiet = Some Silence
 
 -- the wait is over
-abbrev pub ends : Wait → Line → Tape → Step
+abbrev pub ends : Expected → Line → Tape → Step
 ends w l t = record { answer = vain_answers (vain_at w l); line = gives_up w l; tape = t }
 
 -- until when a read waits, of a wait that began then: for more of a delivery since anything came
-abbrev pub ends_at : Wait → ℕ → Line → ℕ
+abbrev pub ends_at : Expected → ℕ → Line → ℕ
 ends_at wait.Reply start l = until wait.Reply start l.timing
 ends_at wait.Within start l = until wait.Within l.clock.at l.timing
 
 -- by when it is over, where what comes is not to be heard: no wait is longer than one for a reply
-abbrev pub over_at : Wait → ℕ → Line → ℕ
+abbrev pub over_at : Expected → ℕ → Line → ℕ
 over_at wait.Reply start l = until wait.Reply start l.timing
 over_at wait.Within start l = later start (pace.wait l.timing.role l.timing.pace)
 
 -- nothing of what came is to be heard: it waits on, unless the wait that began then is over
-abbrev pub is_over : Wait → ℕ → Line → Bool
+abbrev pub is_over : Expected → ℕ → Line → Bool
 is_over w start l = nat_le (over_at w start l) l.clock.at
 
-abbrev pub unheard : Wait → ℕ → Line → Tape → Step
+abbrev pub unheard : Expected → ℕ → Line → Tape → Step
 unheard w start l t =
     if is_over w start l then ends w l t else record { answer = None; line = l; tape = t }
 
-abbrev pub brings_of : List ℕ → Wait → ℕ → Line → Tape → Step
+abbrev pub brings_of : List ℕ → Expected → ℕ → Line → Tape → Step
 brings_of [] w start l t = unheard w start l t
 brings_of (b ∷ heard) w start l t =
     record { answer = Some (Data (b ∷ heard)); line = l; tape = t }
 
-abbrev pub brings : List ℕ → Wait → ℕ → Line → Tape → Step
+abbrev pub brings : List ℕ → Expected → ℕ → Line → Tape → Step
 brings bytes w start l t =
     brings_of (heard_in bytes (looked (moment_of t) l)) w start
     (hears bytes (looked (moment_of t) l)) (after_moment t)
 
 -- it closed: an ACK that was held, with nothing behind it, is heard before that
-abbrev pub closed : Wait → Line → Line
+abbrev pub closed : Expected → Line → Line
 closed w l = if is_last l.timing then record (gives_up w l) { is_closed = true } else l
 
 abbrev pub closed_answers : Line → Seen
 closed_answers l = if is_last l.timing then Data (0x06 ∷ []) else End
 
-abbrev pub step_by : Seen → Wait → ℕ → Line → Tape → Step
+abbrev pub step_by : Seen → Expected → ℕ → Line → Tape → Step
 step_by (Data bytes) w start l t = brings bytes w start l t
 step_by Silence w start l t =
     ends w (passed (ends_at w start l) (moment_of t) l) (after_moment t)
@@ -173,7 +173,7 @@ step_by End w start l t =
 step_by Failed w start l t = record { answer = Some Failed; line = l; tape = t }
 
 -- it waits as long as the rule says, of a wait that began then
-abbrev pub step : Wait → ℕ → ℕ → Line → Tape → Step
+abbrev pub step : Expected → ℕ → ℕ → Line → Tape → Step
 step w start room l t =
     step_by (read_gives room t.coming) w start l
     (after_read (ends_at w start l - l.clock.at) room t)
@@ -192,7 +192,7 @@ behind on (Some seen) l t = gives seen l t
 behind on None l t = on l t
 
 -- it goes on while nothing is to be heard, for so many reads at most
-unfoldable pub reads : ℕ → Wait → ℕ → ℕ → Line → Tape → Read
+unfoldable pub reads : ℕ → Expected → ℕ → ℕ → Line → Tape → Read
 reads zero w start room l t = gives Silence l t
 reads (suc more) w start room l t =
     behind (reads more w start room) (step w start room l t).answer (step w start room l t).line

@@ -8,7 +8,7 @@ ghost use Rattle.ym_timing.specs.declared.role.Role.{Role};
 ghost use Rattle.ym_port.specs.declared.line.TheConstants.{PIECE};
 
 use crate::written::Written;
-use ym_timing::{Clearing, Clock, Echo, Kind, Role, Say, Timing, Vain, Wait, cancels};
+use ym_timing::{Clearing, Clock, Echo, Expected, Kind, Role, Say, Timing, Vain, cancels};
 
 /// The byte ACK.
 pub const ACK: u8 = 0x06;
@@ -199,31 +199,31 @@ impl Line {
     /// Until when a read waits, of a wait that began then: more of a delivery is waited for since
     /// anything came, also what is not to be heard.
     #[inline]
-    pub fn until(&self, wait: Wait, start: u64) -> u64
+    pub fn until(&self, wait: Expected, start: u64) -> u64
         ensures { result ≡ table.ends_at wait start self.now }
     {
         match wait {
-            Wait::Reply => self.timing.until(wait, start),
-            Wait::Within => self.timing.until(wait, self.clock.at),
+            Expected::Reply => self.timing.until(wait, start),
+            Expected::Within => self.timing.until(wait, self.clock.at),
         }
     }
 
     /// Whether a wait that began then is over, where what comes is not to be heard: none is longer
     /// than one for a reply, so noise without end holds an end no longer.
     #[inline]
-    pub fn is_over(&self, wait: Wait, start: u64) -> bool
+    pub fn is_over(&self, wait: Expected, start: u64) -> bool
         ensures { result ≡ table.is_over wait start self.now }
     {
         let end = match wait {
-            Wait::Reply => self.timing.until(wait, start),
-            Wait::Within => start.saturating_add(self.timing.pace.wait(self.timing.role)),
+            Expected::Reply => self.timing.until(wait, start),
+            Expected::Within => start.saturating_add(self.timing.pace.wait(self.timing.role)),
         };
         end <= self.clock.at
     }
 
     /// Takes that a wait is over, in which nothing came that is to be heard.
     #[inline]
-    pub fn give_up(&mut self, wait: Wait) -> Vain
+    pub fn give_up(&mut self, wait: Expected) -> Vain
         ensures line { self.new ≡ table.gives_up wait self.old }
         ensures role { self.new.timing.role ≡ self.old.timing.role }
         ensures vain { result ≡ table.vain_at wait self.old }
@@ -244,7 +244,7 @@ impl Line {
     /// Takes that the line closed, and says whether an ACK that was held is heard before that: who
     /// acknowledges the end block may leave at once.
     #[cold]
-    pub fn close(&mut self, wait: Wait) -> bool
+    pub fn close(&mut self, wait: Expected) -> bool
         ensures line { self.new ≡ table.closed wait self.old }
         ensures role { self.new.timing.role ≡ self.old.timing.role }
         ensures last { result ≡ is_last self.old.timing }

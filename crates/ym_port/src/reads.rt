@@ -16,12 +16,12 @@ use ym_timing::Vain;
 /// A wait, and when it began.
 #[derive(Clone, Copy)]
 struct Began {
-    wait: timing::Wait,
+    wait: timing::Expected,
     start: u64,
 }
 
 /// Takes that a wait is over.
-fn give_up(line: &mut Line, wait: timing::Wait, buf: &mut [u8]) -> Option<Got>
+fn give_up(line: &mut Line, wait: timing::Expected, buf: &mut [u8]) -> Option<Got>
     requires { 0 < length buf.old }
     ensures count { (n : ℕ) → result ≡ Some (Got.Bytes n) → (0 < n) × (n ≤ length buf.old) }
     ensures answer { table.answer_of (Ok result) buf.new
@@ -88,7 +88,7 @@ fn take_bytes<W: Wire>(
 fn take_quiet<W: Wire>(
     wire: &mut W,
     line: &mut Line,
-    wait: timing::Wait,
+    wait: timing::Expected,
     until: u64,
     buf: &mut [u8],
 ) -> Option<Got>
@@ -106,7 +106,7 @@ fn take_quiet<W: Wire>(
 
 /// Takes that the line closed.
 #[cold]
-fn take_closed(line: &mut Line, wait: timing::Wait, buf: &mut [u8]) -> Got
+fn take_closed(line: &mut Line, wait: timing::Expected, buf: &mut [u8]) -> Got
     requires { 0 < length buf.old }
     ensures count { (n : ℕ) → result ≡ Got.Bytes n → (0 < n) × (n ≤ length buf.old) }
     ensures answer { seen_of (Ok result) buf.new ≡ table.closed_answers line.old }
@@ -127,7 +127,7 @@ fn take_closed(line: &mut Line, wait: timing::Wait, buf: &mut [u8]) -> Got
 fn read_once<W: Wire>(
     wire: &mut W,
     line: &mut Line,
-    wait: timing::Wait,
+    wait: timing::Expected,
     start: u64,
     buf: &mut [u8],
 ) -> Result<Option<Got>, PortFault>
@@ -156,7 +156,7 @@ fn read_once<W: Wire>(
 pub fn read_on<W: Wire>(
     wire: &mut W,
     line: &mut Line,
-    wait: timing::Wait,
+    wait: timing::Expected,
     start: u64,
     buf: &mut [u8],
 ) -> Result<Got, PortFault>

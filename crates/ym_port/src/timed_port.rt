@@ -92,7 +92,7 @@ impl<W: Wire + Drop> TimedPort<W> {
                 read_on(
                     &mut self.wire,
                     &mut self.line,
-                    timing::Wait::Within,
+                    timing::Expected::Within,
                     start,
                     buf,
                 )
@@ -104,7 +104,7 @@ impl<W: Wire + Drop> TimedPort<W> {
                 read_on(
                     &mut self.wire,
                     &mut self.line,
-                    timing::Wait::Reply,
+                    timing::Expected::Reply,
                     start,
                     buf,
                 )

@@ -3,47 +3,47 @@ use Rattle.std.proofs.Common.{◌≡◌, ℕ, ◌+◌, ◌<◌, ◌≤◌, suc, 
 use Rattle.std.proofs.Common.{true, false, ◌++◌, ◌∙◌, ap, refl, arith, add-one}
 use Rattle.std.proofs.Math.Seq.{drop-cons}
 use Rattle.ym_timing.specs.ByteRows.{bytes_of, heard_of, after_bytes}
-use Rattle.ym_timing.specs.Heard.{take_byte, take_bytes}
+use Rattle.ym_timing.specs.Arrivals.{take_byte, take_bytes}
 use Rattle.ym_timing.specs.Timing.{is_echo, after_echo, after_byte, said}
 use Rattle.ym_timing.specs.declared.hold.Say.{Say}
 use Rattle.ym_timing.specs.declared.hold.Say.TheVariants as say
-use Rattle.ym_timing.specs.declared.heard.Heard.{Heard}
+use Rattle.ym_timing.specs.declared.arrivals.Arrivals.{Arrivals}
 use Rattle.ym_timing.specs.declared.role.Role.TheVariants.{Receiver}
 use Rattle.ym_timing.specs.declared.timing.Timing.{Timing}
 
 -- what so many bytes make of it, once two came
-abbrev pub more : ℕ → ℕ → Heard → Heard
+abbrev pub more : ℕ → ℕ → Arrivals → Arrivals
 more n now h = record h { count = min (h.count + n) 2048; last = now; is_quiet = false }
 
-pub one-more : (byte now : ℕ) (h : Heard) → 2 ≤ h.count → take_byte byte now h ≡ more 1 now h
+pub one-more : (byte now : ℕ) (h : Arrivals) → 2 ≤ h.count → take_byte byte now h ≡ more 1 now h
 one-more byte now h two = grind arith
 
-pub and-more : (n now : ℕ) (h : Heard) → more n now (more 1 now h) ≡ more (suc n) now h
+pub and-more : (n now : ℕ) (h : Arrivals) → more n now (more 1 now h) ≡ more (suc n) now h
 and-more n now h =
     let e : min (min (h.count + 1) 2048 + n) 2048 ≡ min (h.count + suc n) 2048 = omega arith in
-    ap (λ (c : ℕ). let x : Heard = record h { count = c; last = now; is_quiet = false } in x) e
+    ap (λ (c : ℕ). let x : Arrivals = record h { count = c; last = now; is_quiet = false } in x) e
 
-pub all-more : (b : ℕ) (bytes : List ℕ) (now : ℕ) (h : Heard) → 2 ≤ h.count
+pub all-more : (b : ℕ) (bytes : List ℕ) (now : ℕ) (h : Arrivals) → 2 ≤ h.count
     → take_bytes (b ∷ bytes) now h ≡ more (length (b ∷ bytes)) now h
 all-more b [] now h two = one-more b now h two
 all-more b (c ∷ bytes) now h two =
     let still : 2 ≤ min (h.count + 1) 2048 = omega arith in
-    ap (λ (x : Heard). take_bytes (c ∷ bytes) now x) (one-more b now h two)
+    ap (λ (x : Arrivals). take_bytes (c ∷ bytes) now x) (one-more b now h two)
     ∙ (all-more c bytes now (more 1 now h) still ∙ and-more (length (c ∷ bytes)) now h)
 
-pub bytes-more : (bytes : List ℕ) (now : ℕ) (h : Heard) → 2 ≤ h.count → 0 < length bytes
+pub bytes-more : (bytes : List ℕ) (now : ℕ) (h : Arrivals) → 2 ≤ h.count → 0 < length bytes
     → take_bytes bytes now h ≡ more (length bytes) now h
 bytes-more [] now h two some = absurd (omega (arith, some))
 bytes-more (b ∷ bytes) now h two some = all-more b bytes now h two
 
 -- the first, and the first two
-pub take-one : (bytes : List ℕ) (now : ℕ) (h : Heard) → length bytes ≡ 1
+pub take-one : (bytes : List ℕ) (now : ℕ) (h : Arrivals) → length bytes ≡ 1
     → take_bytes bytes now h ≡ take_byte (get_or bytes 0 0) now h
 take-one [] now h one = absurd (omega (arith, one))
 take-one (b ∷ []) now h one = refl
 take-one (b ∷ c ∷ bytes) now h one = absurd (omega (arith, one))
 
-pub take-two : (bytes : List ℕ) (now : ℕ) (h : Heard) → 2 ≤ length bytes
+pub take-two : (bytes : List ℕ) (now : ℕ) (h : Arrivals) → 2 ≤ length bytes
     → take_bytes bytes now h
     ≡ take_bytes (drop 2 bytes) now (take_byte (get_or bytes 1 0) now (take_byte (get_or bytes 0 0) now h))
 take-two [] now h two = absurd (omega (arith, two))
@@ -88,7 +88,7 @@ echo-step bytes i now reply t more is echo =
 -- ---- What is no reply that comes back
 
 -- behind a byte that was heard no other is an echo
-pub take-some : (b now : ℕ) (h : Heard) → 0 < (take_byte b now h).count
+pub take-some : (b now : ℕ) (h : Arrivals) → 0 < (take_byte b now h).count
 take-some b now h = grind arith
 
 pub heard-none : (b : ℕ) (reply : List ℕ) (t : Timing) → 0 < t.heard.count → is_echo b reply t ≡ false

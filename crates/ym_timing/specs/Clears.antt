@@ -6,7 +6,7 @@
 use Rattle.std.specs.Prelude.{ℕ, ◌+◌, ◌-◌, ◌*◌, ◌/◌, nat_eq, nat_lt, nat_le, ◌&&◌, ◌||◌, not, Bool}
 use Rattle.std.specs.Prelude.{true, false, List, max, min, if◌then◌else◌}
 use Rattle.ym_timing.specs.Ear.{listen}
-use Rattle.ym_timing.specs.Heard.{is_noise}
+use Rattle.ym_timing.specs.Arrivals.{is_noise}
 use Rattle.ym_timing.specs.Pace.{bound}
 use Rattle.ym_timing.specs.Sent.{next, is_same}
 use Rattle.ym_timing.specs.Times.{later}

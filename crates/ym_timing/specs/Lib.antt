@@ -3,7 +3,7 @@ pub mod Cancel
 pub mod Clears
 pub mod Ear
 pub mod Echoes
-pub mod Heard
+pub mod Arrivals
 pub mod Hold
 pub mod Out
 pub mod Pace

@@ -6,6 +6,7 @@
 use Rattle.std.specs.Prelude.{ℕ, ◌-◌, ◌/◌, nat_lt, nat_le, max, min, if◌then◌else◌}
 use Rattle.ym_timing.specs.Times.{later}
 use Rattle.ym_timing.specs.declared.limits.TheConstants.{MARGIN, FIRST_REPLY, FIRST_FRAME, LONGEST}
+use Rattle.ym_timing.specs.declared.limits.TheConstants.{WITHIN}
 use Rattle.ym_timing.specs.declared.pace.Pace.{Pace}
 use Rattle.ym_timing.specs.declared.pace.Trust.{Trust}
 use Rattle.ym_timing.specs.declared.pace.Trust.TheVariants.{Unknown, Doubtful, Sure}
@@ -54,3 +55,14 @@ wait role p = by p.trust
     by Unknown = first_wait role
     by Doubtful = min (max (bound p) (first_wait role)) LONGEST
     by Sure = min (max (bound p) (first_wait role)) LONGEST
+
+-- how long more of a delivery is waited for: by a sender that knows its line, no longer than until
+-- an answer is overdue
+abbrev pub within : Role → Pace → ℕ
+within Receiver p = WITHIN
+within Sender p = by p.trust
+  where
+    by : Trust → ℕ
+    by Unknown = WITHIN
+    by Doubtful = WITHIN
+    by Sure = min (bound p) WITHIN

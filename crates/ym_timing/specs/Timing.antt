@@ -2,7 +2,7 @@
 use Rattle.std.specs.Prelude.{ℕ, ◌+◌, nat_eq, nat_lt, ◌&&◌, not, Bool, true, false, List, length}
 use Rattle.std.specs.Prelude.{slice_index, max, if◌then◌else◌}
 use Rattle.ym_timing.specs.Ear.{new_ear, listen}
-use Rattle.ym_timing.specs.Heard.{new_heard, take_byte, take_reply, waited}
+use Rattle.ym_timing.specs.Arrivals.{new_arrivals, take_byte, take_reply, waited}
 use Rattle.ym_timing.specs.Hold.{new_hold, control, released}
 use Rattle.ym_timing.specs.Out.{new_out}
 use Rattle.ym_timing.specs.Pace as pace
@@ -20,8 +20,8 @@ use Rattle.ym_timing.specs.declared.sent.Kind.TheVariants as kind
 use Rattle.ym_timing.specs.declared.timing.Timing.{Timing}
 use Rattle.ym_timing.specs.declared.timing.Vain.{Vain}
 use Rattle.ym_timing.specs.declared.timing.Vain.TheVariants as vain
-use Rattle.ym_timing.specs.declared.timing.Wait.{Wait}
-use Rattle.ym_timing.specs.declared.timing.Wait.TheVariants.{Reply, Within}
+use Rattle.ym_timing.specs.declared.timing.Expected.{Expected}
+use Rattle.ym_timing.specs.declared.timing.Expected.TheVariants.{Reply, Within}
 
 abbrev pub new_timing : Role → Timing
 new_timing role = record {
@@ -30,7 +30,7 @@ new_timing role = record {
   out = new_out;
   sent = sent.nothing;
   led_at = 0;
-  heard = new_heard;
+  heard = new_arrivals;
   ear = new_ear;
   hold = new_hold;
   echoed = 0;
@@ -43,16 +43,16 @@ new_timing role = record {
 -- ---- Until when an end waits
 
 -- a sender's wait for a reply has two parts
-abbrev pub early_in : Wait → Role → Bool → Bool
+abbrev pub early_in : Expected → Role → Bool → Bool
 early_in Within role has_waited = false
 early_in Reply Receiver has_waited = false
 early_in Reply Sender has_waited = not has_waited
 
-abbrev pub is_early : Wait → Timing → Bool
+abbrev pub is_early : Expected → Timing → Bool
 is_early wait t = early_in wait t.role t.heard.has_waited
 
-abbrev pub end_of : Wait → ℕ → Timing → ℕ
-end_of Within start t = later start WITHIN
+abbrev pub end_of : Expected → ℕ → Timing → ℕ
+end_of Within start t = later start (pace.within t.role t.pace)
 end_of Reply start t =
     if is_early Reply t then later start PATIENCE else later start (pace.wait t.role t.pace)
 
@@ -62,7 +62,7 @@ is_end _ = false
 
 -- an ACK that is held is waited for no longer than a moment at the end, and as long as a C may
 -- take before
-abbrev pub until : Wait → ℕ → Timing → ℕ
+abbrev pub until : Expected → ℕ → Timing → ℕ
 until wait start t =
     if t.hold.is_held
     then (if is_end t.sent.kind then later t.hold.at MOMENT
@@ -73,11 +73,11 @@ abbrev pub is_last : Timing → Bool
 is_last t = is_end t.sent.kind && t.hold.is_held
 
 -- a read that waited in vain
-abbrev pub vain_of : Wait → Timing → Vain
+abbrev pub vain_of : Expected → Timing → Vain
 vain_of wait t = if is_last t then vain.Ack else (if is_early wait t then vain.Again
     else vain.Quiet)
 
-abbrev pub after_vain : Wait → ℕ → Timing → Timing
+abbrev pub after_vain : Expected → ℕ → Timing → Timing
 after_vain wait now t =
     if is_last t then record t { hold = released t.hold; heard = take_reply 0x06 now t.heard }
     else (if is_early wait t then record t { heard = waited false t.heard }

@@ -9,7 +9,7 @@ use Rattle.ym_timing.specs.Timing.{new_timing, until}
 use Rattle.ym_timing.specs.declared.pace.Trust.TheVariants.{Doubtful, Sure}
 use Rattle.ym_timing.specs.declared.role.Role.TheVariants.{Sender, Receiver}
 use Rattle.ym_timing.specs.declared.timing.Timing.{Timing}
-use Rattle.ym_timing.specs.declared.timing.Wait.TheVariants.{Reply}
+use Rattle.ym_timing.specs.declared.timing.Expected.TheVariants.{Reply, Within}
 
 abbrev opening : List ℕ
 opening = 0x01 ∷ 0x00 ∷ 0xFF ∷ 0x61 ∷ 0x1A ∷ []
@@ -93,6 +93,15 @@ asked_late-vain = refl
 -- EOT the byte EOT is its echo.
 struck : heard_of (0x07 ∷ []) block_2 1036 quick ≡ 0x07 ∷ []
 struck = refl
+
+-- That is so as soon as an answer is overdue, since a peer that had no block drops what comes
+-- later: its own waits, of a second or two, are not met. A line that is not known gets a second.
+struck-until : until Within 1036 (after_bytes (0x07 ∷ []) block_2 1036 quick) ≡ 1304
+struck-until = refl
+
+struck_first-until : until Within 1012
+    (after_bytes (0x07 ∷ []) opening 1012 (writes opening 1000 (new_timing Sender))) ≡ 2012
+struck_first-until = refl
 
 struck_eot : heard_of eot eot 1036 (writes eot 1030 quick) ≡ []
 struck_eot = refl

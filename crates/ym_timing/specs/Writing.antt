@@ -7,7 +7,7 @@ use Rattle.std.specs.Prelude.{ℕ, ◌-◌, nat_eq, nat_lt, nat_le, ◌&&◌, �
 use Rattle.std.specs.Prelude.{List, max, if◌then◌else◌}
 use Rattle.ym_timing.specs.Clears.{is_taken, vain_after}
 use Rattle.ym_timing.specs.Ear as ear
-use Rattle.ym_timing.specs.Heard.{new_heard}
+use Rattle.ym_timing.specs.Arrivals.{new_arrivals}
 use Rattle.ym_timing.specs.Hold as hold
 use Rattle.ym_timing.specs.Out.{one, late, again}
 use Rattle.ym_timing.specs.Pace.{bound, doubtful, sure, wait}
@@ -80,7 +80,7 @@ took_by Receiver passed t = passed
 abbrev pub took : ℕ → Timing → ℕ
 took written_at t = took_by t.role (t.heard.since - written_at) t
 
--- the ACK came as soon as the line is always let clear for
+-- the ACK came no later than the line is let clear for where several answers may come
 abbrev pub is_acked_soon : Timing → Bool
 is_acked_soon t = not t.heard.is_late && nat_le (t.hold.at - t.out.first_at) SENDER_QUIET
 
@@ -201,7 +201,7 @@ wrote_next n c now t = record {
   out = out_after (is_taken n t) now t;
   sent = n;
   led_at = if nat_lt 0 t.heard.count then t.heard.last else now;
-  heard = new_heard;
+  heard = new_arrivals;
   ear = ear.wrote t.ear;
   hold = hold.wrote (is_opening n) (is_same t.sent n)
       (is_shaken_after (is_same t.sent n) c t && is_empty_file t.sent n) now t.hold;

@@ -2,11 +2,11 @@
 //! machine without IO, for which time is an input.
 #![tactic(auto)]
 
+mod arrivals;
 mod cancel;
 mod clearing;
 mod clock;
 mod ear;
-mod heard;
 mod hold;
 pub mod laws;
 mod limits;
@@ -17,11 +17,11 @@ mod sent;
 mod timing;
 mod writing;
 
+pub use arrivals::Arrivals;
 pub use cancel::{Cans, Opening, cancels};
 pub use clearing::{Clearing, Heed, Need};
 pub use clock::Clock;
 pub use ear::{Ear, Echo, Listened};
-pub use heard::Heard;
 pub use hold::{Hold, Said, Say, Wary};
 pub use limits::{
     APART, FIRST_FRAME, FIRST_REPLY, FRAGMENT, FULL, HALVINGS, HELD_UP, LONGEST, MARGIN, MOMENT,
@@ -31,4 +31,4 @@ pub use out::{Out, Owed};
 pub use pace::{Pace, Trust};
 pub use role::Role;
 pub use sent::{Kind, Sent};
-pub use timing::{Front, Timing, Vain, Wait};
+pub use timing::{Expected, Front, Timing, Vain};

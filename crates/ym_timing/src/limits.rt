@@ -1,6 +1,7 @@
 //! The numbers of the rule, in milliseconds where nothing else is said.
 
-/// How long more of a delivery is waited for, and how long a line is quiet behind what is dropped.
+/// How long more of a delivery is waited for at most, and how long a line is quiet behind what is
+/// dropped.
 pub const WITHIN: u64 = 1_000;
 
 /// How long a sender waits for a reply before it knows its line.

@@ -3,7 +3,7 @@
 ghost use Rattle.std.specs.Prelude.{◌≡◌};
 ghost use Rattle.ym_timing.specs.Pace as table;
 
-use crate::limits::{FIRST_FRAME, FIRST_REPLY, LONGEST, MARGIN};
+use crate::limits::{FIRST_FRAME, FIRST_REPLY, LONGEST, MARGIN, WITHIN};
 use crate::role::Role;
 
 /// How much is known of it.
@@ -87,6 +87,17 @@ impl Pace {
         match self.trust {
             Trust::Unknown => first,
             _ => self.bound().max(first).min(LONGEST),
+        }
+    }
+
+    /// How long more of a delivery is waited for. A sender that knows its line waits no longer
+    /// than until an answer is overdue: so it asks again while its peer still listens.
+    pub fn within(self, role: Role) -> u64
+        ensures { result ≡ table.within role self }
+    {
+        match (role, self.trust) {
+            (Role::Sender, Trust::Sure) => self.bound().min(WITHIN),
+            _ => WITHIN,
         }
     }
 }

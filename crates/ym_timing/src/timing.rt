@@ -2,12 +2,12 @@
 
 ghost use Rattle.std.specs.Prelude.{◌≡◌, ◌≤◌, drop, length};
 ghost use Rattle.ym_timing.specs.ByteRows.{heard_of, after_bytes};
-ghost use Rattle.ym_timing.specs.Heard.{take_bytes};
+ghost use Rattle.ym_timing.specs.Arrivals.{take_bytes};
 ghost use Rattle.ym_timing.specs.Timing as table;
 ghost use Rattle.ym_timing.specs.declared.role.Role.{Role};
 
+use crate::arrivals::Arrivals;
 use crate::ear::{ACK, Ear};
-use crate::heard::Heard;
 use crate::hold::{Hold, Say};
 use crate::limits::{MOMENT, PATIENCE, WITHIN};
 use crate::out::Out;
@@ -28,7 +28,7 @@ pub struct Front {
 
 /// For what a read waits.
 #[derive(Clone, Copy)]
-pub enum Wait {
+pub enum Expected {
     /// For the first bytes of a delivery.
     Reply,
     /// For more of it.
@@ -60,7 +60,7 @@ pub struct Timing {
     /// When the last of that was heard which the last write answers.
     pub led_at: u64,
     /// What was heard since.
-    pub heard: Heard,
+    pub heard: Arrivals,
     /// What of that which comes is no reply.
     pub ear: Ear,
     /// What is held back of a reply.
@@ -88,7 +88,7 @@ impl Timing {
             out: Out::new(),
             sent: Sent::nothing(),
             led_at: 0,
-            heard: Heard::new(),
+            heard: Arrivals::new(),
             ear: Ear::new(),
             hold: Hold::new(),
             echoed: 0,
@@ -105,23 +105,23 @@ impl Timing {
 
     /// Whether a sender's wait for a reply is in its first part. It has two, so that an end knows
     /// of an answer that came late even where its clock stands still.
-    fn is_early(&self, wait: Wait) -> bool
+    fn is_early(&self, wait: Expected) -> bool
         ensures { result ≡ table.is_early wait self.now }
     {
         match (wait, self.role) {
-            (Wait::Reply, Role::Sender) => !self.heard.has_waited,
+            (Expected::Reply, Role::Sender) => !self.heard.has_waited,
             _ => false,
         }
     }
 
     /// Until when a read waits that began then.
-    pub fn until(&self, wait: Wait, start: u64) -> u64
+    pub fn until(&self, wait: Expected, start: u64) -> u64
         ensures { result ≡ table.until wait start self.now }
     {
         let end = match wait {
-            Wait::Within => start.saturating_add(WITHIN),
-            Wait::Reply if self.is_early(wait) => start.saturating_add(PATIENCE),
-            Wait::Reply => start.saturating_add(self.pace.wait(self.role)),
+            Expected::Within => start.saturating_add(self.pace.within(self.role)),
+            Expected::Reply if self.is_early(wait) => start.saturating_add(PATIENCE),
+            Expected::Reply => start.saturating_add(self.pace.wait(self.role)),
         };
         match self.sent.kind {
             Kind::End if self.hold.is_held => self.hold.at.saturating_add(MOMENT),
@@ -131,7 +131,7 @@ impl Timing {
     }
 
     /// Takes that a read waited until then, and nothing came.
-    pub fn expired(&mut self, wait: Wait, now: u64) -> Vain
+    pub fn expired(&mut self, wait: Expected, now: u64) -> Vain
         ensures new { self.new ≡ table.after_vain wait now self.old }
         ensures role { self.new.role ≡ self.old.role }
         ensures vain { result ≡ table.vain_of wait self.old }

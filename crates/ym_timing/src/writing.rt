@@ -4,8 +4,8 @@
 ghost use Rattle.std.specs.Prelude.{◌≡◌};
 ghost use Rattle.ym_timing.specs.Writing as table;
 
+use crate::arrivals::Arrivals;
 use crate::clearing::{Clearing, Need, vain_after};
-use crate::heard::Heard;
 use crate::limits::{FRAGMENT, PATIENCE, SENDER_QUIET, SOON, UNASKED};
 use crate::out::{Out, Owed};
 use crate::pace::{Pace, Trust};
@@ -213,7 +213,7 @@ impl Timing {
             } else {
                 now
             },
-            heard: Heard::new(),
+            heard: Arrivals::new(),
             ear: self.ear.wrote(),
             hold: self
                 .hold

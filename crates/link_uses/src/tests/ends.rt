@@ -4,7 +4,7 @@ ghost use Rattle.std.specs.Prelude.{◌≡◌, List, ℕ, ◌∷◌, []};
 
 use std::test::Fail;
 use ym_core::{
-    Ask, Batch, Confirm, Heard, HeardRef, OpenFile, Place, ReceiverCore, RecvState, SendState,
+    Ask, BatchShape, Confirm, Heard, HeardRef, OpenFile, Place, ReceiverCore, RecvState, SendState,
     Stage, Stand, Standing, Step, first_place, heard_in,
 };
 use ym_frame::{Block, FrameBuf, Item, Reply, encode};
@@ -124,7 +124,7 @@ fn stands(rt: HostRuntime) -> Result<(), Fail> {
 /// Two files, the first one of two blocks and the second one empty.
 struct TwoFiles;
 
-impl Batch for TwoFiles {
+impl BatchShape for TwoFiles {
     ghost counts = { λ _. 2 ∷ 0 ∷ [] };
 
     fn files(&self) -> usize {

@@ -1,7 +1,7 @@
 -- Behind the echo all is heard.
 use Rattle.std.proofs.Common.{◌≡◌, ◌<◌, length, drop, get_or, false, sym, ◌∙◌, ap, arith}
 use Rattle.std.proofs.lemmas.List.{take_rest}
-use Rattle.ym_timing.specs.Heard.{take_bytes}
+use Rattle.ym_timing.specs.Arrivals.{take_bytes}
 use Rattle.ym_timing.specs.Timing.{is_echo}
 use Rattle.ym_timing.specs.declared.role.Role.TheVariants.{Receiver}
 use Rattle.ym_timing.specs.declared.timing.Timing.{Timing}

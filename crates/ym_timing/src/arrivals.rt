@@ -1,14 +1,14 @@
 //! What an end heard since it wrote.
 
 ghost use Rattle.std.specs.Prelude.{◌≡◌, ◌≤◌};
-ghost use Rattle.ym_timing.specs.Heard as table;
+ghost use Rattle.ym_timing.specs.Arrivals as table;
 
 use crate::ear::ACK;
 use crate::limits::FULL;
 
 /// What was heard since the last write.
 #[derive(Clone, Copy)]
-pub struct Heard {
+pub struct Arrivals {
     /// How many bytes; [`FULL`] stands for more.
     ///
     /// [`FULL`]: crate::FULL
@@ -31,12 +31,12 @@ pub struct Heard {
     pub is_late: bool,
 }
 
-impl Heard {
+impl Arrivals {
     /// Nothing was heard.
-    pub fn new() -> Heard
-        ensures { result ≡ table.new_heard }
+    pub fn new() -> Arrivals
+        ensures { result ≡ table.new_arrivals }
     {
-        Heard {
+        Arrivals {
             count: 0,
             since: 0,
             last: 0,
@@ -50,10 +50,10 @@ impl Heard {
     }
 
     /// One more byte.
-    pub fn take(self, byte: u8, now: u64) -> Heard
+    pub fn take(self, byte: u8, now: u64) -> Arrivals
         ensures { result ≡ table.take_byte byte now self }
     {
-        Heard {
+        Arrivals {
             count: if self.count < FULL {
                 self.count + 1
             } else {
@@ -75,11 +75,11 @@ impl Heard {
     }
 
     /// One more byte of a reply.
-    pub fn take_reply(self, byte: u8, now: u64) -> Heard
+    pub fn take_reply(self, byte: u8, now: u64) -> Arrivals
         ensures { result ≡ table.take_reply byte now self }
     {
         let heard = self.take(byte, now);
-        Heard {
+        Arrivals {
             count: heard.count,
             since: heard.since,
             last: heard.last,
@@ -98,14 +98,14 @@ impl Heard {
 
     /// More bytes behind the first two, which tell nothing but that they came.
     #[inline]
-    fn take_more(self, bytes: &[u8], now: u64) -> Heard
+    fn take_more(self, bytes: &[u8], now: u64) -> Arrivals
         requires { 2 ≤ self.count }
         ensures { result ≡ table.take_bytes bytes.now now self }
     {
         if bytes.is_empty() {
             return self;
         }
-        Heard {
+        Arrivals {
             count: self.count.saturating_add(bytes.len() as u64).min(FULL),
             since: self.since,
             last: now,
@@ -120,7 +120,7 @@ impl Heard {
 
     /// Bytes that came at one moment, as one after another.
     #[inline]
-    pub fn take_all(self, bytes: &[u8], now: u64) -> Heard
+    pub fn take_all(self, bytes: &[u8], now: u64) -> Arrivals
         ensures { result ≡ table.take_bytes bytes.now now self }
     {
         if bytes.is_empty() {
@@ -134,10 +134,10 @@ impl Heard {
     }
 
     /// A read, or the first part of one, waited in vain.
-    pub fn wait(self, is_quiet: bool) -> Heard
+    pub fn wait(self, is_quiet: bool) -> Arrivals
         ensures { result ≡ table.waited is_quiet self }
     {
-        Heard {
+        Arrivals {
             count: self.count,
             since: self.since,
             last: self.last,

@@ -1,11 +1,11 @@
 -- What an end heard since it wrote (this profile).
 use Rattle.std.specs.Prelude.{ℕ, ◌+◌, nat_eq, nat_lt, nat_le, ◌&&◌, ◌||◌, not, Bool, true}
 use Rattle.std.specs.Prelude.{false, List, [], ◌∷◌, if◌then◌else◌}
-use Rattle.ym_timing.specs.declared.heard.Heard.{Heard}
+use Rattle.ym_timing.specs.declared.arrivals.Arrivals.{Arrivals}
 use Rattle.ym_timing.specs.declared.limits.TheConstants.{FULL}
 
-abbrev pub new_heard : Heard
-new_heard = record {
+abbrev pub new_arrivals : Arrivals
+new_arrivals = record {
   count = 0;
   since = 0;
   last = 0;
@@ -17,7 +17,7 @@ new_heard = record {
   is_late = false;
 }
 
-abbrev pub take_byte : ℕ → ℕ → Heard → Heard
+abbrev pub take_byte : ℕ → ℕ → Arrivals → Arrivals
 take_byte byte now h = record h {
   count = if nat_lt h.count FULL then h.count + 1 else FULL;
   since = if nat_eq h.count 0 then now else h.since;
@@ -29,19 +29,19 @@ take_byte byte now h = record h {
 }
 
 -- of a reply, whose ACK has its moment
-abbrev pub take_reply : ℕ → ℕ → Heard → Heard
+abbrev pub take_reply : ℕ → ℕ → Arrivals → Arrivals
 take_reply byte now h = record (take_byte byte now h) {
   answered_at = if nat_eq h.count 0 || nat_eq byte 0x06 then now else h.answered_at;
 }
 
 -- bytes that came at one moment
-abbrev pub take_bytes : List ℕ → ℕ → Heard → Heard
+abbrev pub take_bytes : List ℕ → ℕ → Arrivals → Arrivals
 take_bytes [] now h = h
 take_bytes (byte ∷ bytes) now h = take_bytes bytes now (take_byte byte now h)
 
-abbrev pub waited : Bool → Heard → Heard
+abbrev pub waited : Bool → Arrivals → Arrivals
 waited is_quiet h = record h { is_quiet = is_quiet; has_waited = true }
 
 -- what filled a delivery is noise, and more of it is under way
-abbrev pub is_noise : Heard → Bool
+abbrev pub is_noise : Arrivals → Bool
 is_noise h = nat_le FULL h.count && not h.is_quiet

@@ -1,7 +1,7 @@
 //! A batch, as its sender counts it.
 
 /// A batch of files, as far as a sender's course depends on it.
-pub trait Batch {
+pub trait BatchShape {
     ghost use Rattle.std.specs.Prelude.{List, ℕ, ◌≡◌, ◌<◌, length};
     ghost use Rattle.ym_core.specs.Place.{count_at};
 
