@@ -1,5 +1,5 @@
 //! What is told and shown. A test asks functions whether what they try holds. These have no
-//! contract and no `?`, and what they try is joined by `&&`, so that their proofs are short.
+//! contract and no `?`, and what they try stands in tables, so that their proofs are short.
 
 mod endings;
 mod messages;
@@ -20,4 +20,14 @@ fn shows<D: Display>(rt: &HostRuntime, message: &D, want: &str) -> bool {
         Ok(text) => text.as_str() == want,
         Err(_) => false,
     }
+}
+
+/// Whether each message of a table has the text beside it.
+fn all_show<D: Display>(rt: &HostRuntime, all: &[(D, &str)]) -> bool {
+    for (message, want) in all {
+        if !shows(rt, message, want) {
+            return false;
+        }
+    }
+    true
 }

@@ -59,7 +59,7 @@ pub(super) fn writes(rt: &HostRuntime, dir: &PathBuf, name: &str, text: &str) ->
 }
 
 /// Whether the file of this name is removed.
-fn removes(rt: &HostRuntime, dir: &PathBuf, name: &str) -> bool {
+pub(super) fn removes(rt: &HostRuntime, dir: &PathBuf, name: &str) -> bool {
     match path_of(rt, dir, name, "") {
         Ok(path) => fs::remove_file(rt, &path).is_ok(),
         Err(_) => false,

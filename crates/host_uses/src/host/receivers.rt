@@ -1,14 +1,15 @@
 //! A receiver over a folder.
 
 use super::acts::writes;
-use super::folders::{folder, holds, is_removed, same};
+use super::folders::{folder, holds, is_removed};
 use super::steps::new_sink;
 use std::alloc::{AllocError, Global};
 use std::path::PathBuf;
 use std::test::Fail;
-use ym_folder::Leftover;
+use ym_folder::{DirSink, Leftover};
 use ym_frame::{Bytes, Item, encode};
 use ym_header::{Header, Stamp, write};
+use ym_host::SystemFolder;
 use ym_link::{Confirm, EndFault, Event, ReceiverInto, RecvState, ScriptPort, receive_over};
 
 /// A port to which these bytes come.
@@ -27,30 +28,37 @@ fn port_of(alloc: Global) -> Result<ScriptPort, AllocError> {
     }
 }
 
-/// How a receiver into this folder ends over a port: what the engine answers, its state, and how
-/// many files it has stored.
-fn received(
-    rt: &HostRuntime,
-    dir: &PathBuf,
-    port: &mut ScriptPort,
-) -> Result<(Result<(), EndFault>, RecvState, usize), AllocError> {
+/// A receiver into this folder.
+type Receiver<'r> = ReceiverInto<DirSink<SystemFolder<&'r HostRuntime>>>;
+
+/// A new receiver into this folder.
+fn new_receiver<'r>(rt: &'r HostRuntime, dir: &PathBuf) -> Result<Receiver<'r>, AllocError> {
     let sink = new_sink(rt, dir, Leftover::Refused)?;
-    let mut receiver = ReceiverInto::with_sink(rt.alloc(), sink, Confirm::Twice);
-    let answer = receive_over(port, &mut receiver);
-    Ok((answer, receiver.state(), receiver.committed()))
+    Ok(ReceiverInto::with_sink(rt.alloc(), sink, Confirm::Twice))
 }
 
-/// Whether a receiver of a file of this name cancels in this folder, and what is there stays.
+/// What the engine answers over a port. It tells a proof nothing, and so costs it little.
+fn receive(port: &mut ScriptPort, receiver: &mut Receiver<'_>) -> Result<(), EndFault> {
+    receive_over(port, receiver)
+}
+
+/// Whether a receiver has stored nothing, since its sink failed.
+fn has_failed(receiver: &Receiver<'_>) -> bool {
+    receiver.state() == RecvState::SinkFailed && receiver.committed() == 0
+}
+
+/// Whether a receiver of a file cancels over this port.
+fn cancels_over(port: &mut ScriptPort, receiver: &mut Receiver<'_>) -> bool {
+    receive(port, receiver).is_ok()
+        && has_failed(receiver)
+        && port.written() == [0x18, 0x18].as_slice()
+}
+
+/// Whether a receiver of the file `a` cancels in this folder.
 fn cancels(rt: &HostRuntime, dir: &PathBuf) -> bool {
-    let Ok(mut port) = port_of(rt.alloc()) else {
-        return false;
-    };
-    match received(rt, dir, &mut port) {
-        Ok(ended) => {
-            same(&ended, &(Ok(()), RecvState::SinkFailed, 0))
-                && port.written() == [0x18, 0x18].as_slice()
-        }
-        Err(_) => false,
+    match (port_of(rt.alloc()), new_receiver(rt, dir)) {
+        (Ok(mut port), Ok(mut receiver)) => cancels_over(&mut port, &mut receiver),
+        _ => false,
     }
 }
 

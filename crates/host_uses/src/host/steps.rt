@@ -1,8 +1,9 @@
 //! What a sink that stores files in a folder is asked, step by step, and what is done in the folder
-//! in between. A test is a chain of steps: the sink stands in one function, which is proved once.
+//! in between. A test is a table of steps: what they do is proved once, in the loop over them, and
+//! so a long table costs a proof little.
 
 ghost use Rattle.std.specs.Prelude.{◌≡◌, None, IfOk, OnOk, length};
-ghost use Rattle.ym_file.specs.Kept.{IsCoveredFile, IsNew};
+ghost use Rattle.ym_file.specs.Kept.{IsCoveredFile, IsNew, room};
 ghost use Rattle.ym_folder.specs.DirSink.{kept_of};
 
 use super::acts::{Act, all_hold, path_of};
@@ -96,6 +97,17 @@ fn take<S: Sink>(sink: &mut S, header: Header, bytes: &[u8]) -> Result<(), SinkF
     Ok(())
 }
 
+/// Puts the rest of a file behind its first bytes, in two pieces.
+fn add_rest<S: Sink>(sink: &mut S, rest: &[u8]) -> Result<(), SinkFault>
+    requires fits { length rest.now ≡ 140000 }
+    requires room { room (S.kept sink.old) ≡ 140000 }
+    ensures { OnOk result (IsCoveredFile (S.kept sink.new)) }
+{
+    let (middle, back) = rest.split_at(60_000);
+    sink.add(middle)?;
+    sink.add(back)
+}
+
 /// Takes a file of 200,000 bytes in three pieces.
 fn take_in_three<S: Sink>(sink: &mut S, header: Header, all: &[u8]) -> Result<(), SinkFault>
     requires closed { (S.kept sink.old).opened ≡ None }
@@ -104,11 +116,9 @@ fn take_in_three<S: Sink>(sink: &mut S, header: Header, all: &[u8]) -> Result<()
     ensures { OnOk result (IsCoveredFile (S.kept sink.new)) }
 {
     let (front, rest) = all.split_at(60_000);
-    let (middle, back) = rest.split_at(60_000);
     sink.begin(header)?;
     sink.add(front)?;
-    sink.add(middle)?;
-    sink.add(back)
+    add_rest(sink, rest)
 }
 
 /// Takes two of the three bytes of a file.
@@ -120,19 +130,37 @@ fn take_two<S: Sink>(sink: &mut S, header: Header) -> Result<(), SinkFault>
     sink.add(b"xy")
 }
 
-/// Whether a file is stored, or is not, after this was done.
+/// Takes a file, and what was open before is let go.
+fn take_file(
+    rt: &HostRuntime,
+    sink: &mut DirSink<SystemFolder<&HostRuntime>>,
+    name: &str,
+    bytes: &[u8],
+) -> Result<(), SinkFault>
+    ensures { OnOk result (IsCoveredFile (kept_of sink.new)) }
+{
+    clear(sink)?;
+    take(sink, header(rt, name, bytes.len() as u64)?, bytes)
+}
+
+/// Whether the file that was taken is stored.
+fn commits(sink: &mut DirSink<SystemFolder<&HostRuntime>>) -> bool
+    requires { IsCoveredFile (kept_of sink.old) }
+{
+    sink.commit().is_ok()
+}
+
+/// Whether this could be done while a file was open, and whether the file was stored then.
 fn stores(
     rt: &HostRuntime,
     dir: &PathBuf,
     sink: &mut DirSink<SystemFolder<&HostRuntime>>,
-    (name, bytes, acts): (&str, &[u8], &[Act<'_>]),
-) -> Result<bool, SinkFault> {
-    clear(sink)?;
-    take(sink, header(rt, name, bytes.len() as u64)?, bytes)?;
-    if !all_hold(rt, dir, acts) {
-        return Err(SinkFault::Failed);
-    }
-    Ok(sink.commit().is_ok())
+    name: &str,
+    bytes: &[u8],
+    acts: &[Act<'_>],
+) -> Result<(bool, bool), SinkFault> {
+    take_file(rt, sink, name, bytes)?;
+    Ok((all_hold(rt, dir, acts), commits(sink)))
 }
 
 /// Whether a file that lacks a byte is let go of without a fault, or with one, after this was done.
@@ -140,7 +168,8 @@ fn lets_go(
     rt: &HostRuntime,
     dir: &PathBuf,
     sink: &mut DirSink<SystemFolder<&HostRuntime>>,
-    (name, acts): (&str, &[Act<'_>]),
+    name: &str,
+    acts: &[Act<'_>],
 ) -> Result<bool, SinkFault> {
     clear(sink)?;
     take_two(sink, header(rt, name, 3)?)?;
@@ -150,15 +179,21 @@ fn lets_go(
     Ok(sink.close().is_ok())
 }
 
+/// Whether a sink removed this part, or none.
+fn has_replaced(sink: &DirSink<SystemFolder<&HostRuntime>>, part: Option<&str>) -> bool {
+    sink.replaced() == part
+}
+
 /// Whether this part was removed, or none, for a file of this name that is begun.
 fn replaces(
     rt: &HostRuntime,
     sink: &mut DirSink<SystemFolder<&HostRuntime>>,
-    (name, part): (&str, Option<&str>),
+    name: &str,
+    part: Option<&str>,
 ) -> Result<bool, SinkFault> {
     clear(sink)?;
     take_two(sink, header(rt, name, 3)?)?;
-    Ok(sink.replaced() == part)
+    Ok(has_replaced(sink, part))
 }
 
 /// Whether no file of this name is begun.
@@ -229,9 +264,8 @@ fn stores_at_once(
     name: &str,
     bytes: &[u8],
 ) -> Result<bool, SinkFault> {
-    clear(sink)?;
-    take(sink, header(rt, name, bytes.len() as u64)?, bytes)?;
-    Ok(sink.commit().is_ok())
+    take_file(rt, sink, name, bytes)?;
+    Ok(commits(sink))
 }
 
 /// Whether another sink in the folder stores this file.
@@ -271,11 +305,13 @@ fn holds(
     step: &Step<'_>,
 ) -> bool {
     match *step {
-        Step::Stores(name, bytes, acts) => stores(rt, dir, sink, (name, bytes, acts)) == Ok(true),
-        Step::Fails(name, bytes, acts) => stores(rt, dir, sink, (name, bytes, acts)) == Ok(false),
-        Step::LetsGo(name, acts) => lets_go(rt, dir, sink, (name, acts)) == Ok(true),
-        Step::Leaves(name, acts) => lets_go(rt, dir, sink, (name, acts)) == Ok(false),
-        Step::Replaces(name, part) => replaces(rt, sink, (name, part)) == Ok(true),
+        Step::Stores(name, bytes, acts) => stores(rt, dir, sink, name, bytes, acts)
+            == Ok((true, true)),
+        Step::Fails(name, bytes, acts) => stores(rt, dir, sink, name, bytes, acts)
+            == Ok((true, false)),
+        Step::LetsGo(name, acts) => lets_go(rt, dir, sink, name, acts) == Ok(true),
+        Step::Leaves(name, acts) => lets_go(rt, dir, sink, name, acts) == Ok(false),
+        Step::Replaces(name, part) => replaces(rt, sink, name, part) == Ok(true),
         Step::Closes(is_well) => sink.close().is_ok() == is_well,
         Step::Refuses(name) => refuses(rt, sink, name) == Ok(true),
         Step::RefusesLocked(name) => refuses_locked(rt, dir, sink, name),
@@ -285,41 +321,33 @@ fn holds(
     }
 }
 
-/// A folder, and a sink that stores files there.
-#[derive(Drop)]
-pub(super) struct Room<'r> {
-    rt: &'r HostRuntime,
-    dir: PathBuf,
-    sink: DirSink<SystemFolder<&'r HostRuntime>>,
+/// Whether these steps come to what they say, one after another.
+pub(super) fn all_come(
+    rt: &HostRuntime,
+    dir: &PathBuf,
+    sink: &mut DirSink<SystemFolder<&HostRuntime>>,
+    steps: &[Step<'_>],
+) -> bool {
+    for step in steps {
+        if !holds(rt, dir, sink, step) {
+            return false;
+        }
+    }
+    true
 }
 
-/// A new folder of this name, and a new sink there, where both could be made.
-pub(super) fn new_room<'r>(
-    rt: &'r HostRuntime,
-    name: &str,
-    leftover: Leftover,
-) -> Option<Room<'r>> {
-    let Ok(dir) = folder(rt, name) else {
-        return None;
-    };
-    match new_sink(rt, &dir, leftover) {
-        Ok(sink) => Some(Room { rt, dir, sink }),
-        Err(_) => None,
+/// The same, of a new sink in this folder.
+fn all_come_in(rt: &HostRuntime, dir: &PathBuf, leftover: Leftover, steps: &[Step<'_>]) -> bool {
+    match new_sink(rt, dir, leftover) {
+        Ok(mut sink) => all_come(rt, dir, &mut sink, steps),
+        Err(_) => false,
     }
 }
 
-/// Whether the next step in this folder comes to what it says.
-pub(super) fn comes(room: &mut Option<Room<'_>>, step: Step<'_>) -> bool {
-    match room {
-        Some(room) => holds(room.rt, &room.dir, &mut room.sink, &step),
-        None => false,
-    }
-}
-
-/// Whether the folder is removed.
-pub(super) fn is_left(room: &Option<Room<'_>>) -> bool {
-    match room {
-        Some(room) => is_removed(room.rt, &room.dir),
-        None => false,
+/// The same, in a new folder of this name, which is removed.
+pub(super) fn goes(rt: &HostRuntime, name: &str, leftover: Leftover, steps: &[Step<'_>]) -> bool {
+    match folder(rt, name) {
+        Ok(dir) => all_come_in(rt, &dir, leftover, steps) && is_removed(rt, &dir),
+        Err(_) => false,
     }
 }

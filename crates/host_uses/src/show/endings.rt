@@ -1,6 +1,6 @@
 //! How ends and lines are told, and whom an end waits for.
 
-use super::{shows, told};
+use super::{all_show, shows, told};
 use std::alloc::AllocError;
 use ym_header::HeaderFault;
 use ym_link::{RecvState, SendState};
@@ -21,63 +21,64 @@ fn ends(rt: &HostRuntime, message: Option<EndMessage>, want: Option<&str>) -> bo
     }
 }
 
-/// Whether this is told of a sender that heard nothing, or nothing is.
-fn sender_ends(rt: &HostRuntime, state: SendState, want: Option<&str>) -> bool {
-    ends(rt, EndMessage::of_sender(state, SILENT), want)
-}
-
-/// Whether this is told of a receiver that heard nothing, or nothing is.
-fn receiver_ends(rt: &HostRuntime, state: RecvState, want: Option<&str>) -> bool {
-    ends(rt, EndMessage::of_receiver(state, SILENT), want)
-}
-
-/// Whether ends are told so.
-fn tell_ends(rt: &HostRuntime) -> bool {
-    sender_ends(
-        rt,
+/// How senders end that heard nothing, and what is told of it.
+static SENDERS: [(SendState, Option<&str>); 3] = [
+    (
         SendState::Cancelled,
         Some("the other end cancelled (CAN CAN)"),
-    ) && sender_ends(
-        rt,
+    ),
+    (
         SendState::NoReply,
         Some("nothing came for 30 s: is the receiver running, at the same speed?"),
-    ) && receiver_ends(
-        rt,
+    ),
+    (SendState::Finished, None),
+];
+
+/// How receivers end that heard nothing, and what is told of it.
+static RECEIVERS: [(RecvState, Option<&str>); 4] = [
+    (
         RecvState::TooManyErrors,
         Some("nothing came for 30 s: is the sender running, at the same speed?"),
-    ) && receiver_ends(
-        rt,
+    ),
+    (
         RecvState::OutOfStep,
         Some("a block came out of turn: the two ends are out of step, send again"),
-    ) && receiver_ends(
-        rt,
+    ),
+    (
         RecvState::BadHeader(HeaderFault::NoLength),
         Some("the sender gave a file no length: let it send by YMODEM, and not by XMODEM"),
-    ) && sender_ends(rt, SendState::Finished, None)
-        && receiver_ends(rt, RecvState::Finished, None)
+    ),
+    (RecvState::Finished, None),
+];
+
+#[test]
+fn of_senders(rt: HostRuntime) {
+    for (state, want) in &SENDERS {
+        assert!(rt; ends(&rt, EndMessage::of_sender(*state, SILENT), *want));
+    }
 }
 
 #[test]
-fn of_ends(rt: HostRuntime) {
-    assert!(rt; tell_ends(&rt));
+fn of_receivers(rt: HostRuntime) {
+    for (state, want) in &RECEIVERS {
+        assert!(rt; ends(&rt, EndMessage::of_receiver(*state, SILENT), *want));
+    }
 }
 
-/// Whether echoes are told so.
-fn tell_echoes(rt: &HostRuntime) -> bool {
-    shows(
-        rt,
-        &EchoMessage::ToSender,
+static ECHOES: [(EchoMessage, &str); 2] = [
+    (
+        EchoMessage::ToSender,
         "the line echoes what is sent: is a receiver running there?",
-    ) && shows(
-        rt,
-        &EchoMessage::ToReceiver,
+    ),
+    (
+        EchoMessage::ToReceiver,
         "the line echoes what is sent: is a sender running there?",
-    )
-}
+    ),
+];
 
 #[test]
 fn of_lines(rt: HostRuntime) {
-    assert!(rt; tell_echoes(&rt));
+    assert!(rt; all_show(&rt, &ECHOES));
 }
 
 /// Whether what is told begins so.
@@ -98,25 +99,23 @@ fn begins_slow(rt: &HostRuntime, came: Came, slowest: Option<u64>, want: &str) -
     }
 }
 
-/// Whether slow lines are told so.
-fn tell_slow_lines(rt: &HostRuntime) -> bool {
-    begins_slow(
-        rt,
+/// What came, how many milliseconds the slowest answer took, and how what is told begins.
+static SLOW_LINES: [(Came, Option<u64>, &str); 4] = [
+    (
         Came::Asks,
         Some(16_400),
         "answers take longer than 16 seconds",
-    ) && begins_slow(
-        rt,
-        Came::Asks,
-        Some(10_000),
-        "nothing came but C, ten times",
-    ) && begins_slow(rt, Came::Asks, None, "nothing came but C, ten times")
-        && begins_slow(rt, Came::Nothing, Some(16_400), "nothing came for 30 s")
-}
+    ),
+    (Came::Asks, Some(10_000), "nothing came but C, ten times"),
+    (Came::Asks, None, "nothing came but C, ten times"),
+    (Came::Nothing, Some(16_400), "nothing came for 30 s"),
+];
 
 #[test]
 fn of_slow_lines(rt: HostRuntime) {
-    assert!(rt; tell_slow_lines(&rt));
+    for (came, slowest, want) in &SLOW_LINES {
+        assert!(rt; begins_slow(&rt, *came, *slowest, want));
+    }
 }
 
 /// What came in these pieces.
@@ -141,22 +140,23 @@ fn begins_with(rt: &HostRuntime, pieces: &[&[u8]], want: &str) -> bool {
     }
 }
 
-/// Whether it is told so what came.
-fn tell_what_came(rt: &HostRuntime) -> bool {
-    begins_with(rt, &[b""], "nothing came for 3 s")
-        && begins_with(rt, &[b"C", b"CC"], "nothing came but C")
-        && begins_with(
-            rt,
-            &[b"C", b"\r\n", b"Unknown command 'C' - try 'help'\r\n=> "],
-            "what comes is no YMODEM",
-        )
-        && begins_with(rt, &[b"C", b"=> ", b"\xfe"], "nothing whole came")
-        && begins_with(rt, &[b"\x00", b"=> "], "nothing whole came")
-}
+/// The deliveries that came, and how what is told begins.
+static DELIVERIES: [(&[&[u8]], &str); 5] = [
+    (&[b""], "nothing came for 3 s"),
+    (&[b"C", b"CC"], "nothing came but C"),
+    (
+        &[b"C", b"\r\n", b"Unknown command 'C' - try 'help'\r\n=> "],
+        "what comes is no YMODEM",
+    ),
+    (&[b"C", b"=> ", b"\xfe"], "nothing whole came"),
+    (&[b"\x00", b"=> "], "nothing whole came"),
+];
 
 #[test]
 fn of_what_came(rt: HostRuntime) {
-    assert!(rt; tell_what_came(&rt));
+    for (pieces, want) in &DELIVERIES {
+        assert!(rt; begins_with(&rt, *pieces, want));
+    }
 }
 
 /// Whether this is the line of a wait of 12 seconds of 100, on so many columns.
@@ -172,31 +172,23 @@ fn waits(rt: &HostRuntime, awaited: Awaited, columns: usize, want: &str) -> bool
     }
 }
 
-/// Whether waits are told so.
-fn tell_waits(rt: &HostRuntime) -> bool {
-    waits(
-        rt,
+/// Whom an end waits for, on how many columns that is told, and the line that tells it.
+static WAITS: [(Awaited, usize, &str); 6] = [
+    (
         Awaited::Asking,
         80,
         "waiting for the receiver to ask (C), 12 s of 100",
-    ) && waits(rt, Awaited::Asking, 40, "waiting for C, 12 s of 100")
-        && waits(
-            rt,
-            Awaited::Answer,
-            40,
-            "waiting for an answer, 12 s of 100",
-        )
-        && waits(
-            rt,
-            Awaited::Sender,
-            40,
-            "waiting for the sender, 12 s of 100",
-        )
-        && waits(rt, Awaited::More, 40, "waiting for more, 12 s of 100")
-        && waits(rt, Awaited::More, 8, "waiting ")
-}
+    ),
+    (Awaited::Asking, 40, "waiting for C, 12 s of 100"),
+    (Awaited::Answer, 40, "waiting for an answer, 12 s of 100"),
+    (Awaited::Sender, 40, "waiting for the sender, 12 s of 100"),
+    (Awaited::More, 40, "waiting for more, 12 s of 100"),
+    (Awaited::More, 8, "waiting "),
+];
 
 #[test]
 fn of_waits(rt: HostRuntime) {
-    assert!(rt; tell_waits(&rt));
+    for (awaited, columns, want) in &WAITS {
+        assert!(rt; waits(&rt, *awaited, *columns, want));
+    }
 }

@@ -1,6 +1,6 @@
 //! How far a file is.
 
-use super::shows;
+use super::all_show;
 use std::io;
 use std::io::Write;
 use ym_show::{Look, Teller};
@@ -13,25 +13,19 @@ const HALF: Progress = Progress {
     repeats: 0,
 };
 
-/// Half of a file, with so many repeats.
-fn again(repeats: u64) -> Progress {
-    Progress { repeats, ..HALF }
-}
-
-/// Half of a file, at so many bytes in a second.
-fn half_at(rate: u64) -> Progress {
-    Progress { rate, ..HALF }
-}
+/// Half of a file, with three repeats.
+const AGAIN: Progress = Progress { repeats: 3, ..HALF };
 
 /// A file of no bytes.
-fn nothing() -> Progress {
-    Progress {
-        done: 0,
-        length: 0,
-        rate: 0,
-        repeats: 0,
-    }
-}
+const NOTHING: Progress = Progress {
+    done: 0,
+    length: 0,
+    rate: 0,
+    repeats: 0,
+};
+
+/// A file's name, how far it is, and on how many columns it is told, and the line that tells it.
+type Line<'a> = (&'a str, Progress, usize, &'a str);
 
 /// Whether this is the line of a file of this name, on so many columns.
 fn has_line(rt: &HostRuntime, name: &str, progress: Progress, columns: usize, want: &str) -> bool {
@@ -41,142 +35,167 @@ fn has_line(rt: &HostRuntime, name: &str, progress: Progress, columns: usize, wa
     }
 }
 
-/// Whether this is the line of a file with a short name, on a wide screen.
-fn has_wide(rt: &HostRuntime, progress: Progress, want: &str) -> bool {
-    has_line(rt, "a", progress, 80, want)
+/// Whether each line of a table is told so.
+fn has_lines(rt: &HostRuntime, lines: &[Line<'_>]) -> bool {
+    for (name, progress, columns, want) in lines {
+        if !has_line(rt, name, *progress, *columns, want) {
+            return false;
+        }
+    }
+    true
 }
 
-/// Whether the lines of files on a wide screen are these.
-fn tell_lines(rt: &HostRuntime) -> bool {
-    has_wide(
-        rt,
+/// Lines on a wide screen.
+static LINES: [Line; 5] = [
+    (
+        "a",
         HALF,
+        80,
         "a: 50%, 14500 of 29000 bytes, 1100 B/s, 0:13 left",
-    ) && has_wide(
-        rt,
-        again(3),
+    ),
+    (
+        "a",
+        AGAIN,
+        80,
         "a: 50%, 14500 of 29000 bytes, 1100 B/s, 0:13 left, 3 repeated",
-    ) && has_wide(rt, half_at(0), "a: 50%, 14500 of 29000 bytes, 0 B/s")
-        && has_wide(
-            rt,
-            half_at(123456),
-            "a: 50%, 14500 of 29000 bytes, 123 kB/s, 0:00 left",
-        )
-        && has_wide(rt, nothing(), "a: 100%, 0 of 0 bytes, 0 B/s")
-}
+    ),
+    (
+        "a",
+        Progress { rate: 0, ..HALF },
+        80,
+        "a: 50%, 14500 of 29000 bytes, 0 B/s",
+    ),
+    (
+        "a",
+        Progress {
+            rate: 123456,
+            ..HALF
+        },
+        80,
+        "a: 50%, 14500 of 29000 bytes, 123 kB/s, 0:00 left",
+    ),
+    ("a", NOTHING, 80, "a: 100%, 0 of 0 bytes, 0 B/s"),
+];
 
 #[test]
 fn lines(rt: HostRuntime) {
-    assert!(rt; tell_lines(&rt));
-}
-
-/// Whether this is the line of a file with three repeats, on so many columns.
-fn has_narrow(rt: &HostRuntime, columns: usize, want: &str) -> bool {
-    has_line(rt, "firmware-2.bin", again(3), columns, want)
-}
-
-/// Whether lines give way so.
-fn give_way(rt: &HostRuntime) -> bool {
-    has_narrow(
-        rt,
-        80,
-        "firmware-2.bin: 50%, 14500 of 29000 bytes, 1100 B/s, 0:13 left, 3 repeated",
-    ) && has_narrow(
-        rt,
-        72,
-        "firmware-2.b: 50%, 14500 of 29000 bytes, 1100 B/s, 0:13 left, 3 repeated",
-    ) && has_narrow(
-        rt,
-        70,
-        "firmware-2.bin: 50%, 1100 B/s, 0:13 left, 3 repeated",
-    ) && has_narrow(rt, 39, "firmware-2.bi: 50%, 1100 B/s, 0:13 left")
-        && has_narrow(rt, 37, "firmware-2.bin: 50%, 1100 B/s")
-        && has_narrow(rt, 20, "firmware-2.bin: 50%")
-        && has_narrow(rt, 10, "firmw: 50%")
-        && has_narrow(rt, 3, ": 5")
-        && has_narrow(rt, 0, "")
+    assert!(rt; has_lines(&rt, &LINES));
 }
 
 /// What gives way in a line, as it gets narrower.
+static NARROW_LINES: [Line; 9] = [
+    (
+        "firmware-2.bin",
+        AGAIN,
+        80,
+        "firmware-2.bin: 50%, 14500 of 29000 bytes, 1100 B/s, 0:13 left, 3 repeated",
+    ),
+    (
+        "firmware-2.bin",
+        AGAIN,
+        72,
+        "firmware-2.b: 50%, 14500 of 29000 bytes, 1100 B/s, 0:13 left, 3 repeated",
+    ),
+    (
+        "firmware-2.bin",
+        AGAIN,
+        70,
+        "firmware-2.bin: 50%, 1100 B/s, 0:13 left, 3 repeated",
+    ),
+    (
+        "firmware-2.bin",
+        AGAIN,
+        39,
+        "firmware-2.bi: 50%, 1100 B/s, 0:13 left",
+    ),
+    ("firmware-2.bin", AGAIN, 37, "firmware-2.bin: 50%, 1100 B/s"),
+    ("firmware-2.bin", AGAIN, 20, "firmware-2.bin: 50%"),
+    ("firmware-2.bin", AGAIN, 10, "firmw: 50%"),
+    ("firmware-2.bin", AGAIN, 3, ": 5"),
+    ("firmware-2.bin", AGAIN, 0, ""),
+];
+
 #[test]
 fn narrow_lines(rt: HostRuntime) {
-    assert!(rt; give_way(&rt));
-}
-
-/// Whether these cells are counted so.
-fn count_cells(rt: &HostRuntime) -> bool {
-    has_line(rt, "日本語の名前.bin", HALF, 17, "日本語の名前: 50%")
-        && has_line(rt, "日本語の名前.bin", HALF, 16, "日本語の名: 50%")
-        && has_line(
-            rt,
-            "e\u{301}te\u{301}.bin",
-            HALF,
-            8,
-            "e\u{301}te\u{301}: 50%",
-        )
+    assert!(rt; has_lines(&rt, &NARROW_LINES));
 }
 
 /// A wide character takes two cells, and a combining mark none.
+static CELLS: [Line; 3] = [
+    ("日本語の名前.bin", HALF, 17, "日本語の名前: 50%"),
+    ("日本語の名前.bin", HALF, 16, "日本語の名: 50%"),
+    ("e\u{301}te\u{301}.bin", HALF, 8, "e\u{301}te\u{301}: 50%"),
+];
+
 #[test]
 fn cells_of_names(rt: HostRuntime) {
-    assert!(rt; count_cells(&rt));
+    assert!(rt; has_lines(&rt, &CELLS));
 }
 
-/// Whether this is told of a whole file.
-fn is_whole(rt: &HostRuntime, name: &str, took: Took, want: &str) -> bool {
-    shows(rt, &WholeFile { name, took }, want)
-}
+/// A file of 29,000 bytes that took no time.
+const AT_ONCE: Took = Took {
+    length: 29000,
+    millis: 0,
+    repeats: 0,
+};
 
-/// What a file of 29,000 bytes took.
-fn took(millis: u64, repeats: u64) -> Took {
-    Took {
-        length: 29000,
-        millis,
-        repeats,
-    }
-}
-
-/// Whether whole files are told so.
-fn tell_whole(rt: &HostRuntime) -> bool {
-    is_whole(rt, "a", took(2600, 0), "a: 29000 bytes in 2.6 s, 11 kB/s")
-        && is_whole(
-            rt,
-            "a",
-            took(29000, 2),
-            "a: 29000 bytes in 29.0 s, 1000 B/s, 2 repeated",
-        )
-        && is_whole(rt, "a", took(0, 0), "a: 29000 bytes in 0.0 s, 29 kB/s")
-}
+/// Whole files.
+static WHOLE: [(WholeFile, &str); 3] = [
+    (
+        WholeFile {
+            name: "a",
+            took: Took {
+                millis: 2600,
+                ..AT_ONCE
+            },
+        },
+        "a: 29000 bytes in 2.6 s, 11 kB/s",
+    ),
+    (
+        WholeFile {
+            name: "a",
+            took: Took {
+                millis: 29000,
+                repeats: 2,
+                ..AT_ONCE
+            },
+        },
+        "a: 29000 bytes in 29.0 s, 1000 B/s, 2 repeated",
+    ),
+    (
+        WholeFile {
+            name: "a",
+            took: AT_ONCE,
+        },
+        "a: 29000 bytes in 0.0 s, 29 kB/s",
+    ),
+];
 
 #[test]
 fn whole_files(rt: HostRuntime) {
-    assert!(rt; tell_whole(&rt));
+    assert!(rt; all_show(&rt, &WHOLE));
 }
 
-/// What a file of one byte took.
-fn little() -> Took {
-    Took {
-        length: 1,
-        millis: 0,
-        repeats: 0,
-    }
-}
-
-/// Whether a name that would clear the screen is made safe.
-fn is_made_safe(rt: &HostRuntime) -> bool {
-    has_line(rt, "a\u{1b}[2J", HALF, 30, "a\\u{1b}[2J: 50%, 1100 B/s")
-        && is_whole(
-            rt,
-            "a\u{1b}[2J",
-            little(),
-            "a\\u{1b}[2J: 1 bytes in 0.0 s, 1 B/s",
-        )
-}
+/// A file of one byte.
+const LITTLE: Took = Took {
+    length: 1,
+    ..AT_ONCE
+};
 
 /// A name that would clear the screen is made safe, of a file that is under way and of a whole one.
+static ODD_LINE: [Line; 1] = [("a\u{1b}[2J", HALF, 30, "a\\u{1b}[2J: 50%, 1100 B/s")];
+
+static ODD_WHOLE: [(WholeFile, &str); 1] = [(
+    WholeFile {
+        name: "a\u{1b}[2J",
+        took: LITTLE,
+    },
+    "a\\u{1b}[2J: 1 bytes in 0.0 s, 1 B/s",
+)];
+
 #[test]
 fn odd_names(rt: HostRuntime) {
-    assert!(rt; is_made_safe(&rt));
+    assert!(rt; has_lines(&rt, &ODD_LINE) && all_show(&rt, &ODD_WHOLE));
 }
 
 /// A writer that knows how much of what was written has been handed on.

@@ -40,12 +40,26 @@ fn metered<'t>(
     Meter::new(rt.alloc(), rt, teller, limit)
 }
 
+/// What a sender does, or what comes to it.
+#[derive(Clone, Copy)]
+enum Sends<'a> {
+    Waits(Wait),
+    /// It writes the block 0 of the file `a.txt` of 130 bytes.
+    Header,
+    /// It writes the block of this number.
+    Block(u8),
+    Eot,
+    /// It writes the end block.
+    Last,
+    Came(&'a [u8]),
+}
+
 /// A sender writes this item.
 fn write_item<W: PortWatch>(watch: &mut W, item: &Item) {
     watch.wrote(encode(item).as_bytes());
 }
 
-/// A sender writes the block 0 of the file `a.txt` of 130 bytes.
+/// A sender writes the block 0 of its file.
 fn write_header<W: PortWatch>(rt: &HostRuntime, watch: &mut W) {
     if let Ok(header) = Header::new(rt.alloc(), "a.txt", 130, Stamp::Nothing) {
         write_item(watch, &Item::Block(write(&header)));
@@ -59,32 +73,59 @@ fn write_block<W: PortWatch>(watch: &mut W, number: u8) {
     }
 }
 
-/// A sender writes the end block.
-fn write_last<W: PortWatch>(watch: &mut W) {
-    write_item(watch, &Item::Block(write_end()));
+/// A sender does this.
+fn send<W: PortWatch>(rt: &HostRuntime, watch: &mut W, does: Sends<'_>) {
+    match does {
+        Sends::Waits(wait) => watch.waits(wait),
+        Sends::Header => write_header(rt, watch),
+        Sends::Block(number) => write_block(watch, number),
+        Sends::Eot => write_item(watch, &Item::Eot),
+        Sends::Last => write_item(watch, &Item::Block(write_end())),
+        Sends::Came(bytes) => watch.came(bytes),
+    }
 }
 
-/// A sender writes a file, its second block twice, and then hears a prompt.
-fn send_file<W: PortWatch>(rt: &HostRuntime, watch: &mut W) {
-    write_header(rt, watch);
-    write_block(watch, 1);
-    write_block(watch, 2);
-    write_block(watch, 2);
-    write_item(watch, &Item::Eot);
-    write_item(watch, &Item::Eot);
-    write_last(watch);
-    watch.came(b"=> ");
+/// A sender does all of this, so many times.
+fn send_all<W: PortWatch>(rt: &HostRuntime, watch: &mut W, all: &[Sends<'_>], times: u32) {
+    for _ in 0..times {
+        for does in all {
+            send(rt, watch, *does);
+        }
+    }
 }
+
+/// What is shown of a sender.
+type SenderShown<'t> = RefCell<Sending<'t, Vec<u8>, &'t HostRuntime>>;
+
+/// What is shown of a new sender.
+fn shown_of_sender<'t>(rt: &'t HostRuntime, teller: &'t mut Teller<Vec<u8>>) -> SenderShown<'t> {
+    RefCell::new(Sending::new(metered(rt, teller, 100)))
+}
+
+/// Who watches a sender.
+fn sender_watch<'s, 't>(shown: &'s SenderShown<'t>) -> SendWatch<'s, 't, Vec<u8>, &'t HostRuntime> {
+    SendWatch {
+        shown,
+        is_looked_at: true,
+    }
+}
+
+/// A file whose second block is written twice. Then a prompt comes.
+static SENT: [Sends; 8] = [
+    Sends::Header,
+    Sends::Block(1),
+    Sends::Block(2),
+    Sends::Block(2),
+    Sends::Eot,
+    Sends::Eot,
+    Sends::Last,
+    Sends::Came(b"=> "),
+];
 
 /// What came of late to a sender that was watched.
 fn came_to_sender(rt: &HostRuntime, teller: &mut Teller<Vec<u8>>) -> Came {
-    let shown = RefCell::new(Sending::new(metered(rt, teller, 100)));
-    let mut watch = SendWatch {
-        shown: &shown,
-        is_looked_at: true,
-    };
-    send_file(rt, &mut watch);
-    drop(watch);
+    let shown = shown_of_sender(rt, teller);
+    send_all(rt, &mut sender_watch(&shown), &SENT, 1);
     shown.into_inner().end().came
 }
 
@@ -100,50 +141,96 @@ fn a_sender(rt: HostRuntime) {
     assert!(rt; tells_of_sender(&rt));
 }
 
-/// A receiver asks for a file, and one begins.
-fn begin_file<P: PortWatch, S: SinkWatch>(header: &Header, port: &mut P, sink: &mut S) {
-    port.waits(Wait::Reply);
-    port.wrote(b"C");
-    sink.begins(header);
-    sink.replaced("a.txt.part");
-    port.wrote(b"\x06C");
+/// What a receiver's port and its sink do.
+#[derive(Clone, Copy)]
+enum Receives<'a> {
+    Waits(Wait),
+    Wrote(&'a [u8]),
+    Came(&'a [u8]),
+    Begins,
+    Replaces(&'a str),
+    Adds(usize),
+    Commits,
+    Ends,
 }
 
-/// A receiver takes two blocks, and what comes between them is none.
-fn take_blocks<P: PortWatch, S: SinkWatch>(port: &mut P, sink: &mut S) {
-    sink.added(128);
-    port.wrote(b"\x06");
-    port.came(b"\x00");
-    port.wrote(b"\x15");
-    sink.added(2);
-    port.wrote(b"\x06");
+/// A port and its sink do this, with a file of this header.
+fn receive<P: PortWatch, S: SinkWatch>(
+    header: &Header,
+    port: &mut P,
+    sink: &mut S,
+    does: Receives<'_>,
+) {
+    match does {
+        Receives::Waits(wait) => port.waits(wait),
+        Receives::Wrote(bytes) => port.wrote(bytes),
+        Receives::Came(bytes) => port.came(bytes),
+        Receives::Begins => sink.begins(header),
+        Receives::Replaces(part) => sink.replaced(part),
+        Receives::Adds(count) => sink.added(count),
+        Receives::Commits => sink.committed(),
+        Receives::Ends => sink.ended(),
+    }
 }
 
-/// A receiver's file ends, and then a prompt comes.
-fn end_file<P: PortWatch, S: SinkWatch>(port: &mut P, sink: &mut S) {
-    port.wrote(b"\x15");
-    sink.committed();
-    port.came(b"=> ");
-    sink.ended();
+/// What is shown of a receiver.
+type ReceiverShown<'t> = RefCell<Receiving<'t, Vec<u8>, &'t HostRuntime>>;
+
+/// What is shown of a new receiver, whose files take so many replies besides those to their blocks.
+fn shown_of_receiver<'t>(
+    rt: &'t HostRuntime,
+    teller: &'t mut Teller<Vec<u8>>,
+    besides: u64,
+) -> ReceiverShown<'t> {
+    let meter = metered(rt, teller, 30);
+    RefCell::new(Receiving::new(rt.alloc(), meter, besides))
 }
+
+/// Who watches a receiver's port, or its sink.
+fn receiver_watch<'s, 't>(
+    shown: &'s ReceiverShown<'t>,
+) -> ReceiveWatch<'s, 't, Vec<u8>, &'t HostRuntime> {
+    ReceiveWatch {
+        shown,
+        is_looked_at: true,
+    }
+}
+
+/// A port and a sink that are watched do all of this, so many times, with a file of this header.
+fn receive_all(header: &Header, shown: &ReceiverShown<'_>, all: &[Receives<'_>], times: u32) {
+    let mut port = receiver_watch(shown);
+    let mut sink = receiver_watch(shown);
+    for _ in 0..times {
+        for does in all {
+            receive(header, &mut port, &mut sink, *does);
+        }
+    }
+}
+
+/// A file of two blocks, and what comes between them is none. Then a prompt comes.
+static RECEIVED: [Receives; 15] = [
+    Receives::Waits(Wait::Reply),
+    Receives::Wrote(b"C"),
+    Receives::Begins,
+    Receives::Replaces("a.txt.part"),
+    Receives::Wrote(b"\x06C"),
+    Receives::Adds(128),
+    Receives::Wrote(b"\x06"),
+    Receives::Came(b"\x00"),
+    Receives::Wrote(b"\x15"),
+    Receives::Adds(2),
+    Receives::Wrote(b"\x06"),
+    Receives::Wrote(b"\x15"),
+    Receives::Commits,
+    Receives::Came(b"=> "),
+    Receives::Ends,
+];
 
 /// Whether a receiver of a file of this header, that was watched, knows its name, and what came of
 /// late.
 fn knows(rt: &HostRuntime, teller: &mut Teller<Vec<u8>>, header: &Header) -> bool {
-    let shown = RefCell::new(Receiving::new(rt.alloc(), metered(rt, teller, 30), 2));
-    let mut port = ReceiveWatch {
-        shown: &shown,
-        is_looked_at: true,
-    };
-    let mut sink = ReceiveWatch {
-        shown: &shown,
-        is_looked_at: true,
-    };
-    begin_file(header, &mut port, &mut sink);
-    take_blocks(&mut port, &mut sink);
-    end_file(&mut port, &mut sink);
-    drop(port);
-    drop(sink);
+    let shown = shown_of_receiver(rt, teller, 2);
+    receive_all(header, &shown, &RECEIVED, 1);
     let (last, lately) = shown.into_inner().end();
     last.is_some() && lately.came == Came::Text
 }
@@ -170,33 +257,26 @@ fn a_receiver(rt: HostRuntime) {
     assert!(rt; tells_of_received(&rt));
 }
 
+/// The front of a file that is sent, and its back behind the repeats of its second block.
+static SENT_FRONT: [Sends; 2] = [Sends::Header, Sends::Block(1)];
+
+static SENT_BACK: [Sends; 2] = [Sends::Block(2), Sends::Eot];
+
 /// A sender writes a file, its second block so many times more.
 fn send_repeats<W: PortWatch>(rt: &HostRuntime, watch: &mut W, repeats: u32) {
-    write_header(rt, watch);
-    write_block(watch, 1);
-    for _ in 0..repeats {
-        write_block(watch, 2);
-    }
-    write_block(watch, 2);
-    write_item(watch, &Item::Eot);
+    send_all(rt, watch, &SENT_FRONT, 1);
+    send_all(rt, watch, &[Sends::Block(2)], repeats);
+    send_all(rt, watch, &SENT_BACK, 1);
 }
 
-/// A sender writes two files, of which it writes the second block so many times more: of the first
-/// file once.
-fn send_two<W: PortWatch>(rt: &HostRuntime, watch: &mut W, repeats: u32) {
-    send_repeats(rt, watch, 1);
-    send_repeats(rt, watch, repeats);
-    write_last(watch);
-}
-
-/// Watches a sender of two files.
+/// Watches a sender of two files, of which it writes the second block so many times more: of the
+/// first file once.
 fn watch_sender(rt: &HostRuntime, teller: &mut Teller<Vec<u8>>, repeats: u32) {
-    let shown = RefCell::new(Sending::new(metered(rt, teller, 100)));
-    let mut watch = SendWatch {
-        shown: &shown,
-        is_looked_at: true,
-    };
-    send_two(rt, &mut watch, repeats);
+    let shown = shown_of_sender(rt, teller);
+    let mut watch = sender_watch(&shown);
+    send_repeats(rt, &mut watch, 1);
+    send_repeats(rt, &mut watch, repeats);
+    send_all(rt, &mut watch, &[Sends::Last], 1);
 }
 
 /// Whether what is told of a sender of two files ends so.
@@ -206,82 +286,78 @@ fn sender_ends(rt: &HostRuntime, repeats: u32, want: &[u8]) -> bool {
     teller.err.ends_with(want)
 }
 
-/// A receiver takes a file, of which so many blocks come damaged. It confirms an EOT once or twice.
-fn take_repeats<W: PortWatch + SinkWatch>(
-    header: &Header,
-    watch: &mut W,
-    repeats: u32,
-    is_single: bool,
-) {
-    watch.begins(header);
-    watch.wrote(b"\x06C");
-    watch.added(128);
-    for _ in 0..repeats {
-        watch.wrote(b"\x15");
-    }
-    watch.wrote(b"\x06");
-    watch.added(2);
-    watch.wrote(b"\x06");
-    if !is_single {
-        watch.wrote(b"\x15");
-    }
-    watch.committed();
-    watch.wrote(b"\x06C");
+/// The front of a file that is received, and its back behind the blocks that came damaged, up to
+/// its first EOT.
+static RECEIVED_FRONT: [Receives; 3] = [
+    Receives::Begins,
+    Receives::Wrote(b"\x06C"),
+    Receives::Adds(128),
+];
+
+static RECEIVED_BACK: [Receives; 3] = [
+    Receives::Wrote(b"\x06"),
+    Receives::Adds(2),
+    Receives::Wrote(b"\x06"),
+];
+
+static COMMITTED: [Receives; 2] = [Receives::Commits, Receives::Wrote(b"\x06C")];
+
+/// A receiver takes a file, of which so many blocks come damaged. It refuses so many EOT.
+fn take_repeats(header: &Header, shown: &ReceiverShown<'_>, repeats: u32, refused: u32) {
+    receive_all(header, shown, &RECEIVED_FRONT, 1);
+    receive_all(header, shown, &[Receives::Wrote(b"\x15")], repeats);
+    receive_all(header, shown, &RECEIVED_BACK, 1);
+    receive_all(header, shown, &[Receives::Wrote(b"\x15")], refused);
+    receive_all(header, shown, &COMMITTED, 1);
 }
 
-/// Watches a receiver of two files, of which so many blocks came damaged: of the first file one.
-fn watch_receiver(rt: &HostRuntime, teller: &mut Teller<Vec<u8>>, repeats: u32, is_single: bool) {
-    let Ok(header) = Header::new(rt.alloc(), "a.txt", 130, Stamp::Nothing) else {
-        return;
-    };
-    let besides = if is_single { 1 } else { 2 };
-    let shown = RefCell::new(Receiving::new(rt.alloc(), metered(rt, teller, 30), besides));
-    let mut watch = ReceiveWatch {
-        shown: &shown,
-        is_looked_at: true,
-    };
-    take_repeats(&header, &mut watch, 1, is_single);
-    take_repeats(&header, &mut watch, repeats, is_single);
+/// Watches a receiver of two files, of which so many blocks came damaged: of the first file one. It
+/// refuses no EOT of a file, or one.
+fn watch_receiver(rt: &HostRuntime, teller: &mut Teller<Vec<u8>>, repeats: u32, refused: u32) {
+    if let Ok(header) = Header::new(rt.alloc(), "a.txt", 130, Stamp::Nothing) {
+        let shown = shown_of_receiver(rt, teller, u64::from(refused).saturating_add(1));
+        take_repeats(&header, &shown, 1, refused);
+        take_repeats(&header, &shown, repeats, refused);
+    }
 }
 
 /// Whether what is told of a receiver of two files ends so.
-fn receiver_ends(rt: &HostRuntime, repeats: u32, is_single: bool, want: &[u8]) -> bool {
+fn receiver_ends(rt: &HostRuntime, repeats: u32, refused: u32, want: &[u8]) -> bool {
     let mut teller = teller_of_lines(rt);
-    watch_receiver(rt, &mut teller, repeats, is_single);
+    watch_receiver(rt, &mut teller, repeats, refused);
     teller.err.ends_with(want)
 }
 
 /// Whether so many repeats are told so, by a sender and by both kinds of receiver.
 fn count(rt: &HostRuntime, repeats: u32, want: &[u8]) -> bool {
     sender_ends(rt, repeats, want)
-        && receiver_ends(rt, repeats, false, want)
-        && receiver_ends(rt, repeats, true, want)
+        && receiver_ends(rt, repeats, 1, want)
+        && receiver_ends(rt, repeats, 0, want)
 }
 
-/// Whether each repeat is counted.
-fn all_count(rt: &HostRuntime) -> bool {
-    count(rt, 0, b"B/s\n")
-        && count(rt, 1, b"B/s, 1 repeated\n")
-        && count(rt, 2, b"B/s, 2 repeated\n")
-        && count(rt, 3, b"B/s, 3 repeated\n")
-        && count(rt, 9, b"B/s, 9 repeated\n")
-}
+/// How many repeats there are, and how what is told ends.
+static REPEATS: [(u32, &[u8]); 5] = [
+    (0, b"B/s\n"),
+    (1, b"B/s, 1 repeated\n"),
+    (2, b"B/s, 2 repeated\n"),
+    (3, b"B/s, 3 repeated\n"),
+    (9, b"B/s, 9 repeated\n"),
+];
 
 /// Each repeat is counted, and nothing else.
 #[test]
 fn repeats(rt: HostRuntime) {
-    assert!(rt; all_count(&rt));
+    for (repeats, want) in &REPEATS {
+        assert!(rt; count(&rt, *repeats, want), "with {repeats}");
+    }
 }
+
+static WAITS: [Sends; 2] = [Sends::Waits(Wait::Reply), Sends::Waits(Wait::Within)];
 
 /// Watches a sender that waits.
 fn watch_wait(rt: &HostRuntime, teller: &mut Teller<Vec<u8>>) {
-    let shown = RefCell::new(Sending::new(metered(rt, teller, 100)));
-    let mut watch = SendWatch {
-        shown: &shown,
-        is_looked_at: true,
-    };
-    watch.waits(Wait::Reply);
-    watch.waits(Wait::Within);
+    let shown = shown_of_sender(rt, teller);
+    send_all(rt, &mut sender_watch(&shown), &WAITS, 1);
 }
 
 /// Whether a wait is told at once where a terminal is.

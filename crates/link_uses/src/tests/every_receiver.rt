@@ -178,7 +178,7 @@ fn every_state_of_a_receiver(rt: HostRuntime) -> Result<(), Fail> {
 }
 
 /// The replies to the whole batch, step by step.
-const REPLIES: [Reply; 11] = [
+static REPLIES: [Reply; 11] = [
     Reply::AckStart,
     Reply::Ack,
     Reply::Ack,

@@ -9,7 +9,7 @@ use super::sender_table;
 use std::alloc::Global;
 use std::marker::Model;
 use std::test::Fail;
-use ym_core::{Batch, Mode, SendState, SendStep, Standing, first_place, next_place};
+use ym_core::{BatchShape, Mode, SendState, SendStep, Standing, first_place, next_place};
 use ym_file::Shape;
 use ym_frame::control_of;
 use ym_header::Stamp;
@@ -27,7 +27,7 @@ const FRAMES: usize = 8;
 /// The batch, as a sender counts it.
 struct Counted;
 
-impl Batch for Counted {
+impl BatchShape for Counted {
     ghost counts = { λ _. 3 ∷ 0 ∷ [] };
 
     fn files(&self) -> usize {

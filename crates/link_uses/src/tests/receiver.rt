@@ -102,7 +102,7 @@ fn plays(alloc: Global, turns: &[Turn]) -> Result<bool, Fail> {
     answers_all(alloc, &mut receiver, turns)
 }
 
-const STEPS_AND_REPEATS: [Turn; 10] = [
+static STEPS_AND_REPEATS: [Turn; 10] = [
     (Told::Eot, Reply::Start, RecvState::Running, 0),
     (
         Told::Header("a", 200),
@@ -130,7 +130,7 @@ const STEPS_AND_REPEATS: [Turn; 10] = [
     (Told::End, Reply::Silence, RecvState::OutOfStep, 0),
 ];
 
-const PAST_THE_LENGTH: [Turn; 5] = [
+static PAST_THE_LENGTH: [Turn; 5] = [
     (
         Told::Header("a", 100),
         Reply::AckStart,
@@ -143,7 +143,7 @@ const PAST_THE_LENGTH: [Turn; 5] = [
     (Told::Eot, Reply::AckStart, RecvState::Running, 1),
 ];
 
-const PAST_THE_END: [Turn; 4] = [
+static PAST_THE_END: [Turn; 4] = [
     (Told::End, Reply::Ack, RecvState::Finished, 1),
     (Told::End, Reply::Ack, RecvState::Finished, 1),
     (
@@ -214,7 +214,7 @@ fn progress_sets_the_count_back(rt: HostRuntime) -> Result<(), Fail> {
     Ok(())
 }
 
-const SINGLE: [Turn; 3] = [
+static SINGLE: [Turn; 3] = [
     (Told::Header("a", 0), Reply::AckStart, RecvState::Running, 0),
     (Told::Eot, Reply::AckStart, RecvState::Running, 1),
     (Told::Eot, Reply::AckStart, RecvState::Running, 1),
@@ -280,7 +280,7 @@ fn fails_with(alloc: Global, failing: u64, turns: &[Turn]) -> Result<bool, Fail>
 }
 
 /// A header, a block and an EOT, where each of the three calls of the sink fails.
-const FAILURES: [[Turn; 3]; 3] = [
+static FAILURES: [[Turn; 3]; 3] = [
     [
         (
             Told::Header("a", 1),

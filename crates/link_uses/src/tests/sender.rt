@@ -79,7 +79,7 @@ fn settles(sender: &Sender, bytes: &[u8]) -> bool {
     sender.settled(bytes)
 }
 
-const HEADER: [Turn; 1] = [(
+static HEADER: [Turn; 1] = [(
     &[C],
     SendState::Running,
     0,
@@ -87,7 +87,7 @@ const HEADER: [Turn; 1] = [(
     b"\x01\x00\xffa\x00130\x00",
 )];
 
-const BEHIND_THE_HEADER: [Turn; 8] = [
+static BEHIND_THE_HEADER: [Turn; 8] = [
     (&[ACK, C], SendState::Running, 0, 133, b"\x01\x01\xfeAAA"),
     (&[NAK], SendState::Running, 0, 133, b"\x01\x01\xfeAAA"),
     (
@@ -115,7 +115,7 @@ fn all_frames_of_a_batch(rt: HostRuntime) -> Result<(), Fail> {
     Ok(())
 }
 
-const FAILED_SOURCE: [Turn; 5] = [
+static FAILED_SOURCE: [Turn; 5] = [
     (
         &[C],
         SendState::Running,
@@ -132,7 +132,7 @@ const FAILED_SOURCE: [Turn; 5] = [
 /// A NAK before the first frame.
 const MISSED: Turn = (&[NAK], SendState::Running, 0, 0, &[]);
 
-const WITHOUT_PROGRESS: [Turn; 11] = [
+static WITHOUT_PROGRESS: [Turn; 11] = [
     MISSED,
     MISSED,
     MISSED,
@@ -146,7 +146,7 @@ const WITHOUT_PROGRESS: [Turn; 11] = [
     (&[C], SendState::NoReply, 0, 0, &[]),
 ];
 
-const CANCELLED: [Turn; 5] = [
+static CANCELLED: [Turn; 5] = [
     (&[CAN, 0x00], SendState::Running, 0, 0, &[]),
     (
         &[CAN, C],
@@ -197,7 +197,7 @@ fn sender_of<S: Source + Drop>(alloc: Global, file: SourceFile<S>) -> Result<Sen
     Ok(SenderFrom::new(batch, Shape::Mixed).map_err(|_| "batch")?)
 }
 
-const IN_MEMORY: [Turn; 2] = [
+static IN_MEMORY: [Turn; 2] = [
     (
         &[C],
         SendState::Running,
