@@ -55,25 +55,39 @@ fn free_port(rt: &HostRuntime) -> Result<u16, Fail> {
     Ok(listener.local_addr()?.port())
 }
 
-/// Whether these scripts come to these texts, by a command of this line.
+/// A script, the status and the text that it comes to, and the fault line.
+type Played = (&'static str, u8, &'static str, &'static str);
+
+static PLAYED: [Played; 4] = [
+    ("file a -\nfile b -\nok 8\n", 0, TWO_EMPTY_FILES, ""),
+    (
+        "file a -\nok 3\nround whole lost\nround whole lost\n\
+        round whole lost\nround whole lost\n",
+        1,
+        LOST_LAST_ACKS,
+        "",
+    ),
+    (
+        "file a -\nok 3\nround whole lost\nround whole lost\n\
+        round whole lost\nround whole lost\nok 2\n",
+        0,
+        LOST_LAST_ACKS_AND_TWO_MORE,
+        "",
+    ),
+    ("foo\n", 2, "", "line 1: not a command\n"),
+];
+
+/// Whether scripts come to their texts by a command of this line, first that of a whole file.
 fn plays(rt: &HostRuntime, line: &str, one_file: &str) -> bool {
-    let lost_last_acks = "file a -\nok 3\nround whole lost\nround whole lost\n\
-        round whole lost\nround whole lost\n";
-    let two_more = "file a -\nok 3\nround whole lost\nround whole lost\n\
-        round whole lost\nround whole lost\nok 2\n";
-    let two_files = b"file a -\nfile b -\nok 8\n";
-    ends(rt, line, one_file.as_bytes(), 0, ONE_FILE, "")
-        && ends(rt, line, two_files, 0, TWO_EMPTY_FILES, "")
-        && ends(rt, line, lost_last_acks.as_bytes(), 1, LOST_LAST_ACKS, "")
-        && ends(
-            rt,
-            line,
-            two_more.as_bytes(),
-            0,
-            LOST_LAST_ACKS_AND_TWO_MORE,
-            "",
-        )
-        && ends(rt, line, b"foo\n", 2, "", "line 1: not a command\n")
+    if !ends(rt, line, one_file.as_bytes(), 0, ONE_FILE, "") {
+        return false;
+    }
+    for (script, status, out, err) in &PLAYED {
+        if !ends(rt, line, script.as_bytes(), *status, out, err) {
+            return false;
+        }
+    }
+    true
 }
 
 /// The same text by a session in memory, with and without its word, and by one over a connection.
@@ -144,26 +158,26 @@ fn sends_not(rt: &HostRuntime, port: u16, words: &str, status: u8, err: &str) ->
     faults(rt, send_by(rt, port, words), b"", status, err)
 }
 
-/// Whether files that cannot be sent are refused, of which one has this name.
-fn are_refused(rt: &HostRuntime, port: u16, name: &str, two: &str) -> bool {
-    sends_not(rt, port, "/nowhere/a.txt", 3, "fault: device\n")
-        && sends_not(rt, port, "/", 3, "fault: device\n")
-        && sends_not(rt, port, name, 2, "fault: name\n")
-        // the first fault is told
-        && sends_not(rt, port, two, 2, "fault: name\n")
-}
-
-/// The same, behind this path one that is missing.
-fn both_refused(rt: &HostRuntime, port: u16, name: &str) -> Result<bool, AllocError> {
-    let two = format!(in rt.alloc(); "{name} /nowhere/a.txt")?;
-    Ok(are_refused(rt, port, name, two.as_str()))
+/// The words behind this path that name a file which is missing.
+fn and_missing(rt: &HostRuntime, name: &str) -> Result<String, AllocError> {
+    format!(in rt.alloc(); "{name} /nowhere/a.txt")
 }
 
 #[test]
 fn files_that_cannot_be_sent(rt: HostRuntime) -> Result<(), Fail> {
     let port = free_port(&rt)?;
     let path = file(&rt, "ymodem-a\u{1}b", "abc")?;
-    assert!(rt; both_refused(&rt, port, path.as_str())?);
+    let two = and_missing(&rt, path.as_str())?;
+    let refused = [
+        ("/nowhere/a.txt", 3, "fault: device\n"),
+        ("/", 3, "fault: device\n"),
+        (path.as_str(), 2, "fault: name\n"),
+        // the first fault is told
+        (two.as_str(), 2, "fault: name\n"),
+    ];
+    for (words, status, err) in refused {
+        assert!(rt; sends_not(&rt, port, words, status, err), "at {words}");
+    }
     fs::remove_file(&rt, &path)?;
     Ok(())
 }
@@ -188,25 +202,23 @@ fn tells_by(rt: &HostRuntime, line: &str, want: &str) -> bool {
     }
 }
 
-/// Whether it is told why a file cannot be opened, to somebody who asks for it.
-fn tell_besides(rt: &HostRuntime, port: u16) -> bool {
-    tells(
-        rt,
-        send_by(rt, port, "--verbose /nowhere/a.txt"),
+/// The words of a command whose file cannot be opened, and what it tells besides the fault line.
+static BESIDES: [(&str, &str); 3] = [
+    (
+        "--verbose /nowhere/a.txt",
         "cannot open '/nowhere/a.txt': no such file or directory\n",
-    ) && tells(rt, send_by(rt, port, "/nowhere/a.txt"), "")
-        && tells(
-            rt,
-            send_by(rt, port, "--verbose --quiet /nowhere/a.txt"),
-            "",
-        )
-}
+    ),
+    ("/nowhere/a.txt", ""),
+    ("--verbose --quiet /nowhere/a.txt", ""),
+];
 
 /// What is told besides the fault line, to somebody who asks for it.
 #[test]
 fn told_besides(rt: HostRuntime) -> Result<(), Fail> {
     let port = free_port(&rt)?;
-    assert!(rt; tell_besides(&rt, port));
+    for (words, want) in &BESIDES {
+        assert!(rt; tells(&rt, send_by(&rt, port, words), want), "at {words}");
+    }
     Ok(())
 }
 

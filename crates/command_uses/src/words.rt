@@ -16,67 +16,59 @@ fn is_refused(rt: &HostRuntime, line: &str, front: &str) -> bool {
     }
 }
 
-/// Whether a command of this line is refused in the words of clap.
-fn is_wrong(rt: &HostRuntime, line: &str) -> bool {
-    is_refused(rt, line, "error: ")
-}
-
-/// Whether lines of words are refused.
-fn are_wrong(rt: &HostRuntime) -> bool {
-    is_wrong(rt, "ymodem nosuch")
-        && is_wrong(rt, "ymodem play more")
-        && is_wrong(rt, "ymodem --port 1")
-        && is_wrong(rt, "ymodem loop")
-        && is_wrong(rt, "ymodem loop --port")
-        && is_wrong(rt, "ymodem send a.txt")
-        && is_wrong(rt, "ymodem send --port 1")
-        && is_wrong(rt, "ymodem send --port 1 --single a.txt")
-        && is_wrong(rt, "ymodem receive --port 1")
-        && is_wrong(rt, "ymodem receive --port 1 d e")
-        && is_wrong(rt, "ymodem receive --port 1 --short d")
-}
+/// Lines that are refused in the words of clap.
+static WRONG: [&str; 11] = [
+    "ymodem nosuch",
+    "ymodem play more",
+    "ymodem --port 1",
+    "ymodem loop",
+    "ymodem loop --port",
+    "ymodem send a.txt",
+    "ymodem send --port 1",
+    "ymodem send --port 1 --single a.txt",
+    "ymodem receive --port 1",
+    "ymodem receive --port 1 d e",
+    "ymodem receive --port 1 --short d",
+];
 
 #[test]
 fn words_that_are_refused(rt: HostRuntime) {
-    assert!(rt; are_wrong(&rt));
+    for line in &WRONG {
+        assert!(rt; is_refused(&rt, line, "error: "), "at {line}");
+    }
 }
 
-/// Whether a command of this line ends in the fault of a port.
-fn is_port_fault(rt: &HostRuntime, line: &str) -> bool {
-    ends(rt, line, b"", 2, "", "fault: port\n")
-}
-
-/// Whether ports that are no numbers are refused.
-fn are_port_faults(rt: &HostRuntime) -> bool {
-    is_port_fault(rt, "ymodem send --port 0 a.txt")
-        && is_port_fault(rt, "ymodem send --port 65536 a.txt")
-        && is_port_fault(rt, "ymodem send --port +1 a.txt")
-        && is_port_fault(rt, "ymodem receive --port x d")
-        && is_port_fault(rt, "ymodem loop --port 1.5")
-}
+/// Lines whose port is no number.
+static NO_PORTS: [&str; 5] = [
+    "ymodem send --port 0 a.txt",
+    "ymodem send --port 65536 a.txt",
+    "ymodem send --port +1 a.txt",
+    "ymodem receive --port x d",
+    "ymodem loop --port 1.5",
+];
 
 #[test]
 fn a_port_that_is_no_number(rt: HostRuntime) {
-    assert!(rt; are_port_faults(&rt));
+    for line in &NO_PORTS {
+        assert!(rt; ends(&rt, line, b"", 2, "", "fault: port\n"), "at {line}");
+    }
 }
 
-/// Whether each help begins with what its command is for.
-fn helps(rt: &HostRuntime) -> bool {
-    is_refused(rt, "ymodem --help", "Sends and receives files by YMODEM")
-        && is_refused(rt, "ymodem help", "Sends and receives files by YMODEM")
-        && is_refused(rt, "ymodem play --help", "Plays the session of a script")
-        && is_refused(rt, "ymodem loop -h", "Plays the session of a script")
-        && is_refused(
-            rt,
-            "ymodem help send",
-            "Connects to 127.0.0.1 and sends files",
-        )
-        && is_refused(rt, "ymodem receive --help", "Waits for one connection")
-}
+/// Lines that ask for help, and how the help begins: with what its command is for.
+static HELPS: [(&str, &str); 6] = [
+    ("ymodem --help", "Sends and receives files by YMODEM"),
+    ("ymodem help", "Sends and receives files by YMODEM"),
+    ("ymodem play --help", "Plays the session of a script"),
+    ("ymodem loop -h", "Plays the session of a script"),
+    ("ymodem help send", "Connects to 127.0.0.1 and sends files"),
+    ("ymodem receive --help", "Waits for one connection"),
+];
 
 #[test]
 fn help(rt: HostRuntime) {
-    assert!(rt; helps(&rt));
+    for (line, front) in &HELPS {
+        assert!(rt; is_refused(&rt, line, front), "at {line}");
+    }
 }
 
 /// Whether a command of this line ends with status 0, and prints a version.

@@ -130,49 +130,61 @@ const FRONT: &[&[u8]] = &[b"C", b"\x06"];
 /// The other end cancels.
 const CANCELS: &[&[u8]] = &[b"\x18\x18"];
 
-/// Whether it is told how a sender ends.
-fn is_sender_told(alloc: Global) -> bool {
-    let closed = Err(CommandFault::Closed);
-    sends(alloc, Scene::whole(ALL), Ok(0), "sender done 1 finished\n")
-        && sends(
-            alloc,
-            Scene::whole(NO_LAST),
-            closed,
-            "sender done 1 running\n",
-        )
-        && sends(
-            alloc,
-            Scene::whole(FRONT),
-            closed,
-            "sender done 0 running\n",
-        )
-        && sends(
-            alloc,
-            Scene::whole(CANCELS),
-            Ok(1),
-            "sender done 0 cancelled\n",
-        )
+/// What comes to a sender, whether its output fails, what it answers, and what it prints.
+type Sent = (
+    &'static [&'static [u8]],
+    bool,
+    Result<u8, CommandFault>,
+    &'static str,
+);
+
+/// Whether senders of the file `a` answer and print this.
+fn all_send(alloc: Global, all: &[Sent]) -> bool {
+    for (pieces, is_broken, want, text) in all {
+        let scene = Scene {
+            pieces: *pieces,
+            is_broken: *is_broken,
+        };
+        if !sends(alloc, scene, *want, text) {
+            return false;
+        }
+    }
+    true
 }
+
+static SENT: [Sent; 4] = [
+    (ALL, false, Ok(0), "sender done 1 finished\n"),
+    (
+        NO_LAST,
+        false,
+        Err(CommandFault::Closed),
+        "sender done 1 running\n",
+    ),
+    (
+        FRONT,
+        false,
+        Err(CommandFault::Closed),
+        "sender done 0 running\n",
+    ),
+    (CANCELS, false, Ok(1), "sender done 0 cancelled\n"),
+];
 
 #[test]
 fn a_sender_is_told(rt: HostRuntime) {
-    assert!(rt; is_sender_told(rt.alloc()));
-}
-
-/// Whether a sender tells the first of its faults.
-fn is_sender_fault(alloc: Global) -> bool {
-    let closed = Err(CommandFault::Closed);
-    let device = Err(CommandFault::Device);
-    sends(alloc, Scene::broken(FRONT), closed, "")
-        && sends(alloc, Scene::broken(ALL), device, "")
-        && sends(alloc, Scene::broken(CANCELS), device, "")
+    assert!(rt; all_send(rt.alloc(), &SENT));
 }
 
 /// The fault of the engine before that of the output, and that of the output before what the end
 /// says.
+static SENT_BROKEN: [Sent; 3] = [
+    (FRONT, true, Err(CommandFault::Closed), ""),
+    (ALL, true, Err(CommandFault::Device), ""),
+    (CANCELS, true, Err(CommandFault::Device), ""),
+];
+
 #[test]
 fn of_the_faults_of_a_sender_one_is_told(rt: HostRuntime) {
-    assert!(rt; is_sender_fault(rt.alloc()));
+    assert!(rt; all_send(rt.alloc(), &SENT_BROKEN));
 }
 
 /// A new folder of this name.

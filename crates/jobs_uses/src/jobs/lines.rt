@@ -20,62 +20,55 @@ fn says<D: Display>(rt: &HostRuntime, line: &D, want: &str) -> bool {
     }
 }
 
-/// Whether this is the line of a sender in this state.
-fn sender_says(rt: &HostRuntime, state: SendState, want: &str) -> bool {
-    says(rt, &SenderLine { done: 3, state }, want)
-}
+static SENDERS: [(SendState, &str); 5] = [
+    (SendState::Running, "sender done 3 running"),
+    (SendState::Finished, "sender done 3 finished"),
+    (SendState::NoReply, "sender done 3 no-reply"),
+    (SendState::Cancelled, "sender done 3 cancelled"),
+    (SendState::SourceFailed, "sender done 3 source-failed"),
+];
 
-/// Whether this is the line of a receiver in this state.
-fn receiver_says(rt: &HostRuntime, state: RecvState, want: &str) -> bool {
-    says(rt, &ReceiverLine { files: 2, state }, want)
-}
-
-/// Whether a sender in each state has its line.
-fn senders_say(rt: &HostRuntime) -> bool {
-    sender_says(rt, SendState::Running, "sender done 3 running")
-        && sender_says(rt, SendState::Finished, "sender done 3 finished")
-        && sender_says(rt, SendState::NoReply, "sender done 3 no-reply")
-        && sender_says(rt, SendState::Cancelled, "sender done 3 cancelled")
-        && sender_says(rt, SendState::SourceFailed, "sender done 3 source-failed")
-}
-
-/// Whether a receiver in each of these states has its line.
-fn receivers_say(rt: &HostRuntime) -> bool {
-    let no_length = RecvState::BadHeader(HeaderFault::NoLength);
-    receiver_says(rt, RecvState::Running, "receiver files 2 running")
-        && receiver_says(
-            rt,
-            RecvState::TooManyErrors,
-            "receiver files 2 too-many-errors",
-        )
-        && receiver_says(rt, RecvState::OutOfStep, "receiver files 2 out-of-step")
-        && receiver_says(rt, no_length, "receiver files 2 bad-header no-length")
-        && receiver_says(
-            rt,
-            RecvState::TooManyFiles,
-            "receiver files 2 too-many-files",
-        )
-        && receiver_says(rt, RecvState::SinkFailed, "receiver files 2 sink-failed")
-}
+static RECEIVERS: [(RecvState, &str); 6] = [
+    (RecvState::Running, "receiver files 2 running"),
+    (RecvState::TooManyErrors, "receiver files 2 too-many-errors"),
+    (RecvState::OutOfStep, "receiver files 2 out-of-step"),
+    (
+        RecvState::BadHeader(HeaderFault::NoLength),
+        "receiver files 2 bad-header no-length",
+    ),
+    (RecvState::TooManyFiles, "receiver files 2 too-many-files"),
+    (RecvState::SinkFailed, "receiver files 2 sink-failed"),
+];
 
 #[test]
 fn lines_in_words(rt: HostRuntime) {
-    assert!(rt; senders_say(&rt));
-    assert!(rt; receivers_say(&rt));
+    for (state, want) in SENDERS {
+        assert!(rt;
+            says(&rt, &SenderLine { done: 3, state }, want),
+            "not: {want}"
+        );
+    }
+    for (state, want) in RECEIVERS {
+        assert!(rt;
+            says(&rt, &ReceiverLine { files: 2, state }, want),
+            "not: {want}"
+        );
+    }
 }
 
-/// Whether each fault has its line.
-fn faults_say(rt: &HostRuntime) -> bool {
-    says(rt, &CommandFault::Port, "fault: port")
-        && says(rt, &CommandFault::Name, "fault: name")
-        && says(rt, &CommandFault::Length, "fault: length")
-        && says(rt, &CommandFault::TooManyFiles, "fault: too many files")
-        && says(rt, &CommandFault::Closed, "fault: closed")
-        && says(rt, &CommandFault::Device, "fault: device")
-        && says(rt, &CommandFault::Memory, "fault: memory")
-}
+static FAULTS: [(CommandFault, &str); 7] = [
+    (CommandFault::Port, "fault: port"),
+    (CommandFault::Name, "fault: name"),
+    (CommandFault::Length, "fault: length"),
+    (CommandFault::TooManyFiles, "fault: too many files"),
+    (CommandFault::Closed, "fault: closed"),
+    (CommandFault::Device, "fault: device"),
+    (CommandFault::Memory, "fault: memory"),
+];
 
 #[test]
 fn fault_lines(rt: HostRuntime) {
-    assert!(rt; faults_say(&rt));
+    for (fault, want) in &FAULTS {
+        assert!(rt; says(&rt, fault, want), "not: {want}");
+    }
 }
