@@ -120,9 +120,8 @@ NOISE = (
 )
 
 
-# How many seconds more a median may be: rows in which neither sender waits longer were seen to
-# differ by 0.17. Chosen behind such a row, so it shows no more than that.
-EXACT = 0.2
+# So exact are the seconds of a session on a busy machine.
+EXACT = 0.15
 # Senders with blocks of one length, side by side: long ones, and short ones.
 ALIKE = (
     ("long blocks", (), "sb -k"),
@@ -258,18 +257,23 @@ def test_of_long_form(row):
 @cases(*(case("%s, %s" % (name, it[0]), name, how, *it) for name, how in NOISE for it in ALIKE))
 def test_as_quick_as_sb_across_the_same_noise(name, how, blocks, flags, other):
     """Neither `send` to `receive` nor `send` to `rb` takes longer than lrzsz's own two, by the
-    median of the seeds at which all are whole."""
+    median of what each takes more at the seeds at which all are whole.
+
+    What is damaged of a file is the same for each sender, and for each copy. The blocks at the end
+    of a file are not: 952 bytes are one long block to `sb -k`, and eight short ones to `send`. So
+    sessions of one seed differ by a second or two now and then, up and down."""
     needs("sb", "rb")
     rows = list(rows_alike(how, flags, other, int(os.environ.get("SEEDS", "20"))))
     told = asyncio.run_coroutine_threadsafe(all_rows_made(rows), LOOP).result()
     whole = [{seed: it.seconds for seed, it in came if it.is_whole} for came in told]
     shared = set.intersection(*map(set, whole))
-    medians, lines = [], []
+    more, lines = [], []
     for row, came, seconds in zip(rows, told, whole):
         false = sum(bool(it.fault) for _, it in came)
-        medians.append(statistics.median(seconds[it] for it in shared))
-        counts = (row.name, len(came), len(seconds), false, medians[-1])
-        lines.append("%s: %d sessions, %d whole, %d false, median %.2f s" % counts)
+        median = statistics.median(seconds[it] for it in shared)
+        more.append(statistics.median(seconds[it] - whole[-1][it] for it in shared))
+        counts = (row.name, len(came), len(seconds), false, median, more[-1])
+        lines.append("%s: %d sessions, %d whole, %d false, median %.2f s, %+.2f s" % counts)
         assert not false, lines[-1]
     print("%s, %s: medians of %d seeds; %s" % (name, blocks, len(shared), "; ".join(lines)))
-    assert max(medians[:2]) <= medians[2] + EXACT, "; ".join(lines)
+    assert max(more) <= EXACT, "; ".join(lines)

@@ -2,7 +2,9 @@
 and echo bytes as lines do.
 
 All sessions of a run share one event loop, and most of them wait most of the time: hundreds run
-side by side. What a line does to a byte comes of the session's seed alone, not of when it came.
+side by side. What a line does to a byte comes of the session's seed, and of the frame that the byte
+belongs to or answers, not of when it came. So two senders of the same blocks meet the same damage,
+also where one of them was answered otherwise before.
 """
 
 import asyncio
@@ -24,6 +26,12 @@ LIMIT = 1500
 SOCKETS = ("send", "receive")
 TERMINALS = ("ymodem sb", "ymodem rb")
 OURS = SOCKETS + TERMINALS
+# The bytes of a block's body, by its first one: SOH or STX. Any other byte is a frame of its own.
+BODIES = {1: 128, 2: 1024}
+# The bytes of its parts.
+HEAD, PART, CHECK = 3, 128, 2
+# The name of block 0.
+OPENING = b"\x01\x00"
 # `sb` of lrzsz has short blocks, and long ones where it is asked for them.
 LRZSZ_SENDERS = ("sb", "sb -k")
 
@@ -36,22 +44,71 @@ class Shape:
         self.delay, self.jitter, self.rate = delay, jitter, rate
         self.lost, self.flipped, self.doubled = lost, flipped, doubled
 
+    def is_noisy(self):
+        return self.lost or self.flipped or self.doubled
 
-class Way:
-    """One way of a line. It hands on in order, each piece no sooner than it is due."""
 
-    def __init__(self, shape, seed, stall=None):
-        self.shape, self.random, self.stall = shape, random.Random(seed), stall
-        self.queue = asyncio.Queue()
-        self.due = self.free = 0.0
-        self.writes = 0
+class Frames:
+    """The frames that a sender writes, and what of them a byte belongs to: a part of a file, or a
+    frame's head or check, and which copy of it.
+
+    A long block has the same parts as eight short ones. So senders that cut a file's end in
+    different blocks meet the same damage there."""
+
+    def __init__(self):
+        self.file = self.copy = self.next_at = 0
+        self.name = self.first = b""
+        self.lengths, self.parts, self.left = [], 1, 0
+
+    def place(self):
+        place = "file %d, copy %d" % (self.file, self.copy)
+        if len(self.lengths) in (0, self.parts - 1):
+            return "%s, frame %s, %d" % (place, self.name.hex(), len(self.lengths))
+        return "%s, from %d" % (place, self.next_at - PART * len(self.lengths))
+
+    def begin(self, data):
+        name = data[:2] if data[0] in BODIES else data[:1]
+        is_repeat, body = name == self.name, BODIES.get(data[0])
+        self.copy = self.copy + 1 if is_repeat else 0
+        if name == OPENING and not is_repeat:
+            self.file, self.next_at = self.file + 1, -PART
+        if body and not is_repeat:
+            self.next_at += body
+        self.name = name
+        self.lengths = [HEAD, *[PART] * (body // PART), CHECK] if body else [1]
+        self.parts = len(self.lengths)
+
+    def pieces(self, data):
+        """These bytes, cut where a part begins: `place` is that of the piece. The first byte of a
+        block is kept until the second one is there."""
+        data, self.first = self.first + data, b""
+        while data:
+            if not self.lengths and not self.left and len(data) == 1 and data[0] in BODIES:
+                self.first = data
+                return
+            if not self.left:
+                if not self.lengths:
+                    self.begin(data)
+                self.left = self.lengths.pop(0)
+            piece, data = data[: self.left], data[self.left :]
+            self.left -= len(piece)
+            yield piece
+
+
+class Noise:
+    """What a way does to the bytes of a frame, or to those that are said behind it: by the seed
+    and the place."""
+
+    def __init__(self, shape, seed, frames):
+        self.shape, self.seed, self.frames = shape, seed, frames
+        self.place = self.random = None
 
     def damaged(self, data):
-        """What the line makes of these bytes. Three numbers are drawn for each byte, so that one is
-        damaged alike whatever came before it."""
+        """What becomes of these bytes. Three numbers are drawn for each of them."""
         shape, made = self.shape, bytearray()
-        if not (shape.lost or shape.flipped or shape.doubled):
-            return data
+        place = "%d, %s" % (self.seed, self.frames.place())
+        if place != self.place:
+            self.place, self.random = place, random.Random(place)
         for byte in data:
             chance, bit, again = (
                 self.random.random(),
@@ -64,6 +121,26 @@ class Way:
             if again < shape.doubled:
                 made.append(byte)
         return bytes(made)
+
+
+class Way:
+    """One way of a line. It hands on in order, each piece no sooner than it is due. `frames` are
+    those that are written here, or that what is written here answers."""
+
+    def __init__(self, shape, seed, frames, stall=None):
+        self.shape, self.random, self.stall = shape, random.Random(seed), stall
+        self.noise = Noise(shape, seed, frames)
+        self.queue = asyncio.Queue()
+        self.due = self.free = 0.0
+        self.writes = 0
+
+    def pieces(self, data):
+        return (data,)
+
+    def damaged(self, data):
+        if not self.shape.is_noisy():
+            return data
+        return b"".join(self.noise.damaged(piece) for piece in self.pieces(data))
 
     def take(self, data):
         """Takes what an end wrote. Nothing at all says that it closed."""
@@ -78,19 +155,26 @@ class Way:
         self.due = max(
             self.due, self.free + self.shape.delay + self.random.uniform(0, self.shape.jitter)
         )
-        self.queue.put_nowait((self.due, self.damaged(data) if data else b""))
+        self.queue.put_nowait((self.due, self.damaged(data) if data else None))
 
     async def hand(self, target):
         """Hands on to this end until the other one has closed."""
         while True:
             due, data = await self.queue.get()
             await asyncio.sleep(max(0.0, due - time.monotonic()))
+            if data is None:
+                with contextlib.suppress(OSError, RuntimeError):
+                    target.close()
+                return
             if data:
                 target.write(data)
-                continue
-            with contextlib.suppress(OSError, RuntimeError):
-                target.close()
-            return
+
+
+class There(Way):
+    """That on which a sender writes."""
+
+    def pieces(self, data):
+        return self.noise.frames.pieces(data)
 
 
 class Line:
@@ -98,11 +182,11 @@ class Line:
     receiver's end, `back` the other way round."""
 
     def __init__(self, there=None, back=None, seed=0, echo="", cut=None, stall=None):
-        stall = stall or ("", 0, 0)
-        self.there = Way(there or Shape(), seed * 2, stall[1:] if stall[0] == "sender" else None)
-        self.back = Way(
-            back or there or Shape(), seed * 2 + 1, stall[1:] if stall[0] == "receiver" else None
-        )
+        who, *at = stall or ("",)
+        frames = Frames()
+        shapes = there or Shape(), back or there or Shape()
+        self.there = There(shapes[0], seed * 2, frames, at if who == "sender" else None)
+        self.back = Way(shapes[1], seed * 2 + 1, frames, at if who == "receiver" else None)
         self.echo, self.cut = echo, cut
 
     async def pump(self, reader, way, other, is_echoed):

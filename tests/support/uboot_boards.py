@@ -58,6 +58,9 @@ def typed(port, text, answer):
     return port.sees(answer, start)
 
 
+# At many of its starts U-Boot for x86 takes the ticks of the host's clock for those of one of 1 GHz,
+# and its waits are too short by that. QEMU has such a clock where it counts instructions.
+GIGAHERTZ = ("-icount", "shift=auto")
 ARM64 = Board("qemu_arm64", 0x42000000, QEMU, "-M", "virt", "-cpu", "cortex-a57")
 ARM64.image = os.environ.get("U_BOOT", ARM64.image)
 # Those that have `loady`. Beside qemu-system-arm they need qemu-system-misc, -x86 and -ppc.
@@ -65,7 +68,7 @@ BOARDS = (
     ARM64,
     Board("qemu_arm", 0x42000000, "qemu-system-arm", "-M", "virt", "-cpu", "cortex-a15"),
     Board("qemu-riscv64", 0x84000000, "qemu-system-riscv64", "-M", "virt"),
-    Board("qemu-x86_64", 0x2000000, "qemu-system-x86_64", image="u-boot.rom"),
-    Board("qemu-x86", 0x2000000, "qemu-system-i386", image="u-boot.rom"),
+    Board("qemu-x86_64", 0x2000000, "qemu-system-x86_64", *GIGAHERTZ, image="u-boot.rom"),
+    Board("qemu-x86", 0x2000000, "qemu-system-i386", *GIGAHERTZ, image="u-boot.rom"),
     Board("qemu-ppce500", 0x2000000, "qemu-system-ppc", "-M", "ppce500", image="uboot.elf"),
 )

@@ -78,9 +78,9 @@ OF_KIND = {FRAMES: ("send", "sb -k", "sb"), REPLIES: ("send", "sb")}
 HELD, EXACT = 0.1, 0.05
 
 
-def session(board, sender, which, seed):
+def session(board, port, sender, which, seed):
     data = random.Random(seed).randbytes(SIZE)
-    with board.started() as port, tempfile.TemporaryDirectory(prefix="ymodem-") as here:
+    with tempfile.TemporaryDirectory(prefix="ymodem-") as here:
         start = board.ready(port, data)
         paths = write_files(here, [("image.bin", data)])
         began = time.monotonic()
@@ -97,6 +97,20 @@ def session(board, sender, which, seed):
     return Session(seconds, is_whole, says_finished and not is_whole, told)
 
 
+def sessions_of(board, senders, which, seed):
+    """A session by each sender. The board is started once: how fast its clock runs is another
+    matter at each start of the x86 board, and so is how long it waits."""
+    came, left = {}, list(senders)
+    while left:
+        with board.started() as port:
+            while left:
+                sender = left.pop(0)
+                came[sender] = session(board, port, sender, which, seed)
+                if not came[sender].is_whole:  # nobody knows what the board is doing
+                    break
+    return came
+
+
 def told_of(sender, sessions):
     whole = [it.seconds for it in sessions if it.is_whole]
     times = "none"
@@ -111,17 +125,14 @@ POOL = ThreadPoolExecutor(2)
 
 
 def across_seeds(board, which):
-    """Sessions by each sender that is here, seed by seed in turns: `send` says nothing that is not
-    so, and takes no longer than `sb` does with blocks of that length, but for the last ACK."""
+    """Sessions by each sender that is here, seed by seed: `send` says nothing that is not so, and
+    takes no longer than `sb` does with blocks of that length, but for the last ACK."""
     senders = [it for it in OF_KIND[which] if it == "send" or shutil.which("sb")]
     begun = [
-        (sender, POOL.submit(session, board, sender, which, seed))
-        for seed in range(1, SEEDS + 1)
-        for sender in senders
+        POOL.submit(sessions_of, board, senders, which, seed) for seed in range(1, SEEDS + 1)
     ]
-    came = {sender: [] for sender in senders}
-    for sender, it in begun:
-        came[sender].append(it.result())
+    ended = [it.result() for it in begun]
+    came = {sender: [it[sender] for it in ended] for sender in senders}
     told = "; ".join(told_of(sender, sessions) for sender, sessions in came.items())
     print(told)
     both = [[it.seconds for it in came[sender] if it.is_whole] for sender in senders[:2]]
