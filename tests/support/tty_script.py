@@ -5,6 +5,7 @@ import contextlib
 import os
 import random
 import shutil
+import signal
 import subprocess
 import tempfile
 
@@ -43,7 +44,9 @@ AT_HAND = {**ENVIRONMENT, "PATH": os.path.dirname(SCRIPT) + ":" + ENVIRONMENT["P
 
 @contextlib.contextmanager
 def piped(words, folder, environment=None):
-    """A program on two pipes, in a folder and a session of its own."""
+    """A program on two pipes, in a folder and a session of its own. In the end all of the session
+    is killed: a terminal program may drop the last answer of a transfer, and then `ymodem sb` waits
+    on, since a pipe is never quiet."""
     pipe = subprocess.PIPE
     child = subprocess.Popen(
         words,
@@ -57,7 +60,8 @@ def piped(words, folder, environment=None):
     try:
         yield child
     finally:
-        child.kill()
+        with contextlib.suppress(ProcessLookupError):
+            os.killpg(child.pid, signal.SIGKILL)
         child.communicate()
 
 
