@@ -130,7 +130,7 @@ def rb_sector(line, ask, wait):
 def rb(start=0):
     """lrzsz's receiver: ten seconds for each block, four once it has asked again.
 
-    Before it asks it drops what comes until a second was quiet. So it does behind the ACK of an EOT.
+    Before it asks it drops what comes until a second was quiet. So it does behind an EOT's ACK.
     """
     line, files = Bytes(), []
     if start:

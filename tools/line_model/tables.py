@@ -179,13 +179,13 @@ def uboot(wanted):
             row("%s to uboot, %s" % (sender, name), told)
 
 
-# How long a boot loader waits for each byte: U-Boot two seconds, or half of that where its clock runs
-# fast, as on the x86 board in QEMU.
+# How long a boot loader waits for each byte: U-Boot two seconds, or less than half of that where
+# its clock runs fast, as for x86 in QEMU.
 WAITS = (500, 750, 850, 1000, 1200, 1500, 2000, 3000, 4000)
 
 
 def waits(wanted):
-    """A bit of five of the first frames, or replies, is flipped, and the boot loader waits so long."""
+    """A bit of five of the first frames, or replies, is flipped; a boot loader waits so long."""
     was = peers.WAIT
     for wait in WAITS:
         peers.WAIT = wait * MS
