@@ -5,6 +5,7 @@ from dataclasses import dataclass
 from ends import ACK, CAN, CONTROLS, NAK, START
 
 WITHIN_MS = 1_000
+MOMENT, BRIEF, TOGETHER = 100, 25, 10
 STALE_ASKS = 10
 OTHERS = 4
 
@@ -87,6 +88,7 @@ class Hold:
 
     def __init__(self):
         self.is_held, self.at, self.wary, self.asks_left, self.asked_at = False, 0, "calm", 0, 0
+        self.is_prompt = False
 
     def wrote(self, is_opening, is_repeat, is_wary, now):
         self.is_held = False
@@ -100,11 +102,16 @@ class Hold:
         self.is_held = True
         return b""
 
-    def start(self):
+    def moment(self):
+        return BRIEF if self.is_prompt else MOMENT
+
+    def start(self, now):
         if self.wary == "dropped":
             self.wary = "calm"
             return b""
         was, self.is_held = self.is_held, False
+        if was:
+            self.is_prompt = now < self.at + TOGETHER
         return bytes([ACK, START]) if was else bytes([START])
 
     def at_eot(self, byte, now):
@@ -115,7 +122,7 @@ class Hold:
             self.wary = "calm"
             return self.ack(now)
         if byte == START:
-            return self.start()
+            return self.start(now)
         self.is_held = False
         if byte == NAK:
             self.wary = "calm"

@@ -8,7 +8,7 @@ from dataclasses import dataclass
 
 from ends import ACK, CAN, CANCEL, CONTROLS, WITHIN
 from line import MS, Read, Write
-from replies import WITHIN_MS, Ear, Hold, Sent
+from replies import MOMENT, WITHIN_MS, Ear, Hold, Sent
 
 FIRST = {"sender": 10_000, "receiver": 3_000}
 LONGEST = 60_000
@@ -18,7 +18,6 @@ APART = 2_000
 UNASKED = 2_750
 SOON = 1_750
 HELD_UP = 2_000
-MOMENT = 100
 FRAGMENT = 64
 FULL = 2_048
 HALVINGS = 4
@@ -122,7 +121,7 @@ class Timing:
         if not self.hold.is_held:
             return end
         if self.sent.kind == "end":
-            return self.hold.at + MOMENT
+            return self.hold.at + self.hold.moment()
         return max(end, self.hold.at + WITHIN_MS)
 
     def expired(self, kind, now):

@@ -232,6 +232,8 @@ pub struct YmHold {
     pub wary: u8,
     /// How many more C may be passed over.
     pub asks_left: u8,
+    /// Whether the C behind the ACK of an EOT came right behind it.
+    pub is_prompt: u8,
 }
 
 impl YmHold {
@@ -245,6 +247,7 @@ impl YmHold {
             wary: wary_of(self.wary),
             asks_left: self.asks_left,
             asked_at: self.asked_at,
+            is_prompt: flag_of(self.is_prompt),
         }
     }
 
@@ -257,5 +260,6 @@ impl YmHold {
         self.is_held = code_of_flag(hold.is_held);
         self.wary = code_of_wary(hold.wary);
         self.asks_left = hold.asks_left;
+        self.is_prompt = code_of_flag(hold.is_prompt);
     }
 }

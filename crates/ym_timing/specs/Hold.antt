@@ -11,12 +11,19 @@ use Rattle.ym_timing.specs.declared.hold.Say.{Say}
 use Rattle.ym_timing.specs.declared.hold.Say.TheVariants as say
 use Rattle.ym_timing.specs.declared.hold.Wary.{Wary}
 use Rattle.ym_timing.specs.declared.hold.Wary.TheVariants as wary
-use Rattle.ym_timing.specs.declared.limits.TheConstants.{STALE_ASKS, WITHIN}
+use Rattle.ym_timing.specs.declared.limits.TheConstants.{BRIEF, MOMENT, STALE_ASKS, TOGETHER, WITHIN}
 use Rattle.ym_timing.specs.declared.sent.Kind.{Kind}
 use Rattle.ym_timing.specs.declared.sent.Kind.TheVariants as kind
 
 abbrev pub new_hold : Hold
-new_hold = record { is_held = false; at = 0; wary = wary.Calm; asks_left = 0; asked_at = 0 }
+new_hold = record {
+  is_held = false;
+  at = 0;
+  wary = wary.Calm;
+  asks_left = 0;
+  asked_at = 0;
+  is_prompt = false;
+}
 
 -- behind a new block 0 some C are passed over; a repeat of an EOT is as wary as the first
 abbrev pub wrote : Bool → Bool → Bool → ℕ → Hold → Hold
@@ -41,14 +48,28 @@ holding is_held at w s h = record {
 abbrev pub ack : Wary → ℕ → Hold → Said
 ack w now h = holding true (if h.is_held then h.at else now) w say.Nothing h
 
+-- a peer writes both at once: how far apart they come shows how far apart the line hands on what
+-- is written so
+abbrev pub timed : ℕ → Hold → Hold
+timed now h = record h { is_prompt = nat_lt now (later h.at TOGETHER) }
+
+-- how long CAN CAN is listened for behind the ACK of the end block
+abbrev pub moment : Hold → ℕ
+moment h = if h.is_prompt then BRIEF else MOMENT
+
 -- C behind an ACK that is held says that the file is stored
-abbrev pub start : Hold → Said
-start h = by h.wary
+abbrev pub stored : Wary → ℕ → Hold → Said
+stored w now h =
+    if h.is_held then holding false h.at w say.AckAndByte (timed now h)
+    else holding false h.at w say.Byte h
+
+abbrev pub start : ℕ → Hold → Said
+start now h = by h.wary
   where
     by : Wary → Said
     by wary.Dropped = holding h.is_held h.at wary.Calm say.Nothing h
-    by wary.Wary = holding false h.at wary.Wary (if h.is_held then say.AckAndByte else say.Byte) h
-    by wary.Calm = holding false h.at wary.Calm (if h.is_held then say.AckAndByte else say.Byte) h
+    by wary.Wary = stored wary.Wary now h
+    by wary.Calm = stored wary.Calm now h
 
 -- the first ACK C may be that of a copy of block 0
 abbrev pub eot_ack : ℕ → Hold → Said
@@ -62,7 +83,7 @@ eot_ack now h = by h.wary
 abbrev pub at_eot : ℕ → ℕ → Hold → Said
 at_eot byte now h =
     if nat_eq byte 0x06 then eot_ack now h
-    else (if nat_eq byte 0x43 then start h
+    else (if nat_eq byte 0x43 then start now h
     else (if nat_eq byte 0x15 then holding false h.at wary.Calm say.Byte h
     else holding false h.at h.wary say.Byte h))
 

@@ -3,7 +3,7 @@ use Rattle.std.specs.Prelude.{ℕ, ◌+◌, nat_eq, nat_lt, ◌&&◌, not, Bool,
 use Rattle.std.specs.Prelude.{slice_index, max, if◌then◌else◌}
 use Rattle.ym_timing.specs.Ear.{new_ear, listen}
 use Rattle.ym_timing.specs.Arrivals.{new_arrivals, take_byte, take_reply, waited}
-use Rattle.ym_timing.specs.Hold.{new_hold, control, released}
+use Rattle.ym_timing.specs.Hold.{new_hold, control, moment, released}
 use Rattle.ym_timing.specs.Out.{new_out}
 use Rattle.ym_timing.specs.Pace as pace
 use Rattle.ym_timing.specs.Sent as sent
@@ -12,7 +12,7 @@ use Rattle.ym_timing.specs.declared.ear.Listened.{Listened}
 use Rattle.ym_timing.specs.declared.hold.Said.{Said}
 use Rattle.ym_timing.specs.declared.hold.Say.{Say}
 use Rattle.ym_timing.specs.declared.hold.Say.TheVariants as say
-use Rattle.ym_timing.specs.declared.limits.TheConstants.{MOMENT, PATIENCE, WITHIN}
+use Rattle.ym_timing.specs.declared.limits.TheConstants.{PATIENCE, WITHIN}
 use Rattle.ym_timing.specs.declared.role.Role.{Role}
 use Rattle.ym_timing.specs.declared.role.Role.TheVariants.{Sender, Receiver}
 use Rattle.ym_timing.specs.declared.sent.Kind.{Kind}
@@ -65,7 +65,7 @@ is_end _ = false
 abbrev pub until : Expected → ℕ → Timing → ℕ
 until wait start t =
     if t.hold.is_held
-    then (if is_end t.sent.kind then later t.hold.at MOMENT
+    then (if is_end t.sent.kind then later t.hold.at (moment t.hold)
     else max (end_of wait start t) (later t.hold.at WITHIN))
     else end_of wait start t
 

@@ -136,9 +136,17 @@ cancelled_later : heard_of cancel end_block 11274 (after_bytes
     (0x06 ∷ 0x18 ∷ []) end_block 11270 ended) ≡ cancel
 cancelled_later = refl
 
--- and where nothing comes behind it, it is waited for a tenth of a second
-end_until : until Reply 9000 (after_bytes ack end_block 9012 ended) ≡ 9112
+-- And where nothing comes behind it, it is waited for: 25, where the C behind the EOT's ACK came
+-- right behind it, and a tenth of a second where a network kept that for 45.
+end_until : until Reply 9000 (after_bytes ack end_block 9012 ended) ≡ 9037
 end_until = refl
+
+abbrev ended_apart : Timing
+ended_apart = writes end_block 9045
+    (after_bytes start eot 9045 (after_bytes ack eot 9000 (writes eot 8988 quick)))
+
+end_apart-until : until Reply 9045 (after_bytes ack end_block 9057 ended_apart) ≡ 9157
+end_apart-until = refl
 
 -- ---- rb, which waits a second behind an EOT, and another one behind its ACK
 

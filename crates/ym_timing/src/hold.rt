@@ -5,7 +5,7 @@ ghost use Rattle.std.specs.Prelude.{◌≡◌};
 ghost use Rattle.ym_timing.specs.Hold as table;
 
 use crate::ear::{ACK, CAN, NAK, START};
-use crate::limits::{STALE_ASKS, WITHIN};
+use crate::limits::{BRIEF, MOMENT, STALE_ASKS, TOGETHER, WITHIN};
 use crate::sent::Kind;
 
 /// Whether the first ACK C of an EOT may be that of a copy of block 0.
@@ -39,6 +39,8 @@ pub struct Hold {
     pub asks_left: u8,
     /// When the last of them came, or block 0 was written.
     pub asked_at: u64,
+    /// Whether the C behind the ACK of an EOT came right behind it, the last time both came.
+    pub is_prompt: bool,
 }
 
 /// What is to be heard of a byte that came.
@@ -72,6 +74,7 @@ impl Hold {
             wary: Wary::Calm,
             asks_left: 0,
             asked_at: 0,
+            is_prompt: false,
         }
     }
 
@@ -97,6 +100,7 @@ impl Hold {
                 0
             },
             asked_at: now,
+            is_prompt: self.is_prompt,
         }
     }
 
@@ -111,9 +115,32 @@ impl Hold {
                 wary,
                 asks_left: self.asks_left,
                 asked_at: self.asked_at,
+                is_prompt: self.is_prompt,
             },
             say,
         }
+    }
+
+    /// The same, where the C behind an ACK that is held came now.
+    fn timed(self, now: u64) -> Hold
+        ensures { result ≡ table.timed now self }
+    {
+        Hold {
+            is_held: self.is_held,
+            at: self.at,
+            wary: self.wary,
+            asks_left: self.asks_left,
+            asked_at: self.asked_at,
+            is_prompt: now < self.at.saturating_add(TOGETHER),
+        }
+    }
+
+    /// How long CAN CAN is listened for behind the ACK of the end block. U-Boot writes it right
+    /// behind that, as it writes the C behind the ACK of an EOT.
+    pub fn moment(self) -> u64
+        ensures { result ≡ table.moment self }
+    {
+        if self.is_prompt { BRIEF } else { MOMENT }
     }
 
     /// An ACK that is held from now on, or still.
@@ -125,12 +152,14 @@ impl Hold {
     }
 
     /// A C behind an EOT: with the ACK before it, it says that the file is stored.
-    fn start(self) -> Said
-        ensures { result ≡ table.start self }
+    fn start(self, now: u64) -> Said
+        ensures { result ≡ table.start now self }
     {
         match self.wary {
             Wary::Dropped => self.holding(self.is_held, self.at, Wary::Calm, Say::Nothing),
-            wary if self.is_held => self.holding(false, self.at, wary, Say::AckAndByte),
+            wary if self.is_held => {
+                self.timed(now).holding(false, self.at, wary, Say::AckAndByte)
+            }
             wary => self.holding(false, self.at, wary, Say::Byte),
         }
     }
@@ -144,7 +173,7 @@ impl Hold {
                 Wary::Wary => self.holding(false, self.at, Wary::Dropped, Say::Nothing),
                 Wary::Calm | Wary::Dropped => self.ack(Wary::Calm, now),
             },
-            START => self.start(),
+            START => self.start(now),
             NAK => self.holding(false, self.at, Wary::Calm, Say::Byte),
             _ => self.holding(false, self.at, self.wary, Say::Byte),
         }
@@ -194,6 +223,7 @@ impl Hold {
                     wary: self.wary,
                     asks_left: self.asks_left.saturating_sub(1),
                     asked_at: now,
+                    is_prompt: self.is_prompt,
                 },
                 say: Say::Nothing,
             };
@@ -218,6 +248,7 @@ impl Hold {
             wary: self.wary,
             asks_left: self.asks_left,
             asked_at: self.asked_at,
+            is_prompt: self.is_prompt,
         }
     }
 }

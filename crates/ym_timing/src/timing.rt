@@ -9,7 +9,7 @@ ghost use Rattle.ym_timing.specs.declared.role.Role.{Role};
 use crate::arrivals::Arrivals;
 use crate::ear::{ACK, Ear};
 use crate::hold::{Hold, Say};
-use crate::limits::{MOMENT, PATIENCE, WITHIN};
+use crate::limits::{PATIENCE, WITHIN};
 use crate::out::Out;
 use crate::pace::Pace;
 use crate::role::Role;
@@ -124,7 +124,7 @@ impl Timing {
             Expected::Reply => start.saturating_add(self.pace.wait(self.role)),
         };
         match self.sent.kind {
-            Kind::End if self.hold.is_held => self.hold.at.saturating_add(MOMENT),
+            Kind::End if self.hold.is_held => self.hold.at.saturating_add(self.hold.moment()),
             _ if self.hold.is_held => end.max(self.hold.at.saturating_add(WITHIN)),
             _ => end,
         }
