@@ -70,6 +70,19 @@ class OneBad(Clean):
         return frame
 
 
+class BadEnd(Clean):
+    """A line that damages the block that ends a batch."""
+
+    def __init__(self):
+        self.bad_frames, self.bad_replies, self.most = 0, 0, 1
+
+    def there(self, frame):
+        if len(frame) < 128 or any(frame[3:]):
+            return frame
+        self.bad_frames += 1
+        return frame[:-1] + b"\x01"
+
+
 def recovers(board):
     """Two blocks behind a damaged one, blocks are not waited for any more."""
     data, line = random.Random(5).randbytes(40_000), OneBad()

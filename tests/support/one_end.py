@@ -26,12 +26,12 @@ def relayed(port, line):
 
 
 @contextlib.contextmanager
-def sending(paths, line=None):
-    """`ymodem send`, and what gives the connection that it makes."""
+def sending(paths, line=None, words=()):
+    """`ymodem send` with these words, and what gives the connection that it makes."""
     with socket.create_server(("127.0.0.1", 0)) as listener:
         listener.settimeout(LIMIT)
         with relayed(listener.getsockname()[1], line) as port, running(
-            "send", "--port", port, *paths
+            "send", *words, "--port", port, *paths
         ) as child:
 
             def called():

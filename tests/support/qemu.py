@@ -75,7 +75,8 @@ def turned_on(*machine):
     needs(machine[0])
     with socket.create_server(("127.0.0.1", 0)) as listener:
         listener.settimeout(LIMIT)
-        line = "tcp:127.0.0.1:%d" % listener.getsockname()[1]
+        # A serial port keeps no byte back until those before it were taken.
+        line = "tcp:127.0.0.1:%d,nodelay=on" % listener.getsockname()[1]
         words = [*machine, "-display", "none", "-monitor", "none", "-nic", "none", "-serial", line]
         how = {"stdin": subprocess.DEVNULL, "stdout": subprocess.DEVNULL, "stderr": subprocess.PIPE}
         child = subprocess.Popen(words, **how)

@@ -6,12 +6,12 @@ import random
 import tempfile
 
 from support.cases import case, cases, sentence
-from support.flips import Flips, recovers
+from support.flips import BadEnd, Flips, recovers
 from support.one_end import sending
 from support.program import write_files
 from support.qemu import from_program
 from support.relay import Seeded
-from support.uboot_boards import ARM64
+from support.uboot_boards import ARM64, PROMPT
 
 
 def load(port, data, line=None, name="image.bin"):
@@ -56,6 +56,20 @@ def test_across_damage(seed):
             ran = sender.ended()
         if ran.status == 0 or "finished" in ran.out:
             ARM64.wants_loaded(port, data, start)
+
+
+@sentence("loady from ymodem send: it cancels behind the ACK of a damaged end block, and is believed")
+def test_takes_its_ack_back():
+    """U-Boot acknowledges whatever comes there, and tells its user of no file where it was damaged:
+    `send` does not say that it has finished."""
+    data = random.Random(9).randbytes(3000)
+    with ARM64.started() as port, tempfile.TemporaryDirectory(prefix="ymodem-") as here:
+        start = ARM64.ready(port, data)
+        with sending(write_files(here, [("image.bin", data)]), BadEnd()) as (sender, called):
+            port.carry(called())
+            ran = sender.ended()
+        assert ran.status == 1 and ran.out == "sender done 1 cancelled\n", (ran.status, ran.out)
+        port.sees(rb"\x06\x18\x18.*" + PROMPT, start)
 
 
 @sentence("loady from ymodem send: at full speed behind a damaged block")

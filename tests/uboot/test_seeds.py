@@ -52,12 +52,16 @@ def sb_sending(words, paths, line):
                 child.wait()
 
 
-def by_send(paths, line, port):
+def by_send(*words):
     """Whether `ymodem send` says that it has finished, and what it tells."""
-    with sending(paths, line) as (sender, called):
-        port.carry(called())
-        ran = sender.ended()
-        return ran.status == 0, ran.out.strip()
+
+    def sends(paths, line, port):
+        with sending(paths, line, words) as (sender, called):
+            port.carry(called())
+            ran = sender.ended()
+            return ran.status == 0, ran.out.strip()
+
+    return sends
 
 
 def by_sb(*words):
@@ -69,13 +73,18 @@ def by_sb(*words):
     return sends
 
 
-# `sb` has short blocks, and `sb -k` long ones, as `send` has.
-SENDERS = {"send": by_send, "sb": by_sb("sb"), "sb -k": by_sb("sb", "-k")}
-# Where frames are damaged, a long block costs more than a short one.
-OF_KIND = {FRAMES: ("send", "sb -k", "sb"), REPLIES: ("send", "sb")}
-# `send` waits so many seconds for CAN CAN behind the ACK of the end block, which `sb` does not; and
-# so exact is a median.
-HELD, EXACT = 0.1, 0.05
+SENDERS = {
+    "send": by_send(),
+    "send --short": by_send("--short"),
+    "sb": by_sb("sb"),
+    "sb -k": by_sb("sb", "-k"),
+}
+# Those that are compared. `sb` has short blocks, and `sb -k` long ones, as `send` has. Where frames
+# are damaged, a long block costs more than a short one.
+PAIRS = {FRAMES: (("send", "sb -k"), ("send --short", "sb")), REPLIES: (("send", "sb"),)}
+# So exact is a median: `send` waits a fortieth of a second for CAN CAN behind the ACK of the end
+# block, which `sb` does not.
+EXACT = 0.05
 
 
 def session(board, port, sender, which, seed):
@@ -115,7 +124,7 @@ def told_of(sender, sessions):
     whole = [it.seconds for it in sessions if it.is_whole]
     times = "none"
     if whole:
-        times = "median %.1f s, longest %.1f s" % (statistics.median(whole), max(whole))
+        times = "median %.2f s, longest %.1f s" % (statistics.median(whole), max(whole))
     false = sum(it.is_false for it in sessions)
     return "%s: %d of %d whole, %d false, %s" % (sender, len(whole), len(sessions), false, times)
 
@@ -124,10 +133,16 @@ SEEDS = int(os.environ.get("SEEDS", "20"))
 POOL = ThreadPoolExecutor(2)
 
 
+def median_of(sessions):
+    whole = [it.seconds for it in sessions if it.is_whole]
+    return statistics.median(whole) if whole else float("inf")
+
+
 def across_seeds(board, which):
     """Sessions by each sender that is here, seed by seed: `send` says nothing that is not so, and
-    takes no longer than `sb` does with blocks of that length, but for the last ACK."""
-    senders = [it for it in OF_KIND[which] if it == "send" or shutil.which("sb")]
+    takes no longer than `sb` does with blocks of that length."""
+    pairs = PAIRS[which] if shutil.which("sb") else ()
+    senders = [sender for pair in pairs for sender in pair] or ["send"]
     begun = [
         POOL.submit(sessions_of, board, senders, which, seed) for seed in range(1, SEEDS + 1)
     ]
@@ -135,10 +150,9 @@ def across_seeds(board, which):
     came = {sender: [it[sender] for it in ended] for sender in senders}
     told = "; ".join(told_of(sender, sessions) for sender, sessions in came.items())
     print(told)
-    both = [[it.seconds for it in came[sender] if it.is_whole] for sender in senders[:2]]
-    medians = [statistics.median(it) if it else float("inf") for it in both]
-    is_slow = len(medians) > 1 and medians[0] > medians[1] + HELD + EXACT
-    assert not any(it.is_false for it in came["send"]) and not is_slow, told
+    slow = [(a, b) for a, b in pairs if median_of(came[a]) > median_of(came[b]) + EXACT]
+    false = [a for a in senders if a.startswith("send") and any(it.is_false for it in came[a])]
+    assert not slow and not false, told
 
 
 @cases(

@@ -8,7 +8,6 @@ use Rattle.ym_port.specs.declared.deed.Deed.{Deed}
 use Rattle.ym_port.specs.declared.deed.Deed.TheVariants.{Looked, Waited}
 use Rattle.ym_port.specs.declared.line.Line.{Line}
 use Rattle.ym_timing.specs.ByteRows.{after_bytes}
-use Rattle.ym_timing.specs.Hold as hold
 use Rattle.ym_timing.specs.Pace as pace
 use Rattle.ym_timing.specs.Times.{later}
 use Rattle.ym_timing.specs.Timing.{after_by, after_byte, after_vain, controlled, is_early, is_end, is_last, listened_to, takes, until}
@@ -64,7 +63,7 @@ limit false last false moment patient whole other none late = omega arith
 -- not an ACK that is held, nor the first part of a wait
 over-by : (start : ℕ) (t : Timing) → is_last t ≡ false → is_early Reply t ≡ false → later start (pace.wait t.role t.pace) ≤ until Reply start t
 over-by start t none late =
-    limit t.hold.is_held (is_end t.sent.kind) (is_early Reply t) (later t.hold.at (hold.moment t.hold)) (later start PATIENCE) (later start (pace.wait t.role t.pace)) (later t.hold.at WITHIN) none late
+    limit t.hold.is_held (is_end t.sent.kind) (is_early Reply t) _ (later start PATIENCE) (later start (pace.wait t.role t.pace)) (later t.hold.at WITHIN) none late
 
 pub at-most : (a b : ℕ) → nat_le a b ≡ true → a ≤ b
 at-most a b is = grind (arith, is)

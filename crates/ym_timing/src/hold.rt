@@ -158,7 +158,8 @@ impl Hold {
         match self.wary {
             Wary::Dropped => self.holding(self.is_held, self.at, Wary::Calm, Say::Nothing),
             wary if self.is_held => {
-                self.timed(now).holding(false, self.at, wary, Say::AckAndByte)
+                self.timed(now)
+                    .holding(false, self.at, wary, Say::AckAndByte)
             }
             wary => self.holding(false, self.at, wary, Say::Byte),
         }
