@@ -44,7 +44,7 @@ class Rates:
 
 
 # From the moment at which the file begins to the one at which all of it is there. Behind it come
-# the EOT, the end block and the tenth of a second behind the last ACK, as behind any file.
+# the EOT, the end block and the moment behind the last ACK, as behind any file.
 IN_ONE_PAGE = """(async () => {
   const [here, there] = tools.pair();
   const data = new Uint8Array(%d << 20);
