@@ -88,12 +88,12 @@ class Hold:
 
     def __init__(self):
         self.is_held, self.at, self.wary, self.asks_left, self.asked_at = False, 0, "calm", 0, 0
-        self.is_prompt = False
 
     def wrote(self, is_opening, is_repeat, is_wary, now):
         self.is_held = False
         if not is_repeat:
-            self.wary = "wary" if is_wary else "calm"
+            kept = "prompt" if self.wary == "prompt" else "calm"
+            self.wary = "wary" if is_wary else kept
         self.asks_left = STALE_ASKS if is_opening and not is_repeat else 0
         self.asked_at = now
 
@@ -103,7 +103,7 @@ class Hold:
         return b""
 
     def moment(self):
-        return BRIEF if self.is_prompt else MOMENT
+        return BRIEF if self.wary == "prompt" else MOMENT
 
     def start(self, now):
         if self.wary == "dropped":
@@ -111,7 +111,7 @@ class Hold:
             return b""
         was, self.is_held = self.is_held, False
         if was:
-            self.is_prompt = now < self.at + TOGETHER
+            self.wary = "prompt" if now < self.at + TOGETHER else "calm"
         return bytes([ACK, START]) if was else bytes([START])
 
     def at_eot(self, byte, now):

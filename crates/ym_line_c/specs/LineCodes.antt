@@ -43,7 +43,9 @@ kind_of n =
     else (if n == 3 then kind.Eot else (if n == 4 then kind.End else kind.Short))))
 
 abbrev pub wary_of : ℕ → Wary
-wary_of n = if n == 0 then wary.Calm else (if n == 1 then wary.Wary else wary.Dropped)
+wary_of n =
+    if n == 0 then wary.Calm else (if n == 1 then wary.Wary
+    else (if n == 2 then wary.Dropped else wary.Prompt))
 
 -- with the first byte of a block, what may be its number, and how many bytes came back
 abbrev pub echo_of : ℕ → ℕ → ℕ → ℕ → Echo

@@ -51,5 +51,4 @@ hold_of k = record {
   wary = wary_of k.wary;
   asks_left = k.asks_left;
   asked_at = k.asked_at;
-  is_prompt = flag_of k.is_prompt;
 }

@@ -120,7 +120,8 @@ pub fn wary_of(code: u8) -> Wary
     match code {
         0 => Wary::Calm,
         1 => Wary::Wary,
-        _ => Wary::Dropped,
+        2 => Wary::Dropped,
+        _ => Wary::Prompt,
     }
 }
 
@@ -132,6 +133,7 @@ pub fn code_of_wary(wary: Wary) -> u8
         Wary::Calm => 0,
         Wary::Wary => 1,
         Wary::Dropped => 2,
+        Wary::Prompt => 3,
     }
 }
 

@@ -228,12 +228,11 @@ pub struct YmHold {
     pub asked_at: u64,
     /// Whether an ACK is held.
     pub is_held: u8,
-    /// 0: the next ACK C counts; 1: it is dropped; any other: its ACK was.
+    /// 0: the next ACK C counts; 1: it is dropped; 2: its ACK was; any other: it came, the C right
+    /// behind the ACK.
     pub wary: u8,
     /// How many more C may be passed over.
     pub asks_left: u8,
-    /// Whether the C behind the ACK of an EOT came right behind it.
-    pub is_prompt: u8,
 }
 
 impl YmHold {
@@ -247,7 +246,6 @@ impl YmHold {
             wary: wary_of(self.wary),
             asks_left: self.asks_left,
             asked_at: self.asked_at,
-            is_prompt: flag_of(self.is_prompt),
         }
     }
 
@@ -260,6 +258,5 @@ impl YmHold {
         self.is_held = code_of_flag(hold.is_held);
         self.wary = code_of_wary(hold.wary);
         self.asks_left = hold.asks_left;
-        self.is_prompt = code_of_flag(hold.is_prompt);
     }
 }

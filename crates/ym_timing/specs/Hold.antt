@@ -16,20 +16,20 @@ use Rattle.ym_timing.specs.declared.sent.Kind.{Kind}
 use Rattle.ym_timing.specs.declared.sent.Kind.TheVariants as kind
 
 abbrev pub new_hold : Hold
-new_hold = record {
-  is_held = false;
-  at = 0;
-  wary = wary.Calm;
-  asks_left = 0;
-  asked_at = 0;
-  is_prompt = false;
-}
+new_hold = record { is_held = false; at = 0; wary = wary.Calm; asks_left = 0; asked_at = 0 }
+
+-- what was seen of an EOT stays until the next one
+abbrev pub kept : Wary → Wary
+kept wary.Prompt = wary.Prompt
+kept wary.Calm = wary.Calm
+kept wary.Wary = wary.Calm
+kept wary.Dropped = wary.Calm
 
 -- behind a new block 0 some C are passed over; a repeat of an EOT is as wary as the first
 abbrev pub wrote : Bool → Bool → Bool → ℕ → Hold → Hold
 wrote is_opening is_repeat is_wary now h = record h {
   is_held = false;
-  wary = if is_repeat then h.wary else (if is_wary then wary.Wary else wary.Calm);
+  wary = if is_repeat then h.wary else (if is_wary then wary.Wary else kept h.wary);
   asks_left = if is_opening && not is_repeat then STALE_ASKS else 0;
   asked_at = now;
 }
@@ -48,28 +48,35 @@ holding is_held at w s h = record {
 abbrev pub ack : Wary → ℕ → Hold → Said
 ack w now h = holding true (if h.is_held then h.at else now) w say.Nothing h
 
--- a peer writes both at once: how far apart they come shows how far apart the line hands on what
--- is written so
-abbrev pub timed : ℕ → Hold → Hold
-timed now h = record h { is_prompt = nat_lt now (later h.at TOGETHER) }
+-- A peer writes C right behind an EOT's ACK. How far apart they come shows how far apart the line
+-- hands on what is written so.
+abbrev pub seen : ℕ → Hold → Wary
+seen now h = if nat_lt now (later h.at TOGETHER) then wary.Prompt else wary.Calm
 
 -- how long CAN CAN is listened for behind the ACK of the end block
 abbrev pub moment : Hold → ℕ
-moment h = if h.is_prompt then BRIEF else MOMENT
+moment h = by h.wary
+  where
+    by : Wary → ℕ
+    by wary.Prompt = BRIEF
+    by wary.Calm = MOMENT
+    by wary.Wary = MOMENT
+    by wary.Dropped = MOMENT
 
 -- C behind an ACK that is held says that the file is stored
-abbrev pub stored : Wary → ℕ → Hold → Said
-stored w now h =
-    if h.is_held then holding false h.at w say.AckAndByte (timed now h)
-    else holding false h.at w say.Byte h
+abbrev pub stored : ℕ → Hold → Said
+stored now h =
+    if h.is_held then holding false h.at (seen now h) say.AckAndByte h
+    else holding false h.at h.wary say.Byte h
 
 abbrev pub start : ℕ → Hold → Said
 start now h = by h.wary
   where
     by : Wary → Said
     by wary.Dropped = holding h.is_held h.at wary.Calm say.Nothing h
-    by wary.Wary = stored wary.Wary now h
-    by wary.Calm = stored wary.Calm now h
+    by wary.Wary = stored now h
+    by wary.Calm = stored now h
+    by wary.Prompt = stored now h
 
 -- the first ACK C may be that of a copy of block 0
 abbrev pub eot_ack : ℕ → Hold → Said
@@ -79,6 +86,7 @@ eot_ack now h = by h.wary
     by wary.Wary = holding false h.at wary.Dropped say.Nothing h
     by wary.Dropped = ack wary.Calm now h
     by wary.Calm = ack wary.Calm now h
+    by wary.Prompt = ack wary.Calm now h
 
 abbrev pub at_eot : ℕ → ℕ → Hold → Said
 at_eot byte now h =

@@ -8,15 +8,17 @@ use crate::ear::{ACK, CAN, NAK, START};
 use crate::limits::{BRIEF, MOMENT, STALE_ASKS, TOGETHER, WITHIN};
 use crate::sent::Kind;
 
-/// Whether the first ACK C of an EOT may be that of a copy of block 0.
+/// What is known of the first ACK C of an EOT.
 #[derive(Clone, Copy)]
 pub enum Wary {
-    /// No.
+    /// It counts.
     Calm,
-    /// Yes: it is dropped.
+    /// It may be that of a copy of block 0: it is dropped.
     Wary,
     /// Its ACK was dropped, and its C is.
     Dropped,
+    /// It came, and the C right behind the ACK. So it stays until the next EOT.
+    Prompt,
 }
 
 /// Whether this byte is no control byte.
@@ -39,8 +41,6 @@ pub struct Hold {
     pub asks_left: u8,
     /// When the last of them came, or block 0 was written.
     pub asked_at: u64,
-    /// Whether the C behind the ACK of an EOT came right behind it, the last time both came.
-    pub is_prompt: bool,
 }
 
 /// What is to be heard of a byte that came.
@@ -74,7 +74,6 @@ impl Hold {
             wary: Wary::Calm,
             asks_left: 0,
             asked_at: 0,
-            is_prompt: false,
         }
     }
 
@@ -83,12 +82,11 @@ impl Hold {
     pub fn wrote(self, is_opening: bool, is_repeat: bool, is_wary: bool, now: u64) -> Hold
         ensures { result ≡ table.wrote is_opening is_repeat is_wary now self }
     {
-        let wary = if is_repeat {
-            self.wary
-        } else if is_wary {
-            Wary::Wary
-        } else {
-            Wary::Calm
+        let wary = match self.wary {
+            wary if is_repeat => wary,
+            _ if is_wary => Wary::Wary,
+            Wary::Prompt => Wary::Prompt,
+            Wary::Calm | Wary::Wary | Wary::Dropped => Wary::Calm,
         };
         Hold {
             is_held: false,
@@ -100,7 +98,6 @@ impl Hold {
                 0
             },
             asked_at: now,
-            is_prompt: self.is_prompt,
         }
     }
 
@@ -115,23 +112,19 @@ impl Hold {
                 wary,
                 asks_left: self.asks_left,
                 asked_at: self.asked_at,
-                is_prompt: self.is_prompt,
             },
             say,
         }
     }
 
-    /// The same, where the C behind an ACK that is held came now.
-    fn timed(self, now: u64) -> Hold
-        ensures { result ≡ table.timed now self }
+    /// What is seen of an EOT whose C came now, and whose ACK is held.
+    fn seen(self, now: u64) -> Wary
+        ensures { result ≡ table.seen now self }
     {
-        Hold {
-            is_held: self.is_held,
-            at: self.at,
-            wary: self.wary,
-            asks_left: self.asks_left,
-            asked_at: self.asked_at,
-            is_prompt: now < self.at.saturating_add(TOGETHER),
+        if now < self.at.saturating_add(TOGETHER) {
+            Wary::Prompt
+        } else {
+            Wary::Calm
         }
     }
 
@@ -140,7 +133,10 @@ impl Hold {
     pub fn moment(self) -> u64
         ensures { result ≡ table.moment self }
     {
-        if self.is_prompt { BRIEF } else { MOMENT }
+        match self.wary {
+            Wary::Prompt => BRIEF,
+            Wary::Calm | Wary::Wary | Wary::Dropped => MOMENT,
+        }
     }
 
     /// An ACK that is held from now on, or still.
@@ -157,10 +153,7 @@ impl Hold {
     {
         match self.wary {
             Wary::Dropped => self.holding(self.is_held, self.at, Wary::Calm, Say::Nothing),
-            wary if self.is_held => {
-                self.timed(now)
-                    .holding(false, self.at, wary, Say::AckAndByte)
-            }
+            _ if self.is_held => self.holding(false, self.at, self.seen(now), Say::AckAndByte),
             wary => self.holding(false, self.at, wary, Say::Byte),
         }
     }
@@ -172,7 +165,7 @@ impl Hold {
         match byte {
             ACK => match self.wary {
                 Wary::Wary => self.holding(false, self.at, Wary::Dropped, Say::Nothing),
-                Wary::Calm | Wary::Dropped => self.ack(Wary::Calm, now),
+                Wary::Calm | Wary::Dropped | Wary::Prompt => self.ack(Wary::Calm, now),
             },
             START => self.start(now),
             NAK => self.holding(false, self.at, Wary::Calm, Say::Byte),
@@ -224,7 +217,6 @@ impl Hold {
                     wary: self.wary,
                     asks_left: self.asks_left.saturating_sub(1),
                     asked_at: now,
-                    is_prompt: self.is_prompt,
                 },
                 say: Say::Nothing,
             };
@@ -249,7 +241,6 @@ impl Hold {
             wary: self.wary,
             asks_left: self.asks_left,
             asked_at: self.asked_at,
-            is_prompt: self.is_prompt,
         }
     }
 }
