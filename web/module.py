@@ -37,9 +37,12 @@ TOOLS = ("wasm-opt", "wasm-metadce")
 # is looked at here.
 OFFSETS = ("--low-memory-unused", "--optimize-added-constants-propagate")
 PACKED = ("--rse", "--ssa-nomerge", *OFFSETS, "-Oz")
-# Then its control flow is taken apart and put together again, and what that leaves is packed.
-RELOOPED = ("--flatten", "--rereloop", "--licm", "--coalesce-locals-learning", "-Oz", "-Oz")
-AGAIN = ("--converge", "--rse", "-Oz")
+# Then its control flow is taken apart and put together again, what that leaves is packed, and its
+# locals are shared out anew.
+APART = ("--flatten", "--rereloop", "--licm", "--precompute-propagate")
+TOGETHER = ("--coalesce-locals-learning", "-Oz", "-Oz", "--code-folding", "--merge-blocks")
+RELOOPED = (*APART, *TOGETHER, "--converge", "--rse", "-Oz")
+LOCALS = ("--merge-locals", "--coalesce-locals", "--simplify-locals", "--reorder-locals", "-Oz")
 PROTOTYPE = re.compile(r"^(\w+) (ym_\w+)\(([^)]*)\);$", re.M)
 
 
@@ -110,7 +113,8 @@ def small(module):
     said("wasm-opt", *FEATURES, *PACKED, "-g", "-S", text, "-o", text)
     rewrite(text, zeros_filled)
     said("wasm-opt", *FEATURES, *PACKED, text, "-o", module)
-    said("wasm-opt", *FEATURES, *RELOOPED, *AGAIN, module, "-o", module)
+    said("wasm-opt", *FEATURES, *RELOOPED, module, "-o", module)
+    said("wasm-opt", *FEATURES, *LOCALS, module, "-o", module)
 
 
 def roomy(text):
