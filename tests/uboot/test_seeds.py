@@ -130,7 +130,8 @@ def told_of(sender, sessions):
 
 
 SEEDS = int(os.environ.get("SEEDS", "20"))
-POOL = ThreadPoolExecutor(2)
+# So many boards are on at once: each takes a processor.
+POOL = ThreadPoolExecutor(int(os.environ.get("AT_ONCE", "2")))
 
 
 def median_of(sessions):
