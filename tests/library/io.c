@@ -163,7 +163,7 @@ static void sent(void) {
     struct played it = played_of(replies, reply_sizes, COUNT(reply_sizes));
     wants(sends(&it, "name", 1) == YM_DONE, "a batch");
     wants(it.written == 5 && it.last[0] == 1 && it.last[3] == 0, "five frames, the end block last");
-    wants(it.now == 100, "a tenth of a second is waited for, behind the last ACK");
+    wants(it.now == 25, "a fortieth of a second is waited for, behind the last ACK");
     again(&it);
     wants(sends(&it, "a/b", 1) == YM_ERROR_NAME_UNSAFE, "a name with a slash");
     wants(it.written == 1 && it.last[0] == 0x18, "CAN CAN in place of its header");

@@ -55,13 +55,13 @@ fn a_reply_before_a_cancel_is_none(rt: HostRuntime) -> Result<(), Fail> {
 
 #[test]
 fn the_last_ack_is_heard_behind_a_moment(rt: HostRuntime) -> Result<(), Fail> {
-    let moments = [1000, 1000, 1012, 1012, 1012, 1024, 1124];
+    let moments = [1000, 1000, 1012, 1012, 1012, 1024, 1049];
     let mut port = end_over(rt.alloc(), Role::Sender, &moments, &[ACK_START, ACK, &[]])?;
     assert!(rt; port.write(EOT).is_ok());
     assert!(rt; hears(&mut port, Wait::Reply, ACK_START));
     assert!(rt; port.write(END_BLOCK).is_ok());
     assert!(rt; hears(&mut port, Wait::Reply, ACK));
-    assert!(rt; has_waited(&port, &[2500, 2500, 100]));
+    assert!(rt; has_waited(&port, &[2500, 2500, 25]));
     Ok(())
 }
 
