@@ -6,8 +6,9 @@ receiver counts what is stored, and nobody says that it finished while a file is
 counts allow, the batch has to be there whole.
 
 The short form has 3 seeds a row of noise, and the long one (-m long) has every row, and 20. The
-environment variable SEEDS names another number. What is printed of a row, which -rP shows, is its
-sessions, whole ones, false reports, and the median and longest seconds of the whole ones.
+environment variable SEEDS names another number, and AT_ONCE how many sessions there are at once.
+What is printed of a row, which -rP shows, is its sessions, whole ones, false reports, and the
+median and longest seconds of the whole ones.
 """
 
 import asyncio
@@ -198,8 +199,9 @@ def running():
 
 
 LOOP = running()
-# So many sessions go on at once.
-AT_ONCE = asyncio.Semaphore(150)
+# So many sessions go on at once. Where seconds are compared, fewer are better: the lines of 150 noisy
+# ones take more than four processors.
+AT_ONCE = asyncio.Semaphore(int(os.environ.get("AT_ONCE", "150")))
 
 
 async def made(row, seed):

@@ -21,7 +21,6 @@ from support.uboot_boards import BOARDS
 
 
 SIZE = 20_000
-KINDS = (FRAMES, REPLIES)
 
 
 # ---- Seeds
@@ -79,9 +78,13 @@ SENDERS = {
     "sb": by_sb("sb"),
     "sb -k": by_sb("sb", "-k"),
 }
-# Those that are compared. `sb` has short blocks, and `sb -k` long ones, as `send` has. Where frames
-# are damaged, a long block costs more than a short one.
-PAIRS = {FRAMES: (("send", "sb -k"), ("send --short", "sb")), REPLIES: (("send", "sb"),)}
+# What is damaged, and who is compared there. `sb` has short blocks, and `sb -k` long ones, as `send`
+# has. Where frames are damaged, a long block costs more than a short one.
+KINDS = (
+    ("frames flipped", FRAMES, "send", "sb -k"),
+    ("frames flipped, short blocks", FRAMES, "send --short", "sb"),
+    ("replies flipped", REPLIES, "send", "sb"),
+)
 # So exact is a median: `send` waits a fortieth of a second for CAN CAN behind the ACK of the end
 # block, which `sb` does not.
 EXACT = 0.05
@@ -134,37 +137,37 @@ SEEDS = int(os.environ.get("SEEDS", "20"))
 POOL = ThreadPoolExecutor(int(os.environ.get("AT_ONCE", "2")))
 
 
-def median_of(sessions):
-    whole = [it.seconds for it in sessions if it.is_whole]
-    return statistics.median(whole) if whole else float("inf")
+def more_of(ours, theirs):
+    """How much more seconds ours take, by the median of the differences at each seed."""
+    both = [(a.seconds, b.seconds) for a, b in zip(ours, theirs) if a.is_whole and b.is_whole]
+    return statistics.median(a - b for a, b in both) if both else float("inf")
 
 
-def across_seeds(board, which):
-    """Sessions by each sender that is here, seed by seed: `send` says nothing that is not so, and
+def across_seeds(board, which, ours, theirs):
+    """Sessions by each sender that is here, seed by seed: ours says nothing that is not so, and
     takes no longer than `sb` does with blocks of that length."""
-    pairs = PAIRS[which] if shutil.which("sb") else ()
-    senders = [sender for pair in pairs for sender in pair] or ["send"]
+    senders = [ours, theirs] if shutil.which("sb") else [ours]
     begun = [
         POOL.submit(sessions_of, board, senders, which, seed) for seed in range(1, SEEDS + 1)
     ]
     ended = [it.result() for it in begun]
     came = {sender: [it[sender] for it in ended] for sender in senders}
     told = "; ".join(told_of(sender, sessions) for sender, sessions in came.items())
+    more = more_of(came[ours], came[theirs]) if theirs in came else 0
+    told = "%s: %s; %+.2f s" % (board.name, told, more)
     print(told)
-    slow = [(a, b) for a, b in pairs if median_of(came[a]) > median_of(came[b]) + EXACT]
-    false = [a for a in senders if a.startswith("send") and any(it.is_false for it in came[a])]
-    assert not slow and not false, told
+    assert not any(it.is_false for it in came[ours]) and more <= EXACT, told
 
 
 @cases(
     *(
-        case("%s, %s flipped" % (it.name, which), it, which, marks=pytest.mark.long)
+        case("%s, %s" % (it.name, what), it, *compared, marks=pytest.mark.long)
         for it in BOARDS
-        for which in KINDS
+        for what, *compared in KINDS
     )
 )
-def test_check_of_seeds(board, which):
-    across_seeds(board, which)
+def test_check_of_seeds(board, which, ours, theirs):
+    across_seeds(board, which, ours, theirs)
 
 
 @cases(
