@@ -21,6 +21,7 @@ class Flips(Clean):
         self.struck = self.random.sample(range(2, 14), 5)
         self.count = self.bad_frames = self.bad_replies = 0
         self.most = len(self.struck)
+        self.began = None  # when the first frame came
 
     def is_struck(self, kind):
         if self.which not in (BOTH, kind):
@@ -33,6 +34,7 @@ class Flips(Clean):
         return data[:at] + bytes((data[at] ^ 1 << self.random.randrange(8),)) + data[at + 1 :]
 
     def there(self, frame):
+        self.began = self.began or time.monotonic()
         is_struck = self.is_struck(FRAMES)
         self.bad_frames += is_struck
         # a frame is struck behind its first bytes, so that it stays one

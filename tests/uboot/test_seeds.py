@@ -27,11 +27,12 @@ SIZE = 20_000
 
 
 class Session:
-    """How one came out: its seconds, whether the file is there, and whether its end said what is
-    not so."""
+    """How one came out: its seconds, those from its first frame on, whether the file is there, and
+    whether its end said what is not so."""
 
-    def __init__(self, seconds, is_whole, is_false, told):
-        self.seconds, self.is_whole, self.is_false, self.told = seconds, is_whole, is_false, told
+    def __init__(self, seconds, since_first, is_whole, is_false, told):
+        self.seconds, self.since_first, self.told = seconds, since_first, told
+        self.is_whole, self.is_false = is_whole, is_false
 
 
 @contextlib.contextmanager
@@ -95,24 +96,26 @@ def session(board, port, sender, which, seed):
     with tempfile.TemporaryDirectory(prefix="ymodem-") as here:
         start = board.ready(port, data)
         paths = write_files(here, [("image.bin", data)])
-        began = time.monotonic()
+        line, began = Flips(seed, which), time.monotonic()
         try:
-            says_finished, told = SENDERS[sender](paths, Flips(seed, which), port)
+            says_finished, told = SENDERS[sender](paths, line, port)
         except AssertionError as fault:  # it ended before all the damage was done
             says_finished, told = False, str(fault)
-        seconds = time.monotonic() - began
+        ended = time.monotonic()
         is_whole = False
         if says_finished:
             with contextlib.suppress(AssertionError):
                 board.wants_loaded(port, data, start)
                 is_whole = True
-    return Session(seconds, is_whole, says_finished and not is_whole, told)
+    since_first = ended - (line.began or began)
+    return Session(ended - began, since_first, is_whole, says_finished and not is_whole, told)
 
 
 def sessions_of(board, senders, which, seed):
-    """A session by each sender. The board is started once: how fast its clock runs is another
-    matter at each start of the x86 board, and so is how long it waits."""
-    came, left = {}, list(senders)
+    """A session by each sender, in turn before and behind the other. The board is started once:
+    how fast its clock runs is another matter at each start of the x86 board, and so is how long it
+    waits. There it is another one in the board's second session, too."""
+    came, left = {}, list(senders if seed % 2 else reversed(senders))
     while left:
         with board.started() as port:
             while left:
@@ -127,7 +130,8 @@ def told_of(sender, sessions):
     whole = [it.seconds for it in sessions if it.is_whole]
     times = "none"
     if whole:
-        times = "median %.2f s, longest %.1f s" % (statistics.median(whole), max(whole))
+        first = statistics.median(it.since_first for it in sessions if it.is_whole)
+        times = "median %.2f s, %.2f from the first frame" % (statistics.median(whole), first)
     false = sum(it.is_false for it in sessions)
     return "%s: %d of %d whole, %d false, %s" % (sender, len(whole), len(sessions), false, times)
 
@@ -138,8 +142,12 @@ POOL = ThreadPoolExecutor(int(os.environ.get("AT_ONCE", "2")))
 
 
 def more_of(ours, theirs):
-    """How much more seconds ours take, by the median of the differences at each seed."""
-    both = [(a.seconds, b.seconds) for a, b in zip(ours, theirs) if a.is_whole and b.is_whole]
+    """How much more seconds ours take from their first frame on, by the median of the differences
+    at each seed. Until then either waits for the board to ask, which takes a board as long as its
+    clock says."""
+    both = [
+        (a.since_first, b.since_first) for a, b in zip(ours, theirs) if a.is_whole and b.is_whole
+    ]
     return statistics.median(a - b for a, b in both) if both else float("inf")
 
 
