@@ -5,7 +5,7 @@ import contextlib
 import socket
 
 from support.program import LIMIT, free_port, running
-from support.relay import Relay
+from support.relay import Relay, at_once
 
 
 @contextlib.contextmanager
@@ -25,6 +25,14 @@ def relayed(port, line):
     ), "only %d frames and %d replies were damaged" % (line.bad_frames, line.bad_replies)
 
 
+def accepted(listener):
+    """The connection that a sender made. It keeps nothing back, as a serial port does."""
+    end, _ = listener.accept()
+    at_once(end)
+    end.settimeout(None)
+    return end
+
+
 @contextlib.contextmanager
 def sending(paths, line=None, words=()):
     """`ymodem send` with these words, and what gives the connection that it makes."""
@@ -33,14 +41,7 @@ def sending(paths, line=None, words=()):
         with relayed(listener.getsockname()[1], line) as port, running(
             "send", *words, "--port", port, *paths
         ) as child:
-
-            def called():
-                end, _ = listener.accept()
-                end.setsockopt(socket.IPPROTO_TCP, socket.TCP_NODELAY, 1)
-                end.settimeout(None)
-                return end
-
-            yield child, called
+            yield child, lambda: accepted(listener)
 
 
 @contextlib.contextmanager

@@ -15,8 +15,9 @@ from concurrent.futures import ThreadPoolExecutor
 import pytest
 from support.cases import case, cases
 from support.flips import FRAMES, REPLIES, Flips, recovers
-from support.one_end import relayed, sending
+from support.one_end import accepted, relayed, sending
 from support.program import LIMIT, connected, write_files
+from support.relay import at_once
 from support.uboot_boards import BOARDS
 
 
@@ -37,16 +38,17 @@ class Session:
 
 @contextlib.contextmanager
 def sb_sending(words, paths, line):
-    """`sb` of lrzsz, as `calls.sending` has `send`: how it ends is asked of it."""
+    """`sb` of lrzsz, as `sending` has `send`: how it ends is asked of it."""
     with socket.create_server(("127.0.0.1", 0)) as listener:
         listener.settimeout(LIMIT)
         with relayed(listener.getsockname()[1], line) as port, connected(port) as end:
+            at_once(end)
             end.settimeout(None)
             how = {"stdin": end, "stdout": end, "stderr": subprocess.DEVNULL}
             child = subprocess.Popen([*words, "-q", *paths], **how)
             end.close()
             try:
-                yield child, lambda: listener.accept()[0]
+                yield child, lambda: accepted(listener)
             finally:
                 child.kill()
                 child.wait()

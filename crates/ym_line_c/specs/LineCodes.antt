@@ -6,8 +6,8 @@ use Rattle.ym_timing.specs.declared.clearing.Heed.{Heed}
 use Rattle.ym_timing.specs.declared.clearing.Heed.TheVariants as heed
 use Rattle.ym_timing.specs.declared.ear.Echo.{Echo}
 use Rattle.ym_timing.specs.declared.ear.Echo.TheVariants as echo
-use Rattle.ym_timing.specs.declared.hold.Wary.{Wary}
-use Rattle.ym_timing.specs.declared.hold.Wary.TheVariants as wary
+use Rattle.ym_timing.specs.declared.hold.FirstAck.{FirstAck}
+use Rattle.ym_timing.specs.declared.hold.FirstAck.TheVariants as first_ack
 use Rattle.ym_timing.specs.declared.out.Owed.{Owed}
 use Rattle.ym_timing.specs.declared.out.Owed.TheVariants as owed
 use Rattle.ym_timing.specs.declared.pace.Trust.{Trust}
@@ -42,10 +42,10 @@ kind_of n =
     else (if n == 2 then kind.Data
     else (if n == 3 then kind.Eot else (if n == 4 then kind.End else kind.Short))))
 
-abbrev pub wary_of : ℕ → Wary
-wary_of n =
-    if n == 0 then wary.Calm else (if n == 1 then wary.Wary
-    else (if n == 2 then wary.Dropped else wary.Prompt))
+abbrev pub first_ack_of : ℕ → FirstAck
+first_ack_of n =
+    if n == 0 then first_ack.Counts else (if n == 1 then first_ack.Doubted
+    else (if n == 2 then first_ack.Dropped else first_ack.Prompt))
 
 -- with the first byte of a block, what may be its number, and how many bytes came back
 abbrev pub echo_of : ℕ → ℕ → ℕ → ℕ → Echo

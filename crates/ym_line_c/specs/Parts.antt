@@ -5,7 +5,7 @@ use Rattle.ym_timing.specs.declared.hold.Hold.{Hold}
 use Rattle.ym_timing.specs.declared.out.Out.{Out}
 use Rattle.ym_timing.specs.declared.pace.Pace.{Pace}
 use Rattle.ym_timing.specs.declared.sent.Sent.{Sent}
-use Rattle.ym_line_c.specs.LineCodes.{flag_of, trust_of, owed_of, kind_of, wary_of, echo_of}
+use Rattle.ym_line_c.specs.LineCodes.{flag_of, trust_of, owed_of, kind_of, first_ack_of, echo_of}
 use Rattle.ym_line_c.specs.declared.parts.YmEar.{YmEar}
 use Rattle.ym_line_c.specs.declared.parts.YmHeard.{YmHeard}
 use Rattle.ym_line_c.specs.declared.parts.YmHold.{YmHold}
@@ -48,7 +48,7 @@ abbrev pub hold_of : YmHold → Hold
 hold_of k = record {
   is_held = flag_of k.is_held;
   at = k.at;
-  wary = wary_of k.wary;
+  first_ack = first_ack_of k.first_ack;
   asks_left = k.asks_left;
   asked_at = k.asked_at;
 }

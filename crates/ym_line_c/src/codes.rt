@@ -3,7 +3,7 @@
 ghost use Rattle.std.specs.Prelude.{◌≡◌};
 ghost use Rattle.ym_line_c.specs.LineCodes as codes;
 
-use ym_timing::{Echo, Expected, Heed, Kind, Need, Owed, Role, Trust, Vain, Wary};
+use ym_timing::{Echo, Expected, FirstAck, Heed, Kind, Need, Owed, Role, Trust, Vain};
 
 /// Whether this number says yes.
 pub fn flag_of(code: u8) -> bool
@@ -113,27 +113,27 @@ pub fn code_of_kind(kind: Kind) -> u8
     }
 }
 
-/// How wary this number is.
-pub fn wary_of(code: u8) -> Wary
-    ensures { result ≡ codes.wary_of code }
+/// What is known of the first ACK of an EOT, by its number.
+pub fn first_ack_of(code: u8) -> FirstAck
+    ensures { result ≡ codes.first_ack_of code }
 {
     match code {
-        0 => Wary::Calm,
-        1 => Wary::Wary,
-        2 => Wary::Dropped,
-        _ => Wary::Prompt,
+        0 => FirstAck::Counts,
+        1 => FirstAck::Doubted,
+        2 => FirstAck::Dropped,
+        _ => FirstAck::Prompt,
     }
 }
 
-/// The number of how wary an end is.
-pub fn code_of_wary(wary: Wary) -> u8
-    ensures { codes.wary_of result ≡ wary }
+/// The number of what is known of the first ACK of an EOT.
+pub fn code_of_first_ack(first_ack: FirstAck) -> u8
+    ensures { codes.first_ack_of result ≡ first_ack }
 {
-    match wary {
-        Wary::Calm => 0,
-        Wary::Wary => 1,
-        Wary::Dropped => 2,
-        Wary::Prompt => 3,
+    match first_ack {
+        FirstAck::Counts => 0,
+        FirstAck::Doubted => 1,
+        FirstAck::Dropped => 2,
+        FirstAck::Prompt => 3,
     }
 }
 

@@ -4,8 +4,8 @@ ghost use Rattle.std.specs.Prelude.{◌≡◌};
 ghost use Rattle.ym_line_c.specs.Parts as parts;
 
 use crate::codes::{
-    code_of_flag, code_of_kind, code_of_owed, code_of_trust, code_of_wary, codes_of_echo, echo_of,
-    flag_of, kind_of, owed_of, trust_of, wary_of,
+    code_of_first_ack, code_of_flag, code_of_kind, code_of_owed, code_of_trust, codes_of_echo,
+    echo_of, first_ack_of, flag_of, kind_of, owed_of, trust_of,
 };
 use ym_timing::{Arrivals, Ear, Hold, Out, Pace, Sent};
 
@@ -230,7 +230,7 @@ pub struct YmHold {
     pub is_held: u8,
     /// 0: the next ACK C counts; 1: it is dropped; 2: its ACK was; any other: it came, the C right
     /// behind the ACK.
-    pub wary: u8,
+    pub first_ack: u8,
     /// How many more C may be passed over.
     pub asks_left: u8,
 }
@@ -243,7 +243,7 @@ impl YmHold {
         Hold {
             is_held: flag_of(self.is_held),
             at: self.at,
-            wary: wary_of(self.wary),
+            first_ack: first_ack_of(self.first_ack),
             asks_left: self.asks_left,
             asked_at: self.asked_at,
         }
@@ -256,7 +256,7 @@ impl YmHold {
         self.at = hold.at;
         self.asked_at = hold.asked_at;
         self.is_held = code_of_flag(hold.is_held);
-        self.wary = code_of_wary(hold.wary);
+        self.first_ack = code_of_first_ack(hold.first_ack);
         self.asks_left = hold.asks_left;
     }
 }

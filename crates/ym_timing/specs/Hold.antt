@@ -9,99 +9,108 @@ use Rattle.ym_timing.specs.declared.hold.Hold.{Hold}
 use Rattle.ym_timing.specs.declared.hold.Said.{Said}
 use Rattle.ym_timing.specs.declared.hold.Say.{Say}
 use Rattle.ym_timing.specs.declared.hold.Say.TheVariants as say
-use Rattle.ym_timing.specs.declared.hold.Wary.{Wary}
-use Rattle.ym_timing.specs.declared.hold.Wary.TheVariants as wary
-use Rattle.ym_timing.specs.declared.limits.TheConstants.{BRIEF, MOMENT, STALE_ASKS, TOGETHER, WITHIN}
+use Rattle.ym_timing.specs.declared.hold.FirstAck.{FirstAck}
+use Rattle.ym_timing.specs.declared.hold.FirstAck.TheVariants as first_ack
+use Rattle.ym_timing.specs.declared.limits.TheConstants.{BRIEF, MOMENT, TOGETHER}
+use Rattle.ym_timing.specs.declared.limits.TheConstants.{STALE_ASKS, WITHIN}
 use Rattle.ym_timing.specs.declared.sent.Kind.{Kind}
 use Rattle.ym_timing.specs.declared.sent.Kind.TheVariants as kind
 
 abbrev pub new_hold : Hold
-new_hold = record { is_held = false; at = 0; wary = wary.Calm; asks_left = 0; asked_at = 0 }
+new_hold = record {
+  is_held = false;
+  at = 0;
+  first_ack = first_ack.Counts;
+  asks_left = 0;
+  asked_at = 0;
+}
 
 -- what was seen of an EOT stays until the next one
-abbrev pub kept : Wary → Wary
-kept wary.Prompt = wary.Prompt
-kept wary.Calm = wary.Calm
-kept wary.Wary = wary.Calm
-kept wary.Dropped = wary.Calm
+abbrev pub kept : FirstAck → FirstAck
+kept first_ack.Prompt = first_ack.Prompt
+kept first_ack.Counts = first_ack.Counts
+kept first_ack.Doubted = first_ack.Counts
+kept first_ack.Dropped = first_ack.Counts
 
--- behind a new block 0 some C are passed over; a repeat of an EOT is as wary as the first
+-- behind a new block 0 some C are passed over; a repeat of an EOT leaves what is known of it
 abbrev pub wrote : Bool → Bool → Bool → ℕ → Hold → Hold
-wrote is_opening is_repeat is_wary now h = record h {
+wrote is_opening is_repeat is_doubted now h = record h {
   is_held = false;
-  wary = if is_repeat then h.wary else (if is_wary then wary.Wary else kept h.wary);
+  first_ack =
+      if is_repeat then h.first_ack
+      else (if is_doubted then first_ack.Doubted else kept h.first_ack);
   asks_left = if is_opening && not is_repeat then STALE_ASKS else 0;
   asked_at = now;
 }
 
-abbrev pub holding : Bool → ℕ → Wary → Say → Hold → Said
+abbrev pub holding : Bool → ℕ → FirstAck → Say → Hold → Said
 holding is_held at w s h = record {
   hold = record h {
     is_held = is_held;
     at = at;
-    wary =
+    first_ack =
         w;
   };
   say = s;
 }
 
-abbrev pub ack : Wary → ℕ → Hold → Said
+abbrev pub ack : FirstAck → ℕ → Hold → Said
 ack w now h = holding true (if h.is_held then h.at else now) w say.Nothing h
 
 -- A peer writes C right behind an EOT's ACK. How far apart they come shows how far apart the line
 -- hands on what is written so.
-abbrev pub seen : ℕ → Hold → Wary
-seen now h = if nat_lt now (later h.at TOGETHER) then wary.Prompt else wary.Calm
+abbrev pub seen : ℕ → Hold → FirstAck
+seen now h = if nat_lt now (later h.at TOGETHER) then first_ack.Prompt else first_ack.Counts
 
 -- how long CAN CAN is listened for behind the ACK of the end block
 abbrev pub moment : Hold → ℕ
-moment h = by h.wary
+moment h = by h.first_ack
   where
-    by : Wary → ℕ
-    by wary.Prompt = BRIEF
-    by wary.Calm = MOMENT
-    by wary.Wary = MOMENT
-    by wary.Dropped = MOMENT
+    by : FirstAck → ℕ
+    by first_ack.Prompt = BRIEF
+    by first_ack.Counts = MOMENT
+    by first_ack.Doubted = MOMENT
+    by first_ack.Dropped = MOMENT
 
 -- C behind an ACK that is held says that the file is stored
 abbrev pub stored : ℕ → Hold → Said
 stored now h =
     if h.is_held then holding false h.at (seen now h) say.AckAndByte h
-    else holding false h.at h.wary say.Byte h
+    else holding false h.at h.first_ack say.Byte h
 
 abbrev pub start : ℕ → Hold → Said
-start now h = by h.wary
+start now h = by h.first_ack
   where
-    by : Wary → Said
-    by wary.Dropped = holding h.is_held h.at wary.Calm say.Nothing h
-    by wary.Wary = stored now h
-    by wary.Calm = stored now h
-    by wary.Prompt = stored now h
+    by : FirstAck → Said
+    by first_ack.Dropped = holding h.is_held h.at first_ack.Counts say.Nothing h
+    by first_ack.Doubted = stored now h
+    by first_ack.Counts = stored now h
+    by first_ack.Prompt = stored now h
 
 -- the first ACK C may be that of a copy of block 0
 abbrev pub eot_ack : ℕ → Hold → Said
-eot_ack now h = by h.wary
+eot_ack now h = by h.first_ack
   where
-    by : Wary → Said
-    by wary.Wary = holding false h.at wary.Dropped say.Nothing h
-    by wary.Dropped = ack wary.Calm now h
-    by wary.Calm = ack wary.Calm now h
-    by wary.Prompt = ack wary.Calm now h
+    by : FirstAck → Said
+    by first_ack.Doubted = holding false h.at first_ack.Dropped say.Nothing h
+    by first_ack.Dropped = ack first_ack.Counts now h
+    by first_ack.Counts = ack first_ack.Counts now h
+    by first_ack.Prompt = ack first_ack.Counts now h
 
 abbrev pub at_eot : ℕ → ℕ → Hold → Said
 at_eot byte now h =
     if nat_eq byte 0x06 then eot_ack now h
     else (if nat_eq byte 0x43 then start now h
-    else (if nat_eq byte 0x15 then holding false h.at wary.Calm say.Byte h
-    else holding false h.at h.wary say.Byte h))
+    else (if nat_eq byte 0x15 then holding false h.at first_ack.Counts say.Byte h
+    else holding false h.at h.first_ack say.Byte h))
 
 -- what a peer prints behind the ACK of the end block may have C in it, or NAK: CAN alone takes that
 -- ACK back
 abbrev pub at_end : ℕ → ℕ → Hold → Said
 at_end byte now h =
-    if nat_eq byte 0x06 then ack h.wary now h
+    if nat_eq byte 0x06 then ack h.first_ack now h
     else (if h.is_held && not (nat_eq byte 0x18) then record { hold = h; say = say.Nothing }
-    else holding false h.at h.wary say.Byte h)
+    else holding false h.at h.first_ack say.Byte h)
 
 -- C alone right behind a new block 0 asks for what is on its way
 abbrev pub is_stale : ℕ → Bool → ℕ → Hold → Bool

@@ -10,11 +10,11 @@ use crate::sent::Kind;
 
 /// What is known of the first ACK C of an EOT.
 #[derive(Clone, Copy)]
-pub enum Wary {
+pub enum FirstAck {
     /// It counts.
-    Calm,
+    Counts,
     /// It may be that of a copy of block 0: it is dropped.
-    Wary,
+    Doubted,
     /// Its ACK was dropped, and its C is.
     Dropped,
     /// It came, and the C right behind the ACK. So it stays until the next EOT.
@@ -35,8 +35,8 @@ pub struct Hold {
     pub is_held: bool,
     /// When it came.
     pub at: u64,
-    /// Whether the next ACK C counts.
-    pub wary: Wary,
+    /// What is known of the first ACK C of an EOT.
+    pub first_ack: FirstAck,
     /// How many more C may be passed over.
     pub asks_left: u8,
     /// When the last of them came, or block 0 was written.
@@ -71,7 +71,7 @@ impl Hold {
         Hold {
             is_held: false,
             at: 0,
-            wary: Wary::Calm,
+            first_ack: FirstAck::Counts,
             asks_left: 0,
             asked_at: 0,
         }
@@ -79,19 +79,19 @@ impl Hold {
 
     /// What was written may be a new block 0, behind which C are passed over, or an EOT whose first
     /// ACK C may be that of a copy of block 0; a repeat leaves the latter as it is.
-    pub fn wrote(self, is_opening: bool, is_repeat: bool, is_wary: bool, now: u64) -> Hold
-        ensures { result ≡ table.wrote is_opening is_repeat is_wary now self }
+    pub fn wrote(self, is_opening: bool, is_repeat: bool, is_doubted: bool, now: u64) -> Hold
+        ensures { result ≡ table.wrote is_opening is_repeat is_doubted now self }
     {
-        let wary = match self.wary {
-            wary if is_repeat => wary,
-            _ if is_wary => Wary::Wary,
-            Wary::Prompt => Wary::Prompt,
-            Wary::Calm | Wary::Wary | Wary::Dropped => Wary::Calm,
+        let first_ack = match self.first_ack {
+            first_ack if is_repeat => first_ack,
+            _ if is_doubted => FirstAck::Doubted,
+            FirstAck::Prompt => FirstAck::Prompt,
+            FirstAck::Counts | FirstAck::Doubted | FirstAck::Dropped => FirstAck::Counts,
         };
         Hold {
             is_held: false,
             at: self.at,
-            wary,
+            first_ack,
             asks_left: if is_opening && !is_repeat {
                 STALE_ASKS
             } else {
@@ -102,14 +102,14 @@ impl Hold {
     }
 
     /// The same, with an ACK held or not.
-    fn holding(self, is_held: bool, at: u64, wary: Wary, say: Say) -> Said
-        ensures { result ≡ table.holding is_held at wary say self }
+    fn holding(self, is_held: bool, at: u64, first_ack: FirstAck, say: Say) -> Said
+        ensures { result ≡ table.holding is_held at first_ack say self }
     {
         Said {
             hold: Hold {
                 is_held,
                 at,
-                wary,
+                first_ack,
                 asks_left: self.asks_left,
                 asked_at: self.asked_at,
             },
@@ -118,13 +118,13 @@ impl Hold {
     }
 
     /// What is seen of an EOT whose C came now, and whose ACK is held.
-    fn seen(self, now: u64) -> Wary
+    fn seen(self, now: u64) -> FirstAck
         ensures { result ≡ table.seen now self }
     {
         if now < self.at.saturating_add(TOGETHER) {
-            Wary::Prompt
+            FirstAck::Prompt
         } else {
-            Wary::Calm
+            FirstAck::Counts
         }
     }
 
@@ -133,28 +133,33 @@ impl Hold {
     pub fn moment(self) -> u64
         ensures { result ≡ table.moment self }
     {
-        match self.wary {
-            Wary::Prompt => BRIEF,
-            Wary::Calm | Wary::Wary | Wary::Dropped => MOMENT,
+        match self.first_ack {
+            FirstAck::Prompt => BRIEF,
+            FirstAck::Counts | FirstAck::Doubted | FirstAck::Dropped => MOMENT,
         }
     }
 
     /// An ACK that is held from now on, or still.
-    fn ack(self, wary: Wary, now: u64) -> Said
-        ensures { result ≡ table.ack wary now self }
+    fn ack(self, first_ack: FirstAck, now: u64) -> Said
+        ensures { result ≡ table.ack first_ack now self }
     {
         let at = if self.is_held { self.at } else { now };
-        self.holding(true, at, wary, Say::Nothing)
+        self.holding(true, at, first_ack, Say::Nothing)
     }
 
     /// A C behind an EOT: with the ACK before it, it says that the file is stored.
     fn start(self, now: u64) -> Said
         ensures { result ≡ table.start now self }
     {
-        match self.wary {
-            Wary::Dropped => self.holding(self.is_held, self.at, Wary::Calm, Say::Nothing),
+        match self.first_ack {
+            FirstAck::Dropped => self.holding(
+                self.is_held,
+                self.at,
+                FirstAck::Counts,
+                Say::Nothing,
+            ),
             _ if self.is_held => self.holding(false, self.at, self.seen(now), Say::AckAndByte),
-            wary => self.holding(false, self.at, wary, Say::Byte),
+            first_ack => self.holding(false, self.at, first_ack, Say::Byte),
         }
     }
 
@@ -163,13 +168,13 @@ impl Hold {
         ensures { result ≡ table.at_eot byte now self }
     {
         match byte {
-            ACK => match self.wary {
-                Wary::Wary => self.holding(false, self.at, Wary::Dropped, Say::Nothing),
-                Wary::Calm | Wary::Dropped | Wary::Prompt => self.ack(Wary::Calm, now),
+            ACK => match self.first_ack {
+                FirstAck::Doubted => self.holding(false, self.at, FirstAck::Dropped, Say::Nothing),
+                _ => self.ack(FirstAck::Counts, now),
             },
             START => self.start(now),
-            NAK => self.holding(false, self.at, Wary::Calm, Say::Byte),
-            _ => self.holding(false, self.at, self.wary, Say::Byte),
+            NAK => self.holding(false, self.at, FirstAck::Counts, Say::Byte),
+            _ => self.holding(false, self.at, self.first_ack, Say::Byte),
         }
     }
 
@@ -179,14 +184,14 @@ impl Hold {
         ensures { result ≡ table.at_end byte now self }
     {
         if byte == ACK {
-            self.ack(self.wary, now)
+            self.ack(self.first_ack, now)
         } else if self.is_held && byte != CAN {
             Said {
                 hold: self,
                 say: Say::Nothing,
             }
         } else {
-            self.holding(false, self.at, self.wary, Say::Byte)
+            self.holding(false, self.at, self.first_ack, Say::Byte)
         }
     }
 
@@ -214,7 +219,7 @@ impl Hold {
                 hold: Hold {
                     is_held: self.is_held,
                     at: self.at,
-                    wary: self.wary,
+                    first_ack: self.first_ack,
                     asks_left: self.asks_left.saturating_sub(1),
                     asked_at: now,
                 },
@@ -238,7 +243,7 @@ impl Hold {
         Hold {
             is_held: false,
             at: self.at,
-            wary: self.wary,
+            first_ack: self.first_ack,
             asks_left: self.asks_left,
             asked_at: self.asked_at,
         }

@@ -22,7 +22,7 @@ pub use cancel::{Cans, Opening, cancels};
 pub use clearing::{Clearing, Heed, Need};
 pub use clock::Clock;
 pub use ear::{Ear, Echo, Listened};
-pub use hold::{Hold, Said, Say, Wary};
+pub use hold::{FirstAck, Hold, Said, Say};
 pub use limits::{
     APART, BRIEF, FIRST_FRAME, FIRST_REPLY, FRAGMENT, FULL, HALVINGS, HELD_UP, LONGEST, MARGIN,
     MOMENT, OTHERS, PATIENCE, RECEIVER_QUIET, SENDER_QUIET, SOON, STALE_ASKS, TOGETHER, UNASKED,

@@ -42,8 +42,8 @@ pub const MOMENT: u64 = 100;
 /// A line on which the C behind an EOT came so soon behind its ACK hands on at once what comes.
 pub const TOGETHER: u64 = 10;
 
-/// How long an end listens for CAN CAN there: more than the 16 for which a serial adapter of USB
-/// keeps bytes.
+/// How long an end listens for CAN CAN there: more than the 16 for which a serial adapter of USB is
+/// said to keep bytes where nobody set it otherwise.
 pub const BRIEF: u64 = 25;
 
 /// How many C behind a new block 0 are passed over.
