@@ -2,11 +2,13 @@
 """Runs the gate, `rt ci`, and beside it all that is tried before a change lands.
 
 The gate proves every crate, tries the edits that have to be refused, and runs the crates' tests.
-Beside it come want of memory (tests/memory), what the crates keep to (tests/house), and the library
-for C with the page, made in a copy of the tree since the gate holds the crates' folders, over the
-crates that the gate proved. As soon as the gate has proved and built the program, the tests of that
-very program come, folder by folder of tests/. So nothing of the program is proved twice, and most
-tests wait for lines and peers while the gate needs the processors.
+The program's crates are proved before it, by themselves (tools/prove.py): each of them stands on the
+others, so they get all processors as they come, and what is proved there is kept for the gate. Then
+come, while the gate is at the rest, the tests of that very program, folder by folder of tests/. So
+nothing is proved twice, and most tests wait for lines and peers while the gate needs the processors.
+Beside all that come want of memory (tests/memory), what the crates keep to (tests/house), and the
+library for C with the page, made in a copy of the tree since the gate holds the crates' folders,
+over the crates that the gate proved.
 
 Of each folder a line tells how many tests passed, failed and were skipped, and others why they were
 skipped; where one fails, all that pytest said is told.
@@ -19,6 +21,7 @@ usage: gate.py
 The environment variable INSTALL=install has the packages installed that the tests need, as root.
 """
 
+import filecmp
 import os
 import re
 import shutil
@@ -37,9 +40,11 @@ from shown import RUNNING, ran, reaped, shown, tell
 ROOT = proved.ROOT
 OUT = os.path.join(ROOT, "out")
 LOG = os.path.join(OUT, "gate.log")
-# Copies, since the gate is at work in the crates' own folders, by the variables that name them to
-# the tests.
-TRIED = {"YMODEM": "ymodem", "CASES": "port_cases", "LINE_CASES": "line_cases"}
+# Copies, since the gate is at work in the crates' own folders: the program, and what plays cases to
+# its parts, by the variables that name them to the tests.
+TRIED = os.path.join(OUT, "tried")
+PROGRAM = "ymodem"
+CASES = {"CASES": "port_cases", "LINE_CASES": "line_cases"}
 # The folders of tests side by side, those of a row in turn: most tests wait for lines and peers.
 # What depends on how soon its process answers begins a row.
 ROWS = (
@@ -51,15 +56,16 @@ ROWS = (
     ("web",),
     ("uboot", "boards"),
 )
-# These need the library or the page, which are made meanwhile.
+# These need the library or the page, which are made meanwhile, and these the programs of cases.
 TESTS_OF_LIBRARY = {"library", "web", "uboot", "boards", "portable"}
+TESTS_OF_CASES = {"line", "library"}
 # The crate of the library for C.
 LIBRARY = "ym_c"
 # What the library as files for every processor is made of, and by.
 WASM = os.path.join(OUT, "lib", "wasm64-unknown-unknown", "libymodem.a")
-# What has time until the program is proved leaves the processors to the gate, whose longest row of
-# crates is what all wait for. Linux shares them out by sessions, each of which has a nice value of
-# its own, where it knows of such groups. Without leave to set that, the other one has to do.
+# What has time leaves the processors to what all wait for: the proofs of the program, and then its
+# tests. Linux shares them out by sessions, each of which has a nice value of its own, where it knows
+# of such groups. Without leave to set that, the other one has to do.
 GROUP = "/proc/self/autogroup"
 YIELDS = '[ ! -w %s ] || echo 10 > %s || :; exec nice -n 5 "$@"' % (GROUP, GROUP)
 LATER = ["/bin/sh", "-c", YIELDS, "later"]
@@ -74,15 +80,15 @@ PROVED = re.compile(r"rt: (\w+) (proved|is kept: .*)\n")
 
 
 class Gate:
-    """`rt ci` while it runs."""
+    """`rt ci`, from when it begins."""
 
     def __init__(self):
-        self.began, self.lines, self.proved, self.changed = (
-            time.monotonic(),
-            [],
-            set(),
-            threading.Condition(),
-        )
+        self.lines, self.proved, self.changed = [], set(), threading.Condition()
+        self.began = self.child = None
+        self.is_over = self.is_given_up = False
+
+    def begin(self):
+        self.began = time.monotonic()
         how = {
             "stdin": subprocess.DEVNULL,
             "stdout": subprocess.PIPE,
@@ -91,8 +97,8 @@ class Gate:
             "errors": "replace",
         }
         # a group of its own, so that all that it started can be stopped
-        self.child = subprocess.Popen(["rt", "ci"], cwd=ROOT, start_new_session=True, **how)
-        self.is_over = self.is_given_up = False
+        words = [*LATER, "rt", "ci"]
+        self.child = subprocess.Popen(words, cwd=ROOT, start_new_session=True, **how)
         threading.Thread(target=self.follow, daemon=True).start()
 
     def follow(self):
@@ -128,7 +134,7 @@ class Gate:
             self.changed.notify_all()
 
     def stop(self):
-        if self.child.poll() is None:
+        if self.child and self.child.poll() is None:
             os.killpg(self.child.pid, signal.SIGTERM)
             self.child.wait()
 
@@ -173,6 +179,21 @@ def stop_all(gate, beside):
         os.killpg(child.pid, signal.SIGTERM)
     for it in beside:
         it.thread.join()
+
+
+def program(gate):
+    """Has the program's crates proved, and the program built, as far as that can be kept for the
+    gate. Gives whether it went well; it is stopped where anything else fails."""
+    words, began = [os.path.join(ROOT, "tools", "prove.py"), "first"], time.monotonic()
+    child = subprocess.Popen(words, cwd=ROOT, stdin=subprocess.DEVNULL, start_new_session=True)
+    RUNNING.add(child)
+    while child.poll() is None and not gate.is_given_up:
+        time.sleep(0.2)
+    if child.returncode is None:
+        return False
+    RUNNING.discard(child)
+    tell("the proof of the program took %.1f minutes" % ((time.monotonic() - began) / 60))
+    return child.returncode == 0
 
 
 def packages():
@@ -285,35 +306,52 @@ class Row:
 
     def run(self):
         for name in self.names:
-            if (
-                name in TESTS_OF_LIBRARY
-                and not self.library.has_ended_well()
-                or self.gate.is_given_up
-            ):
+            if name in TESTS_OF_LIBRARY and not self.library.has_ended_well():
+                return
+            if name in TESTS_OF_CASES and not copied(self.gate, *CASES.values()):
+                return
+            if self.gate.is_given_up:
                 return
             if made(name, self.environment):
                 self.failed = "tests/" + name
                 return
 
 
-def copies():
-    """Copies of the programs that the gate built, and the environment that names them."""
-    there = os.path.join(OUT, "tried")
-    os.makedirs(there, exist_ok=True)
-    for name in TRIED.values():
-        shutil.copy2(os.path.join(ROOT, "crates", name, "out", name), there)
-    return {
-        **os.environ,
-        **{variable: os.path.join(there, name) for variable, name in TRIED.items()},
-    }
+def built(name):
+    """Where the crate of a program has it."""
+    return os.path.join(ROOT, "crates", name, "out", name)
 
 
-def tried(gate, before, library):
-    """The tests, of copies of the programs that the gate built. Gives the name of the first that
-    fails."""
-    if not gate.has_proved(*TRIED.values()):
+def copy_of(*names):
+    """Copies programs to where they are tried."""
+    os.makedirs(TRIED, exist_ok=True)
+    for name in names:
+        # in one step: another row may run it
+        shutil.copy2(built(name), os.path.join(TRIED, name + ".new"))
+        os.replace(os.path.join(TRIED, name + ".new"), os.path.join(TRIED, name))
+
+
+def copied(gate, *names):
+    """Waits until the gate has proved and built these programs, and copies them. Gives whether it
+    has."""
+    if not gate.has_proved(*names):
+        return False
+    copy_of(*names)
+    return True
+
+
+def is_what_was_tried():
+    """Whether the gate built the very program that was tried."""
+    return filecmp.cmp(built(PROGRAM), os.path.join(TRIED, PROGRAM), shallow=False)
+
+
+def tried(gate, is_there, before, library):
+    """The tests of the program, which is there to be tried, or is the one that the gate builds.
+    Gives the name of the first that fails."""
+    if not is_there and not copied(gate, PROGRAM):
         return None
-    environment = copies()
+    names = {"YMODEM": PROGRAM, **CASES}
+    environment = {**os.environ, **{it: os.path.join(TRIED, name) for it, name in names.items()}}
     before.thread.join()
     rows = [Row(names, gate, library, environment) for names in ROWS]
     while any(row.thread.is_alive() for row in rows) and not any(row.failed for row in rows):
@@ -322,8 +360,8 @@ def tried(gate, before, library):
 
 
 def judged(gate, beside):
-    """Begins all that goes on beside the gate, and waits for its end. Gives the gate's status, or
-    the name of what failed."""
+    """Has the program proved, begins the gate and all that goes on beside it, and waits for its
+    end. Gives the gate's status, or the name of what failed."""
     installed = Beside("packages", packages, gate)
     made_library = lambda: library_and_page(installed, gate)
     library = Beside("the library for C and the page", made_library, gate)
@@ -332,12 +370,23 @@ def judged(gate, beside):
         "tests/house": lambda: beside_proofs("house", installed),
     }
     beside += [installed, library, *(Beside(name, work, gate) for name, work in works.items())]
-    failed = tried(gate, installed, library)
+    failed = None
+    if program(gate):
+        is_there = proved.holds(PROGRAM)
+        if is_there:
+            copy_of(PROGRAM)
+        gate.begin()
+        failed = tried(gate, is_there, installed, library)
+    elif not gate.is_given_up:
+        failed = "the proof of the program"
+        gate.give_up()
     for it in beside:
         failed = failed or (None if it.has_ended_well() else it.name)
     if COUNTS:
         tell("the tests of all folders: %s" % in_all())
-    return failed or gate.ended()
+    if not failed and not gate.ended() and not is_what_was_tried():
+        failed = "the comparison of the program that was tried with the gate's"
+    return failed or gate.child.returncode
 
 
 def main():

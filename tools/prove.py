@@ -9,11 +9,13 @@ from the text as it is, by the gate too, is taken as it lies here.
 On a terminal that is one line, rewritten in place; elsewhere it is a line a crate. What `rt` says is
 kept in out/build.log, and is shown where it fails. A build that is interrupted goes on where it was.
 
-usage: prove.py [play|check]
+usage: prove.py [play|check|first]
   play    plays the example session, by the program where it is built and no source has changed since,
           else by `rt try`, which proves nothing
   check   proves what changed, and tries unproved the tests of the crates that changed since the last
           green run, in them and in the crates of tests that use them
+  first   for the gate: proves the program's crates side by side, whatever stands here, since the gate
+          takes nothing but what was kept so; where nothing can be kept, it does nothing
 """
 
 import contextlib
@@ -203,6 +205,17 @@ def build(here=False):
     print("%s is proved and built (%s)" % (os.path.relpath(PROGRAM), shown.minutes()), file=sys.stderr)
 
 
+def first():
+    """Proves and builds for the gate. Whatever goes wrong ends this script."""
+    if proved.holds("ymodem") or not can_keep():
+        return
+    shown = Shown(sys.stderr)
+    with log_file() as kept:
+        build_from_nothing(shown, kept)
+    shown.clear()
+    proved.note("ymodem")
+
+
 def is_current():
     """Whether the program is built, and no source has changed since."""
     if not os.access(PROGRAM, os.X_OK):
@@ -307,7 +320,7 @@ def check():
 
 
 def main(words):
-    verbs = {(): build, ("play",): play, ("check",): check}
+    verbs = {(): build, ("play",): play, ("check",): check, ("first",): first}
     if tuple(words) not in verbs:
         sys.exit(__doc__)
     signal.signal(signal.SIGTERM, lambda *_: sys.exit(143))

@@ -253,12 +253,14 @@ def tree_with_gate():
 
 @sentence("the gate, and beside it the tests of what it proved")
 def test_gate():
-    """Memory, library and page go on beside the gate, the tests get the program that it has built,
-    and what it said comes last."""
+    """The program is proved before it, alone. Memory, library and page go on beside the gate, the
+    tests get the program that was built, and what the gate said comes last."""
     with tree_with_gate() as it:
         status, out, err = it.run("tools/gate.py")
-        assert (status, err) == (0, ""), "its status"
+        assert status == 0, "its status"
+        has(err, "proving %d crates (0:" % crates_of_program())
         called = it.called()
+        assert called.index("ci") < called.index("lib --target " + TARGETS[0]), "what comes first"
         tests = ["%s %s/out/tried/ymodem" % (name, it.top) for name in TESTS]
         made = [call for call in called if call in tests]
         assert sorted(made) == sorted(tests), "its tests"
@@ -266,6 +268,7 @@ def test_gate():
             places = [made.index(tests[TESTS.index(name)]) for name in row]
             assert places == sorted(places), "%s in turn" % ", ".join(row)
         beside = [
+            "ci",
             "ci",
             *("%s %s" % (name, it.environment["YMODEM"]) for name in BESIDE),
             *("lib --target " + name for name in TARGETS),
@@ -276,6 +279,7 @@ def test_gate():
         assert out.splitlines()[-1] == "18 passed, 0 failed", "its last line"
         has(
             out,
+            "the proof of the program took 0.",
             "gate, 0:0",
             " min: rt: ymodem proved\n",
             "tests/line: 2 passed, 0 failed, 1 skipped; 0.",
@@ -290,7 +294,7 @@ def test_gate():
 @sentence("the gate where an edit is not refused")
 def test_gate_that_refuses():
     with tree_with_gate() as it:
-        it.mark("wrong")
+        it.mark("proves")
         status, out, _ = it.run("tools/gate.py")
         assert (status, out.splitlines()[-1]) == (
             1,
@@ -298,11 +302,25 @@ def test_gate_that_refuses():
         ), "its status and its last line"
 
 
-def gate_where(name, failed):
+@sentence("the gate where the program is not proved")
+def test_gate_without_a_program():
+    """What `rt` said of it is shown, and the gate does not begin."""
+    with tree_with_gate() as it:
+        it.mark("wrong")
+        status, out, err = it.run("tools/gate.py")
+        assert (status, out.splitlines()[-1]) == (
+            1,
+            "the proof of the program failed",
+        ), "its status and its last line"
+        has(err, "FAILED: ym_check", "out/build.log")
+        assert it.called().count("ci") == 1, "its calls"
+
+
+def gate_where(name, failed, slow):
     """The gate is stopped, with all that it started, and the last line is no verdict."""
     with tree_with_gate() as it:
         it.mark("fails", name)
-        it.mark("slow")
+        it.mark(slow)
         status, out, _ = it.run("tools/gate.py")
         assert (status, out.splitlines()[-1]) == (
             1,
@@ -313,9 +331,10 @@ def gate_where(name, failed):
 
 @sentence("the gate where a test fails")
 def test_gate_behind_a_test_that_fails():
-    gate_where("line", "tests/line")
+    gate_where("line", "tests/line", "late")
 
 
 @sentence("the gate where memory is not told")
 def test_gate_behind_memory_that_fails():
-    gate_where("memory", "tests/memory")
+    """Also where that is told before the program is proved."""
+    gate_where("memory", "tests/memory", "slow")

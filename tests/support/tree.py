@@ -13,7 +13,8 @@ from support.waits import wait_until
 
 # It tells what it was called with in the file `called`. Where the file `slow` is there, `rt run`
 # and `rt ci` wait for their end, and where `else` is there, a program for tests prints something
-# else than its cases want. `below` has the crates that `rt ci` proves first.
+# else than its cases want. `below` has the crates that `rt ci` proves first. Where `late` or
+# `proves` is there, `rt ci` waits so in the whole tree alone, or says that an edit was not refused.
 STAND_IN = r"""#!/bin/sh
 [ "$1" = version ] || echo "$*" >> "$CALLED/called"
 case $1 in
@@ -44,7 +45,11 @@ ci)
         echo "rt: $name proved"
     done
     [ ! -e "$CALLED/slow" ] || exec sleep 1000
-    if [ -e "$CALLED/wrong" ]; then
+    if [ -e "$CALLED/late" ] && [ -d tools ]; then
+        echo $$ > "$CALLED/process"
+        exec sleep 1000
+    fi
+    if [ -e "$CALLED/wrong" ] || { [ -e "$CALLED/proves" ] && [ -d tools ]; }; then
         echo "rt: FAILED: ym_check/check.add.byte_shifted_in.edit"
         echo "17 passed, 1 failed"
         exit 1
