@@ -21,10 +21,7 @@ use Rattle.ym_link.specs.Course.{ReceiverHears, receiver_none, receiver_more}
 use Rattle.ym_link.specs.ReceiverInto.{HearsGives, ReceiverParts, Takes}
 use Rattle.ym_pair.specs.Logs.{Answered, answered_along}
 use Rattle.ym_delay.specs.Cleared.{AcksAgain, AnswersAlike, IsAck}
-
-either : {A : Type 0} (P : A → Type 0) (b : Bool) (x y : A) → (b ≡ true → P x) → (b ≡ false → P y) → P (if b then x else y)
-either P true x y this that = this refl
-either P false x y this that = that refl
+use Rattle.ym_delay.proofs.Quiet.{either}
 
 equal : (a b : ℕ) → (a == b) ≡ true → a ≡ b
 equal a b is = grind (arith, is)
@@ -52,9 +49,6 @@ stays-ready h r says ready = either (AckReady h) (nat_lt (r.retries + 1) GIVE_UP
 suc-some : (n : ℕ) → ((n + 1) == 0) ≡ false
 suc-some n = grind arith
 
-is-zero : (n : ℕ) → (n == 0) ≡ true → n ≡ 0
-is-zero n is = grind (arith, is)
-
 -- block 0 opens a file
 zero-ready : (r : Receiver) (zero : Result Zero HeaderFault) (block : BlockParts) → block.number ≡ 0 → AckReady (heard.Item (item.Block block)) (zero_heard r zero)
 zero-ready r (Ok (File header)) block first =
@@ -80,7 +74,7 @@ covered-ready r Once file first = λ ack run. (refl, omega arith, refl)
 
 pub ack-ready : (r : Receiver) (stage : Stage) (zero : Result Zero HeaderFault) (h : Heard) → r.stage ≡ stage → AckReady h (running_hears r stage zero h)
 ack-ready r AwaitHeader zero (heard.Item (item.Block block)) at =
-    either (AckReady (heard.Item (item.Block block))) (block.number == 0) _ _ (λ first. zero-ready r zero block (is-zero block.number first)) (λ _. λ ack run. absurd ack)
+    either (AckReady (heard.Item (item.Block block))) (block.number == 0) _ _ (λ first. zero-ready r zero block (equal block.number 0 first)) (λ _. λ ack run. absurd ack)
 ack-ready r AwaitHeader zero (heard.Item item.Eot) at =
     either (AckReady (heard.Item item.Eot)) (nat_lt 0 r.files) _ _
     (λ some. stays-ready (heard.Item item.Eot) r AckStart (λ n ack. (at, grind (arith, some), refl)))

@@ -3,6 +3,8 @@ pub mod Cleared
 pub mod Courses
 pub mod FalseReport
 pub mod HowLong
+pub mod LateAnswers
+pub mod LateExamples
 pub mod QuietReads
 pub mod Rule
 pub mod TimedExamples

@@ -35,12 +35,14 @@ ghost use Rattle.ym_delay.specs.HowLong.{AnswersEnd, ReadsEnd, answered_by, hear
 ghost use Rattle.ym_delay.specs.QuietReads.{IsOverAtOnce, IsSeveral, IsSpent, began, reply_read};
 
 mod courses;
+mod late_answers;
 mod report;
 mod rule;
 
 pub use courses::{
     batches_in_time_commit_a_prefix, batches_in_time_complete, batches_take_so_long,
 };
+pub use late_answers::late_answers_are_dropped;
 pub use report::a_millisecond_too_soon_loses_a_file;
 pub use rule::{batches_by_the_rule_commit_a_prefix, the_rule_lets_a_line_clear};
 use ym_link::laws::what_came_back_is_of_the_reply;

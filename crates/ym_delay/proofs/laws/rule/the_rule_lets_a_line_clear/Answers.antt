@@ -8,7 +8,7 @@ use Rattle.ym_timing.specs.declared.out.Owed.TheVariants as owed
 use Rattle.ym_timing.specs.declared.pace.Trust.{Trust}
 use Rattle.ym_timing.specs.declared.pace.Trust.TheVariants.{Unknown, Doubtful, Sure}
 use Rattle.ym_timing.specs.declared.role.Role.{Role}
-use Rattle.ym_timing.specs.declared.role.Role.TheVariants.{Receiver, Sender}
+use Rattle.ym_timing.specs.declared.role.Role.TheVariants.{Sender}
 use Rattle.ym_timing.specs.declared.timing.Timing.{Timing}
 use Rattle.ym_delay.specs.Cleared.{ClearsFrom, IsAlone, IsCounted, IsSoon, first_of, led_by, others_of}
 use Rattle.ym_delay.specs.Rule.{CopiesLate, CopiesSoon, CountsByRule, GoesOn, HasSeenTheWay, IsSeen, Reaches, RuledFrom, WaitsByRule, span_of}
@@ -71,13 +71,7 @@ returns-clause-twice c soonest span at t sooner two short within seen = inr (ome
 late-is : (r : Role) (o : Owed) (trust : Trust) (t : Timing) → late_by r o trust t ≡ true → is_overdue t ≡ true
 late-is Sender owed.One Sure t late = late
 late-is Sender owed.Late Sure t late = late
-late-is Sender owed.Several trust t late = absurd (cc)
-late-is Sender owed.Nothing trust t late = absurd (cc)
-late-is Sender owed.One Unknown t late = absurd (cc)
-late-is Sender owed.One Doubtful t late = absurd (cc)
-late-is Sender owed.Late Unknown t late = absurd (cc)
-late-is Sender owed.Late Doubtful t late = absurd (cc)
-late-is Receiver o trust t late = absurd (cc)
+late-is _ _ _ t late = absurd (cc)
 
 second-is : (a b : Bool) → (a && b) ≡ true → b ≡ true
 second-is true b both = both
@@ -109,9 +103,7 @@ returns-clause-soon c oldest t near seen = soon-enough t.pace.trust oldest t nea
 soon-is : (r : Role) (o : Owed) (t : Timing) → r ≡ Sender → prompted_by r o t ≡ true → is_soon t ≡ true
 soon-is Sender owed.One t role prompted = prompted
 soon-is Sender owed.Late t role prompted = prompted
-soon-is Sender owed.Several t role prompted = absurd (cc)
-soon-is Sender owed.Nothing t role prompted = absurd (cc)
-soon-is Receiver o t role prompted = absurd (cc)
+soon-is _ _ t role prompted = absurd (cc)
 
 soon-by : (since led_at long : ℕ) → since - led_at ≤ long → since ≤ led_at + long
 soon-by since led_at long short = omega (arith, short)
