@@ -2,10 +2,11 @@
 """Runs the gate, `rt ci`, and beside it all that is tried before a change lands.
 
 The gate proves every crate, tries the edits that have to be refused, and runs the crates' tests.
-The program's crates are proved before it, by themselves (tools/prove.py): each of them stands on the
-others, so they get all processors as they come, and what is proved there is kept for the gate. Then
-come, while the gate is at the rest, the tests of that very program, folder by folder of tests/. So
-nothing is proved twice, and most tests wait for lines and peers while the gate needs the processors.
+The program's crates are proved first, by themselves (tools/prove.py), and are kept for the gate. It
+begins when those that are left stand one on another: they still get all processors that they can
+use, and the gate the others. Once they are proved come, while the gate is at the rest, the tests of
+that very program, folder by folder of tests/. So nothing is proved twice, and most tests wait for
+lines and peers while the gate needs the processors.
 Beside all that come want of memory (tests/memory), what the crates keep to (tests/house), and the
 library for C with the page, made in a copy of the tree since the gate holds the crates' folders,
 over the crates that the gate proved.
@@ -77,6 +78,8 @@ TOLD = re.compile(
     r" edits"
 )
 PROVED = re.compile(r"rt: (\w+) (proved|is kept: .*)\n")
+# What tools/prove.py tells of a crate of the program.
+LAST = re.compile(r"proved \d+ of \d+ crates, the last one (\w+) ")
 
 
 class Gate:
@@ -88,6 +91,8 @@ class Gate:
         self.is_over = self.is_given_up = False
 
     def begin(self):
+        if self.child:
+            return
         self.began = time.monotonic()
         how = {
             "stdin": subprocess.DEVNULL,
@@ -181,16 +186,38 @@ def stop_all(gate, beside):
         it.thread.join()
 
 
+def is_row(names):
+    """Whether each of these crates, lowest first, stands on the one before."""
+    used = proved.crates()
+    return all(below in used[name] for below, name in zip(names, names[1:]))
+
+
+def heard(child, gate):
+    """Tells what is proved of the program, and has the gate begin behind that."""
+    left = proved.made_of(PROGRAM)
+    for line in child.stderr:
+        tell(line.rstrip("\n"))
+        found = LAST.match(line)
+        if found and found[1] in left:
+            left.remove(found[1])
+            if is_row(left) and not gate.is_given_up:
+                gate.begin()
+
+
 def program(gate):
     """Has the program's crates proved, and the program built, as far as that can be kept for the
     gate. Gives whether it went well; it is stopped where anything else fails."""
     words, began = [os.path.join(ROOT, "tools", "prove.py"), "first"], time.monotonic()
-    child = subprocess.Popen(words, cwd=ROOT, stdin=subprocess.DEVNULL, start_new_session=True)
+    how = {"stdin": subprocess.DEVNULL, "stderr": subprocess.PIPE, "text": True, "errors": "replace"}
+    child = subprocess.Popen(words, cwd=ROOT, start_new_session=True, **how)
     RUNNING.add(child)
+    hearing = threading.Thread(target=heard, args=(child, gate), daemon=True)
+    hearing.start()
     while child.poll() is None and not gate.is_given_up:
         time.sleep(0.2)
     if child.returncode is None:
         return False
+    hearing.join()
     RUNNING.discard(child)
     tell("the proof of the program took %.1f minutes" % ((time.monotonic() - began) / 60))
     return child.returncode == 0

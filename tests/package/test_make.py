@@ -14,8 +14,8 @@ from support.tree import session, tree
 NOT_PROVED = "this run is not proved: make build proves it (minutes the first time)\n"
 
 
-def crates_of_program():
-    """How many crates the program is made of, with its own."""
+def names_of_program():
+    """The crates that the program is made of, with its own."""
     with open(os.path.join(ROOT, "crates.txt"), encoding="utf-8") as it:
         lines = dict(line.partition(":")[::2] for line in it if line.strip())
     used = {name.split()[0]: line.split() for name, line in lines.items()}
@@ -25,7 +25,11 @@ def crates_of_program():
         if name in used and name not in found:
             found.add(name)
             left += used[name]
-    return len(found)
+    return found
+
+
+def crates_of_program():
+    return len(names_of_program())
 
 
 def has(text, *wanted):
@@ -257,8 +261,8 @@ def test_gate():
     tests get the program that was built, and what the gate said comes last."""
     with tree_with_gate() as it:
         status, out, err = it.run("tools/gate.py")
-        assert status == 0, "its status"
-        has(err, "proving %d crates (0:" % crates_of_program())
+        assert (status, err) == (0, ""), "its status"
+        has(out, "proving %d crates (0:" % crates_of_program())
         called = it.called()
         assert called.index("ci") < called.index("lib --target " + TARGETS[0]), "what comes first"
         tests = ["%s %s/out/tried/ymodem" % (name, it.top) for name in TESTS]
@@ -291,6 +295,17 @@ def test_gate():
         assert (it.make("build")[0], it.called()) == (0, []), "a build behind it"
 
 
+@sentence("the gate begins where the crates that are left stand one on another")
+def test_gate_beside_the_last_crates():
+    """These do not need all processors."""
+    last = {"ym_inspect", "ym_record", "ym_jobs", "ym_command", "ymodem"}
+    with tree_with_gate() as it:
+        it.mark("below", " ".join(sorted(names_of_program() - last) + ["ym_line_c"]))
+        it.mark("first")
+        status, out, _ = it.run("tools/gate.py")
+        assert (status, out.splitlines()[-1]) == (0, "18 passed, 0 failed"), "how it ended"
+
+
 @sentence("the gate where an edit is not refused")
 def test_gate_that_refuses():
     with tree_with_gate() as it:
@@ -307,12 +322,12 @@ def test_gate_without_a_program():
     """What `rt` said of it is shown, and the gate does not begin."""
     with tree_with_gate() as it:
         it.mark("wrong")
-        status, out, err = it.run("tools/gate.py")
+        status, out, _ = it.run("tools/gate.py")
         assert (status, out.splitlines()[-1]) == (
             1,
             "the proof of the program failed",
         ), "its status and its last line"
-        has(err, "FAILED: ym_check", "out/build.log")
+        has(out, "FAILED: ym_check", "out/build.log")
         assert it.called().count("ci") == 1, "its calls"
 
 

@@ -15,6 +15,7 @@ from support.waits import wait_until
 # and `rt ci` wait for their end, and where `else` is there, a program for tests prints something
 # else than its cases want. `below` has the crates that `rt ci` proves first. Where `late` or
 # `proves` is there, `rt ci` waits so in the whole tree alone, or says that an edit was not refused.
+# Where `first` is there, that of the program's crates waits until the other one was called.
 STAND_IN = r"""#!/bin/sh
 [ "$1" = version ] || echo "$*" >> "$CALLED/called"
 case $1 in
@@ -39,6 +40,9 @@ ci)
     for name in $(cat "$CALLED/below" 2> /dev/null); do
         mkdir -p "crates/$name/out/rlib"
         echo "rt: $name proved"
+    done
+    while [ -e "$CALLED/first" ] && [ "$(grep -c '^ci$' "$CALLED/called")" -lt 2 ]; do
+        sleep 0.1
     done
     for name in explain_cases line_cases port_cases ymodem; do
         mkdir -p "crates/$name/out" && cp "$YMODEM" "crates/$name/out/$name"
