@@ -2,11 +2,12 @@
 """Runs the gate, `rt ci`, and beside it all that is tried before a change lands.
 
 The gate proves every crate, tries the edits that have to be refused, and runs the crates' tests.
-The program's crates are proved first, by themselves (tools/prove.py), and are kept for the gate. It
-begins when those that are left stand one on another: they still get all processors that they can
-use, and the gate the others. Once they are proved come, while the gate is at the rest, the tests of
-that very program, folder by folder of tests/. So nothing is proved twice, and most tests wait for
-lines and peers while the gate needs the processors.
+The crates of the program, and of what plays cases to its parts, are proved first, by themselves
+(tools/prove.py), and are kept for the gate. It begins when those that are left stand one on
+another: they still get all processors that they can use, and the gate the others. Once they are
+proved come, while the gate is at the rest, the tests of that very program, folder by folder of
+tests/. So nothing is proved twice, and most tests wait for lines and peers while the gate needs the
+processors.
 Beside all that come want of memory (tests/memory), what the crates keep to (tests/house), and the
 library for C with the page, made in a copy of the tree since the gate holds the crates' folders,
 over the crates that the gate proved.
@@ -41,11 +42,12 @@ from shown import RUNNING, ran, reaped, shown, tell
 ROOT = proved.ROOT
 OUT = os.path.join(ROOT, "out")
 LOG = os.path.join(OUT, "gate.log")
-# Copies, since the gate is at work in the crates' own folders: the program, and what plays cases to
-# its parts, by the variables that name them to the tests.
+# The program, and what plays cases to its parts, by the variables that name them to the tests. They
+# lie in a folder of their own, since the gate is at work in those of the crates.
 TRIED = os.path.join(OUT, "tried")
 PROGRAM = "ymodem"
 CASES = {"CASES": "port_cases", "LINE_CASES": "line_cases"}
+PROGRAMS = {"YMODEM": PROGRAM, **CASES}
 # The folders of tests side by side, those of a row in turn: most tests wait for lines and peers.
 # What depends on how soon its process answers begins a row.
 ROWS = (
@@ -332,16 +334,24 @@ class Row:
         self.thread.start()
 
     def run(self):
+        try:
+            self.failed = self.failing()
+        except Exception as fault:  # tests that were not made have not passed
+            tell("%s: %r" % (", ".join(self.names), fault))
+            self.failed = "a row of tests"
+
+    def failing(self):
+        """Makes the tests. Gives the first folder that fails, if one does."""
         for name in self.names:
             if name in TESTS_OF_LIBRARY and not self.library.has_ended_well():
-                return
-            if name in TESTS_OF_CASES and not copied(self.gate, *CASES.values()):
-                return
+                return None
+            if name in TESTS_OF_CASES and not are_there(self.gate, *CASES.values()):
+                return None
             if self.gate.is_given_up:
-                return
+                return None
             if made(name, self.environment):
-                self.failed = "tests/" + name
-                return
+                return "tests/" + name
+        return None
 
 
 def built(name):
@@ -349,36 +359,38 @@ def built(name):
     return os.path.join(ROOT, "crates", name, "out", name)
 
 
-def copy_of(*names):
-    """Copies programs to where they are tried."""
-    os.makedirs(TRIED, exist_ok=True)
-    for name in names:
-        # in one step: another row may run it
-        shutil.copy2(built(name), os.path.join(TRIED, name + ".new"))
-        os.replace(os.path.join(TRIED, name + ".new"), os.path.join(TRIED, name))
+# Several rows may want the same programs.
+TAKING = threading.Lock()
 
 
-def copied(gate, *names):
-    """Waits until the gate has proved and built these programs, and copies them. Gives whether it
-    has."""
-    if not gate.has_proved(*names):
-        return False
-    copy_of(*names)
-    return True
+def place(name):
+    """Where a program lies to be tried."""
+    return os.path.join(TRIED, name)
 
 
-def is_what_was_tried():
-    """Whether the gate built the very program that was tried."""
-    return filecmp.cmp(built(PROGRAM), os.path.join(TRIED, PROGRAM), shallow=False)
+def are_there(gate, *names):
+    """Whether these programs are there to be tried. Those that were not proved before the gate are
+    waited for, and taken from it."""
+    with TAKING:
+        lacking = [name for name in names if not os.access(place(name), os.X_OK)]
+        if lacking and not gate.has_proved(*lacking):
+            return False
+        os.makedirs(TRIED, exist_ok=True)
+        for name in lacking:
+            shutil.copy2(built(name), place(name))
+        return True
 
 
-def tried(gate, is_there, before, library):
-    """The tests of the program, which is there to be tried, or is the one that the gate builds.
-    Gives the name of the first that fails."""
-    if not is_there and not copied(gate, PROGRAM):
+def are_what_was_tried():
+    """Whether the gate built the very programs that were tried."""
+    return all(filecmp.cmp(built(it), place(it), shallow=False) for it in PROGRAMS.values())
+
+
+def tried(gate, before, library):
+    """The tests of the program. Gives the name of the first that fails."""
+    if not are_there(gate, PROGRAM):
         return None
-    names = {"YMODEM": PROGRAM, **CASES}
-    environment = {**os.environ, **{it: os.path.join(TRIED, name) for it, name in names.items()}}
+    environment = {**os.environ, **{it: place(name) for it, name in PROGRAMS.items()}}
     before.thread.join()
     rows = [Row(names, gate, library, environment) for names in ROWS]
     while any(row.thread.is_alive() for row in rows) and not any(row.failed for row in rows):
@@ -399,11 +411,8 @@ def judged(gate, beside):
     beside += [installed, library, *(Beside(name, work, gate) for name, work in works.items())]
     failed = None
     if program(gate):
-        is_there = proved.holds(PROGRAM)
-        if is_there:
-            copy_of(PROGRAM)
         gate.begin()
-        failed = tried(gate, is_there, installed, library)
+        failed = tried(gate, installed, library)
     elif not gate.is_given_up:
         failed = "the proof of the program"
         gate.give_up()
@@ -411,8 +420,8 @@ def judged(gate, beside):
         failed = failed or (None if it.has_ended_well() else it.name)
     if COUNTS:
         tell("the tests of all folders: %s" % in_all())
-    if not failed and not gate.ended() and not is_what_was_tried():
-        failed = "the comparison of the program that was tried with the gate's"
+    if not failed and not gate.ended() and not are_what_was_tried():
+        failed = "the comparison of what was tried with what the gate built"
     return failed or gate.child.returncode
 
 

@@ -14,8 +14,9 @@ usage: prove.py [play|check|first]
           else by `rt try`, which proves nothing
   check   proves what changed, and tries unproved the tests of the crates that changed since the last
           green run, in them and in the crates of tests that use them
-  first   for the gate: proves the program's crates side by side, whatever stands here, since the gate
-          takes nothing but what was kept so; where nothing can be kept, it does nothing
+  first   for the gate: proves the program's crates side by side, and the programs of cases that its
+          tests run, whatever stands here, since the gate takes nothing but what was kept so, and puts
+          these programs into out/tried; where nothing can be kept, none is there
 """
 
 import contextlib
@@ -36,6 +37,9 @@ import proved
 from proved import CRATES, PROGRAM, ROOT, crates, sources
 
 TOP = os.path.join(CRATES, "ymodem")
+# What the gate tries: the program, and what plays cases to its parts.
+TRIED = os.path.join(ROOT, "out", "tried")
+PROGRAMS = ("ymodem", "port_cases", "line_cases")
 LOG = os.path.join(ROOT, "out", "build.log")
 GREEN = os.path.join(ROOT, "out", "green.json")
 
@@ -160,9 +164,10 @@ def copied(names, to):
         shutil.copy(it, there)
 
 
-def build_from_nothing(shown, kept):
-    """Has the program's crates proved side by side, or taken where the gate has kept them."""
-    names, said, done = of_program(), [], set()
+def build_from_nothing(shown, kept, places):
+    """Has the crates of these programs proved side by side, or taken where the gate has kept them,
+    and puts each program into its place."""
+    names, said, done = proved.made_of(*places), [], set()
 
     def hear(line):
         kept.write(line)
@@ -177,8 +182,9 @@ def build_from_nothing(shown, kept):
         copied(names, top)
         if followed(["rt", "ci"], top, os.devnull, hear):
             failed(shown, said)
-        os.makedirs(os.path.dirname(PROGRAM), exist_ok=True)
-        shutil.copy2(os.path.join(top, "crates", "ymodem", "out", "ymodem"), PROGRAM)
+        for name, place in places.items():
+            os.makedirs(os.path.dirname(place), exist_ok=True)
+            shutil.copy2(os.path.join(top, "crates", name, "out", name), place)
 
 
 def can_keep():
@@ -196,7 +202,10 @@ def build(here=False):
     shown = Shown(sys.stderr)
     has_begun = os.path.isdir(os.path.join(CRATES, "ym_check", "out", "incremental"))
     with log_file() as kept:
-        (build_here if here or has_begun or not can_keep() else build_from_nothing)(shown, kept)
+        if here or has_begun or not can_keep():
+            build_here(shown, kept)
+        else:
+            build_from_nothing(shown, kept, {"ymodem": PROGRAM})
     shown.clear()
     # It is newer than its sources now, also where nothing had to be built.
     with contextlib.suppress(OSError):
@@ -207,13 +216,13 @@ def build(here=False):
 
 def first():
     """Proves and builds for the gate. Whatever goes wrong ends this script."""
-    if proved.holds("ymodem") or not can_keep():
+    shutil.rmtree(TRIED, ignore_errors=True)
+    if not can_keep():
         return
     shown = Shown(sys.stderr)
     with log_file() as kept:
-        build_from_nothing(shown, kept)
+        build_from_nothing(shown, kept, {name: os.path.join(TRIED, name) for name in PROGRAMS})
     shown.clear()
-    proved.note("ymodem")
 
 
 def is_current():
