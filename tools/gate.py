@@ -8,6 +8,7 @@ another: they still get all processors that they can use, and the gate the other
 proved come, while the gate is at the rest, the tests of that very program, folder by folder of
 tests/. So nothing is proved twice, and most tests wait for lines and peers while the gate needs the
 processors.
+
 Beside all that come want of memory (tests/memory), what the crates keep to (tests/house), and the
 library for C with the page, made in a copy of the tree since the gate holds the crates' folders,
 over the crates that the gate proved.
