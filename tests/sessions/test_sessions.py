@@ -121,8 +121,10 @@ NOISE = (
 )
 
 
-# So exact are the seconds of a session on a busy machine.
-EXACT = 0.15
+# So exact are the seconds of a session on an idle machine, and such a share of them may be more where
+# a machine has all it can do.
+EXACT, NEAR = 0.05, 0.2
+SHORT_SEEDS = 3
 # Senders with blocks of one length, side by side: long ones, and short ones.
 ALIKE = (
     ("long blocks", (), "sb -k"),
@@ -255,6 +257,29 @@ def test_of_long_form(row):
     is_as_it_has_to_be(row)
 
 
+class Beside:
+    """What sessions of `send` came to beside those of lrzsz's own two, at the seeds at which all are
+    whole: how much more they take by the median of the differences, the share of that, and what is
+    told."""
+
+    def __init__(self, name, blocks, rows):
+        told = asyncio.run_coroutine_threadsafe(all_rows_made(rows), LOOP).result()
+        whole = [{seed: it.seconds for seed, it in came if it.is_whole} for came in told]
+        shared = set.intersection(*map(set, whole))
+        theirs = statistics.median(whole[-1][it] for it in shared)
+        self.more, lines = [], []
+        for row, came, seconds in zip(rows, told, whole):
+            false = sum(bool(it.fault) for _, it in came)
+            median = statistics.median(seconds[it] for it in shared)
+            self.more.append(statistics.median(seconds[it] - whole[-1][it] for it in shared))
+            counts = (row.name, len(came), len(seconds), false, median, self.more[-1])
+            lines.append("%s: %d sessions, %d whole, %d false, median %.2f s, %+.2f s" % counts)
+            assert not false, lines[-1]
+        self.share = max(self.more) / theirs
+        self.told = "%s, %s: medians of %d seeds; %s" % (name, blocks, len(shared), "; ".join(lines))
+        print(self.told)
+
+
 @pytest.mark.long
 @cases(*(case("%s, %s" % (name, it[0]), name, how, *it) for name, how in NOISE for it in ALIKE))
 def test_as_quick_as_sb_across_the_same_noise(name, how, blocks, flags, other):
@@ -266,16 +291,14 @@ def test_as_quick_as_sb_across_the_same_noise(name, how, blocks, flags, other):
     sessions of one seed differ by a second or two now and then, up and down."""
     needs("sb", "rb")
     rows = list(rows_alike(how, flags, other, int(os.environ.get("SEEDS", "20"))))
-    told = asyncio.run_coroutine_threadsafe(all_rows_made(rows), LOOP).result()
-    whole = [{seed: it.seconds for seed, it in came if it.is_whole} for came in told]
-    shared = set.intersection(*map(set, whole))
-    more, lines = [], []
-    for row, came, seconds in zip(rows, told, whole):
-        false = sum(bool(it.fault) for _, it in came)
-        median = statistics.median(seconds[it] for it in shared)
-        more.append(statistics.median(seconds[it] - whole[-1][it] for it in shared))
-        counts = (row.name, len(came), len(seconds), false, median, more[-1])
-        lines.append("%s: %d sessions, %d whole, %d false, median %.2f s, %+.2f s" % counts)
-        assert not false, lines[-1]
-    print("%s, %s: medians of %d seeds; %s" % (name, blocks, len(shared), "; ".join(lines)))
-    assert max(more) <= EXACT, "; ".join(lines)
+    beside = Beside(name, blocks, rows)
+    assert max(beside.more) <= EXACT, beside.told
+
+
+@cases(*(case("flipped, 0.05%%, %s" % it[0], *it) for it in ALIKE))
+def test_nearly_as_quick_as_sb(blocks, flags, other):
+    """The same at a few seeds, where other work may make any of them slower."""
+    needs("sb", "rb")
+    rows = list(rows_alike(dict(NOISE)["flipped, 0.05%"], flags, other, SHORT_SEEDS))
+    beside = Beside("flipped, 0.05%", blocks, rows)
+    assert beside.share <= NEAR, beside.told

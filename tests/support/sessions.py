@@ -11,12 +11,14 @@ import asyncio
 import contextlib
 import os
 import random
+import socket
 import tempfile
 import time
 
 from support.cable import Plug, ticking
 from support.claims import Claim, claim_of_receive, claim_of_send, wants_true
 from support.program import PROGRAM, Ending, free_port, stored, write_files
+from support.relay import at_once
 
 
 # A session that takes longer than this is stopped; it shows nothing but that.
@@ -241,18 +243,22 @@ async def started(*words, stdin=asyncio.subprocess.DEVNULL, stdout=PIPE, cwd=Non
     )
 
 
-async def send_end(flags, paths):
-    """`send`, which calls a port: the connection is the line."""
+@contextlib.asynccontextmanager
+async def listening():
+    """A port of this process, and the streams of the first one that calls it."""
     called = asyncio.get_running_loop().create_future()
     server = await asyncio.start_server(
         lambda *streams: called.done() or called.set_result(streams), "127.0.0.1", 0
     )
-    process = await started(
-        PROGRAM, "send", "--port", server.sockets[0].getsockname()[1], *flags, *paths
-    )
-    streams = await asyncio.wait_for(called, LIMIT)
-    server.close()
-    return End(process, streams)
+    with contextlib.closing(server):
+        yield server.sockets[0].getsockname()[1], called
+
+
+async def send_end(flags, paths):
+    """`send`, which calls a port: the connection is the line."""
+    async with listening() as (port, called):
+        process = await started(PROGRAM, "send", "--port", port, *flags, *paths)
+        return End(process, await asyncio.wait_for(called, LIMIT))
 
 
 async def receive_end(flags, folder):
@@ -266,18 +272,15 @@ async def receive_end(flags, folder):
             await asyncio.sleep(0.01)
 
 
-class Piped:
-    """The two pipes of an end whose line is its standard input and output."""
-
-    def __init__(self, process):
-        self.write, self.close = process.stdin.write, process.stdin.close
-
-
-async def piped_end(*words, cwd=None):
-    process = await started(*words, stdin=PIPE, stdout=PIPE, cwd=cwd)
-    end = End(process, (process.stdout, Piped(process)))
-    process.stdout, end.out = None, process.stdout
-    return end
+async def connected_end(*words, cwd=None):
+    """An end whose standard input and output are a connection, which is a line as quick as that of
+    `send`."""
+    async with listening() as (port, called):
+        with socket.create_connection(("127.0.0.1", port)) as line:
+            at_once(line)
+            line.settimeout(None)
+            process = await started(*words, stdin=line, stdout=line, cwd=cwd)
+        return End(process, await called)
 
 
 async def terminal_end(word, *words):
@@ -299,7 +302,7 @@ async def terminal_end(word, *words):
 
 async def sender(who, flags, paths):
     if who in LRZSZ_SENDERS:
-        return await piped_end(*who.split(), *paths)
+        return await connected_end(*who.split(), *paths)
     if who in TERMINALS:
         return await terminal_end("sb", *flags, *paths)
     return await send_end(flags, paths)
@@ -307,7 +310,7 @@ async def sender(who, flags, paths):
 
 async def receiver(who, flags, folder):
     if who == "rb":
-        return await piped_end("rb", "-y", cwd=folder)
+        return await connected_end("rb", "-y", cwd=folder)
     if who in TERMINALS:
         return await terminal_end("rb", *flags, folder)
     return await receive_end(flags, folder)

@@ -2,6 +2,8 @@
 
 import contextlib
 import fcntl
+import select
+import socket
 import struct
 import termios
 import time
@@ -18,9 +20,30 @@ def waiting(end):
     return struct.unpack("i", fcntl.ioctl(end, termios.FIONREAD, bytes(4)))[0]
 
 
+@contextlib.contextmanager
+def counting(end, count):
+    """Has a socket count as one that can be read where so many bytes have come."""
+    end.setsockopt(socket.SOL_SOCKET, socket.SO_RCVLOWAT, count)
+    try:
+        yield
+    finally:
+        end.setsockopt(socket.SOL_SOCKET, socket.SO_RCVLOWAT, 1)
+
+
+def wait_to_read(end, count, seconds):
+    """Waits until a socket has so many bytes, or was closed, and no longer than so many seconds."""
+    poll = select.poll()
+    poll.register(end, select.POLLIN)
+    with counting(end, count):
+        poll.poll(1000 * seconds)
+
+
 def wait_for(end, count):
-    """Waits until so many bytes have come, without taking them."""
+    """Waits until so many bytes have come, without taking them. The system tells when a socket has
+    them: hundreds of threads that look again and again would keep one another from running."""
     until = time.monotonic() + LIMIT
+    if isinstance(end, socket.socket):
+        wait_to_read(end, count, LIMIT)
     while waiting(end) < count:
         assert time.monotonic() <= until, "the program did not write %d bytes more" % count
         time.sleep(0.02)

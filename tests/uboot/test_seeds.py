@@ -14,7 +14,7 @@ from concurrent.futures import ThreadPoolExecutor
 
 import pytest
 from support.cases import case, cases
-from support.flips import FRAMES, REPLIES, Flips, recovers
+from support.flips import BOTH, FRAMES, REPLIES, Flips, recovers
 from support.one_end import accepted, relayed, sending
 from support.program import LIMIT, connected, write_files
 from support.relay import at_once
@@ -84,6 +84,8 @@ SENDERS = {
 # What is damaged, and who is compared there. `sb` has short blocks, and `sb -k` long ones, as `send`
 # has. Where frames are damaged, a long block costs more than a short one.
 KINDS = (
+    ("frames and replies flipped", BOTH, "send", "sb -k"),
+    ("frames and replies flipped, short blocks", BOTH, "send --short", "sb"),
     ("frames flipped", FRAMES, "send", "sb -k"),
     ("frames flipped, short blocks", FRAMES, "send --short", "sb"),
     ("replies flipped", REPLIES, "send", "sb"),
