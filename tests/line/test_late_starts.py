@@ -14,7 +14,7 @@ from support.frames import mixed, short
 from support.peers import PlainSender, receive_from
 from support.program import folders, stored
 from support.serial_line import Apart, Counted
-from support.waits import wait_for
+from support.waits import wait_for_asks
 
 GAPS = (0.0, 0.1, 0.3, 0.7)
 
@@ -46,7 +46,7 @@ def test_plain_sender(files, asked, gap, flags, cut):
     """A plain sender that answers each C by block 0, with this gap between its copies."""
 
     def late(sender, end):
-        wait_for(end, asked)
+        wait_for_asks(end, asked)
         sender.run(end)
 
     # A busy machine can stretch a gap beyond the second within which copies have to come: such a

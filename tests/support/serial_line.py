@@ -15,7 +15,7 @@ import time
 from support.frames import ACK, CAN, EOT, NAK, SOH, START, STX, split
 from support.program import LIMIT, connected
 from support.relay import Clean, Relay, at_once, hand, read
-from support.waits import wait_for
+from support.waits import wait_for_asks
 
 
 BITS = 10
@@ -92,7 +92,7 @@ class SerialLine(Relay):
     def run(self):
         try:
             with self.listener, connected(self.receiver_port) as receiver:
-                wait_for(receiver, self.asked)
+                wait_for_asks(receiver, self.asked)
                 self.due.set()
                 self.listener.settimeout(LIMIT)
                 sender, _ = self.listener.accept()

@@ -9,6 +9,7 @@ import termios
 import time
 
 from support.program import LIMIT
+from support.pulse import beating
 
 
 # The state of a socket that listens, in the tables of the system.
@@ -42,11 +43,23 @@ def wait_for(end, count):
     """Waits until so many bytes have come, without taking them. The system tells when a socket has
     them: hundreds of threads that look again and again would keep one another from running."""
     until = time.monotonic() + LIMIT
-    if isinstance(end, socket.socket):
+    if waiting(end) < count and isinstance(end, socket.socket):
         wait_to_read(end, count, LIMIT)
     while waiting(end) < count:
         assert time.monotonic() <= until, "the program did not write %d bytes more" % count
         time.sleep(0.02)
+
+
+# A receiver asks every three seconds, and a little later each time. Where its last ask was seen so
+# many seconds late, a test shows nothing: it gives up three behind the ninth.
+ASKS_EVERY, MAY_BE_LATE = 3.1, 1
+
+
+def wait_for_asks(receiver, count):
+    """Waits until a receiver that was just connected has asked so many times."""
+    began = time.monotonic()
+    wait_for(receiver, count)
+    beating().note(began, ASKS_EVERY * count + MAY_BE_LATE)
 
 
 def wait_until(is_so, what, child=None):
