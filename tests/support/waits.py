@@ -41,7 +41,7 @@ def wait_to_read(end, count, seconds):
 
 def wait_for(end, count):
     """Waits until so many bytes have come, without taking them. The system tells when a socket has
-    them: hundreds of threads that look again and again would keep one another from running."""
+    them: hundreds of threads that look again and again take much of a processor."""
     until = time.monotonic() + LIMIT
     if waiting(end) < count and isinstance(end, socket.socket):
         wait_to_read(end, count, LIMIT)
