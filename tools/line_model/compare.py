@@ -27,7 +27,7 @@ BYTES = {
     "receiver": (1, 2, 4, 24, 67, 6, 0, 255),
 }
 STEPS = (0, 0, 1, 5, 12, 90, 300, 900, 1100, 2100, 3000, 10000)
-OWED = ("nothing", "one", "late", "several")
+OWED = ("nothing", "one", "late", "several", "likely")
 VAIN = ("again", "ack", "quiet")
 
 
@@ -79,7 +79,7 @@ class Run:
         timing.wrote(FRAMES[index], clearing, self.now)
         self.written, self.index = FRAMES[index], index
         owed = OWED.index(timing.out.owed)
-        self.row("wrote", index, timing.slowest * 8 + owed * 2 + timing.is_shaken)
+        self.row("wrote", index, timing.slowest * 16 + owed * 2 + timing.is_shaken)
 
     def steps(self, count):
         acts = (self.hears, self.hears, self.hears, self.waits, self.expires, self.writes)

@@ -87,13 +87,13 @@ class Hold:
     """What a sender hears later, or not at all."""
 
     def __init__(self):
-        self.is_held, self.at, self.wary, self.asks_left, self.asked_at = False, 0, "calm", 0, 0
+        self.is_held, self.at, self.first_ack, self.asks_left, self.asked_at = False, 0, "counts", 0, 0
 
-    def wrote(self, is_opening, is_repeat, is_wary, now):
+    def wrote(self, is_opening, is_repeat, is_doubted, now):
         self.is_held = False
         if not is_repeat:
-            kept = "prompt" if self.wary == "prompt" else "calm"
-            self.wary = "wary" if is_wary else kept
+            kept = "brief" if self.first_ack == "brief" else "counts"
+            self.first_ack = "doubted" if is_doubted else kept
         self.asks_left = STALE_ASKS if is_opening and not is_repeat else 0
         self.asked_at = now
 
@@ -103,30 +103,39 @@ class Hold:
         return b""
 
     def moment(self):
-        return BRIEF if self.wary == "prompt" else MOMENT
+        return BRIEF if self.first_ack == "brief" else MOMENT
 
     def start(self, now):
-        if self.wary == "dropped":
-            self.wary = "calm"
+        if self.first_ack == "dropped":
+            self.first_ack = "counts"
             return b""
         was, self.is_held = self.is_held, False
         if was:
-            self.wary = "prompt" if now < self.at + TOGETHER else "calm"
+            is_brief = now < self.at + TOGETHER or self.at + MOMENT <= now
+            self.first_ack = "brief" if is_brief else "counts"
         return bytes([ACK, START]) if was else bytes([START])
 
     def at_eot(self, byte, now):
-        if byte == ACK and self.wary == "wary":
-            self.is_held, self.wary = False, "dropped"
+        if byte == ACK and self.first_ack == "doubted":
+            self.is_held, self.first_ack = False, "dropped"
             return b""
         if byte == ACK:
-            self.wary = "calm"
+            self.first_ack = "counts"
             return self.ack(now)
         if byte == START:
             return self.start(now)
         self.is_held = False
         if byte == NAK:
-            self.wary = "calm"
+            self.first_ack = "counts"
         return bytes([byte])
+
+    def at_moment(self, is_end, byte, now):
+        """Behind the end block, or a block 1 whose ACK may be that of a copy of block 0."""
+        if byte == ACK:
+            return self.ack(now)
+        is_passed = self.is_held and (byte != CAN if is_end else byte == START)
+        self.is_held = is_passed and is_end
+        return b"" if is_passed else bytes([byte])
 
     def control(self, kind, byte, is_first, now):
         if self.is_held and byte not in CONTROLS:
@@ -138,10 +147,6 @@ class Hold:
             return b""
         if kind == "eot":
             return self.at_eot(byte, now)
-        if kind == "end" and byte == ACK:
-            return self.ack(now)
-        if kind == "end" and self.is_held and byte != CAN:
-            return b""
-        if kind == "end":
-            self.is_held = False
+        if kind == "end" or (kind == "data" and self.first_ack == "doubted"):
+            return self.at_moment(kind == "end", byte, now)
         return bytes([byte])

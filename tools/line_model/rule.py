@@ -4,7 +4,7 @@
 milliseconds.
 """
 
-from dataclasses import dataclass
+from dataclasses import dataclass, replace
 
 from ends import ACK, CAN, CANCEL, CONTROLS, WITHIN
 from line import MS, Read, Write
@@ -17,6 +17,7 @@ QUIET = {"sender": 1_250, "receiver": 1_000}
 APART = 2_000
 UNASKED = 2_750
 SOON = 1_750
+LIKELY = 2_250
 HELD_UP = 2_000
 FRAGMENT = 64
 FULL = 2_048
@@ -61,6 +62,9 @@ class Out:
     def again(self, now):
         gap = max(self.gap, now - self.last_at)
         return Out("several", min(255, self.copies + 1), self.first_at, now, gap)
+
+    def likely(self, now):
+        return replace(self.again(now), owed="likely")
 
 
 @dataclass
@@ -120,13 +124,13 @@ class Timing:
             end = start + (PATIENCE if self.is_early(kind) else self.wait())
         if not self.hold.is_held:
             return end
-        if self.sent.kind == "end":
+        if self.sent.kind in ("end", "data"):
             return self.hold.at + self.hold.moment()
         return max(end, self.hold.at + WITHIN_MS)
 
     def expired(self, kind, now):
         """What a read that waited in vain comes to: "ack", "again" or "quiet"."""
-        if self.sent.kind == "end" and self.hold.is_held:
+        if self.sent.kind in ("end", "data") and self.hold.is_held:
             self.hold.is_held = False
             self.heard.take(ACK, now)
             return "ack"
@@ -229,7 +233,7 @@ class Timing:
         vain = clearing.need in ("late", "several") and not clearing.has_brought
         if self.role == "sender" and vain:
             self.sure(self.took(self.out.last_at))
-        elif self.out.owed == "several":
+        elif self.out.owed in ("likely", "several"):
             self.doubtful(self.took(self.out.first_at))
         else:
             self.learn_of_one()
@@ -248,19 +252,28 @@ class Timing:
         if self.role == "receiver":
             return self.front is not None and self.heard.count >= FRAGMENT
         soon = SOON if self.trust == "unknown" else max(SOON, UNASKED - self.slowest)
+        return self.out.owed in ("one", "late") and self.asked_within(soon)
+
+    def asked_within(self, long):
         took = max(0, self.heard.since - self.led_at)
-        is_one = self.out.owed in ("one", "late")
-        return is_one and self.heard.count > 0 and not self.heard.has_waited and took <= soon
+        return self.heard.count > 0 and not self.heard.has_waited and took <= long
 
     def is_late(self):
         is_one = self.role == "sender" and self.out.owed in ("one", "late")
         is_overdue = self.out.last_at + self.bound() <= self.heard.since
         return is_one and self.trust == "sure" and self.heard.count > 0 and is_overdue
 
+    def is_likely(self):
+        is_first = self.role == "sender" and self.sent.kind == "opening"
+        is_one = self.out.owed == "one" and self.trust == "unknown"
+        return is_first and is_one and self.asked_within(LIKELY)
+
     def out_after(self, taken, now):
         if self.out.owed == "nothing" or taken or self.is_prompted():
             return Out("one", 1, now, now, 0)
-        return Out("late", 1, now, now, 0) if self.is_late() else self.out.again(now)
+        if self.is_late():
+            return Out("late", 1, now, now, 0)
+        return self.out.likely(now) if self.is_likely() else self.out.again(now)
 
     def wrote(self, data, clearing, now):
         following = self.sent.then(data)
@@ -270,11 +283,12 @@ class Timing:
             calm = self.sent.kind == "data"
             shaken = clearing.need != "nothing" or (self.is_shaken and not calm)
         empty = self.sent.kind == "opening" and following.kind == "eot"
+        copied = self.out.owed == "likely" and taken
         out = self.out_after(taken, now)
         self.learn(clearing, taken)
         if clearing.need in ("late", "several"):
             self.vain = 0 if clearing.has_brought else min(HALVINGS, self.vain + 1)
-        self.hold.wrote(following.kind == "opening", repeat, shaken and empty, now)
+        self.hold.wrote(following.kind == "opening", repeat, (shaken and empty) or copied, now)
         if self.role == "receiver" and taken:
             self.front = (self.heard.first, self.heard.second)
         self.led_at = self.heard.last if self.heard.count else now

@@ -62,12 +62,13 @@ fn learned(timing: &Timing) -> u64 {
         Owed::One => 2,
         Owed::Late => 4,
         Owed::Several => 6,
+        Owed::Likely => 8,
     };
     let shaken = u64::from(timing.is_shaken);
     timing
         .pace
         .slowest
-        .saturating_mul(8)
+        .saturating_mul(16)
         .saturating_add(owed + shaken)
 }
 

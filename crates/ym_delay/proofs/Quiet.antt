@@ -10,7 +10,7 @@ use Rattle.ym_port.specs.declared.line.Line.{Line}
 use Rattle.ym_timing.specs.ByteRows.{after_bytes}
 use Rattle.ym_timing.specs.Pace as pace
 use Rattle.ym_timing.specs.Times.{later}
-use Rattle.ym_timing.specs.Timing.{after_by, after_byte, after_vain, controlled, is_early, is_end, is_last, listened_to, takes, until}
+use Rattle.ym_timing.specs.Timing.{after_by, after_byte, after_vain, controlled, is_early, holds_a_moment, is_acked, listened_to, takes, until}
 use Rattle.ym_timing.specs.declared.limits.TheConstants.{PATIENCE, WITHIN}
 use Rattle.ym_timing.specs.declared.hold.Say.{Say}
 use Rattle.ym_timing.specs.declared.hold.Say.TheVariants as say
@@ -48,7 +48,7 @@ module _ (w : ℕ) where
   bytes-wait (byte ∷ bytes) written now t is = bytes-wait bytes written now (after_byte byte written now t) (by-waits t.role byte written now t is)
 
   vain-waits : (now : ℕ) (t : Timing) → Waits t → Waits (after_vain Reply now t)
-  vain-waits now t is = either Waits (is_last t) _ _ (λ _. is) (λ _. either Waits (is_early Reply t) _ _ (λ _. is) (λ _. is))
+  vain-waits now t is = either Waits (is_acked t) _ _ (λ _. is) (λ _. either Waits (is_early Reply t) _ _ (λ _. is) (λ _. is))
 
 -- ---- When a wait is over
 
@@ -61,9 +61,9 @@ limit false last true moment patient whole other none late = absurd (cc)
 limit false last false moment patient whole other none late = omega arith
 
 -- not an ACK that is held, nor the first part of a wait
-over-by : (start : ℕ) (t : Timing) → is_last t ≡ false → is_early Reply t ≡ false → later start (pace.wait t.role t.pace) ≤ until Reply start t
+over-by : (start : ℕ) (t : Timing) → is_acked t ≡ false → is_early Reply t ≡ false → later start (pace.wait t.role t.pace) ≤ until Reply start t
 over-by start t none late =
-    limit t.hold.is_held (is_end t.sent.kind) (is_early Reply t) _ (later start PATIENCE) (later start (pace.wait t.role t.pace)) (later t.hold.at WITHIN) none late
+    limit t.hold.is_held (holds_a_moment t.sent.kind) (is_early Reply t) _ (later start PATIENCE) (later start (pace.wait t.role t.pace)) (later t.hold.at WITHIN) none late
 
 pub at-most : (a b : ℕ) → nat_le a b ≡ true → a ≤ b
 at-most a b is = grind (arith, is)
@@ -94,7 +94,7 @@ module _ (w start : ℕ) where
 
   ends-fine : (count : ℕ) (l : Line) (t : Tape) → Waits w l.timing → until Reply start l.timing ≤ l.clock.at → count + 1 ≤ length t.done → Fine count (ends Reply l t)
   ends-fine count l t is over more =
-      ends-by (is_last l.timing) (is_early Reply l.timing) _ _ _ count l t is is is more
+      ends-by (is_acked l.timing) (is_early Reply l.timing) _ _ _ count l t is is is more
       (λ none late. let whole = over-by start l.timing none late in let long = subst (λ x. later start x ≤ until Reply start l.timing) is whole in omega (arith, long, over))
 
   brings-fine : (heard : List ℕ) (count : ℕ) (l : Line) (t : Tape) → Waits w l.timing → count + 1 ≤ length t.done → Fine count (brings_of heard Reply start l t)
@@ -110,7 +110,7 @@ module _ (w start : ℕ) where
       brings-fine (heard_in bytes (looked (moment_of t) l)) count (hears bytes (looked (moment_of t) l)) (after_moment t) (bytes-wait w bytes l.written _ l.timing is) (longer Looked count t.done more)
   step-fine-by Silence count l t is more =
       ends-fine count (passed (ends_at Reply start l) (moment_of t) l) (after_moment t) is (omega arith) (longer Looked count t.done more)
-  step-fine-by End count l t is more = λ quiet. closed-fine (is_last l.timing) _ quiet
+  step-fine-by End count l t is more = λ quiet. closed-fine (is_acked l.timing) _ quiet
   step-fine-by Failed count l t is more = λ quiet. absurd (cc)
 
   step-fine : (room : ℕ) (l : Line) (t : Tape) → Waits w l.timing → Fine (length t.done) (step Reply start room l t)

@@ -33,7 +33,8 @@ trust_of n = if n == 0 then trust.Unknown else (if n == 1 then trust.Doubtful el
 abbrev pub owed_of : ℕ → Owed
 owed_of n =
     if n == 0 then owed.Nothing
-    else (if n == 1 then owed.One else (if n == 2 then owed.Late else owed.Several))
+    else (if n == 1 then owed.One
+    else (if n == 2 then owed.Late else (if n == 3 then owed.Likely else owed.Several)))
 
 abbrev pub kind_of : ℕ → Kind
 kind_of n =
@@ -45,7 +46,7 @@ kind_of n =
 abbrev pub first_ack_of : ℕ → FirstAck
 first_ack_of n =
     if n == 0 then first_ack.Counts else (if n == 1 then first_ack.Doubted
-    else (if n == 2 then first_ack.Dropped else first_ack.Prompt))
+    else (if n == 2 then first_ack.Dropped else first_ack.Brief))
 
 -- with the first byte of a block, what may be its number, and how many bytes came back
 abbrev pub echo_of : ℕ → ℕ → ℕ → ℕ → Echo

@@ -69,6 +69,7 @@ pub fn owed_of(code: u8) -> Owed
         0 => Owed::Nothing,
         1 => Owed::One,
         2 => Owed::Late,
+        3 => Owed::Likely,
         _ => Owed::Several,
     }
 }
@@ -81,7 +82,8 @@ pub fn code_of_owed(owed: Owed) -> u8
         Owed::Nothing => 0,
         Owed::One => 1,
         Owed::Late => 2,
-        Owed::Several => 3,
+        Owed::Likely => 3,
+        Owed::Several => 4,
     }
 }
 
@@ -121,7 +123,7 @@ pub fn first_ack_of(code: u8) -> FirstAck
         0 => FirstAck::Counts,
         1 => FirstAck::Doubted,
         2 => FirstAck::Dropped,
-        _ => FirstAck::Prompt,
+        _ => FirstAck::Brief,
     }
 }
 
@@ -133,7 +135,7 @@ pub fn code_of_first_ack(first_ack: FirstAck) -> u8
         FirstAck::Counts => 0,
         FirstAck::Doubted => 1,
         FirstAck::Dropped => 2,
-        FirstAck::Prompt => 3,
+        FirstAck::Brief => 3,
     }
 }
 

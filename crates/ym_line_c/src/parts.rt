@@ -47,8 +47,8 @@ pub struct YmOut {
     pub last_at: u64,
     /// The longest time between two of them.
     pub gap: u64,
-    /// 0: none was made; 1: an answer to one may come; 2: and what was stuck; any other: to
-    /// several.
+    /// 0: none was made; 1: an answer to one may come; 2: and what was stuck; 3: or to a first
+    /// block 0 that most likely was damaged; any other: to several.
     pub owed: u8,
     /// How many copies there are.
     pub copies: u8,
@@ -228,8 +228,8 @@ pub struct YmHold {
     pub asked_at: u64,
     /// Whether an ACK is held.
     pub is_held: u8,
-    /// 0: the next ACK C counts; 1: it is dropped; 2: its ACK was; any other: it came, the C right
-    /// behind the ACK.
+    /// 0: the next ACK C counts; 1: it may be that of a copy; 2: its ACK was dropped; any other: it
+    /// came, and CAN CAN is listened for briefly.
     pub first_ack: u8,
     /// How many more C may be passed over.
     pub asks_left: u8,

@@ -17,7 +17,7 @@ use Rattle.ym_timing.specs.Cancel.{cancels}
 use Rattle.ym_timing.specs.Clears as clears
 use Rattle.ym_timing.specs.Pace as pace
 use Rattle.ym_timing.specs.Times.{new_clock, told, waited, later}
-use Rattle.ym_timing.specs.Timing.{new_timing, is_last, until, vain_of, after_byte, after_vain}
+use Rattle.ym_timing.specs.Timing.{new_timing, is_acked, until, vain_of, after_byte, after_vain}
 use Rattle.ym_timing.specs.Writing.{wrote}
 use Rattle.ym_timing.specs.declared.clearing.Clearing.{Clearing}
 use Rattle.ym_timing.specs.declared.ear.Echo.{Echo}
@@ -159,10 +159,10 @@ brings bytes w start l t =
 
 -- it closed: an ACK that was held, with nothing behind it, is heard before that
 abbrev pub closed : Expected → Line → Line
-closed w l = if is_last l.timing then record (gives_up w l) { is_closed = true } else l
+closed w l = if is_acked l.timing then record (gives_up w l) { is_closed = true } else l
 
 abbrev pub closed_answers : Line → Seen
-closed_answers l = if is_last l.timing then Data (0x06 ∷ []) else End
+closed_answers l = if is_acked l.timing then Data (0x06 ∷ []) else End
 
 abbrev pub step_by : Seen → Expected → ℕ → Line → Tape → Step
 step_by (Data bytes) w start l t = brings bytes w start l t

@@ -3,7 +3,7 @@
 ghost use Rattle.std.specs.Prelude.{◌≡◌, ◌<◌, ◌≤◌, ◌*◌, ◌+◌, ◌-◌, ◌++◌, length, take, drop};
 ghost use Rattle.ym_timing.specs.ByteRows.{bytes_of, heard_of};
 ghost use Rattle.ym_timing.specs.Clears.{dropped};
-ghost use Rattle.ym_timing.specs.Timing.{is_last, said};
+ghost use Rattle.ym_timing.specs.Timing.{is_acked, said};
 ghost use Rattle.ym_timing.specs.declared.role.Role.{Role};
 ghost use Rattle.ym_port.specs.declared.line.TheConstants.{PIECE};
 
@@ -231,12 +231,12 @@ impl Line {
         self.timing.expired(wait, self.clock.at)
     }
 
-    /// Whether an ACK of the end block is held.
-    fn has_last(&self) -> bool
-        ensures { result ≡ is_last self.now.timing }
+    /// Whether an ACK is held that is heard when a moment has passed.
+    fn is_acked(&self) -> bool
+        ensures { result ≡ is_acked self.now.timing }
     {
         match self.timing.sent.kind {
-            Kind::End => self.timing.hold.is_held,
+            Kind::End | Kind::Data => self.timing.hold.is_held,
             _ => false,
         }
     }
@@ -247,9 +247,9 @@ impl Line {
     pub fn close(&mut self, wait: Expected) -> bool
         ensures line { self.new ≡ table.closed wait self.old }
         ensures role { self.new.timing.role ≡ self.old.timing.role }
-        ensures last { result ≡ is_last self.old.timing }
+        ensures last { result ≡ is_acked self.old.timing }
     {
-        if !self.has_last() {
+        if !self.is_acked() {
             return false;
         }
         let _ = self.give_up(wait);

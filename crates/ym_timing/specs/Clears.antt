@@ -52,6 +52,7 @@ need_by owed.Several taken unsure =
 need_by owed.Late taken unsure =
     if unsure then need.Quiet else (if taken then need.Late else need.Nothing)
 need_by owed.One taken unsure = if unsure then need.Quiet else need.Nothing
+need_by owed.Likely taken unsure = if unsure then need.Quiet else need.Nothing
 need_by owed.Nothing taken unsure = if unsure then need.Quiet else need.Nothing
 
 abbrev pub need_of : Sent → ℕ → Timing → Need

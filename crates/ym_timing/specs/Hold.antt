@@ -3,7 +3,8 @@
 -- Replies carry no number. What an EOT is answered shows whether the ACK before was its own: C
 -- follows where the file is stored, and NAK where the EOT was refused. An ACK behind which the
 -- peer cancels is none.
-use Rattle.std.specs.Prelude.{ℕ, ◌-◌, nat_eq, nat_lt, ◌&&◌, not, Bool, true, false, if◌then◌else◌}
+use Rattle.std.specs.Prelude.{ℕ, ◌-◌, nat_eq, nat_lt, nat_le, ◌&&◌, ◌||◌, not, Bool, true, false}
+use Rattle.std.specs.Prelude.{if◌then◌else◌}
 use Rattle.ym_timing.specs.Times.{later}
 use Rattle.ym_timing.specs.declared.hold.Hold.{Hold}
 use Rattle.ym_timing.specs.declared.hold.Said.{Said}
@@ -27,7 +28,7 @@ new_hold = record {
 
 -- what was seen of an EOT stays until the next one
 abbrev pub kept : FirstAck → FirstAck
-kept first_ack.Prompt = first_ack.Prompt
+kept first_ack.Brief = first_ack.Brief
 kept first_ack.Counts = first_ack.Counts
 kept first_ack.Doubted = first_ack.Counts
 kept first_ack.Dropped = first_ack.Counts
@@ -57,17 +58,20 @@ holding is_held at w s h = record {
 abbrev pub ack : FirstAck → ℕ → Hold → Said
 ack w now h = holding true (if h.is_held then h.at else now) w say.Nothing h
 
--- A peer writes C right behind an EOT's ACK. How far apart they come shows how far apart the line
--- hands on what is written so.
+-- A peer writes C right behind an EOT's ACK, as U-Boot does, or when it has waited, as rb does. In
+-- between, it is the line that hands on later what was written at once.
+abbrev pub is_brief : ℕ → Bool
+is_brief apart = nat_lt apart TOGETHER || nat_le MOMENT apart
+
 abbrev pub seen : ℕ → Hold → FirstAck
-seen now h = if nat_lt now (later h.at TOGETHER) then first_ack.Prompt else first_ack.Counts
+seen now h = if is_brief (now - h.at) then first_ack.Brief else first_ack.Counts
 
 -- how long CAN CAN is listened for behind the ACK of the end block
 abbrev pub moment : Hold → ℕ
 moment h = by h.first_ack
   where
     by : FirstAck → ℕ
-    by first_ack.Prompt = BRIEF
+    by first_ack.Brief = BRIEF
     by first_ack.Counts = MOMENT
     by first_ack.Doubted = MOMENT
     by first_ack.Dropped = MOMENT
@@ -85,7 +89,7 @@ start now h = by h.first_ack
     by first_ack.Dropped = holding h.is_held h.at first_ack.Counts say.Nothing h
     by first_ack.Doubted = stored now h
     by first_ack.Counts = stored now h
-    by first_ack.Prompt = stored now h
+    by first_ack.Brief = stored now h
 
 -- the first ACK C may be that of a copy of block 0
 abbrev pub eot_ack : ℕ → Hold → Said
@@ -95,7 +99,7 @@ eot_ack now h = by h.first_ack
     by first_ack.Doubted = holding false h.at first_ack.Dropped say.Nothing h
     by first_ack.Dropped = ack first_ack.Counts now h
     by first_ack.Counts = ack first_ack.Counts now h
-    by first_ack.Prompt = ack first_ack.Counts now h
+    by first_ack.Brief = ack first_ack.Counts now h
 
 abbrev pub at_eot : ℕ → ℕ → Hold → Said
 at_eot byte now h =
@@ -104,26 +108,43 @@ at_eot byte now h =
     else (if nat_eq byte 0x15 then holding false h.at first_ack.Counts say.Byte h
     else holding false h.at h.first_ack say.Byte h))
 
--- what a peer prints behind the ACK of the end block may have C in it, or NAK: CAN alone takes that
--- ACK back
-abbrev pub at_end : ℕ → ℕ → Hold → Said
-at_end byte now h =
+-- What a peer prints behind the ACK of the end block may have C in it, or NAK: CAN alone takes that
+-- ACK back. C right behind the ACK of block 1 shows that it was that of a copy of block 0.
+abbrev pub passes : Bool → ℕ → Hold → Bool
+passes is_end byte h = h.is_held && (if is_end then not (nat_eq byte 0x18) else nat_eq byte 0x43)
+
+-- behind a frame whose ACK is held for a moment: C behind block 1 takes it away, and is not heard
+abbrev pub at_moment : Bool → ℕ → ℕ → Hold → Said
+at_moment is_end byte now h =
     if nat_eq byte 0x06 then ack h.first_ack now h
-    else (if h.is_held && not (nat_eq byte 0x18) then record { hold = h; say = say.Nothing }
+    else (if passes is_end byte h then holding is_end h.at h.first_ack say.Nothing h
     else holding false h.at h.first_ack say.Byte h)
+
+abbrev pub is_end : Kind → Bool
+is_end kind.End = true
+is_end _ = false
+
+-- the end block, or a block 1 whose ACK may be that of a copy of block 0
+abbrev pub has_moment : Kind → Hold → Bool
+has_moment k h = by k h.first_ack
+  where
+    by : Kind → FirstAck → Bool
+    by kind.End _ = true
+    by kind.Data first_ack.Doubted = true
+    by _ _ = false
 
 -- C alone right behind a new block 0 asks for what is on its way
 abbrev pub is_stale : ℕ → Bool → ℕ → Hold → Bool
 is_stale byte is_first now h =
     nat_eq byte 0x43 && is_first && nat_lt 0 h.asks_left && nat_lt now (later h.asked_at WITHIN)
 
+abbrev pub other : Kind → ℕ → ℕ → Hold → Said
+other k byte now h =
+    if has_moment k h then at_moment (is_end k) byte now h else record { hold = h; say = say.Byte }
+
 abbrev pub by_kind : Kind → ℕ → ℕ → Hold → Said
 by_kind kind.Eot byte now h = at_eot byte now h
-by_kind kind.End byte now h = at_end byte now h
-by_kind kind.Nothing byte now h = record { hold = h; say = say.Byte }
-by_kind kind.Opening byte now h = record { hold = h; say = say.Byte }
-by_kind kind.Data byte now h = record { hold = h; say = say.Byte }
-by_kind kind.Short byte now h = record { hold = h; say = say.Byte }
+by_kind k byte now h = other k byte now h
 
 abbrev pub passed_over : ℕ → Hold → Said
 passed_over now h =

@@ -56,30 +56,32 @@ end_of Within start t = later start (pace.within t.role t.pace)
 end_of Reply start t =
     if is_early Reply t then later start PATIENCE else later start (pace.wait t.role t.pace)
 
-abbrev pub is_end : Kind → Bool
-is_end kind.End = true
-is_end _ = false
+-- behind these an ACK is held for a moment
+abbrev pub holds_a_moment : Kind → Bool
+holds_a_moment kind.End = true
+holds_a_moment kind.Data = true
+holds_a_moment _ = false
 
--- an ACK that is held is waited for no longer than a moment at the end, and as long as a C may
--- take before
+-- an ACK that is held is heard when a moment has passed, and behind an EOT it waits for its C as
+-- long as that may take
 abbrev pub until : Expected → ℕ → Timing → ℕ
 until wait start t =
     if t.hold.is_held
-    then (if is_end t.sent.kind then later t.hold.at (moment t.hold)
+    then (if holds_a_moment t.sent.kind then later t.hold.at (moment t.hold)
     else max (end_of wait start t) (later t.hold.at WITHIN))
     else end_of wait start t
 
-abbrev pub is_last : Timing → Bool
-is_last t = is_end t.sent.kind && t.hold.is_held
+abbrev pub is_acked : Timing → Bool
+is_acked t = holds_a_moment t.sent.kind && t.hold.is_held
 
 -- a read that waited in vain
 abbrev pub vain_of : Expected → Timing → Vain
-vain_of wait t = if is_last t then vain.Ack else (if is_early wait t then vain.Again
+vain_of wait t = if is_acked t then vain.Ack else (if is_early wait t then vain.Again
     else vain.Quiet)
 
 abbrev pub after_vain : Expected → ℕ → Timing → Timing
 after_vain wait now t =
-    if is_last t then record t { hold = released t.hold; heard = take_reply 0x06 now t.heard }
+    if is_acked t then record t { hold = released t.hold; heard = take_reply 0x06 now t.heard }
     else (if is_early wait t then record t { heard = waited false t.heard }
     else record t { hold = released t.hold; heard = waited true t.heard })
 

@@ -1,7 +1,7 @@
 -- Lines, computed. A block is shortened to its head and two more bytes.
-use Rattle.std.specs.Prelude.{◌≡◌, ℕ, List, [], ◌∷◌, ◌++◌, refl}
+use Rattle.std.specs.Prelude.{◌≡◌, ℕ, List, [], ◌∷◌, ◌++◌, true, refl}
 use Rattle.ym_timing.specs.Clears.{clearing, clear_at}
-use Rattle.ym_timing.specs.Out.{one, late}
+use Rattle.ym_timing.specs.Out.{again, one, late}
 use Rattle.ym_timing.specs.Pace.{bound}
 use Rattle.ym_timing.specs.ByteRows.{heard_of, after_bytes, writes}
 use Rattle.ym_timing.specs.Times.{new_clock, told, waited}
@@ -161,6 +161,52 @@ stored_by_rb-pace = refl
 -- so it asks behind a block 0 that lost a byte, and nothing has to clear
 asked_by_rb : (writes opening 5048 (after_bytes start opening 5048 stored_by_rb)).out ≡ one 5048
 asked_by_rb = refl
+
+-- and CAN CAN is listened for briefly behind the end block: it writes no C right behind an ACK
+stored_by_rb-until : until Reply 3048 (after_bytes ack end_block 3048 (writes end_block 3036
+    (after_bytes start eot 3036 (after_bytes ack eot 2036 (writes eot 1036 quick))))) ≡ 3073
+stored_by_rb-until = refl
+
+-- The first block 0 of all lost a byte: it asks a second behind that byte, and one more.
+abbrev first_of_rb : Timing
+first_of_rb = writes opening 3060 (after_bytes start opening 3060 (writes opening 1000
+    (after_bytes start [] 1000 (new_timing Sender))))
+
+first_of_rb-out : first_of_rb.out ≡ again true 3060 (one 1000)
+first_of_rb-out = refl
+
+-- Nothing has to clear before block 1, whose ACK is heard a tenth of a second later.
+abbrev led_on_by_rb : Timing
+led_on_by_rb = after_bytes ack_start opening 3072 first_of_rb
+
+led_on_by_rb-clear : clear_at (clearing block_1 3072 led_on_by_rb) led_on_by_rb ≡ 0
+led_on_by_rb-clear = refl
+
+abbrev first_acked : Timing
+first_acked = after_bytes ack block_1 3084 (writes block_1 3072 led_on_by_rb)
+
+first_acked-heard : heard_of ack block_1 3084 (writes block_1 3072 led_on_by_rb) ≡ []
+first_acked-heard = refl
+
+first_acked-until : until Reply 3072 first_acked ≡ 3184
+first_acked-until = refl
+
+-- Had both been answered, its C shows that an ACK is that of the copy. The next one is held too.
+first_answered_twice : heard_of ack_start block_1 3084 (writes block_1 3072 led_on_by_rb) ≡ []
+first_answered_twice = refl
+
+first_answered : until Reply 3084
+    (after_bytes (ack_start ++ ack) block_1 3084 (writes block_1 3072 led_on_by_rb)) ≡ 3184
+first_answered = refl
+
+-- and where C of the copy's answer was lost, NAK shows that block 1 was refused
+first_refused : heard_of (ack ++ nak) block_1 3084 (writes block_1 3072 led_on_by_rb) ≡ nak
+first_refused = refl
+
+-- behind the EOT of an empty file the first ACK C is dropped
+first_stored : heard_of (ack_start ++ ack_start) eot 3084 (writes eot 3072 led_on_by_rb)
+    ≡ ack_start
+first_stored = refl
 
 -- ---- A line that delays by two seconds each way
 

@@ -16,7 +16,7 @@ use Rattle.ym_timing.specs.Times.{later}
 use Rattle.ym_timing.specs.declared.clearing.Clearing.{Clearing}
 use Rattle.ym_timing.specs.declared.clearing.Need.{Need}
 use Rattle.ym_timing.specs.declared.clearing.Need.TheVariants as need
-use Rattle.ym_timing.specs.declared.limits.TheConstants.{FRAGMENT, PATIENCE}
+use Rattle.ym_timing.specs.declared.limits.TheConstants.{FRAGMENT, LIKELY, PATIENCE}
 use Rattle.ym_timing.specs.declared.limits.TheConstants.{SENDER_QUIET, SOON, UNASKED}
 use Rattle.ym_timing.specs.declared.out.Out.{Out}
 use Rattle.ym_timing.specs.declared.out.Owed.{Owed}
@@ -93,20 +93,29 @@ stored_by _ _ _ t = false
 abbrev pub has_stored : Timing → Bool
 has_stored t = stored_by t.role t.sent.kind t.pace.trust t
 
-abbrev pub pace_of_one : Timing → Pace
-pace_of_one t = if has_stored t then t.pace else sure (took t.out.first_at t) t.pace
+abbrev pub vain_in : Role → Clearing → Bool
+vain_in Sender c = was_vain c
+vain_in Receiver c = false
 
-abbrev pub sample : Owed → Timing → Pace
-sample owed.Several t = doubtful (took t.out.first_at t) t.pace
-sample _ t = pace_of_one t
+-- where a sender's line brought nothing while it cleared, the answer was that of the last write
+abbrev pub was_the_last : Clearing → Timing → Bool
+was_the_last c t = vain_in t.role c
 
--- Where a sender's line brought nothing while it cleared, the answer was that of the last write.
-abbrev pub pace_by : Role → Clearing → Timing → Pace
-pace_by Sender c t = if was_vain c then sure (took t.out.last_at t) t.pace else sample t.out.owed t
-pace_by Receiver c t = sample t.out.owed t
+-- where an answer to several may have come, the sample is a doubtful one
+abbrev pub sample : Owed → ℕ → Timing → Pace
+sample owed.Several took t = doubtful took t.pace
+sample owed.Likely took t = doubtful took t.pace
+sample _ took t = if has_stored t then t.pace else sure took t.pace
+
+abbrev pub pace_of : Bool → ℕ → Timing → Pace
+pace_of is_last took t = if is_last then sure took t.pace else sample t.out.owed took t
+
+-- it counts from the first of the writes that are out, or from the last
+abbrev pub answered_from : Bool → Timing → ℕ
+answered_from is_last t = if is_last then t.out.last_at else t.out.first_at
 
 abbrev pub pace_after : Clearing → Timing → Pace
-pace_after c t = pace_by t.role c t
+pace_after c t = pace_of (was_the_last c t) (took (answered_from (was_the_last c t) t) t) t
 
 -- ---- Whose answers may be under way
 
@@ -118,15 +127,20 @@ soon_by trust.Sure slowest = max (UNASKED - slowest) SOON
 abbrev pub soon : Timing → ℕ
 soon t = soon_by t.pace.trust t.pace.slowest
 
+-- the ask came so soon behind the reply before
+abbrev pub asked_within : ℕ → Timing → Bool
+asked_within long t =
+    nat_lt 0 t.heard.count && (not t.heard.has_waited && nat_le (t.heard.since - t.led_at) long)
+
 -- the ask came too soon to be unasked
 abbrev pub is_soon : Timing → Bool
-is_soon t =
-    nat_lt 0 t.heard.count && (not t.heard.has_waited && nat_le (t.heard.since - t.led_at) (soon t))
+is_soon t = asked_within (soon t) t
 
 abbrev pub prompted_by : Role → Owed → Timing → Bool
 prompted_by Receiver o t = t.front.is_there && nat_le FRAGMENT t.heard.count
 prompted_by Sender owed.One t = is_soon t
 prompted_by Sender owed.Late t = is_soon t
+prompted_by Sender owed.Likely t = false
 prompted_by Sender owed.Several t = false
 prompted_by Sender owed.Nothing t = false
 
@@ -145,10 +159,29 @@ late_by _ _ _ t = false
 abbrev pub is_late : Timing → Bool
 is_late t = late_by t.role t.out.owed t.pace.trust t
 
+abbrev pub opening_kind : Kind → Bool
+opening_kind kind.Opening = true
+opening_kind _ = false
+
+abbrev pub is_opening : Sent → Bool
+is_opening s = opening_kind s.kind
+
+abbrev pub likely_by : Owed → Trust → Timing → Bool
+likely_by owed.One trust.Unknown t = is_opening t.sent && asked_within LIKELY t
+likely_by _ _ t = false
+
+-- Nothing is known of the line, and the ask for block 0 came so soon that it most likely was
+-- damaged. Only a line that delays and jitters brings an unasked one so soon.
+abbrev pub is_likely : Timing → Bool
+is_likely t = likely_by t.out.owed t.pace.trust t
+
+abbrev pub unanswered : ℕ → Timing → Out
+unanswered now t =
+    if is_late t then late now else again (is_likely t) now t.out
+
 abbrev pub out_by : Owed → Bool → ℕ → Timing → Out
 out_by owed.Nothing taken now t = one now
-out_by _ taken now t =
-    if taken || is_prompted t then one now else (if is_late t then late now else again now t.out)
+out_by _ taken now t = if taken || is_prompted t then one now else unanswered now t
 
 abbrev pub out_after : Bool → ℕ → Timing → Out
 out_after taken now t = out_by t.out.owed taken now t
@@ -177,13 +210,6 @@ abbrev pub is_shaken_after : Bool → Clearing → Timing → Bool
 is_shaken_after is_repeat c t =
     if is_repeat then t.is_shaken else (has_cleared c || (t.is_shaken && not (is_data t.sent.kind)))
 
-abbrev pub opening_kind : Kind → Bool
-opening_kind kind.Opening = true
-opening_kind _ = false
-
-abbrev pub is_opening : Sent → Bool
-is_opening s = opening_kind s.kind
-
 abbrev pub empty_kinds : Kind → Kind → Bool
 empty_kinds kind.Opening kind.Eot = true
 empty_kinds _ _ = false
@@ -191,6 +217,15 @@ empty_kinds _ _ = false
 -- an EOT right behind block 0: an ACK C may be that of a copy of block 0
 abbrev pub is_empty_file : Sent → Sent → Bool
 is_empty_file last n = empty_kinds last.kind n.kind
+
+-- the first ACK may be that of a copy of block 0, since that most likely was damaged, or since the
+-- line had to clear before the EOT of an empty file
+abbrev pub is_doubted : Sent → Bool → Bool → Timing → Bool
+is_doubted n taken shaken t = by t.out.owed
+  where
+    by : Owed → Bool
+    by owed.Likely = taken
+    by _ = shaken && is_empty_file t.sent n
 
 -- ---- The write
 
@@ -204,7 +239,7 @@ wrote_next n c now t = record {
   heard = new_arrivals;
   ear = ear.wrote t.ear;
   hold = hold.wrote (is_opening n) (is_same t.sent n)
-      (is_shaken_after (is_same t.sent n) c t && is_empty_file t.sent n) now t.hold;
+      (is_doubted n (is_taken n t) (is_shaken_after (is_same t.sent n) c t) t) now t.hold;
   echoed = 0;
   front = front_after (is_taken n t) t;
   is_shaken = is_shaken_after (is_same t.sent n) c t;

@@ -1,5 +1,6 @@
 //! What of a reply a sender hears later, or not at all: the ACK of an EOT with the C behind it,
-//! that of the end block when nothing came behind it, and C that ask for what is on its way.
+//! that of the end block when nothing came behind it, that of block 1 where it may be a copy's, and
+//! C that ask for what is on its way.
 
 ghost use Rattle.std.specs.Prelude.{◌≡◌};
 ghost use Rattle.ym_timing.specs.Hold as table;
@@ -8,17 +9,18 @@ use crate::ear::{ACK, CAN, NAK, START};
 use crate::limits::{BRIEF, MOMENT, STALE_ASKS, TOGETHER, WITHIN};
 use crate::sent::Kind;
 
-/// What is known of the first ACK C of an EOT.
+/// What is known of the first ACK C of an EOT, and of the first ACK of block 1.
 #[derive(Clone, Copy)]
 pub enum FirstAck {
     /// It counts.
     Counts,
-    /// It may be that of a copy of block 0: it is dropped.
+    /// It may be that of a copy of block 0: it is dropped, behind block 1 where C comes with it.
     Doubted,
     /// Its ACK was dropped, and its C is.
     Dropped,
-    /// It came, and the C right behind the ACK. So it stays until the next EOT.
-    Prompt,
+    /// It came, and the C so that a brief moment is enough behind the end block. So it stays until
+    /// the next EOT.
+    Brief,
 }
 
 /// Whether this byte is no control byte.
@@ -28,6 +30,16 @@ fn is_noise(byte: u8) -> bool
     byte != ACK && byte != NAK && byte != START && byte != CAN
 }
 
+/// Whether it is the block that ends the batch.
+fn is_end(kind: Kind) -> bool
+    ensures { result ≡ table.is_end kind }
+{
+    match kind {
+        Kind::End => true,
+        _ => false,
+    }
+}
+
 /// What a sender holds back.
 #[derive(Clone, Copy)]
 pub struct Hold {
@@ -35,7 +47,7 @@ pub struct Hold {
     pub is_held: bool,
     /// When it came.
     pub at: u64,
-    /// What is known of the first ACK C of an EOT.
+    /// What is known of the first ACK C of an EOT, and of the first ACK of block 1.
     pub first_ack: FirstAck,
     /// How many more C may be passed over.
     pub asks_left: u8,
@@ -77,15 +89,15 @@ impl Hold {
         }
     }
 
-    /// What was written may be a new block 0, behind which C are passed over, or an EOT whose first
-    /// ACK C may be that of a copy of block 0; a repeat leaves the latter as it is.
+    /// What was written may be a new block 0, behind which C are passed over, or what has a first
+    /// ACK that may be that of a copy of block 0; a repeat leaves the latter as it is.
     pub fn wrote(self, is_opening: bool, is_repeat: bool, is_doubted: bool, now: u64) -> Hold
         ensures { result ≡ table.wrote is_opening is_repeat is_doubted now self }
     {
         let first_ack = match self.first_ack {
             first_ack if is_repeat => first_ack,
             _ if is_doubted => FirstAck::Doubted,
-            FirstAck::Prompt => FirstAck::Prompt,
+            FirstAck::Brief => FirstAck::Brief,
             FirstAck::Counts | FirstAck::Doubted | FirstAck::Dropped => FirstAck::Counts,
         };
         Hold {
@@ -121,8 +133,9 @@ impl Hold {
     fn seen(self, now: u64) -> FirstAck
         ensures { result ≡ table.seen now self }
     {
-        if now < self.at.saturating_add(TOGETHER) {
-            FirstAck::Prompt
+        let apart = now.saturating_sub(self.at);
+        if apart < TOGETHER || MOMENT <= apart {
+            FirstAck::Brief
         } else {
             FirstAck::Counts
         }
@@ -134,7 +147,7 @@ impl Hold {
         ensures { result ≡ table.moment self }
     {
         match self.first_ack {
-            FirstAck::Prompt => BRIEF,
+            FirstAck::Brief => BRIEF,
             FirstAck::Counts | FirstAck::Doubted | FirstAck::Dropped => MOMENT,
         }
     }
@@ -178,20 +191,36 @@ impl Hold {
         }
     }
 
-    /// A control byte behind the end block. What a peer prints behind its ACK may have C in it, or
-    /// NAK: CAN alone takes that ACK back.
-    fn at_end(self, byte: u8, now: u64) -> Said
-        ensures { result ≡ table.at_end byte now self }
+    /// Whether this byte, which is not to be heard, leaves the ACK that is held. What a peer prints
+    /// behind the ACK of the end block may have C in it, or NAK: CAN alone takes that ACK back. C
+    /// right behind the ACK of block 1 shows that it was that of a copy of block 0.
+    fn passes(self, is_end: bool, byte: u8) -> bool
+        ensures { result ≡ table.passes is_end byte self }
+    {
+        self.is_held && (if is_end { byte != CAN } else { byte == START })
+    }
+
+    /// A control byte behind a frame whose ACK is held for a moment: the end block, or block 1
+    /// where the ACK may be that of a copy of block 0.
+    fn at_moment(self, is_end: bool, byte: u8, now: u64) -> Said
+        ensures { result ≡ table.at_moment is_end byte now self }
     {
         if byte == ACK {
             self.ack(self.first_ack, now)
-        } else if self.is_held && byte != CAN {
-            Said {
-                hold: self,
-                say: Say::Nothing,
-            }
+        } else if self.passes(is_end, byte) {
+            self.holding(is_end, self.at, self.first_ack, Say::Nothing)
         } else {
             self.holding(false, self.at, self.first_ack, Say::Byte)
+        }
+    }
+
+    /// Whether an ACK behind a frame of this kind is held for a moment.
+    fn has_moment(self, kind: Kind) -> bool
+        ensures { result ≡ table.has_moment kind self }
+    {
+        match (kind, self.first_ack) {
+            (Kind::End, _) | (Kind::Data, FirstAck::Doubted) => true,
+            _ => false,
         }
     }
 
@@ -228,8 +257,8 @@ impl Hold {
         }
         match kind {
             Kind::Eot => self.at_eot(byte, now),
-            Kind::End => self.at_end(byte, now),
-            Kind::Nothing | Kind::Opening | Kind::Data | Kind::Short => Said {
+            kind if self.has_moment(kind) => self.at_moment(is_end(kind), byte, now),
+            _ => Said {
                 hold: self,
                 say: Say::Byte,
             },

@@ -32,6 +32,10 @@ pub const UNASKED: u64 = 2_750;
 /// Nor sooner than this, whatever an answer takes.
 pub const SOON: u64 = 1_750;
 
+/// Where nothing is known of a line, a block 0 that is asked for again so soon was most likely
+/// damaged: a peer that asks unasked does so every three seconds or later.
+pub const LIKELY: u64 = 2_250;
+
 /// An end that took so long between what it heard and its next write was held up.
 pub const HELD_UP: u64 = 2_000;
 
@@ -42,8 +46,9 @@ pub const MOMENT: u64 = 100;
 /// A line on which the C behind an EOT came so soon behind its ACK hands on at once what comes.
 pub const TOGETHER: u64 = 10;
 
-/// How long an end listens for CAN CAN there: more than the 16 for which a serial adapter of USB is
-/// said to keep bytes where nobody set it otherwise.
+/// How long an end listens for CAN CAN there, and where that C came more than a moment behind the
+/// ACK, so that the peer had waited: more than the 16 for which a serial adapter of USB is said to
+/// keep bytes where nobody set it otherwise.
 pub const BRIEF: u64 = 25;
 
 /// How many C behind a new block 0 are passed over.

@@ -13,6 +13,8 @@ pub enum Owed {
     /// The last one, which the peer asked for when the one before was overdue: only what was stuck
     /// in the line may come beside it.
     Late,
+    /// The last one, and hardly the one before: a first block 0 that most likely was damaged.
+    Likely,
     /// Each of several.
     Several,
 }
@@ -72,12 +74,17 @@ impl Out {
         }
     }
 
-    /// The same written again, where the answer may still come.
-    pub fn again(self, now: u64) -> Out
-        ensures { result ≡ table.again now self }
+    /// The same written again, where the answer may still come, or where the one before most likely
+    /// was damaged.
+    pub fn again(self, is_likely: bool, now: u64) -> Out
+        ensures { result ≡ table.again is_likely now self }
     {
         Out {
-            owed: Owed::Several,
+            owed: if is_likely {
+                Owed::Likely
+            } else {
+                Owed::Several
+            },
             copies: self.copies.saturating_add(1),
             first_at: self.first_at,
             last_at: now,

@@ -124,7 +124,9 @@ impl Timing {
             Expected::Reply => start.saturating_add(self.pace.wait(self.role)),
         };
         match self.sent.kind {
-            Kind::End if self.hold.is_held => self.hold.at.saturating_add(self.hold.moment()),
+            Kind::End | Kind::Data if self.hold.is_held => {
+                self.hold.at.saturating_add(self.hold.moment())
+            }
             _ if self.hold.is_held => end.max(self.hold.at.saturating_add(WITHIN)),
             _ => end,
         }
@@ -137,7 +139,7 @@ impl Timing {
         ensures vain { result ≡ table.vain_of wait self.old }
     {
         match self.sent.kind {
-            Kind::End if self.hold.is_held => {
+            Kind::End | Kind::Data if self.hold.is_held => {
                 self.hold = self.hold.released();
                 self.heard = self.heard.take_reply(ACK, now);
                 Vain::Ack

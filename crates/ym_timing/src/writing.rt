@@ -6,7 +6,7 @@ ghost use Rattle.ym_timing.specs.Writing as table;
 
 use crate::arrivals::Arrivals;
 use crate::clearing::{Clearing, Need, vain_after};
-use crate::limits::{FRAGMENT, PATIENCE, SENDER_QUIET, SOON, UNASKED};
+use crate::limits::{FRAGMENT, LIKELY, PATIENCE, SENDER_QUIET, SOON, UNASKED};
 use crate::out::{Out, Owed};
 use crate::pace::{Pace, Trust};
 use crate::role::Role;
@@ -52,7 +52,7 @@ impl Timing {
         };
         let is_out = match self.out.owed {
             Owed::Nothing => false,
-            Owed::One | Owed::Late | Owed::Several => true,
+            Owed::One | Owed::Late | Owed::Likely | Owed::Several => true,
         };
         is_taken && is_other && is_out
     }
@@ -85,29 +85,39 @@ impl Timing {
         }
     }
 
-    /// What the answer to the only write that is out says of how long answers take.
-    fn pace_of_one(&self) -> Pace
-        ensures { result ≡ table.pace_of_one self.now }
+    /// Whether a sender let the line clear because answers were awaited, and none came: then the
+    /// answer was that of the last write.
+    fn was_the_last(&self, clearing: Clearing) -> bool
+        ensures { result ≡ table.was_the_last clearing self.now }
     {
-        if self.has_stored() {
-            self.pace
-        } else {
-            self.pace.sure(self.took(self.out.first_at))
+        match self.role {
+            Role::Sender => was_vain(clearing),
+            Role::Receiver => false,
         }
     }
 
-    /// What an answer says of how long answers take. Where a sender let the line clear in vain, it
-    /// was that of the last write.
+    /// What an answer that took so long says of how long answers take.
+    fn pace_of(&self, is_last: bool, took: u64) -> Pace
+        ensures { result ≡ table.pace_of is_last took self.now }
+    {
+        match self.out.owed {
+            Owed::Likely | Owed::Several if !is_last => self.pace.doubtful(took),
+            _ if !is_last && self.has_stored() => self.pace,
+            _ => self.pace.sure(took),
+        }
+    }
+
+    /// What an answer says of how long answers take.
     fn pace_after(&self, clearing: Clearing) -> Pace
         ensures { result ≡ table.pace_after clearing self.now }
     {
-        match (self.role, self.out.owed) {
-            (Role::Sender, _) if was_vain(clearing) => {
-                self.pace.sure(self.took(self.out.last_at))
-            }
-            (_, Owed::Several) => self.pace.doubtful(self.took(self.out.first_at)),
-            _ => self.pace_of_one(),
-        }
+        let is_last = self.was_the_last(clearing);
+        let written_at = if is_last {
+            self.out.last_at
+        } else {
+            self.out.first_at
+        };
+        self.pace_of(is_last, self.took(written_at))
     }
 
     /// How soon behind a reply a peer's ask answers the write before.
@@ -120,6 +130,14 @@ impl Timing {
         }
     }
 
+    /// Whether the peer asked so soon behind its reply before.
+    fn asked_within(&self, long: u64) -> bool
+        ensures { result ≡ table.asked_within long self.now }
+    {
+        let took = self.heard.since.saturating_sub(self.led_at);
+        0 < self.heard.count && !self.heard.has_waited && took <= long
+    }
+
     /// Whether what was heard answers the write before, which is written again: a peer's ask that
     /// came too soon to be unasked, or to a receiver a damaged frame.
     fn is_prompted(&self) -> bool
@@ -128,8 +146,7 @@ impl Timing {
         match (self.role, self.out.owed) {
             (Role::Receiver, _) => self.front.is_there && FRAGMENT <= self.heard.count,
             (Role::Sender, Owed::One) | (Role::Sender, Owed::Late) => {
-                let took = self.heard.since.saturating_sub(self.led_at);
-                0 < self.heard.count && !self.heard.has_waited && took <= self.soon()
+                self.asked_within(self.soon())
             }
             (Role::Sender, _) => false,
         }
@@ -148,6 +165,16 @@ impl Timing {
         }
     }
 
+    /// Whether block 0, written when nothing was known of the line, most likely was damaged.
+    fn is_likely(&self) -> bool
+        ensures { result ≡ table.is_likely self.now }
+    {
+        match (self.out.owed, self.pace.trust) {
+            (Owed::One, Trust::Unknown) => is_opening(self.sent) && self.asked_within(LIKELY),
+            _ => false,
+        }
+    }
+
     /// Whose answers may be under way behind a write.
     fn out_after(&self, is_taken: bool, now: u64) -> Out
         ensures { result ≡ table.out_after is_taken now self.now }
@@ -156,7 +183,7 @@ impl Timing {
             Owed::Nothing => Out::one(now),
             _ if is_taken || self.is_prompted() => Out::one(now),
             _ if self.is_late() => Out::late(now),
-            _ => self.out.again(now),
+            _ => self.out.again(self.is_likely(), now),
         }
     }
 
@@ -189,6 +216,17 @@ impl Timing {
         }
     }
 
+    /// Whether the first ACK of what is written now may be that of a copy of block 0, since that
+    /// most likely was damaged, or since the line had to clear before the EOT of an empty file.
+    fn is_doubted(&self, next: Sent, is_taken: bool, is_shaken: bool) -> bool
+        ensures { result ≡ table.is_doubted next is_taken is_shaken self.now }
+    {
+        match self.out.owed {
+            Owed::Likely => is_taken,
+            _ => is_shaken && is_empty_file(self.sent, next),
+        }
+    }
+
     /// Takes that these bytes were written, behind this clearing.
     pub fn wrote(&mut self, bytes: &[u8], clearing: Clearing, now: u64)
         ensures { self.new ≡ table.wrote bytes.now clearing now self.old }
@@ -197,7 +235,7 @@ impl Timing {
         let is_repeat = self.sent.is(next);
         let is_taken = self.is_taken(next);
         let is_shaken = self.is_shaken_after(is_repeat, clearing);
-        let is_empty = is_empty_file(self.sent, next);
+        let is_doubted = self.is_doubted(next, is_taken, is_shaken);
         let pace = if self.leads_on(is_taken) {
             self.pace_after(clearing)
         } else {
@@ -217,7 +255,7 @@ impl Timing {
             ear: self.ear.wrote(),
             hold: self
                 .hold
-                .wrote(is_opening(next), is_repeat, is_shaken && is_empty, now),
+                .wrote(is_opening(next), is_repeat, is_doubted, now),
             echoed: 0,
             front: self.front_after(is_taken),
             is_shaken,
