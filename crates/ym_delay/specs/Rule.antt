@@ -5,9 +5,9 @@ use Rattle.std.specs.Prelude.{◌≡◌, ◌⊎◌, ◌+◌, ◌-◌, ◌<◌, �
 use Rattle.ym_timing.specs.Clears.{is_answered, several_until}
 use Rattle.ym_timing.specs.Pace.{bound}
 use Rattle.ym_timing.specs.Times.{later}
-use Rattle.ym_timing.specs.Writing.{is_late, is_prompted, soon}
+use Rattle.ym_timing.specs.Writing.{is_late, is_likely, is_prompted, soon}
 use Rattle.ym_timing.specs.declared.clearing.Clearing.{Clearing}
-use Rattle.ym_timing.specs.declared.limits.TheConstants.{APART, FIRST_FRAME, LONGEST}
+use Rattle.ym_timing.specs.declared.limits.TheConstants.{APART, FIRST_FRAME, LIKELY, LONGEST}
 use Rattle.ym_timing.specs.declared.limits.TheConstants.{SENDER_QUIET, UNASKED}
 use Rattle.ym_timing.specs.declared.pace.Trust.{Trust}
 use Rattle.ym_timing.specs.declared.pace.Trust.TheVariants.{Unknown, Doubtful, Sure}
@@ -74,6 +74,15 @@ pub record CopiesSoon (times : Times) (led : ℕ) (s : SpokeAt) : Type 0 where
   pub since : s.by ≤ timing.heard.since
   pub waits : soon timing + times.oldest ≤ times.receiver_waits
 
+-- It wrote a first block 0 again, which most likely was damaged, so soon behind the reply before.
+pub record CopiesLikely (times : Times) (led : ℕ) (s : SpokeAt) : Type 0 where
+  pub timing : Timing
+  pub likely : is_likely timing ≡ true
+  pub some : s.spoke.came ≡ [] → ⊥
+  pub led_at : timing.led_at ≤ led  -- the reply before came by then
+  pub since : s.by ≤ timing.heard.since
+  pub waits : LIKELY + times.oldest ≤ times.receiver_waits
+
 -- It goes on at once to another frame: behind the ACK that it heard so many were dropped that by
 -- its count each copy of the block was answered.
 pub record CountsByRule (more dropped : ℕ) (s next : SpokeAt) : Type 0 where
@@ -94,7 +103,7 @@ span_of times = times.oldest + times.receiver_acts + times.oldest
 abbrev pub GoesOn : Times → ℕ → ℕ → ℕ → SpokeAt → SpokeAt → Type 0
 GoesOn times led zero dropped s next =
     next.spoke.wrote ≡ s.spoke.wrote →
-    CopiesLate (span_of times) s.at next.at ⊎ CopiesSoon times led s
+    CopiesLate (span_of times) s.at next.at ⊎ (CopiesSoon times led s ⊎ CopiesLikely times led s)
 GoesOn times led (suc more) dropped s next =
     (s.spoke.wrote ≡ [])
     ⊎ (WaitsByRule (span_of times) s.at next.at ⊎ CountsByRule (suc more) dropped s next)

@@ -2,7 +2,7 @@ use Rattle.std.proofs.Common.{◌≡◌, ◌+◌, ◌-◌, ◌^◌, ◌<◌, ◌
 use Rattle.ym_timing.specs.Clears.{apart_until, counts_answers, overdue_at, quiet_of, several_until}
 use Rattle.ym_timing.specs.Pace.{bound}
 use Rattle.ym_timing.specs.Times.{later}
-use Rattle.ym_timing.specs.Writing.{is_overdue, is_soon, late_by, prompted_by, soon, soon_by}
+use Rattle.ym_timing.specs.Writing.{asked_within, is_opening, is_overdue, is_soon, late_by, likely_by, prompted_by, soon, soon_by}
 use Rattle.ym_timing.specs.declared.out.Owed.{Owed}
 use Rattle.ym_timing.specs.declared.out.Owed.TheVariants as owed
 use Rattle.ym_timing.specs.declared.pace.Trust.{Trust}
@@ -11,7 +11,7 @@ use Rattle.ym_timing.specs.declared.role.Role.{Role}
 use Rattle.ym_timing.specs.declared.role.Role.TheVariants.{Sender}
 use Rattle.ym_timing.specs.declared.timing.Timing.{Timing}
 use Rattle.ym_delay.specs.Cleared.{ClearsFrom, IsAlone, IsCounted, IsSoon, first_of, led_by, others_of}
-use Rattle.ym_delay.specs.Rule.{CopiesLate, CopiesSoon, CountsByRule, GoesOn, HasSeenTheWay, IsSeen, Reaches, RuledFrom, WaitsByRule, span_of}
+use Rattle.ym_delay.specs.Rule.{CopiesLate, CopiesLikely, CopiesSoon, CountsByRule, GoesOn, HasSeenTheWay, IsSeen, Reaches, RuledFrom, WaitsByRule, span_of}
 use Rattle.ym_delay.specs.TimedLine.{SpokeAt, Times}
 use Rattle.ym_delay.proofs.Quiet.{at-most}
 use Rattle.ym_delay.proofs.laws.rule.the_rule_lets_a_line_clear.Goals as goal
@@ -108,11 +108,28 @@ soon-is _ _ t role prompted = absurd (cc)
 soon-by : (since led_at long : ℕ) → since - led_at ≤ long → since ≤ led_at + long
 soon-by since led_at long short = omega (arith, short)
 
+asked-by : (long : ℕ) (t : Timing) → asked_within long t ≡ true → t.heard.since ≤ t.led_at + long
+asked-by long t asked =
+    let came = second-is (not t.heard.has_waited) (nat_le (t.heard.since - t.led_at) long) (second-is (nat_lt 0 t.heard.count) _ asked) in
+    soon-by t.heard.since t.led_at long (at-most _ _ came)
+
+likely-is : (o : Owed) (trust : Trust) (t : Timing) → likely_by o trust t ≡ true → asked_within 2250 t ≡ true
+likely-is owed.One Unknown t likely = second-is (is_opening t.sent) (asked_within 2250 t) likely
+likely-is _ _ t likely = absurd (cc)
+
+is-likely : (times : Times) (led : ℕ) (s : SpokeAt) → CopiesLikely times led s → IsSoon times led s
+is-likely times led s copies =
+    let t = copies.timing in
+    let short = asked-by 2250 t (likely-is t.out.owed t.pace.trust t copies.likely) in
+    let by = copies.since in
+    let before = copies.led_at in
+    let waits = copies.waits in
+    record { some = copies.some; soon = omega (arith, short, by, before, waits) }
+
 is-soon : (times : Times) (led : ℕ) (s : SpokeAt) → CopiesSoon times led s → IsSoon times led s
 is-soon times led s copies =
     let t = copies.timing in
-    let came = second-is (not t.heard.has_waited) (nat_le (t.heard.since - t.led_at) (soon t)) (second-is (nat_lt 0 t.heard.count) _ (soon-is t.role t.out.owed t copies.role copies.prompted)) in
-    let short = soon-by t.heard.since t.led_at (soon t) (at-most _ _ came) in
+    let short = asked-by (soon t) t (soon-is t.role t.out.owed t copies.role copies.prompted) in
     let by = copies.since in
     let before = copies.led_at in
     let waits = copies.waits in
@@ -147,7 +164,7 @@ module _ (times : Times) where
   over at next long = omega (arith, long)
 
   alone : (led more dropped : ℕ) (s next : SpokeAt) → GoesOn times led more dropped s next → IsAlone times led more dropped s next
-  alone led zero dropped s next goes = λ same. elim (goes same) [ inl late ↦ inl (over s.at next.at (late-enough Span s.at next.at late)) | inr soon ↦ inr (is-soon times led s soon) ]
+  alone led zero dropped s next goes = λ same. elim (goes same) [ inl late ↦ inl (over s.at next.at (late-enough Span s.at next.at late)) | inr soon ↦ inr (elim soon [ inl prompted ↦ is-soon times led s prompted | inr likely ↦ is-likely times led s likely ]) ]
   alone led (suc more) dropped s next (inl silent) = inl silent
   alone led (suc more) dropped s next (inr (inl rule)) = inr (inl (over s.at next.at (several Span s.at next.at rule)))
   alone led (suc more) dropped s next (inr (inr counts)) = inr (inr (is-counted (suc more) dropped s next counts))
