@@ -259,21 +259,24 @@ def test_of_long_form(row):
 
 class Beside:
     """What sessions of `send` came to beside those of lrzsz's own two, at the seeds at which all are
-    whole: how much more they take by the median of the differences, the share of that, and what is
-    told."""
+    whole: how much more they take by the median of the differences, and by their own medians, the
+    share of the former, and what is told."""
 
     def __init__(self, name, blocks, rows):
         told = asyncio.run_coroutine_threadsafe(all_rows_made(rows), LOOP).result()
         whole = [{seed: it.seconds for seed, it in came if it.is_whole} for came in told]
         shared = set.intersection(*map(set, whole))
         theirs = statistics.median(whole[-1][it] for it in shared)
-        self.more, lines = [], []
+        self.more, self.apart, lines = [], [], []
         for row, came, seconds in zip(rows, told, whole):
             false = sum(bool(it.fault) for _, it in came)
             median = statistics.median(seconds[it] for it in shared)
             self.more.append(statistics.median(seconds[it] - whole[-1][it] for it in shared))
-            counts = (row.name, len(came), len(seconds), false, median, self.more[-1])
-            lines.append("%s: %d sessions, %d whole, %d false, median %.2f s, %+.2f s" % counts)
+            self.apart.append(median - theirs)
+            counts = (row.name, len(came), len(seconds), false, median, self.more[-1], self.apart[-1])
+            lines.append(
+                "%s: %d sessions, %d whole, %d false, median %.2f s, %+.2f s, of medians %+.2f s" % counts
+            )
             assert not false, lines[-1]
         self.share = max(self.more) / theirs
         self.told = "%s, %s: medians of %d seeds; %s" % (name, blocks, len(shared), "; ".join(lines))
@@ -292,7 +295,7 @@ def test_as_quick_as_sb_across_the_same_noise(name, how, blocks, flags, other):
     needs("sb", "rb")
     rows = list(rows_alike(how, flags, other, int(os.environ.get("SEEDS", "20"))))
     beside = Beside(name, blocks, rows)
-    assert max(beside.more) <= EXACT, beside.told
+    assert max(beside.more + beside.apart) <= EXACT, beside.told
 
 
 @cases(*(case("flipped, 0.05%%, %s" % it[0], *it) for it in ALIKE))

@@ -143,7 +143,8 @@ def rb(start=0):
             yield from line.purge(SECOND)
             yield Write(bytes([START]))
             item = yield from rb_sector(line, START, 10 * SECOND)
-        if not item:
+        # a data block in place of block 0 ends it
+        if not item or item[1] != 0:
             return "failed", files
         yield Write(bytes([ACK]))
         if item[2][0] == 0:
