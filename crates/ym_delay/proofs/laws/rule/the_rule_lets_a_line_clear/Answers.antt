@@ -1,4 +1,4 @@
-use Rattle.std.proofs.Common.{◌≡◌, ◌+◌, ◌-◌, ◌^◌, ◌<◌, ◌≤◌, ◌&&◌, inl, inr, ℕ, zero, suc, min, max, nat_eq, nat_lt, nat_le, not, Bool, true, false, List, [], ◌∷◌, refl, sym, subst, arith}
+use Rattle.std.proofs.Common.{◌≡◌, ◌⊎◌, ◌+◌, ◌-◌, ◌^◌, ◌<◌, ◌≤◌, ◌&&◌, inl, inr, ℕ, zero, suc, min, max, nat_eq, nat_lt, nat_le, not, Bool, true, false, List, [], ◌∷◌, refl, sym, subst, arith}
 use Rattle.ym_timing.specs.Clears.{apart_until, counts_answers, overdue_at, quiet_of, several_until}
 use Rattle.ym_timing.specs.Pace.{bound}
 use Rattle.ym_timing.specs.Times.{later}
@@ -105,35 +105,18 @@ soon-is Sender owed.One t role prompted = prompted
 soon-is Sender owed.Late t role prompted = prompted
 soon-is _ _ t role prompted = absurd (cc)
 
-soon-by : (since led_at long : ℕ) → since - led_at ≤ long → since ≤ led_at + long
-soon-by since led_at long short = omega (arith, short)
-
-asked-by : (long : ℕ) (t : Timing) → asked_within long t ≡ true → t.heard.since ≤ t.led_at + long
-asked-by long t asked =
-    let came = second-is (not t.heard.has_waited) (nat_le (t.heard.since - t.led_at) long) (second-is (nat_lt 0 t.heard.count) _ asked) in
-    soon-by t.heard.since t.led_at long (at-most _ _ came)
-
 likely-is : (o : Owed) (trust : Trust) (t : Timing) → likely_by o trust t ≡ true → asked_within 2250 t ≡ true
 likely-is owed.One Unknown t likely = second-is (is_opening t.sent) (asked_within 2250 t) likely
 likely-is _ _ t likely = absurd (cc)
 
-is-likely : (times : Times) (led : ℕ) (s : SpokeAt) → CopiesLikely times led s → IsSoon times led s
-is-likely times led s copies =
-    let t = copies.timing in
-    let short = asked-by 2250 t (likely-is t.out.owed t.pace.trust t copies.likely) in
-    let by = copies.since in
-    let before = copies.led_at in
-    let waits = copies.waits in
-    record { some = copies.some; soon = omega (arith, short, by, before, waits) }
+is-asked : (times : Times) (led : ℕ) (s : SpokeAt) (long : ℕ) (t : Timing) → asked_within long t ≡ true → (s.spoke.came ≡ [] → ⊥) → t.led_at ≤ led → s.by ≤ t.heard.since → long + times.oldest ≤ times.receiver_waits → IsSoon times led s
+is-asked times led s long t asked some before by waits =
+    let short = at-most _ _ (second-is (not t.heard.has_waited) (nat_le (t.heard.since - t.led_at) long) (second-is (nat_lt 0 t.heard.count) _ asked)) in
+    record { some = some; soon = omega (arith, short, by, before, waits) }
 
-is-soon : (times : Times) (led : ℕ) (s : SpokeAt) → CopiesSoon times led s → IsSoon times led s
-is-soon times led s copies =
-    let t = copies.timing in
-    let short = asked-by (soon t) t (soon-is t.role t.out.owed t copies.role copies.prompted) in
-    let by = copies.since in
-    let before = copies.led_at in
-    let waits = copies.waits in
-    record { some = copies.some; soon = omega (arith, short, by, before, waits) }
+is-soon : (times : Times) (led : ℕ) (s : SpokeAt) → CopiesSoon times led s ⊎ CopiesLikely times led s → IsSoon times led s
+is-soon times led s (inl c) = is-asked times led s (soon c.timing) c.timing (soon-is c.timing.role c.timing.out.owed c.timing c.role c.prompted) c.some c.led_at c.since c.waits
+is-soon times led s (inr c) = is-asked times led s 2250 c.timing (likely-is c.timing.out.owed c.timing.pace.trust c.timing c.likely) c.some c.led_at c.since c.waits
 
 -- ---- Behind as many ACKs as there were copies
 
@@ -164,7 +147,7 @@ module _ (times : Times) where
   over at next long = omega (arith, long)
 
   alone : (led more dropped : ℕ) (s next : SpokeAt) → GoesOn times led more dropped s next → IsAlone times led more dropped s next
-  alone led zero dropped s next goes = λ same. elim (goes same) [ inl late ↦ inl (over s.at next.at (late-enough Span s.at next.at late)) | inr soon ↦ inr (elim soon [ inl prompted ↦ is-soon times led s prompted | inr likely ↦ is-likely times led s likely ]) ]
+  alone led zero dropped s next goes = λ same. elim (goes same) [ inl late ↦ inl (over s.at next.at (late-enough Span s.at next.at late)) | inr soon ↦ inr (is-soon times led s soon) ]
   alone led (suc more) dropped s next (inl silent) = inl silent
   alone led (suc more) dropped s next (inr (inl rule)) = inr (inl (over s.at next.at (several Span s.at next.at rule)))
   alone led (suc more) dropped s next (inr (inr counts)) = inr (inr (is-counted (suc more) dropped s next counts))
