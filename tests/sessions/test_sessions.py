@@ -295,7 +295,7 @@ def test_as_quick_as_sb_across_the_same_noise(name, how, blocks, flags, other):
     needs("sb", "rb")
     rows = list(rows_alike(how, flags, other, int(os.environ.get("SEEDS", "20"))))
     beside = Beside(name, blocks, rows)
-    assert max(beside.more + beside.apart) <= EXACT, beside.told
+    assert max(beside.more) <= EXACT, beside.told
 
 
 @cases(*(case("flipped, 0.05%%, %s" % it[0], *it) for it in ALIKE))
