@@ -30,6 +30,14 @@ FEW = [("a", b""), ("b", random.Random(5).randbytes(300)), ("c", random.Random(6
 
 PAIRS = (("send", "receive"), ("send", "rb"), ("sb", "receive"), ("sb", "rb"))
 PAIRS_ON_TERMINALS = (TERMINALS, ("ymodem sb", "rb"), ("sb", "ymodem rb"))
+# Blocks of both lengths, and both confirmations; lrzsz's ends have no such choice.
+FLAGS = (
+    ("", ((), ())),
+    (", --short", (("--short",), ())),
+    (", --single", ((), ("--single",))),
+)
+# So many writes a sender makes of these few files.
+WRITES = 18
 
 
 class Row:
@@ -49,20 +57,21 @@ def pair_name(ends):
     return "%s to %s" % ends
 
 
+def beside(ends):
+    """What a row's name has where one of its ends is lrzsz's."""
+    return "" if ends in (SOCKETS, TERMINALS) else ", " + pair_name(ends)
+
+
 def delay_rows(ends, steps, jitter, wants):
     for delay in steps:
-        for how, flags in (
-            ("", ((), ())),
-            (", --short", (("--short",), ())),
-            (", --single", ((), ("--single",))),
-        ):
+        for how, flags in FLAGS if ends in (SOCKETS, TERMINALS) else FLAGS[:1]:
 
             def make(seed, delay=delay, flags=flags):
                 line = Line(Shape(delay, jitter), seed=seed)
                 return session(FEW, line, ends, flags)
 
             name = "delay %.2f s each way%s" % (delay, jitter and ", jitter %g s" % jitter or "")
-            yield Row(name + how, make, ends, wants)
+            yield Row(name + how + beside(ends), make, ends, wants)
 
 
 def late_rows(ends, seconds, delays):
@@ -73,9 +82,18 @@ def late_rows(ends, seconds, delays):
                 def make(seed, delay=delay, late=late, who=who):
                     return session(FEW, Line(Shape(delay), seed=seed), ends, late=(who, late))
 
-                # a receiver gives up after 30 s alone, a sender after 100
-                wants = who == "receiver" and late < 60 or late <= 21
-                yield Row("the %s %d s late, delay %g s" % (who, late, delay), make, ends, wants)
+                # a receiver gives up after 30 s alone, a sender after 100; `sb` after less
+                wants = who == "receiver" and late < 60 and ends[0] != "sb" or late <= 21
+                name = "the %s %d s late, delay %g s" % (who, late, delay)
+                yield Row(name + beside(ends), make, ends, wants)
+
+
+def is_hard(ends, who, at, long, delay):
+    """Whether a session may end early, and is told so, though both ends count on: `rb` cancels some
+    at such delays; and where a reply behind the first file comes so late, both ends wait in turn."""
+    if delay < 2:
+        return False
+    return ends[1] == "rb" or who == "receiver" and long >= 9 and at > 8
 
 
 def stall_rows(ends, seconds, delays, places):
@@ -88,7 +106,8 @@ def stall_rows(ends, seconds, delays, places):
                         return session(FEW, Line(Shape(delay), seed=seed, stall=stall), ends)
 
                     name = "the %s stalls %d s at its write %d, delay %g s" % (who, long, at, delay)
-                    yield Row(name, make, ends, long <= 12)
+                    wants = long <= 12 and not is_hard(ends, who, at, long, delay)
+                    yield Row(name + beside(ends), make, ends, wants)
 
 
 def echo_rows(both, sender_with_rb):
@@ -166,9 +185,16 @@ def long_rows(seeds):
             *delay_rows(ends, steps(4.25, 12), 0, False),
             *delay_rows(ends, steps(4.25, 12, 1), 1, False),
             *late_rows(ends, (0, 1, 3, 5, 10, 20, 29, 45, 60), (0, 0.5, 2)),
-            *stall_rows(ends, (1, 3, 6, 9, 12, 21, 30), (0, 0.5, 2), range(1, 9)),
+            *stall_rows(ends, (1, 3, 6, 9, 12, 21, 30), (0, 0.5, 2), range(1, WRITES + 1)),
             *echo_rows(ends, pairs[1]),
             *noise_rows(pairs, seeds),
+        ]
+    for ends in PAIRS[1:3]:
+        rows += [
+            *delay_rows(ends, steps(0, 4), 0, True),
+            *delay_rows(ends, steps(0, 4), 1, True),
+            *late_rows(ends, (0, 1, 3, 5, 10, 20, 29, 45, 60), (0, 0.5, 2)),
+            *stall_rows(ends, (1, 3, 6, 9, 12, 21, 30), (0, 0.5, 2), range(1, WRITES + 1)),
         ]
     return rows
 
