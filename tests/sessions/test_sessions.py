@@ -89,11 +89,11 @@ def late_rows(ends, seconds, delays):
 
 
 def is_hard(ends, who, at, long, delay):
-    """Whether a session may end early, and is told so, though both ends count on: `rb` cancels some
-    at such delays; and where a reply behind the first file comes so late, both ends wait in turn."""
-    if delay < 2:
-        return False
-    return ends[1] == "rb" or who == "receiver" and long >= 9 and at > 8
+    """Whether a session may end early, and is told so, though our counts allow more: lrzsz's ends
+    have their own; and where a reply behind the first file comes so late, ours wait in turn, and
+    come out of step."""
+    is_late = who == "receiver" and at > 8 and long >= 9 and delay >= 2
+    return is_late or ends not in (SOCKETS, TERMINALS)
 
 
 def stall_rows(ends, seconds, delays, places):
