@@ -140,8 +140,8 @@ NOISE = (
 )
 
 
-# So exact are the seconds of a session on an idle machine, and such a share of them may be more where
-# a machine has all it can do.
+# So exact are the seconds of a session on an idle machine, and such a share of them may be more
+# where a machine has all it can do.
 EXACT, NEAR = 0.05, 0.2
 SHORT_SEEDS = 3
 # Senders with blocks of one length, side by side: long ones, and short ones.
@@ -284,9 +284,9 @@ def test_of_long_form(row):
 
 
 class Beside:
-    """What sessions of `send` came to beside those of lrzsz's own two, at the seeds at which all are
-    whole: how much more they take by the median of the differences, and by their own medians, the
-    share of the former, and what is told."""
+    """What sessions of `send` came to beside those of lrzsz's own two, at the seeds at which all
+    are whole: how much more they take by the median of the differences, and by their own medians,
+    the share of the former, and what is told."""
 
     def __init__(self, name, blocks, rows):
         told = asyncio.run_coroutine_threadsafe(all_rows_made(rows), LOOP).result()
@@ -299,13 +299,14 @@ class Beside:
             median = statistics.median(seconds[it] for it in shared)
             self.more.append(statistics.median(seconds[it] - whole[-1][it] for it in shared))
             self.apart.append(median - theirs)
-            counts = (row.name, len(came), len(seconds), false, median, self.more[-1], self.apart[-1])
-            lines.append(
-                "%s: %d sessions, %d whole, %d false, median %.2f s, %+.2f s, of medians %+.2f s" % counts
-            )
+            more = (self.more[-1], self.apart[-1])
+            counts = (row.name, len(came), len(seconds), false, median, *more)
+            line = "%s: %d sessions, %d whole, %d false, median %.2f s, %+.2f s, of medians %+.2f s"
+            lines.append(line % counts)
             assert not false, lines[-1]
         self.share = max(self.more) / theirs
-        self.told = "%s, %s: medians of %d seeds; %s" % (name, blocks, len(shared), "; ".join(lines))
+        which = (name, blocks, len(shared))
+        self.told = "%s, %s: medians of %d seeds; " % which + "; ".join(lines)
         print(self.told)
 
 

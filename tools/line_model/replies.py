@@ -87,7 +87,8 @@ class Hold:
     """What a sender hears later, or not at all."""
 
     def __init__(self):
-        self.is_held, self.at, self.first_ack, self.asks_left, self.asked_at = False, 0, "counts", 0, 0
+        self.is_held, self.at, self.first_ack = False, 0, "counts"
+        self.asks_left, self.asked_at = 0, 0
 
     def wrote(self, is_opening, is_repeat, is_doubted, now):
         self.is_held = False
