@@ -88,12 +88,10 @@ def late_rows(ends, seconds, delays):
                 yield Row(name + beside(ends), make, ends, wants)
 
 
-def is_hard(ends, who, at, long, delay):
-    """Whether a session may end early, and is told so, though our counts allow more: lrzsz's ends
-    have their own; and where a reply behind the first file comes so late, ours wait in turn, and
-    come out of step."""
-    is_late = who == "receiver" and at > 8 and long >= 9 and delay >= 2
-    return is_late or ends not in (SOCKETS, TERMINALS)
+def is_spent(stall, delay):
+    """Whether a receiver has given up, 30 s behind its ACK of block 0: that comes 21 s late, and a
+    sender that knows nothing of its line lets it clear for 12 s then."""
+    return stall == ("receiver", 2, 21) and delay < 2
 
 
 def stall_rows(ends, seconds, delays, places):
@@ -106,7 +104,8 @@ def stall_rows(ends, seconds, delays, places):
                         return session(FEW, Line(Shape(delay), seed=seed, stall=stall), ends)
 
                     name = "the %s stalls %d s at its write %d, delay %g s" % (who, long, at, delay)
-                    wants = long <= 12 and not is_hard(ends, who, at, long, delay)
+                    is_ours = ends in (SOCKETS, TERMINALS)
+                    wants = is_ours and long <= 21 and not is_spent((who, at, long), delay)
                     yield Row(name + beside(ends), make, ends, wants)
 
 
@@ -205,6 +204,7 @@ def short_rows(seeds):
         *delay_rows(SOCKETS, (1.5,), 1, True),
         *late_rows(SOCKETS, (5, 20), (0.5,)),
         *stall_rows(SOCKETS, (6, 12), (0, 0.5), (1, 2, 3, 5)),
+        *stall_rows(SOCKETS, (9,), (2,), (15, 16)),
         *echo_rows(SOCKETS, PAIRS[1]),
         *delay_rows(TERMINALS, (0.5, 2), 0, True),
         *delay_rows(TERMINALS, (1.5,), 1, True),
@@ -229,6 +229,7 @@ def running():
 LOOP = running()
 # So many sessions go on at once. Where seconds are compared, fewer are better: the lines of 150 noisy
 # ones take more than four processors.
+TOGETHER = 20
 AT_ONCE = asyncio.Semaphore(int(os.environ.get("AT_ONCE", "150")))
 
 
@@ -245,19 +246,26 @@ async def made(row, seed):
             await asyncio.to_thread(beating().wait_for_calm)
 
 
-async def all_made(row):
-    return await asyncio.gather(*(made(row, seed) for seed in range(row.seeds)))
+async def all_made(row, seeds):
+    return await asyncio.gather(*(made(row, seed) for seed in seeds))
 
 
 async def all_rows_made(rows):
-    return await asyncio.gather(*map(all_made, rows))
+    """Rows to be compared: the same few seeds of each at once, so that none has a busier machine."""
+    told = [[] for _ in rows]
+    seeds = range(rows[0].seeds)
+    for first in seeds[::TOGETHER]:
+        some = seeds[first : first + TOGETHER]
+        for of_row, more in zip(told, await asyncio.gather(*(all_made(it, some) for it in rows))):
+            of_row += more
+    return told
 
 
 def is_as_it_has_to_be(row):
     """No report is false, and each session is whole that has to be."""
     if row.needs_lrzsz:
         needs("sb", "rb")
-    came = asyncio.run_coroutine_threadsafe(all_made(row), LOOP).result()
+    came = asyncio.run_coroutine_threadsafe(all_made(row, range(row.seeds)), LOOP).result()
     whole = sorted(it.seconds for _, it in came if it.is_whole)
     false = [(seed, it) for seed, it in came if it.fault]
     lacking = [(seed, it) for seed, it in came if row.wants and not it.is_whole and not it.fault]

@@ -57,11 +57,12 @@ class Ending:
             ("error", self.err, err),
         ):
             wanted = want if isinstance(want, tuple) else (want,)
-            assert got in wanted, "%s: %s %r, wanted %s (%r)" % (
+            assert got in wanted, "%s: %s %r, wanted %s (%r, %r)" % (
                 self.words[0],
                 name,
                 got,
                 " or ".join(map(repr, wanted)),
+                self.out,
                 self.err,
             )
 

@@ -18,6 +18,7 @@ APART = 2_000
 UNASKED = 2_750
 SOON = 1_750
 LIKELY = 2_250
+FAR = 2_000
 HELD_UP = 2_000
 FRAGMENT = 64
 FULL = 2_048
@@ -168,9 +169,18 @@ class Timing:
         heard = self.heard
         return heard.count > 0 and not heard.is_quiet and heard.last + HELD_UP <= now
 
+    def is_new_frame(self):
+        return self.front != (self.heard.first, self.heard.second)
+
+    def has_crossed(self):
+        """Whether a frame came once more, too soon to answer the last write."""
+        is_far = self.trust == "sure" and FAR <= self.slowest
+        is_repeat = self.role == "receiver" and not self.is_new_frame()
+        return is_far and is_repeat and self.heard.since < self.out.last_at + self.slowest // 2
+
     def need(self, following, now):
         taken = self.is_taken(following)
-        if self.out.owed == "several" and taken:
+        if self.out.owed == "several" and taken and not self.has_crossed():
             return "several"
         if self.heard.is_noise() or self.was_held_up(now):
             return "quiet"
@@ -227,7 +237,7 @@ class Timing:
         return self.wait() if self.role == "sender" and is_still else took
 
     def learn(self, clearing, taken):
-        is_other = self.role == "sender" or self.front != (self.heard.first, self.heard.second)
+        is_other = self.role == "sender" or self.is_new_frame()
         if not (taken and is_other and self.out.owed != "nothing"):
             return
         vain = clearing.need in ("late", "several") and not clearing.has_brought

@@ -15,8 +15,8 @@ use Rattle.ym_timing.specs.declared.clearing.Heed.{Heed}
 use Rattle.ym_timing.specs.declared.clearing.Heed.TheVariants as heed
 use Rattle.ym_timing.specs.declared.clearing.Need.{Need}
 use Rattle.ym_timing.specs.declared.clearing.Need.TheVariants as need
-use Rattle.ym_timing.specs.declared.limits.TheConstants.{APART, HALVINGS, HELD_UP, LONGEST, MOMENT}
-use Rattle.ym_timing.specs.declared.limits.TheConstants.{RECEIVER_QUIET, SENDER_QUIET}
+use Rattle.ym_timing.specs.declared.limits.TheConstants.{APART, FAR, HALVINGS, HELD_UP, LONGEST}
+use Rattle.ym_timing.specs.declared.limits.TheConstants.{MOMENT, RECEIVER_QUIET, SENDER_QUIET}
 use Rattle.ym_timing.specs.declared.out.Owed.{Owed}
 use Rattle.ym_timing.specs.declared.out.Owed.TheVariants as owed
 use Rattle.ym_timing.specs.declared.pace.Trust.{Trust}
@@ -46,17 +46,39 @@ was_held_up now t =
 abbrev pub is_unsure : ℕ → Timing → Bool
 is_unsure now t = is_noise t.heard || was_held_up now t
 
-abbrev pub need_by : Owed → Bool → Bool → Need
-need_by owed.Several taken unsure =
-    if taken then need.Several else (if unsure then need.Quiet else need.Nothing)
-need_by owed.Late taken unsure =
+-- what was heard is another frame than the one before
+abbrev pub is_new_frame : Timing → Bool
+is_new_frame t =
+    not (t.front.is_there && nat_eq t.front.first t.heard.first
+    && nat_eq t.front.second t.heard.second)
+
+-- Where it is the line that answers wait for, a frame came to a receiver once more, sooner behind
+-- its last write than half of what an answer is known to take. So it answers the write before that,
+-- if any: both ends had asked at once.
+abbrev pub crossed_by : Role → Trust → Timing → Bool
+crossed_by Receiver trust.Sure t =
+    nat_le FAR t.pace.slowest
+    && (not (is_new_frame t) && nat_lt t.heard.since (later t.out.last_at (t.pace.slowest / 2)))
+crossed_by _ _ t = false
+
+abbrev pub has_crossed : Timing → Bool
+has_crossed t = crossed_by t.role t.pace.trust t
+
+-- answers to several writes may be under way, and what was heard is one of them
+abbrev pub several_by : Bool → Timing → Bool
+several_by taken t = taken && not (has_crossed t)
+
+abbrev pub need_by : Owed → Bool → Bool → Timing → Need
+need_by owed.Several taken unsure t =
+    if several_by taken t then need.Several else (if unsure then need.Quiet else need.Nothing)
+need_by owed.Late taken unsure t =
     if unsure then need.Quiet else (if taken then need.Late else need.Nothing)
-need_by owed.One taken unsure = if unsure then need.Quiet else need.Nothing
-need_by owed.Likely taken unsure = if unsure then need.Quiet else need.Nothing
-need_by owed.Nothing taken unsure = if unsure then need.Quiet else need.Nothing
+need_by owed.One taken unsure t = if unsure then need.Quiet else need.Nothing
+need_by owed.Likely taken unsure t = if unsure then need.Quiet else need.Nothing
+need_by owed.Nothing taken unsure t = if unsure then need.Quiet else need.Nothing
 
 abbrev pub need_of : Sent → ℕ → Timing → Need
-need_of n now t = need_by t.out.owed (is_taken n t) (is_unsure now t)
+need_of n now t = need_by t.out.owed (is_taken n t) (is_unsure now t) t
 
 -- where answers may come yet to a sender it counts since the last of them
 abbrev pub counted_by : Role → Need → Timing → ℕ

@@ -229,6 +229,41 @@ far_ended = after_bytes ack_start eot 21000 (writes eot 17000 (after_bytes nak e
 far_ended-clear : clear_at (clearing opening 21000 far_ended) far_ended ≡ 23250
 far_ended-clear = refl
 
+-- ---- An answer that was stuck
+
+-- a receiver whose ACK of block 1 is stuck, so that both ends ask once more: 4000 is what an answer
+-- takes here, and it waited for half as much again and 250
+abbrev stuck : Timing
+stuck = writes nak 23250 (writes ack 17000 (after_bytes block_1 ack_start 17000
+    (writes ack_start 13000 (after_bytes opening start 13000 (writes start 9000
+    (new_timing Receiver))))))
+
+-- block 1 comes again 250 behind its NAK, and is no answer to that: nothing has to clear
+stuck-crossed : clear_at (clearing ack 23500 (after_bytes block_1 nak 23500 stuck))
+    (after_bytes block_1 nak 23500 stuck) ≡ 0
+stuck-crossed = refl
+
+-- 2000 behind it and later it may be that: what else was written because of it is let come first
+stuck-clear : clear_at (clearing ack 25250 (after_bytes block_1 nak 25250 stuck))
+    (after_bytes block_1 nak 25250 stuck) ≡ 29500
+stuck-clear = refl
+
+-- and so it is where another block comes, however soon
+stuck-other : clear_at (clearing ack 23500 (after_bytes block_2 nak 23500 stuck))
+    (after_bytes block_2 nak 23500 stuck) ≡ 29500
+stuck-other = refl
+
+-- Nor is it so where answers come soon: a damaged block is written again as soon as it is asked
+-- for, and a short one may take less than half of what a long one does.
+abbrev near : Timing
+near = writes nak 12169 (writes ack 9169 (after_bytes block_1 ack_start 9169
+    (writes ack_start 9100 (after_bytes opening start 9100 (writes start 9000
+    (new_timing Receiver))))))
+
+near-clear : clear_at (clearing ack 12181 (after_bytes block_1 nak 12181 near))
+    (after_bytes block_1 nak 12181 near) ≡ 13181
+near-clear = refl
+
 -- ---- A late start
 
 -- a receiver has asked at 3, 6 and 9 seconds when its peer starts
@@ -250,6 +285,13 @@ late_start-falls : (writes ack 25012 (after_bytes block_1 ack_start 25012
     (writes ack_start 25000 late_start))).pace
     ≡ record { slowest = 12; trust = Sure }
 late_start-falls = refl
+
+-- block 0 again, a second behind a NAK: how long answers take is not known for sure
+late_start-again : clear_at (clearing ack 52000
+    (after_bytes opening nak 52000 (writes nak 51000 (writes ack_start 25000 late_start))))
+    (after_bytes opening nak 52000 (writes nak 51000 (writes ack_start 25000 late_start)))
+    ≡ 76750
+late_start-again = refl
 
 -- ---- An echo
 

@@ -3,9 +3,9 @@
 -- An ask answers the write before it where it came so soon behind the reply before that no peer
 -- can have asked because it waited. Where it came when the answer was overdue, no answer is
 -- awaited but the next; else each copy may be answered.
-use Rattle.std.specs.Prelude.{ℕ, ◌-◌, nat_eq, nat_lt, nat_le, ◌&&◌, ◌||◌, not, Bool, true, false}
+use Rattle.std.specs.Prelude.{ℕ, ◌-◌, nat_lt, nat_le, ◌&&◌, ◌||◌, not, Bool, true, false}
 use Rattle.std.specs.Prelude.{List, max, if◌then◌else◌}
-use Rattle.ym_timing.specs.Clears.{is_taken, vain_after}
+use Rattle.ym_timing.specs.Clears.{is_new_frame, is_taken, vain_after}
 use Rattle.ym_timing.specs.Ear as ear
 use Rattle.ym_timing.specs.Arrivals.{new_arrivals}
 use Rattle.ym_timing.specs.Hold as hold
@@ -50,11 +50,6 @@ cleared_by _ = true
 
 abbrev pub has_cleared : Clearing → Bool
 has_cleared c = cleared_by c.need
-
-abbrev pub is_new_frame : Timing → Bool
-is_new_frame t =
-    not (t.front.is_there && nat_eq t.front.first t.heard.first
-    && nat_eq t.front.second t.heard.second)
 
 abbrev pub is_other : Role → Timing → Bool
 is_other Sender t = true

@@ -4,7 +4,7 @@ ghost use Rattle.std.specs.Prelude.{◌≡◌, false};
 ghost use Rattle.ym_timing.specs.Clears as table;
 
 use crate::ear::{ACK, CAN};
-use crate::limits::{APART, HALVINGS, HELD_UP, LONGEST, MOMENT, RECEIVER_QUIET, SENDER_QUIET};
+use crate::limits::{APART, FAR, HALVINGS, HELD_UP, LONGEST, MOMENT, RECEIVER_QUIET, SENDER_QUIET};
 use crate::out::Owed;
 use crate::pace::Trust;
 use crate::role::Role;
@@ -121,6 +121,29 @@ impl Timing {
         0 < self.heard.count && !self.heard.is_quiet && is_late
     }
 
+    /// Whether what was heard is another frame than the one before.
+    pub(crate) fn is_new_frame(&self) -> bool
+        ensures { result ≡ table.is_new_frame self.now }
+    {
+        let front = self.front;
+        !(front.is_there && front.first == self.heard.first && front.second == self.heard.second)
+    }
+
+    /// Whether a frame came to a receiver once more, so soon behind its last write that it answers
+    /// no more than the one before that: both were on their way at once.
+    fn has_crossed(&self) -> bool
+        ensures { result ≡ table.has_crossed self.now }
+    {
+        let slowest = self.pace.slowest;
+        let soon = self.out.last_at.saturating_add(slowest / 2);
+        match (self.role, self.pace.trust) {
+            (Role::Receiver, Trust::Sure) if FAR <= slowest => {
+                !self.is_new_frame() && self.heard.since < soon
+            }
+            _ => false,
+        }
+    }
+
     /// Why the line has to clear before this.
     fn need(&self, next: Sent, now: u64) -> Need
         ensures { result ≡ table.need_of next now self.now }
@@ -128,7 +151,7 @@ impl Timing {
         let is_taken = self.is_taken(next);
         let is_unsure = self.heard.is_noise() || self.was_held_up(now);
         match self.out.owed {
-            Owed::Several if is_taken => Need::Several,
+            Owed::Several if is_taken && !self.has_crossed() => Need::Several,
             _ if is_unsure => Need::Quiet,
             Owed::Late if is_taken => Need::Late,
             _ => Need::Nothing,

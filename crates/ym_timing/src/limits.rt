@@ -36,6 +36,10 @@ pub const SOON: u64 = 1_750;
 /// damaged: a peer that asks unasked does so every three seconds or later.
 pub const LIKELY: u64 = 2_250;
 
+/// Where answers take so long, it is the line that takes it: a short frame comes no sooner than
+/// half of what a long one takes.
+pub const FAR: u64 = 2_000;
+
 /// An end that took so long between what it heard and its next write was held up.
 pub const HELD_UP: u64 = 2_000;
 

@@ -34,14 +34,6 @@ fn has_cleared(clearing: Clearing) -> bool
 }
 
 impl Timing {
-    /// Whether what was heard is another frame than the one before.
-    fn is_new_frame(&self) -> bool
-        ensures { result ≡ table.is_new_frame self.now }
-    {
-        let front = self.front;
-        !(front.is_there && front.first == self.heard.first && front.second == self.heard.second)
-    }
-
     /// Whether the answer led on, so that its time says how long answers take.
     fn leads_on(&self, is_taken: bool) -> bool
         ensures { result ≡ table.leads_on is_taken self.now }
