@@ -227,9 +227,10 @@ def running():
 
 
 LOOP = running()
-# So many sessions go on at once. Where seconds are compared, fewer are better: the lines of 150 noisy
-# ones take more than four processors.
+# So many seeds of each row are made at once, where seconds are compared.
 TOGETHER = 20
+# So many sessions go on at once. Where seconds are compared, fewer are better: the lines of 150
+# noisy ones take more than four processors.
 AT_ONCE = asyncio.Semaphore(int(os.environ.get("AT_ONCE", "150")))
 
 
