@@ -2,12 +2,11 @@
 """Runs the gate, `rt ci`, and beside it all that is tried before a change lands.
 
 The gate proves every crate, tries the edits that have to be refused, and runs the crates' tests.
-The crates of the program, and of what plays cases to its parts, are proved first, by themselves
-(tools/prove.py), and are kept for the gate. It begins when those that are left stand one on
-another: they still get all processors that they can use, and the gate the others. Once they are
-proved come, while the gate is at the rest, the tests of that very program, folder by folder of
-tests/. So nothing is proved twice, and most tests wait for lines and peers while the gate needs the
-processors.
+The crates of the program are proved first, by themselves (tools/prove.py), and are kept for the
+gate. It begins when at most two of those that are left can be proved side by side: they still get
+all processors that they can use, and the gate the others. Once they are proved come, while the gate
+is at the rest, the tests of that very program, folder by folder of tests/. So nothing is proved
+twice, and most tests wait for lines and peers while the gate needs the processors.
 
 Beside all that come want of memory (tests/memory), what the crates keep to (tests/house), and the
 library for C with the page, made in a copy of the tree since the gate holds the crates' folders,
@@ -189,10 +188,13 @@ def stop_all(gate, beside):
         it.thread.join()
 
 
-def is_row(names):
-    """Whether each of these crates, lowest first, stands on the one before."""
-    used = proved.crates()
-    return all(below in used[name] for below, name in zip(names, names[1:]))
+def are_few(names):
+    """Whether at most two of these crates, lowest first, are as high above the others: more are not
+    proved side by side."""
+    used, heights = proved.crates(), {}
+    for name in names:
+        heights[name] = 1 + max((heights[it] for it in used[name] if it in heights), default=0)
+    return all(list(heights.values()).count(it) <= 2 for it in heights.values())
 
 
 def heard(child, gate):
@@ -203,7 +205,7 @@ def heard(child, gate):
         found = LAST.match(line)
         if found and found[1] in left:
             left.remove(found[1])
-            if is_row(left) and not gate.is_given_up:
+            if are_few(left) and not gate.is_given_up:
                 gate.begin()
 
 

@@ -14,9 +14,9 @@ usage: prove.py [play|check|first]
           else by `rt try`, which proves nothing
   check   proves what changed, and tries unproved the tests of the crates that changed since the last
           green run, in them and in the crates of tests that use them
-  first   for the gate: proves the program's crates side by side, and the programs of cases that its
-          tests run, whatever stands here, since the gate takes nothing but what was kept so, and puts
-          these programs into out/tried; where nothing can be kept, none is there
+  first   for the gate: proves the program's crates side by side, whatever stands here, since the
+          gate takes nothing but what was kept so, and puts the program into out/tried; where nothing
+          can be kept, it is not there
 """
 
 import contextlib
@@ -37,9 +37,8 @@ import proved
 from proved import CRATES, PROGRAM, ROOT, crates, sources
 
 TOP = os.path.join(CRATES, "ymodem")
-# What the gate tries: the program, and what plays cases to its parts.
-TRIED = os.path.join(ROOT, "out", "tried")
-PROGRAMS = ("ymodem", "port_cases", "line_cases")
+# Where the program lies that the gate tries.
+TRIED = os.path.join(ROOT, "out", "tried", "ymodem")
 LOG = os.path.join(ROOT, "out", "build.log")
 GREEN = os.path.join(ROOT, "out", "green.json")
 
@@ -164,10 +163,10 @@ def copied(names, to):
         shutil.copy(it, there)
 
 
-def build_from_nothing(shown, kept, places):
-    """Has the crates of these programs proved side by side, or taken where the gate has kept them,
-    and puts each program into its place."""
-    names, said, done = proved.made_of(*places), [], set()
+def build_from_nothing(shown, kept, place):
+    """Has the program's crates proved side by side, or taken where the gate has kept them, and puts
+    the program there."""
+    names, said, done = of_program(), [], set()
 
     def hear(line):
         kept.write(line)
@@ -182,9 +181,8 @@ def build_from_nothing(shown, kept, places):
         copied(names, top)
         if followed(["rt", "ci"], top, os.devnull, hear):
             failed(shown, said)
-        for name, place in places.items():
-            os.makedirs(os.path.dirname(place), exist_ok=True)
-            shutil.copy2(os.path.join(top, "crates", name, "out", name), place)
+        os.makedirs(os.path.dirname(place), exist_ok=True)
+        shutil.copy2(os.path.join(top, "crates", "ymodem", "out", "ymodem"), place)
 
 
 def can_keep():
@@ -205,7 +203,7 @@ def build(here=False):
         if here or has_begun or not can_keep():
             build_here(shown, kept)
         else:
-            build_from_nothing(shown, kept, {"ymodem": PROGRAM})
+            build_from_nothing(shown, kept, PROGRAM)
     shown.clear()
     # It is newer than its sources now, also where nothing had to be built.
     with contextlib.suppress(OSError):
@@ -216,12 +214,12 @@ def build(here=False):
 
 def first():
     """Proves and builds for the gate. Whatever goes wrong ends this script."""
-    shutil.rmtree(TRIED, ignore_errors=True)
+    shutil.rmtree(os.path.dirname(TRIED), ignore_errors=True)
     if not can_keep():
         return
     shown = Shown(sys.stderr)
     with log_file() as kept:
-        build_from_nothing(shown, kept, {name: os.path.join(TRIED, name) for name in PROGRAMS})
+        build_from_nothing(shown, kept, TRIED)
     shown.clear()
 
 

@@ -190,6 +190,7 @@ class Line:
         self.there = There(shapes[0], seed * 2, frames, at if who == "sender" else None)
         self.back = Way(shapes[1], seed * 2 + 1, frames, at if who == "receiver" else None)
         self.echo, self.cut = echo, cut
+        self.began = None  # when an end wrote first
 
     async def pump(self, reader, way, other, is_echoed):
         while True:
@@ -197,6 +198,7 @@ class Line:
                 data = await reader.read(65536)
             except ConnectionError:
                 data = b""
+            self.began = self.began or time.monotonic()
             way.take(data)
             if not data:
                 return
@@ -317,7 +319,8 @@ async def receiver(who, flags, folder):
 
 
 class Outcome:
-    """How a session came out."""
+    """How a session came out. Its seconds are those since an end wrote first: until then it waits
+    for the programs of other sessions to be started, some longer than others."""
 
     def __init__(self, seconds, is_whole, fault, told):
         self.seconds, self.is_whole, self.fault, self.told = seconds, is_whole, fault, told
@@ -355,7 +358,8 @@ async def session(files, line, ends=SOCKETS, flags=((), ()), late=("", 0)):
                     end.process.kill()
                 end.close()
             carried.cancel()
-        return judged(files, there, endings, ends, time.monotonic() - began)
+        seconds = time.monotonic() - (line.began or began)
+        return judged(files, there, endings, ends, seconds)
 
 
 def judged(files, folder, endings, ends, seconds):

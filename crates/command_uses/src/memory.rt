@@ -1,6 +1,5 @@
 //! Commands that meet want of memory. `tests/memory` refuses each growth in turn.
 
-use super::fixtures::with_file;
 use std::io::Cursor;
 use std::test::Fail;
 use ym_command::{Charted, Outputs, Streams, command};
@@ -54,9 +53,20 @@ fn run(rt: &HostRuntime, words: &[&str], input: &[u8], status: u8, line: &str) -
     Err(Fail::from(WANT))
 }
 
+/// A script of six rounds, with a file of 128 bytes `A`.
+fn one_file(rt: &HostRuntime) -> Result<String, Fail> {
+    let mut script = String::new(rt.alloc());
+    script.push_str("file a.txt ")?;
+    for _ in 0..128 {
+        script.push_str("41")?;
+    }
+    script.push_str("\nok 6\n")?;
+    Ok(script)
+}
+
 #[test]
 fn a_script_is_played(rt: HostRuntime) -> Result<(), Fail> {
-    let script = with_file(&rt, "ok 6\n")?;
+    let script = one_file(&rt)?;
     run(&rt, &["ymodem", "play"], script.as_bytes(), 0, "")
 }
 

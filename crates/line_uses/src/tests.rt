@@ -2,4 +2,5 @@
 
 mod files;
 mod growths;
+mod ports;
 mod sizes;

@@ -6,3 +6,5 @@ pub mod PacketParts
 pub mod Flow
 pub mod OneConnection
 pub mod TwoSides
+pub mod RecordExamples
+pub mod RecordText

@@ -1,3 +1,1 @@
-pub mod ExplainLemmas
 pub mod JobLemmas
-pub mod JudgeLemmas

@@ -1,4 +1,1 @@
-pub mod Explaining
-pub mod Judged
-pub mod JudgedExamples
 pub mod Program

@@ -15,16 +15,17 @@ use Rattle.ym_play.specs.Session.{SessionGives}
 use Rattle.ym_words.specs.CommandLine.{the_app}
 use Rattle.ym_words.specs.Job.{Asked, asked}
 use Rattle.ym_words.specs.Job as job
-use Rattle.ym_jobs.specs.Desk.{Desk, IsSession}
+use Rattle.ym_answer.specs.Desk.{Desk}
+use Rattle.ym_jobs.specs.DeskSession.{IsSession}
 use Rattle.ym_jobs.specs.Keeping.{ReceivesSo}
 use Rattle.ym_jobs.specs.Looped.{LoopGives}
-use Rattle.ym_jobs.specs.Page.{TellsFault}
+use Rattle.ym_answer.specs.Page.{TellsFault}
 use Rattle.ym_jobs.specs.Receiving.{ReceiveGives}
 use Rattle.ym_jobs.specs.Sending.{SendGives}
-use Rattle.ym_jobs.specs.declared.command_fault.CommandFault.{CommandFault}
-use Rattle.ym_jobs.specs.declared.command_fault.CommandFault.TheVariants as fault
-use Rattle.ym_command.specs.Explaining.{DrawsGives}
-use Rattle.ym_command.specs.Judged.{Gives, JudgeGives}
+use Rattle.ym_answer.specs.declared.command_fault.CommandFault.{CommandFault}
+use Rattle.ym_answer.specs.declared.command_fault.CommandFault.TheVariants as fault
+use Rattle.ym_tools.specs.Explaining.{DrawsGives}
+use Rattle.ym_tools.specs.Judged.{Gives, JudgeGives}
 
 -- the command line takes these words, and they ask for this job, or for none
 abbrev pub AsksFor : List Text → Option Asked → Type 0

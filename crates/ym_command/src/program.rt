@@ -2,13 +2,10 @@
 
 ghost use Rattle.std.specs.Prelude.{◌≡◌, ◌≢◌, ◌≤◌, ◌⊎◌, ℕ, List, IfOk, Some, None, map, string_bytes};
 ghost use Rattle.ym_words.specs.Job.{Asked, Play, asked_of};
-ghost use Rattle.ym_jobs.specs.Desk.{desk};
-ghost use Rattle.ym_jobs.specs.Page.{TellsFault, page};
+ghost use Rattle.ym_answer.specs.Desk.{desk};
+ghost use Rattle.ym_answer.specs.Page.{TellsFault, page};
 ghost use Rattle.ym_command.specs.Program.{AsksFor, IsPlayed, JobGives, DoesAsked, RefusesPort, RefusesWords};
 
-use crate::charted::Draw;
-use crate::explaining::{ExplainOrder, explain_and_draw};
-use crate::judging::{JudgeOrder, judge};
 use crate::orders::{line_order_of, order_of, send_order_of};
 use clap::error::ErrorKind;
 use std::alloc::{AllocGlobal, Global};
@@ -18,14 +15,14 @@ use std::io;
 use std::io::{IsTerminal, Print, Write};
 use std::net::{Net, TcpListener, TcpStream};
 use std::time::Clock;
-use ym_jobs::{
-    AtPort, CommandFault, OnLine, Outputs, Streams, looped_session, receive_as_asked, receive_line,
-    send, send_line,
-};
+use ym_answer::CommandFault;
+use ym_jobs::{AtPort, OnLine, looped_session, receive_as_asked, receive_line, send, send_line};
 use ym_line::Direct;
 use ym_play::laws::a_known_script_is_played;
-use ym_play::{Input, Output, StreamFault, session_over};
+use ym_play::session_over;
 use ym_show::Teller;
+use ym_streams::{Input, Output, Outputs, StreamFault, Streams};
+use ym_tools::{Draw, ExplainOrder, JudgeOrder, explain_and_draw, judge};
 use ym_words::{Job, JobFault, TellFlags, job_of};
 
 /// The status after refused words.

@@ -1,4 +1,5 @@
 mod PairLemmas
 mod PcapLemmas
+mod ReadBackLemmas
 mod RecordLemmas
 mod TellLemmas

@@ -5,5 +5,6 @@ pub mod FirstBytes
 pub mod Inspecting
 pub mod PairTold
 pub mod PcapRead
+pub mod RecordBack
 pub mod RecordRead
 pub mod Recorded

@@ -14,7 +14,7 @@ use crate::record::tell_record;
 use std::alloc::Global;
 use ym_capture::{ByteOrder, CaptureFault, CaptureKind, Form, HEAD, Part, form_of, kind_of};
 use ym_explain::{Verdict, Ways};
-use ym_play::{Input, Output};
+use ym_streams::{Input, Output};
 
 /// The first bytes of a file: as many as stand before the first packet of a capture, or all where
 /// it has fewer.

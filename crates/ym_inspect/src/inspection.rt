@@ -14,7 +14,7 @@ use crate::parting::Parting;
 use std::alloc::{AllocError, Global};
 use std::marker::Model;
 use ym_explain::{Verdict, Ways, tell_sent, verdict_of};
-use ym_play::Output;
+use ym_streams::Output;
 use ym_told::{
     BothStanding, CaptureMoment, Direction, HeldFront, RunEnd, Scene, Settle, Stretch, front_back,
     front_there,

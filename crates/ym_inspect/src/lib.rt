@@ -6,6 +6,7 @@ mod fault;
 mod held;
 mod in_line;
 mod inspection;
+pub mod laws;
 mod pair;
 mod parting;
 mod pcap;

@@ -12,7 +12,7 @@ use crate::inspection::Inspection;
 use crate::reading::{PIECE, read_some};
 use std::alloc::Global;
 use ym_explain::{Fate, Verdict, Ways};
-use ym_play::{Input, Output};
+use ym_streams::{Input, Output};
 use ym_told::{Direction, Settle};
 
 /// A file of one way, read in pieces.

@@ -13,7 +13,7 @@ use std::alloc::Global;
 use std::marker::Model;
 use ym_capture::{CaptureFault, Connection, Form, HEAD, MOST_PACKET, PACKET_HEAD, packet_head};
 use ym_explain::{Verdict, Ways};
-use ym_play::{Input, Output};
+use ym_streams::{Input, Output};
 use ym_told::Direction;
 
 /// Tells bytes that came this way at this moment, if there are any.

@@ -11,7 +11,7 @@ use crate::reading::tell_file;
 use std::alloc::Global;
 use ym_explain::{Passed, Verdict, Ways, front_of};
 use ym_frame::Whole;
-use ym_play::{Input, Output};
+use ym_streams::{Input, Output};
 use ym_told::Direction;
 
 /// Tells a file of the bytes of one way.

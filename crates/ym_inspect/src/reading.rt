@@ -7,7 +7,7 @@ ghost use Rattle.ym_inspect.specs.CaptureTold.{Tells, tagged};
 
 use crate::fault::InspectFault;
 use crate::inspection::Inspection;
-use ym_play::{Input, Output, StreamFault};
+use ym_streams::{Input, Output, StreamFault};
 use ym_told::{Direction, Settle};
 
 /// How many bytes of a capture are read at a time.

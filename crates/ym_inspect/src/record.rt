@@ -15,7 +15,7 @@ use crate::inspection::Inspection;
 use crate::reading::{PIECE, read_some};
 use std::alloc::{AllocError, Global};
 use ym_explain::{Verdict, Ways};
-use ym_play::{Input, Output};
+use ym_streams::{Input, Output};
 use ym_told::Direction;
 
 /// The moment and the way of the line under way, where they are read.

@@ -1,7 +1,7 @@
 -- A batch, file by file.
 use Rattle.std.proofs.Common.{◌≡◌, ◌+◌, ◌<◌, ◌∙◌, ◌++◌, ℕ, List, [], ◌∷◌, length, take, slice_index_or, refl, sym, ap, arith}
 use Rattle.ym_file.specs.declared.plan.Shape.{Shape}
-use Rattle.std.proofs.Common.{below_more, inl, inr, Result, Ok, Err}
+use Rattle.std.proofs.Common.{◌⊎◌, below_more, inl, inr, Result, Ok, Err}
 use Rattle.std.specs.Result.{IsErrAnd}
 use Rattle.std.proofs.lemmas.List.{take_more, map-append, length-map}
 use Rattle.std.proofs.lemmas.List.Elements.{All-nil, All-cons, All-append}
@@ -9,11 +9,11 @@ use Rattle.ym_header.specs.Header.{IsName}
 use Rattle.ym_header.specs.declared.stamp.Stamp.TheVariants.{Nothing}
 use Rattle.ym_file.specs.SourceFile.{FileParts}
 use Rattle.ym_machine.specs.declared.limits.TheConstants.{MOST_FILES}
-use Rattle.ym_jobs.specs.Sending.{last_part, IsBatch, MayRefuse, RefusesFile, SendGives}
-use Rattle.ym_jobs.specs.Page.{Page}
-use Rattle.ym_jobs.specs.Status.{IsHostFault}
-use Rattle.ym_jobs.specs.declared.command_fault.CommandFault.{CommandFault}
-use Rattle.ym_jobs.specs.declared.command_fault.CommandFault.TheVariants as fault
+use Rattle.ym_jobs.specs.Sending.{last_part, IsBatch, MayRefuse, RefusesBatch, RefusesFile, SendGives}
+use Rattle.ym_answer.specs.Page.{Page}
+use Rattle.ym_answer.specs.Status.{IsHostFault}
+use Rattle.ym_answer.specs.declared.command_fault.CommandFault.{CommandFault}
+use Rattle.ym_answer.specs.declared.command_fault.CommandFault.TheVariants as fault
 
 -- the first so many paths were looked at
 pub record LookedAt (count : ℕ) (paths : List (List ℕ)) (files : List FileParts) : Type 0 where
@@ -55,19 +55,18 @@ refuses count paths files path why h within is refused = record {
 }
 
 -- there are as many files as paths
-pub counted : (paths : List (List ℕ)) (files : List FileParts) → IsBatch paths files → length files ≡ length paths
-counted paths files h =
-    sym (length-map files (λ (f : FileParts). f.header.name)) ∙ ap length h.names ∙ length-map paths last_part
+pub too_many : (paths : List (List ℕ)) (files : List FileParts) (why : CommandFault) → IsBatch paths files
+    → why ≡ fault.TooManyFiles → MOST_FILES < length files → RefusesBatch paths why
+too_many paths files why h is many =
+    let same = sym (length-map files (λ (f : FileParts). f.header.name)) ∙ ap length h.names ∙ length-map paths last_part in
+    inr (is, omega (arith, same, many))
 
-pub too_many : (shape : Shape) (paths : List (List ℕ)) (files : List FileParts) (out : Page) (answer : Result ℕ CommandFault) → IsBatch paths files
-    → IsErrAnd answer (λ why. (why ≡ fault.TooManyFiles) × (MOST_FILES < length files)) → SendGives shape paths out answer out
-too_many shape paths files out (Ok status) h many = absurd many
-too_many shape paths files out (Err why) h many =
-    let same = counted paths files h in
-    inl (record { why = why; refused = inl (inr (many.0, omega (arith, same, many.1))); answer_is = refl; out_stays = refl })
+-- there is no sender
+pub unsent : (shape : Shape) (paths : List (List ℕ)) (out : Page) (answer : Result ℕ CommandFault) → IsErrAnd answer (λ why. RefusesBatch paths why ⊎ IsHostFault why) → SendGives shape paths out answer out
+unsent shape paths out (Ok status) h = absurd h
+unsent shape paths out (Err why) h = inl (record { why = why; refused = h; answer_is = refl; out_stays = refl })
 
 -- nobody answered
-pub unconnected : (shape : Shape) (paths : List (List ℕ)) (out : Page) (answer : Result ℕ CommandFault) → IsErrAnd answer (λ why. IsHostFault why)
-    → SendGives shape paths out answer out
+pub unconnected : (shape : Shape) (paths : List (List ℕ)) (out : Page) (answer : Result ℕ CommandFault) → IsErrAnd answer (λ why. IsHostFault why) → SendGives shape paths out answer out
 unconnected shape paths out (Ok status) h = absurd h
-unconnected shape paths out (Err why) h = inl (record { why = why; refused = inr h; answer_is = refl; out_stays = refl })
+unconnected shape paths out (Err why) h = unsent shape paths out (Err why) (inr h)

@@ -3,7 +3,8 @@ use Rattle.std.proofs.Common.{◌≡◌, ◌≤◌, ◌+◌, ℕ, List, Option}
 use Rattle.ym_line.specs.declared.delivery.Handed.{Handed}
 use Rattle.ym_play.specs.SessionOver.{SessionEnds, HasFailed, IsReadWithin}
 use Rattle.ym_play.specs.declared.limits.TheConstants.{MOST_SCRIPT_BYTES}
-use Rattle.ym_jobs.specs.Desk.{Desk, scene_of, IsSession}
+use Rattle.ym_answer.specs.Desk.{Desk}
+use Rattle.ym_jobs.specs.DeskSession.{scene_of, IsSession}
 
 -- over a carrier that has not failed
 pub session_of : (told new_told : Option (List Handed)) (before after : ℕ) (old new : Desk) (status : ℕ) → before ≡ 0

@@ -3,12 +3,12 @@ use Rattle.std.proofs.Common.{◌≡◌, ◌≤◌, ◌+◌, ◌-◌, ◌^◌, i
 use Rattle.std.specs.Result.{IsErrAnd}
 use Rattle.ym_file.specs.Counts.{Rose}
 use Rattle.ym_machine.specs.declared.confirm.Confirm.{Confirm}
-use Rattle.ym_play.specs.declared.streams.StreamFault.{StreamFault}
+use Rattle.ym_streams.specs.declared.streams.StreamFault.{StreamFault}
 use Rattle.ym_jobs.specs.Keeping.{HoldsSession, Sessions, KeepsOn}
-use Rattle.ym_jobs.specs.Page.{Page}
-use Rattle.ym_jobs.specs.Status.{IsHostFault}
-use Rattle.ym_jobs.specs.declared.command_fault.CommandFault.{CommandFault}
-use Rattle.ym_jobs.specs.declared.command_fault.CommandFault.TheVariants as fault
+use Rattle.ym_answer.specs.Page.{Page}
+use Rattle.ym_answer.specs.Status.{IsHostFault}
+use Rattle.ym_answer.specs.declared.command_fault.CommandFault.{CommandFault}
+use Rattle.ym_answer.specs.declared.command_fault.CommandFault.TheVariants as fault
 
 -- no connection could be taken
 pub none_comes : (confirm : Confirm) (taken count failed new_failed : ℕ) (out err : Page) (answer : Result ℕ CommandFault) (new_out new_err : Page)

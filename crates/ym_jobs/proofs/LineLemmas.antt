@@ -3,8 +3,8 @@ use Rattle.std.proofs.Common.{◌≡◌, ◌∙◌, ◌++◌, ℕ, List, [], ◌
 use Rattle.std.proofs.Common.{Result, Ok, Err, OnOk, OnErr}
 use Rattle.std.specs.Io.KnownBytes.{Appends}
 use Rattle.ym_file.specs.Counts.{Rose}
-use Rattle.ym_play.specs.declared.streams.StreamFault.{StreamFault}
-use Rattle.ym_jobs.specs.Page.{Page, Prints}
+use Rattle.ym_streams.specs.declared.streams.StreamFault.{StreamFault}
+use Rattle.ym_answer.specs.Page.{Page, Prints}
 use Rattle.ym_header.specs.Header.{HeaderParts}
 use Rattle.ym_file.specs.Kept.{Kept}
 use Rattle.ym_file.specs.declared.sink.SinkFault.{SinkFault}
@@ -14,10 +14,10 @@ use Rattle.ym_core.specs.declared.state.SendState.{SendState}
 use Rattle.ym_link.specs.ReceiverInto.{ReceiverParts}
 use Rattle.ym_link.specs.Sender.{SenderParts}
 use Rattle.ym_link.specs.declared.end_fault.EndFault.{EndFault}
-use Rattle.ym_jobs.specs.Lines.{line, file_words, file_lines, sender_line, receiver_lines}
+use Rattle.ym_answer.specs.Lines.{line, file_words, file_lines, sender_line, receiver_lines}
 use Rattle.ym_jobs.specs.Receiving.{TellsReceiver, receive_gives}
 use Rattle.ym_jobs.specs.Sending.{TellsSender, send_gives}
-use Rattle.ym_jobs.specs.declared.command_fault.CommandFault.{CommandFault}
+use Rattle.ym_answer.specs.declared.command_fault.CommandFault.{CommandFault}
 
 -- what a write of a line says
 pub printed_line : (printed : Result Unit StreamFault) (old new : Page) (text : List ℕ) → OnOk printed (Appends old.holds new.holds text)

@@ -7,9 +7,9 @@ use Rattle.ym_core.specs.Receiver.{Receiver, new_receiver}
 use Rattle.ym_link.specs.Port.{Tape}
 use Rattle.ym_link.specs.ReceiverInto.{ReceiverParts}
 use Rattle.ym_link.specs.declared.end_fault.EndFault.{EndFault}
-use Rattle.ym_jobs.specs.Page.{Page}
+use Rattle.ym_answer.specs.Page.{Page}
 use Rattle.ym_jobs.specs.Receiving.{IsNewReceiver, ReceiverRuns, TellsReceiver, ReceivesBatch}
-use Rattle.ym_jobs.specs.declared.command_fault.CommandFault.{CommandFault}
+use Rattle.ym_answer.specs.declared.command_fault.CommandFault.{CommandFault}
 
 -- a new receiver ran
 pub batch : (confirm : Confirm) (old new : ReceiverParts) (before after : Tape → Type 0) (failed new_failed : ℕ) (ended : Result Unit EndFault) (closed : Result Unit SinkFault)

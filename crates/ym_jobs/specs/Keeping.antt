@@ -2,13 +2,13 @@
 use Rattle.std.specs.Prelude.{◌≡◌, ◌≤◌, ◌+◌, ◌-◌, ◌^◌, ◌⊎◌, ℕ, Bool, true, false, Result, Ok, Err}
 use Rattle.ym_file.specs.Counts.{Rose}
 use Rattle.ym_machine.specs.declared.confirm.Confirm.{Confirm}
-use Rattle.ym_play.specs.declared.streams.StreamFault.{StreamFault}
-use Rattle.ym_jobs.specs.Lines.{line}
-use Rattle.ym_jobs.specs.Page.{Page, Prints}
+use Rattle.ym_streams.specs.declared.streams.StreamFault.{StreamFault}
+use Rattle.ym_answer.specs.Lines.{line}
+use Rattle.ym_answer.specs.Page.{Page, Prints}
 use Rattle.ym_jobs.specs.Receiving.{SessionGives, ReceiveGives, ReceivesNothing}
-use Rattle.ym_jobs.specs.Status.{IsHostFault, fault_words}
-use Rattle.ym_jobs.specs.declared.command_fault.CommandFault.{CommandFault}
-use Rattle.ym_jobs.specs.declared.command_fault.CommandFault.TheVariants as fault
+use Rattle.ym_answer.specs.Status.{IsHostFault, fault_words}
+use Rattle.ym_answer.specs.declared.command_fault.CommandFault.{CommandFault}
+use Rattle.ym_answer.specs.declared.command_fault.CommandFault.TheVariants as fault
 
 -- the line of a session's fault went to err, or err failed; of another session nothing goes there
 abbrev pub TellsEnd : Result ℕ CommandFault → Page → Result Unit StreamFault → Page → Type 0

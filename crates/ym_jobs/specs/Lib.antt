@@ -1,11 +1,8 @@
-pub mod Desk
+pub mod DeskSession
 pub mod Keeping
-pub mod Lines
 pub mod Looped
-pub mod Page
 pub mod Receiving
 pub mod Sending
-pub mod Status
 pub mod ToldLine
 pub use Rattle.ym_file.specs.Counts
 pub use Rattle.ym_link.specs.ReceiverInto

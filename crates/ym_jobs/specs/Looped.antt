@@ -1,8 +1,9 @@
 -- What `loop` reads, prints and answers.
 use Rattle.std.specs.Prelude.{◌≡◌, ◌⊎◌, ℕ, None, Result, Ok, Err}
-use Rattle.ym_jobs.specs.Desk.{Desk, IsSession}
-use Rattle.ym_jobs.specs.Status.{IsHostFault}
-use Rattle.ym_jobs.specs.declared.command_fault.CommandFault.{CommandFault}
+use Rattle.ym_answer.specs.Desk.{Desk}
+use Rattle.ym_jobs.specs.DeskSession.{IsSession}
+use Rattle.ym_answer.specs.Status.{IsHostFault}
+use Rattle.ym_answer.specs.declared.command_fault.CommandFault.{CommandFault}
 
 -- no connection was made, and nothing was read or printed
 pub record IsNotLooped (old : Desk) (answer : Result ℕ CommandFault) (new : Desk) : Type 0 where

@@ -15,14 +15,14 @@ use Rattle.ym_link.specs.ReceiveOver.{Outcome, Receives}
 use Rattle.ym_link.specs.ReceiverInto.{ReceiverParts}
 use Rattle.ym_link.specs.declared.end_fault.EndFault.{EndFault}
 use Rattle.ym_link.specs.declared.end_fault.EndFault.TheVariants as end
-use Rattle.ym_play.specs.declared.streams.StreamFault.{StreamFault}
+use Rattle.ym_streams.specs.declared.streams.StreamFault.{StreamFault}
 use Rattle.ym_pair.specs.AnyPeer.{CommitsTheHeard}
 use Rattle.ym_pair.specs.Logs.{heard_in}
-use Rattle.ym_jobs.specs.Lines.{receiver_lines}
-use Rattle.ym_jobs.specs.Page.{Page, Prints}
-use Rattle.ym_jobs.specs.Status.{IsHostFault, end_fault, sink_fault, receive_answer}
-use Rattle.ym_jobs.specs.declared.command_fault.CommandFault.{CommandFault}
-use Rattle.ym_jobs.specs.declared.command_fault.CommandFault.TheVariants as fault
+use Rattle.ym_answer.specs.Lines.{receiver_lines}
+use Rattle.ym_answer.specs.Page.{Page, Prints}
+use Rattle.ym_answer.specs.Status.{IsHostFault, end_fault, sink_fault, receive_answer}
+use Rattle.ym_answer.specs.declared.command_fault.CommandFault.{CommandFault}
+use Rattle.ym_answer.specs.declared.command_fault.CommandFault.TheVariants as fault
 
 -- ---- The transfer
 

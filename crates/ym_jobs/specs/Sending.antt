@@ -17,14 +17,14 @@ use Rattle.ym_file.specs.SourceFile.{FileParts}
 use Rattle.ym_link.specs.declared.end_fault.EndFault.{EndFault}
 use Rattle.ym_link.specs.declared.end_fault.EndFault.TheVariants as end
 use Rattle.ym_machine.specs.declared.limits.TheConstants.{MOST_FILES}
-use Rattle.ym_play.specs.declared.streams.StreamFault.{StreamFault}
+use Rattle.ym_streams.specs.declared.streams.StreamFault.{StreamFault}
 use Rattle.ym_pair.specs.AnyPeer.{AreAcknowledged, files_places}
 use Rattle.ym_pair.specs.Logs.{Spoke, spoke_in, spoke_along}
-use Rattle.ym_jobs.specs.Lines.{sender_line}
-use Rattle.ym_jobs.specs.Page.{Page, Prints}
-use Rattle.ym_jobs.specs.Status.{IsHostFault, end_fault, send_answer}
-use Rattle.ym_jobs.specs.declared.command_fault.CommandFault.{CommandFault}
-use Rattle.ym_jobs.specs.declared.command_fault.CommandFault.TheVariants as fault
+use Rattle.ym_answer.specs.Lines.{sender_line}
+use Rattle.ym_answer.specs.Page.{Page, Prints}
+use Rattle.ym_answer.specs.Status.{IsHostFault, end_fault, send_answer}
+use Rattle.ym_answer.specs.declared.command_fault.CommandFault.{CommandFault}
+use Rattle.ym_answer.specs.declared.command_fault.CommandFault.TheVariants as fault
 
 -- ---- The batch
 

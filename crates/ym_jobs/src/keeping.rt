@@ -2,23 +2,23 @@
 
 ghost use Rattle.std.specs.Prelude.{◌≡◌};
 ghost use Rattle.ym_jobs.specs.Keeping.{HoldsSession, KeepsOn, ReceivesSo};
-ghost use Rattle.ym_jobs.specs.Page.{page};
+ghost use Rattle.ym_jobs.specs.Receiving.{ReceiveGives};
+ghost use Rattle.ym_answer.specs.Page.{page};
 
-use crate::command_fault::CommandFault;
 use crate::connections::{Connections, listen, take_told};
 use crate::places::AtPort;
 use crate::receiving::{Order, look_at, receive_through};
-use crate::streams::Outputs;
 use std::alloc::AllocGlobal;
 use std::fs::{File, Files};
 use std::io::Write;
 use std::net::{Net, TcpListener, TcpStream};
 use std::time::Clock;
+use ym_answer::CommandFault;
 use ym_host::SocketWire;
-use ym_play::{Output, StreamFault};
 use ym_port::Role;
 use ym_record::Records;
 use ym_show::Teller;
+use ym_streams::{Output, Outputs, StreamFault};
 
 /// Receives the files of one connection, and prints them and how the receiver has ended. Where that
 /// ends in a fault, its line goes to `err`.
@@ -94,6 +94,30 @@ where
     Ok(0)
 }
 
+/// Receives files from one connection, of which none was taken yet, and prints them and how the
+/// receiver has ended.
+fn receive_first<R, C, O, E>(
+    rt: &R,
+    intake: &mut Intake<'_, C>,
+    out: &mut O,
+    teller: &mut Teller<E>,
+) -> Result<u8, CommandFault>
+where
+    R: Files<File = File> + Clock + AllocGlobal,
+    C: Connections,
+    O: Output,
+    E: Write + Drop,
+    requires { C.taken intake.old.connections ≡ 0 }
+    ensures { ReceiveGives intake.old.order.confirm
+        (page (O.contents out.old) (O.failures out.old)) result
+        (page (O.contents out.new) (O.failures out.new)) }
+{
+    let order = intake.order;
+    let stream = take_told(&mut intake.connections, teller)?;
+    let wire = SocketWire::new(rt, stream, Role::Receiver);
+    receive_through(rt, wire, order, &mut intake.records, out, teller)
+}
+
 /// Receives files into a folder at a port as it is asked for: from whoever connects first, or from
 /// one connection after another, as [`receive_each`] does.
 pub fn receive_as_asked<R, O, F, E>(
@@ -115,19 +139,16 @@ where
 {
     let AtPort { port, order } = asked;
     look_at(rt, rt.alloc(), order.dir, teller)?;
-    let mut records = Records::open(rt, rt.alloc(), order.record_path, &[], teller)?;
-    let mut connections = listen(rt, port, teller)?;
+    let records = Records::open(rt, rt.alloc(), order.record_path, &[], teller)?;
+    let connections = listen(rt, port, teller)?;
+    let mut intake = Intake {
+        connections,
+        records,
+        order,
+    };
     if order.keep {
-        let mut intake = Intake {
-            connections,
-            records,
-            order,
-        };
         receive_each(rt, &mut intake, outputs, teller)
     } else {
-        let stream = take_told(&mut connections, teller)?;
-        let wire = SocketWire::new(rt, stream, Role::Receiver);
-        let out = &mut outputs.out;
-        receive_through(rt, wire, order, &mut records, out, teller)
+        receive_first(rt, &mut intake, &mut outputs.out, teller)
     }
 }

@@ -1,19 +1,19 @@
 //! `loop`: a session over a connection of the program to itself.
 
 ghost use Rattle.std.specs.Prelude.{◌≡◌, IfOk};
-ghost use Rattle.ym_jobs.specs.Desk.{desk};
+ghost use Rattle.ym_answer.specs.Desk.{desk};
 ghost use Rattle.ym_jobs.specs.Looped.{LoopGives};
-ghost use Rattle.ym_jobs.specs.Page.{page};
+ghost use Rattle.ym_answer.specs.Page.{page};
 
-use crate::command_fault::CommandFault;
-use crate::streams::{Outputs, Streams};
 use std::alloc::AllocGlobal;
 use std::io;
 use std::io::Write;
 use std::net::{Ipv4Addr, Net, SocketAddr, TcpListener, TcpStream};
+use ym_answer::CommandFault;
 use ym_host::SocketCarrier;
-use ym_play::{Input, Output, session_over};
+use ym_play::session_over;
 use ym_show::Teller;
+use ym_streams::{Input, Output, Outputs, Streams};
 use ym_text::LineMessage;
 
 /// Listens on 127.0.0.1 at this port, connects to it, and makes a carrier of both ends.

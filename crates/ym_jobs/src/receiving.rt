@@ -8,13 +8,12 @@ ghost use Rattle.ym_file.specs.declared.sink.SinkFault.{SinkFault as Shut};
 ghost use Rattle.ym_folder.specs.DirSink.{kept_of};
 ghost use Rattle.ym_link.specs.ReceiverInto.{ReceiverParts};
 ghost use Rattle.ym_link.specs.declared.end_fault.EndFault.{EndFault as Why};
-ghost use Rattle.ym_jobs.specs.Lines.{file_lines, receiver_lines};
-ghost use Rattle.ym_jobs.specs.Page.{Prints, page};
-ghost use Rattle.ym_jobs.specs.Receiving.{ReceiverRuns, Closes, TellsReceiver, SessionGives, receive_gives};
-ghost use Rattle.ym_jobs.specs.Status.{receive_answer};
+ghost use Rattle.ym_answer.specs.Lines.{file_lines, receiver_lines};
+ghost use Rattle.ym_answer.specs.Page.{Prints, page};
+ghost use Rattle.ym_jobs.specs.Receiving.{ReceiverRuns, Closes, ReceivesBatch, TellsReceiver};
+ghost use Rattle.ym_jobs.specs.Receiving.{SessionGives, receive_gives};
+ghost use Rattle.ym_answer.specs.Status.{receive_answer};
 
-use crate::command_fault::CommandFault;
-use crate::lines::FileLine;
 use crate::store::Store;
 use crate::telling::{tell_end, tell_not_stored};
 use crate::told_line::{LineWords, ToldLine, ToldWire};
@@ -25,6 +24,7 @@ use std::fs::{File, Files};
 use std::io;
 use std::io::Write;
 use std::time::Clock;
+use ym_answer::{CommandFault, FileLine};
 use ym_file::SinkFault;
 use ym_folder::{DirSink, Durability, Leftover, StoreFault, check_folder};
 use ym_header::Header;
@@ -32,10 +32,10 @@ use ym_host::SystemFolder;
 use ym_line::ReceiverLine;
 use ym_link::{Confirm, EndFault, Port, ReceiverInto, RecvState, receive_over};
 use ym_pair::laws::a_receiver_commits_what_it_heard;
-use ym_play::{Output, StreamFault};
 use ym_port::{InStep, Role, TimedPort};
 use ym_record::{RecordedWire, Records};
 use ym_show::{Eager, Meter, ReceiveWatch, Receiving, Teller, WatchedPort};
+use ym_streams::{Output, StreamFault};
 use ym_text::{EndMessage, FileMessage, Lately, Reason};
 
 /// After so many seconds without a byte it gives up: ten deliveries, each waited for so long.
@@ -247,6 +247,14 @@ where
     answer
 }
 
+/// How many replies a file takes besides those to its blocks.
+fn besides(confirm: Confirm) -> u64 {
+    match confirm {
+        Confirm::Once => 1,
+        Confirm::Twice => 2,
+    }
+}
+
 /// Who watches a receiver's sink or its port, and shows it so.
 fn watch_of<'s, 't, E: Write + Drop, C: Clock + Drop>(
     shown: &'s RefCell<Receiving<'t, E, C>>,
@@ -256,6 +264,69 @@ fn watch_of<'s, 't, E: Write + Drop, C: Clock + Drop>(
         shown,
         is_looked_at,
     }
+}
+
+/// How a receiver has left its sink and its port.
+#[derive(Drop)]
+struct ReceiverLeft {
+    /// Its own end.
+    state: RecvState,
+    /// Why the sink has failed, where it has.
+    why: Option<StoreFault>,
+    /// What faults of the port are told as.
+    words: LineWords,
+    /// How long the slowest answer of late took, in milliseconds, where that is known.
+    slowest: Option<u64>,
+}
+
+/// How a receiver is made, and whether somebody looks.
+#[derive(Clone, Copy)]
+struct Looked {
+    /// Where it has its memory from.
+    alloc: Global,
+    /// When it acknowledges an EOT.
+    confirm: Confirm,
+    /// Whether somebody looks.
+    is_looked_at: bool,
+}
+
+/// Receives the files that come over a port into a new sink, and prints them and how the receiver
+/// has ended. Both are watched, and the sink and the port are let go.
+fn receive_watched<'a, 's, 't, R, P, C, O, E>(
+    port: P,
+    sink: DirSink<SystemFolder<&'a R>>,
+    shown: &'s RefCell<Receiving<'t, E, C>>,
+    looked: Looked,
+    out: &mut O,
+) -> (ReceiverLeft, Result<u8, CommandFault>)
+where
+    R: Files<File = File>,
+    P: ToldLine + Drop,
+    C: Clock + Drop,
+    O: Output,
+    E: Write + Drop,
+    requires { IsNew (kept_of sink) }
+    ensures { ReceivesBatch looked.confirm
+        (page (O.contents out.old) (O.failures out.old)) result.1
+        (page (O.contents out.new) (O.failures out.new)) }
+{
+    let watch = watch_of(shown, looked.is_looked_at);
+    let watched = Watched { sink, watch };
+    let receiver = ReceiverInto::with_sink(looked.alloc, watched, looked.confirm);
+    let watch = watch_of(shown, looked.is_looked_at);
+    let mut port = WatchedPort {
+        port,
+        watch,
+        slowest: None,
+    };
+    let (watched, state, answer) = receive_batch(&mut port, receiver, out);
+    let left = ReceiverLeft {
+        state,
+        why: watched.sink.first_fault(),
+        words: port.port.words(),
+        slowest: port.slowest,
+    };
+    (left, answer)
 }
 
 /// Receives the files that come over a port of the program's own, and prints them and how the
@@ -279,35 +350,21 @@ where
 {
     let alloc = rt.alloc();
     let sink = open_sink(rt, alloc, order)?;
-    let is_looked_at = teller.is_loud;
-    let besides = match order.confirm {
-        Confirm::Once => 1,
-        Confirm::Twice => 2,
+    let looked = Looked {
+        alloc,
+        confirm: order.confirm,
+        is_looked_at: teller.is_loud,
     };
     let meter = Meter::new(alloc, rt, teller, QUIET_S);
-    let shown = RefCell::new(Receiving::new(alloc, meter, besides));
-    let watch = watch_of(&shown, is_looked_at);
-    let watched = Watched { sink, watch };
-    let receiver = ReceiverInto::with_sink(alloc, watched, order.confirm);
-    let watch = watch_of(&shown, is_looked_at);
-    let mut port = WatchedPort {
-        port,
-        watch,
-        slowest: None,
-    };
-    let (watched, state, answer) = receive_batch(&mut port, receiver, out);
-    let words = port.port.words();
-    let slowest = port.slowest;
-    drop(port);
-    let why = watched.sink.first_fault();
-    drop(watched);
+    let shown = RefCell::new(Receiving::new(alloc, meter, besides(order.confirm)));
+    let (left, answer) = receive_watched(port, sink, &shown, looked, out);
     let (last, lately) = shown.into_inner().end();
     let outcome = ReceiverFinish {
-        state,
+        state: left.state,
         last,
-        why,
-        lately: lately.on_line(slowest),
-        words,
+        why: left.why,
+        lately: lately.on_line(left.slowest),
+        words: left.words,
     };
     tell_outcome(teller, alloc, &answer, outcome, order.leftover);
     answer

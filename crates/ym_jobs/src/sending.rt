@@ -1,16 +1,17 @@
 //! `send`: files, to whoever listens.
 
-ghost use Rattle.std.specs.Prelude.{◌≡◌, ◌<◌, ◌^◌, ℕ, Result, IfOk, IfErr, length, map};
+ghost use Rattle.std.specs.Prelude.{◌≡◌, ◌<◌, ◌^◌, ◌⊎◌, ℕ, Result, IfOk, IfErr, length, map};
 ghost use Rattle.ym_header.specs.Header.{IsName, IsRefused, length_limit};
 ghost use Rattle.ym_link.specs.declared.end_fault.EndFault.{EndFault as Why};
 ghost use Rattle.ym_core.specs.Standing.{new_standing};
 ghost use Rattle.ym_link.specs.Sender.{counts};
 ghost use Rattle.ym_machine.specs.declared.limits.TheConstants.{MOST_FILES};
-ghost use Rattle.ym_jobs.specs.Sending.{last_part, header_at, IsBatch, MayRefuse, RefusesFile, SenderRuns, TellsSender, SendsOn, SendGives, send_gives};
-ghost use Rattle.ym_jobs.specs.Page.{page};
-ghost use Rattle.ym_jobs.specs.Status.{send_answer};
+ghost use Rattle.ym_jobs.specs.Sending.{last_part, header_at, IsBatch, IsNewSender, MayRefuse};
+ghost use Rattle.ym_jobs.specs.Sending.{RefusesBatch, RefusesFile, SenderRuns, TellsSender};
+ghost use Rattle.ym_jobs.specs.Sending.{SendsOn, SendGives, send_gives};
+ghost use Rattle.ym_answer.specs.Page.{page};
+ghost use Rattle.ym_answer.specs.Status.{IsHostFault, send_answer};
 
-use crate::command_fault::CommandFault;
 use crate::places::AtPort;
 use crate::telling::tell_end;
 use crate::told_line::{ToldLine, ToldWire};
@@ -22,6 +23,7 @@ use std::net::{Ipv4Addr, Net, SocketAddr, TcpStream};
 use std::path::Path;
 use std::time::{Clock, Duration};
 use std::{io, thread};
+use ym_answer::CommandFault;
 use ym_file::{Shape, Source};
 use ym_header::{HeaderFault, Stamp};
 use ym_host::{FileSource, SocketWire};
@@ -29,10 +31,10 @@ use ym_line::SenderLine;
 use ym_link::laws::a_step_keeps_the_batch;
 use ym_link::{BatchFault, EndFault, Port, SendState, SenderFrom, SourceFile, send_over};
 use ym_pair::laws::a_sender_was_acknowledged;
-use ym_play::{Output, StreamFault};
 use ym_port::{Role, TimedPort};
 use ym_record::{RecordedWire, Records};
 use ym_show::{Meter, SendWatch, Sending, Teller, WatchedPort};
+use ym_streams::{Output, StreamFault};
 use ym_text::{EndMessage, FileMessage, LineMessage, Reason};
 
 /// How many milliseconds a sender waits for somebody to answer its call.
@@ -345,6 +347,27 @@ pub struct SendOrder<'a> {
     pub record_path: Option<&'a str>,
 }
 
+/// A sender of the files that are asked for, and its records.
+pub(crate) fn outgoing_of<'a, R, E>(
+    rt: &'a R,
+    order: SendOrder<'a>,
+    teller: &mut Teller<E>,
+) -> Result<Outgoing<'a, FileSource<'a, &'a R>>, CommandFault>
+where
+    R: Files<File = File> + Clock + AllocGlobal,
+    E: Write + Drop,
+    ensures new { IfOk result (λ outgoing. IsNewSender order.entry.shape
+        (map (λ path. path.now) order.entry.paths.now) outgoing.sender) }
+    ensures refused { IfErr result (λ why. RefusesBatch
+        (map (λ path. path.now) order.entry.paths.now) why ⊎ IsHostFault why) }
+{
+    let alloc = rt.alloc();
+    let batch = open_batch(rt, alloc, order.paths, teller)?;
+    let sender = sender_of(batch, order.shape)?;
+    let records = Records::open(rt, alloc, order.record_path, order.paths, teller)?;
+    Ok(Outgoing { sender, records })
+}
+
 /// Sends files to whoever listens at a port, and prints how the sender has ended.
 pub fn send<R, O, E>(
     rt: &R,
@@ -362,11 +385,7 @@ where
         (page (O.contents out.new) (O.failures out.new)) }
 {
     let AtPort { port, order } = asked;
-    let alloc = rt.alloc();
-    let batch = open_batch(rt, alloc, order.paths, teller)?;
-    let sender = sender_of(batch, order.shape)?;
-    let records = Records::open(rt, alloc, order.record_path, order.paths, teller)?;
-    let mut outgoing = Outgoing { sender, records };
+    let mut outgoing = outgoing_of(rt, order, teller)?;
     let stream = connect_telling(rt, port, teller)?;
     let wire = SocketWire::new(rt, stream, Role::Sender);
     send_through(rt, wire, &mut outgoing, out, teller)

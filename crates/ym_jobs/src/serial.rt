@@ -1,25 +1,25 @@
 //! `sb` and `rb`: files over a terminal, or over standard input and output.
 
 ghost use Rattle.std.specs.Prelude.{IfErr, map};
-ghost use Rattle.ym_jobs.specs.Page.{page};
+ghost use Rattle.ym_answer.specs.Page.{page};
 ghost use Rattle.ym_jobs.specs.Receiving.{ReceiveGives};
 ghost use Rattle.ym_jobs.specs.Sending.{SendGives};
-ghost use Rattle.ym_jobs.specs.Status.{IsHostFault};
+ghost use Rattle.ym_answer.specs.Status.{IsHostFault};
 
-use crate::command_fault::CommandFault;
 use crate::places::OnLine;
 use crate::receiving::{Order, look_at, receive_through};
-use crate::sending::{Outgoing, SendOrder, open_batch, send_through, sender_of};
+use crate::sending::{SendOrder, outgoing_of, send_through};
 use std::alloc::AllocGlobal;
 use std::fs::{File, Files};
 use std::io;
 use std::io::{IsTerminal, Print, Write};
 use std::time::Clock;
+use ym_answer::CommandFault;
 use ym_host::{OpenFault, TtyWire, open_tty};
-use ym_play::Output;
 use ym_port::Role;
 use ym_record::Records;
 use ym_show::Teller;
+use ym_streams::Output;
 use ym_text::{Reason, TtyMessage};
 
 /// Why the terminal at this path is not opened, as it is told.
@@ -71,11 +71,7 @@ where
         (page (O.contents out.new) (O.failures out.new)) }
 {
     let OnLine { line, order } = asked;
-    let alloc = rt.alloc();
-    let batch = open_batch(rt, alloc, order.paths, teller)?;
-    let sender = sender_of(batch, order.shape)?;
-    let records = Records::open(rt, alloc, order.record_path, order.paths, teller)?;
-    let mut outgoing = Outgoing { sender, records };
+    let mut outgoing = outgoing_of(rt, order, teller)?;
     match line {
         Some(path) => {
             let file = open_line(rt, path, teller)?;

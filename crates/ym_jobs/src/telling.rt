@@ -1,9 +1,9 @@
 //! What `send` and `receive` tell of how they have ended.
 
-use crate::command_fault::CommandFault;
 use crate::told_line::LineWords;
 use std::alloc::Global;
 use std::io::Write;
+use ym_answer::CommandFault;
 use ym_folder::{Leftover, StoreFault, part_name};
 use ym_show::Teller;
 use ym_text::{EndMessage, FileMessage, Reason};

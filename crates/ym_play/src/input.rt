@@ -6,8 +6,8 @@ ghost use Rattle.ym_play.specs.SessionOver.{IsTaken, IsReadWithin};
 ghost use Rattle.ym_play.specs.declared.limits.TheConstants.{MOST_SCRIPT_BYTES};
 
 use crate::limits::MOST_SCRIPT_BYTES;
-use crate::streams::{Input, StreamFault};
 use std::alloc::Global;
+use ym_streams::{Input, StreamFault};
 
 /// Why a script was not taken.
 #[derive(Clone, Copy, Debug, PartialEq, Eq)]

@@ -10,7 +10,6 @@ mod limits;
 mod play;
 mod script;
 mod sessions;
-mod streams;
 mod value;
 mod words;
 
@@ -19,4 +18,4 @@ pub use limits::{MOST_ROUNDS, MOST_SCRIPT_BYTES};
 pub use play::{Played, play_script};
 pub use script::{Script, read_script};
 pub use sessions::{session, session_over};
-pub use streams::{Input, Output, StreamFault};
+pub use ym_streams::{Input, Output, StreamFault};

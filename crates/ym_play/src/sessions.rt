@@ -10,11 +10,11 @@ ghost use Rattle.ym_play.specs.declared.limits.TheConstants.{MOST_SCRIPT_BYTES};
 use crate::fault::PlayFault;
 use crate::input::{InputFault, take_script};
 use crate::play::{Played, play_script};
-use crate::streams::{Input, Output, StreamFault};
 use std::alloc::Global;
 use std::fmt;
 use std::io::{Read, Write};
 use ym_line::{Carrier, LineFault};
+use ym_streams::{Input, Output, StreamFault};
 
 /// The status after a refused script or round.
 const REFUSED: u8 = 2;

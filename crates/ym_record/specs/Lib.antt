@@ -1,4 +1,2 @@
-pub mod RecordExamples
 pub mod RecordGrowth
 pub mod RecordNames
-pub mod RecordText

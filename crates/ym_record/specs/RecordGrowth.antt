@@ -7,7 +7,7 @@ use Rattle.ym_told.specs.declared.way.Direction.{Direction}
 use Rattle.ym_timing.specs.declared.role.Role.{Role}
 use Rattle.ym_timing.specs.declared.role.Role.TheVariants.{Sender, Receiver}
 use Rattle.ym_told.specs.declared.way.Direction.TheVariants.{There, Back}
-use Rattle.ym_record.specs.RecordText.{line_of}
+use Rattle.ym_capture.specs.RecordText.{line_of}
 
 -- the piece that is held back, if one is: its moment, its way and its bytes
 abbrev pub held_line : Option (ℕ × Direction) → List ℕ → List ℕ

@@ -3,18 +3,15 @@
 #![tactic(auto)]
 
 mod append;
-pub mod laws;
 mod lines;
 mod message;
 mod opening;
 mod recorded_wire;
 mod recorder;
 mod records;
-mod text;
 
 pub use append::Append;
 pub use opening::{RecordRefusal, open_record};
 pub use recorded_wire::RecordedWire;
 pub use recorder::Recorder;
 pub use records::Records;
-pub use text::push_line;

@@ -2,15 +2,15 @@
 
 ghost use Rattle.std.specs.Prelude.{◌≡◌, ◌++◌, [], OnOk, OnErr, IfOk};
 ghost use Rattle.std.specs.Io.KnownBytes.{append_known};
+ghost use Rattle.ym_capture.specs.RecordText.{line_of};
 ghost use Rattle.ym_folder.specs.WriteBehind.{GrowsByFront};
 ghost use Rattle.ym_record.specs.RecordGrowth.{held_line};
-ghost use Rattle.ym_record.specs.RecordText.{line_of};
 
 use crate::append::Append;
-use crate::text::push_line;
 use std::alloc::{AllocError, Global};
 use std::io;
 use std::marker::Model;
+use ym_capture::push_line;
 use ym_told::Direction;
 
 /// How much of a text has room at once. More than a frame and its answer never wait together.

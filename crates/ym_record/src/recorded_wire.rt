@@ -6,7 +6,7 @@ ghost use Rattle.ym_file.specs.Counts.{Rose};
 ghost use Rattle.ym_link.specs.Port.{seen_of, read_gives};
 ghost use Rattle.ym_port.specs.Wire.{Tape, after_read, after_write};
 ghost use Rattle.ym_record.specs.RecordGrowth.{GoesOnBy, read_way, written_way};
-ghost use Rattle.ym_record.specs.RecordText.{line_of};
+ghost use Rattle.ym_capture.specs.RecordText.{line_of};
 
 use crate::append::Append;
 use crate::recorder::Recorder;

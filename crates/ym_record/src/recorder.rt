@@ -2,7 +2,7 @@
 
 ghost use Rattle.std.specs.Prelude.{◌≡◌, [], true, false, Some, None, IfOk, is_some, option_map};
 ghost use Rattle.ym_record.specs.RecordGrowth.{GoesOnBy, SaysWhy};
-ghost use Rattle.ym_record.specs.RecordText.{line_of};
+ghost use Rattle.ym_capture.specs.RecordText.{line_of};
 
 use crate::append::Append;
 use crate::lines::Lines;

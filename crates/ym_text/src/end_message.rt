@@ -6,8 +6,8 @@ ghost use Rattle.ym_text.specs.Messages.{end_text, sender_end, receiver_end};
 use crate::came::{Came, Lately};
 use crate::reason::Reason;
 use std::fmt;
+use ym_core::{RecvState, SendState};
 use ym_header::HeaderFault;
-use ym_link::{RecvState, SendState};
 
 /// Why an end has ended before its batch was whole. Its `Display` is the line that tells it,
 /// without its end.

@@ -12,12 +12,13 @@ use std::io::{ErrorKind, Write};
 use std::path::PathBuf;
 use std::test::Fail;
 use std::{env, fs, io, process};
+use ym_answer::CommandFault;
 use ym_file::{MemSource, Shape};
 use ym_folder::{DirSink, Durability, Leftover};
 use ym_frame::Bytes;
 use ym_header::Stamp;
 use ym_host::SystemFolder;
-use ym_jobs::{CommandFault, receive_batch, send_batch};
+use ym_jobs::{receive_batch, send_batch};
 use ym_link::{Confirm, Event, ReceiverInto, ScriptPort, SendFile, SenderFrom};
 
 /// An output that keeps what is written, or fails at each write.

@@ -2,8 +2,8 @@
 
 use std::alloc::AllocError;
 use std::fmt::Display;
+use ym_answer::CommandFault;
 use ym_header::HeaderFault;
-use ym_jobs::CommandFault;
 use ym_line::{ReceiverLine, SenderLine};
 use ym_link::{RecvState, SendState};
 

@@ -7,7 +7,8 @@ use std::io;
 use std::io::{ErrorKind, Read, Write};
 use std::test::Fail;
 use ym_line::Direct;
-use ym_play::{Input, Output, StreamFault, session_over};
+use ym_play::session_over;
+use ym_streams::{Input, Output, StreamFault};
 
 const ONE_FILE: &str = "1 > - whole < C whole\n\
     2 > block 0 128 whole < ACK C whole\n\

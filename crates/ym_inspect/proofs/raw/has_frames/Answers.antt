@@ -1,7 +1,6 @@
 use Rattle.ym_inspect.proofs.TellLemmas.{frame_later}
-use Rattle.std.proofs.Common.{◌∙◌, ◌<◌, length}
+use Rattle.std.proofs.Common.{◌∙◌, ◌<◌, length, arith}
 use Rattle.std.proofs.lemmas.Grind.{common_steps}
-use Rattle.std.proofs.Common.{arith}
 use Rattle.ym_inspect.proofs.raw.has_frames.Goals as goal
 
 pub loop-place-preserved : goal.loop-place-preserved

@@ -1,6 +1,5 @@
-use Rattle.std.proofs.Common.{◌<◌, length, refl}
+use Rattle.std.proofs.Common.{◌<◌, length, refl, arith}
 use Rattle.std.proofs.lemmas.Grind.{common_steps}
-use Rattle.std.proofs.Common.{arith}
 use Rattle.ym_inspect.proofs.TellLemmas.{none_read, piece_read, all_read}
 use Rattle.ym_inspect.proofs.reading.tell_file.Goals as goal
 

@@ -1,7 +1,7 @@
 -- Each connection so far had its session.
 use Rattle.std.proofs.Common.{◌≡◌}
 use Rattle.ym_jobs.specs.Keeping.{Sessions}
-use Rattle.ym_jobs.specs.Page.{page}
+use Rattle.ym_answer.specs.Page.{page}
 use Rattle.ym_jobs.proofs.keeping.receive_each.Given as goal
 
 abbrev pub invariant-loop-session : goal.invariant-loop-session

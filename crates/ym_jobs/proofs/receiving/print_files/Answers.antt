@@ -2,7 +2,7 @@
 use Rattle.std.proofs.Common.{◌≡◌, ◌<◌, ◌∙◌, length, get_or, rules, ap}
 use Rattle.std.proofs.KnownBytes.{Appends-trans}
 use Rattle.std.proofs.lemmas.List.{take_more}
-use Rattle.ym_jobs.specs.Lines.{file_lines}
+use Rattle.ym_answer.specs.Lines.{file_lines}
 use Rattle.ym_jobs.proofs.LineLemmas.{one_more}
 use Rattle.ym_jobs.proofs.receiving.print_files.Goals as goal
 

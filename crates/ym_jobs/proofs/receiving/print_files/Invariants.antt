@@ -1,7 +1,7 @@
 -- The lines of the files so far went to the output, and no write has failed.
 use Rattle.std.proofs.Common.{◌≡◌, take}
 use Rattle.std.specs.Io.KnownBytes.{Appends}
-use Rattle.ym_jobs.specs.Lines.{file_lines}
+use Rattle.ym_answer.specs.Lines.{file_lines}
 use Rattle.ym_jobs.proofs.receiving.print_files.Given as goal
 
 abbrev pub invariant-loop-header : goal.invariant-loop-header

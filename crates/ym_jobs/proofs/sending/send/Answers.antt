@@ -1,13 +1,10 @@
 -- Nothing was sent.
 use Rattle.std.proofs.Common.{rules}
-use Rattle.ym_jobs.proofs.BatchLemmas.{too_many, unconnected}
+use Rattle.ym_jobs.proofs.BatchLemmas.{unconnected, unsent}
 use Rattle.ym_jobs.proofs.sending.send.Goals as goal
 
-pub returns-in_err-sender : goal.returns-in_err-sender
-returns-in_err-sender g c = let many = c.in_err-sender.ensures.refused in too_many _ _ _ _ _ c.in_ok-batch.ensures.batch (search rules)
+pub returns-in_err-outgoing : goal.returns-in_err-outgoing
+returns-in_err-outgoing g c = let refused = c.in_err-outgoing.ensures.refused in unsent _ _ _ _ (search rules)
 
 pub returns-in_err-stream : goal.returns-in_err-stream
 returns-in_err-stream g c = unconnected _ _ _ _ c.from_residual-in_err-stream.ensures.1
-
-pub returns-in_err-records : goal.returns-in_err-records
-returns-in_err-records g c = unconnected _ _ _ _ c.from_residual-in_err-records.ensures.1

@@ -1,5 +1,0 @@
-//! Each module is named after the end that it tries.
-
-mod line;
-mod receiver;
-mod sender;

@@ -1,0 +1,11 @@
+-- What was put so far leaves the digits of the rest.
+use Rattle.std.proofs.Common.{◌≡◌, ◌++◌, length}
+use Rattle.hex.specs.Hex.{encode_lower}
+use Rattle.ym_capture.proofs.record_text.push_hex.Given as goal
+
+abbrev pub invariant-loop-rest : goal.invariant-loop-rest
+invariant-loop-rest l =
+    l.text.items ++ encode_lower l.rest ≡ l.fn.text.items ++ encode_lower l.fn.bytes
+
+abbrev pub decreases-loop-rest : goal.decreases-loop-rest
+decreases-loop-rest l = length l.rest

@@ -1,2 +1,0 @@
-mod HexText
-mod ReadBackLemmas

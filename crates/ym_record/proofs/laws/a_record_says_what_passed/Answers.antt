@@ -1,5 +1,0 @@
-use Rattle.ym_record.proofs.ReadBackLemmas.{record_read}
-use Rattle.ym_record.proofs.laws.a_record_says_what_passed.Goals as goal
-
-pub returns : goal.returns
-returns c pieces h = record_read pieces h

@@ -1,0 +1,114 @@
+//! An output whose text can be drawn.
+
+ghost use Rattle.std.specs.Prelude.{◌≡◌};
+
+use std::alloc::{AllocError, Global};
+use std::fmt::Display;
+use ym_chart::Chart;
+use ym_streams::{Output, StreamFault};
+
+/// An output whose text can be drawn as a chart. Drawing changes nothing of what it holds.
+pub trait Draw: Output {
+    /// Draws from now on what goes there.
+    fn begin_chart(&mut self)
+        ensures holds { Self.contents self.new ≡ Self.contents self.old }
+        ensures failed { Self.failures self.new ≡ Self.failures self.old };
+
+    /// The picture of what went there since that began; none at want of memory, now or before.
+    fn end_chart(&mut self) -> Option<String>
+        ensures holds { Self.contents self.new ≡ Self.contents self.old }
+        ensures failed { Self.failures self.new ≡ Self.failures self.old };
+}
+
+/// An output, and the chart that is drawn of what goes to it. It holds what the output holds, and
+/// fails where that fails.
+#[derive(Drop)]
+pub struct Charted<O: Output + Drop> {
+    alloc: Global,
+    out: O,
+    chart: Option<Chart>,
+    /// Memory ran out for the chart.
+    short: bool,
+}
+
+impl<O: Output + Drop> Charted<O> {
+    /// This output, of which nothing is drawn yet.
+    pub fn new(alloc: Global, out: O) -> Charted<O>
+        ensures { result.out ≡ out }
+    {
+        Charted {
+            alloc,
+            out,
+            chart: None,
+            short: false,
+        }
+    }
+
+    /// The output.
+    pub fn into_out(self) -> O
+        ensures { result ≡ self.out }
+    {
+        self.out
+    }
+
+    /// Draws what goes to the output, where a chart is drawn.
+    fn draw(&mut self, bytes: &[u8])
+        ensures { self.new.out ≡ self.old.out }
+    {
+        if let Some(chart) = &mut self.chart {
+            if chart.take(bytes).is_err() {
+                self.short = true;
+            }
+        }
+    }
+
+    /// Draws a text that goes to the output.
+    fn draw_text(&mut self, text: Result<String, AllocError>)
+        ensures { self.new.out ≡ self.old.out }
+    {
+        match text {
+            Ok(text) => self.draw(text.as_bytes()),
+            Err(_) => self.short = true,
+        }
+    }
+}
+
+impl<O: Output + Drop> Output for Charted<O> {
+    ghost contents = { λ c. O.contents c.out };
+
+    ghost failures = { λ c. O.failures c.out };
+
+    fn put(&mut self, bytes: &[u8]) -> Result<(), StreamFault> {
+        self.draw(bytes);
+        self.out.put(bytes)
+    }
+
+    fn put_text<D: Display + Drop>(&mut self, text: D) -> Result<(), StreamFault> {
+        if self.chart.is_some() {
+            self.draw_text(format!(in self.alloc; "{text}"));
+        }
+        self.out.put_text(text)
+    }
+
+    fn put_line<D: Display + Drop>(&mut self, text: D) -> Result<(), StreamFault> {
+        if self.chart.is_some() {
+            self.draw_text(format!(in self.alloc; "{text}\n"));
+        }
+        self.out.put_line(text)
+    }
+}
+
+impl<O: Output + Drop> Draw for Charted<O> {
+    fn begin_chart(&mut self) {
+        self.chart = Some(Chart::new(self.alloc));
+        self.short = false;
+    }
+
+    fn end_chart(&mut self) -> Option<String> {
+        let chart = self.chart.take()?;
+        if self.short {
+            return None;
+        }
+        chart.picture().ok()
+    }
+}
