@@ -37,6 +37,7 @@ import time
 sys.dont_write_bytecode = True
 import checks
 import proved
+from shares import later
 from shown import RUNNING, ran, reaped, shown, tell
 
 ROOT = proved.ROOT
@@ -67,11 +68,8 @@ LIBRARY = "ym_c"
 # What the library as files for every processor is made of, and by.
 WASM = os.path.join(OUT, "lib", "wasm64-unknown-unknown", "libymodem.a")
 # What has time leaves the processors to what all wait for: the proofs of the program, and then its
-# tests. Linux shares them out by sessions, each of which has a nice value of its own, where it knows
-# of such groups. Without leave to set that, the other one has to do.
-GROUP = "/proc/self/autogroup"
-YIELDS = '[ ! -w %s ] || echo 10 > %s || :; exec nice -n 5 "$@"' % (GROUP, GROUP)
-LATER = ["/bin/sh", "-c", YIELDS, "later"]
+# tests.
+LATER = later(10)
 
 # The lines that are passed on as they come, and the one of a crate that is proved, by which time
 # its program is built.

@@ -3,6 +3,7 @@
 
 Where nothing was proved in this tree before, `rt ci` proves the program's crates side by side, in a
 copy without edits and tests; what it proves is kept for the gate, and what the gate proved is taken.
+The long row, which all others end before, is proved by a run of its own, to which the rest yields.
 Else `rt run` proves what changed, over what stands in the crates' out/. A program that was proved
 from the text as it is, by the gate too, is taken as it lies here.
 
@@ -35,11 +36,15 @@ import time
 sys.dont_write_bytecode = True
 import proved
 from proved import CRATES, PROGRAM, ROOT, crates, sources
+from shares import later
 
 TOP = os.path.join(CRATES, "ymodem")
 # Where the program lies that the gate tries.
 TRIED = os.path.join(ROOT, "out", "tried", "ymodem")
 LOG = os.path.join(ROOT, "out", "build.log")
+# What ends the row of crates that the program waits for longest, and how far the others yield to it.
+# `rt ci` begins first what has most lines behind it, but what it has begun keeps its processor.
+ROW, BEHIND = ("ym_sending", "ym_receiving"), later(5)
 GREEN = os.path.join(ROOT, "out", "green.json")
 
 BEGUN = re.compile(r"rt: chose --jobs \d+ for (\w+)")
@@ -163,6 +168,21 @@ def copied(names, to):
         shutil.copy(it, there)
 
 
+@contextlib.contextmanager
+def proved_ahead(top):
+    """Has the long row proved meanwhile. What fails of it the other run tells, which tries it too."""
+    with open(os.devnull, "r+b") as nothing:
+        how = {"stdin": nothing, "stdout": nothing, "stderr": nothing, "start_new_session": True}
+        child = subprocess.Popen(["rt", "ci", *ROW], cwd=top, **how)
+    try:
+        yield
+        child.wait()
+    finally:
+        if child.poll() is None:
+            os.killpg(child.pid, signal.SIGTERM)
+            child.wait()
+
+
 def build_from_nothing(shown, kept, place):
     """Has the program's crates proved side by side, or taken where the gate has kept them, and puts
     the program there."""
@@ -179,8 +199,9 @@ def build_from_nothing(shown, kept, place):
     shown.tell("proving %d crates" % len(names))
     with tempfile.TemporaryDirectory(prefix="ymodem-build-") as top:
         copied(names, top)
-        if followed(["rt", "ci"], top, os.devnull, hear):
-            failed(shown, said)
+        with proved_ahead(top):
+            if followed([*BEHIND, "rt", "ci"], top, os.devnull, hear):
+                failed(shown, said)
         os.makedirs(os.path.dirname(place), exist_ok=True)
         shutil.copy2(os.path.join(top, "crates", "ymodem", "out", "ymodem"), place)
 

@@ -11,6 +11,8 @@ from support.terminal import UnderTerminal
 from support.tree import session, tree
 
 
+# What `make build` calls: the long row is proved beside the rest.
+PROVES = ["ci", "ci ym_sending ym_receiving"]
 NOT_PROVED = "this run is not proved: make build proves it (minutes the first time)\n"
 
 
@@ -47,7 +49,7 @@ def test_play():
         assert (status, out, it.called()) == (0, session(), ["try -- play"]), "the first play"
         has(err, NOT_PROVED)
         assert it.make("build")[0] == 0, "the build"
-        assert it.called() == ["ci"], "its calls"
+        assert sorted(it.called()) == PROVES, "its calls"
         assert (*it.make("play"), it.called()) == (0, session(), "", []), "play where it is built"
         os.utime(
             os.path.join(it.top, "crates", "ym_check", "src", "check.rt"),
@@ -73,7 +75,7 @@ def test_build():
     rt said is kept, and shown where it fails."""
     with tree() as it:
         status, out, err = it.make("build")
-        assert (status, out, it.called()) == (0, "", ["ci"]), "its status, output and calls"
+        assert (status, out, sorted(it.called())) == (0, "", PROVES), "its status, output and calls"
         count = crates_of_program()
         has(
             err,
@@ -86,7 +88,7 @@ def test_build():
         it.edit("ym_check")
         it.mark("wrong")
         status, out, err = it.make("build")
-        assert (status, out, it.called()) == (2, "", ["ci"]), "its status, output and calls"
+        assert (status, out, sorted(it.called())) == (2, "", PROVES), "its status, output and calls"
         has(err, "FAILED: ym_check", "out/build.log")
 
 
@@ -276,7 +278,7 @@ def test_gate():
             assert places == sorted(places), "%s in turn" % ", ".join(row)
         beside = [
             "ci",
-            "ci",
+            *PROVES,
             *("%s %s" % (name, it.environment["YMODEM"]) for name in BESIDE),
             *("lib --target " + name for name in TARGETS),
         ]
@@ -301,7 +303,8 @@ def test_gate():
 @sentence("the gate begins where at most two crates that are left are proved side by side")
 def test_gate_beside_the_last_crates():
     """These do not need all processors."""
-    last = {"ym_inspect", "ym_record", "ym_tools", "ym_jobs", "ym_command", "ymodem"}
+    transfers = {"ym_record", "ym_ends", "ym_sending", "ym_receiving"}
+    last = {"ym_inspect", "ym_tools", *transfers, "ym_command", "ymodem"}
     with tree_with_gate() as it:
         it.mark("below", " ".join(sorted(crates_below("ymodem") - last) + ["ym_line_c"]))
         it.mark("first")

@@ -3,7 +3,7 @@
 use std::io::Cursor;
 use std::test::Fail;
 use ym_command::{Charted, Outputs, Streams, command};
-use ym_show::{Look, Teller};
+use ym_teller::{Look, Teller};
 
 /// What a test answers whose command met want of memory.
 const WANT: &str = "want of memory";

@@ -1,5 +1,6 @@
-//! Tests of what `ym_play` and `ym_jobs` do, print and answer. They stand here and not in those
-//! crates, which would be proved twice for them. `script_cases` has what is a table of scripts.
+//! Tests of what `ym_play`, `ym_sending` and `ym_receiving` do, print and answer. They stand here
+//! and not in those crates, which would be proved twice for them. `script_cases` has what is a
+//! table of scripts.
 #![tactic(auto)]
 
 #[cfg(test)]

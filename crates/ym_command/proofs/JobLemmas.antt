@@ -4,7 +4,7 @@ use Rattle.ym_play.specs.Session.{SessionGives}
 use Rattle.ym_play.specs.SessionOver.{Scene, SessionEnds}
 use Rattle.ym_words.specs.Job.{Play}
 use Rattle.ym_answer.specs.Desk.{Desk}
-use Rattle.ym_jobs.specs.DeskSession.{scene_of, IsSession}
+use Rattle.ym_looped.specs.DeskSession.{scene_of, IsSession}
 use Rattle.ym_answer.specs.declared.command_fault.CommandFault.{CommandFault}
 use Rattle.ym_answer.specs.declared.command_fault.CommandFault.TheVariants as fault
 use Rattle.ym_command.specs.Program.{IsPlayed, Answers, OnlyTells, Does}

@@ -16,12 +16,12 @@ use Rattle.ym_words.specs.CommandLine.{the_app}
 use Rattle.ym_words.specs.Job.{Asked, asked}
 use Rattle.ym_words.specs.Job as job
 use Rattle.ym_answer.specs.Desk.{Desk}
-use Rattle.ym_jobs.specs.DeskSession.{IsSession}
-use Rattle.ym_jobs.specs.Keeping.{ReceivesSo}
-use Rattle.ym_jobs.specs.Looped.{LoopGives}
+use Rattle.ym_looped.specs.DeskSession.{IsSession}
+use Rattle.ym_receiving.specs.Keeping.{ReceivesSo}
+use Rattle.ym_looped.specs.Looped.{LoopGives}
 use Rattle.ym_answer.specs.Page.{TellsFault}
-use Rattle.ym_jobs.specs.Receiving.{ReceiveGives}
-use Rattle.ym_jobs.specs.Sending.{SendGives}
+use Rattle.ym_receiving.specs.Receiving.{ReceiveGives}
+use Rattle.ym_sending.specs.Sending.{SendGives}
 use Rattle.ym_answer.specs.declared.command_fault.CommandFault.{CommandFault}
 use Rattle.ym_answer.specs.declared.command_fault.CommandFault.TheVariants as fault
 use Rattle.ym_tools.specs.Explaining.{DrawsGives}

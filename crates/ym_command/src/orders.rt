@@ -5,8 +5,9 @@ ghost use Rattle.ym_command.specs.Program.{shape_of, confirm_of, durability_of, 
 
 use ym_file::Shape;
 use ym_folder::{Durability, Leftover};
-use ym_jobs::{Order, SendOrder};
 use ym_machine::Confirm;
+use ym_receiving::Order;
+use ym_sending::SendOrder;
 use ym_words::{ReceiveFlags, StoreFlags};
 
 /// The blocks of a batch, by the flag `--short`.

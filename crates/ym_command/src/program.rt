@@ -16,12 +16,15 @@ use std::io::{IsTerminal, Print, Write};
 use std::net::{Net, TcpListener, TcpStream};
 use std::time::Clock;
 use ym_answer::CommandFault;
-use ym_jobs::{AtPort, OnLine, looped_session, receive_as_asked, receive_line, send, send_line};
+use ym_ends::{AtPort, OnLine};
 use ym_line::Direct;
+use ym_looped::looped_session;
 use ym_play::laws::a_known_script_is_played;
 use ym_play::session_over;
-use ym_show::Teller;
+use ym_receiving::{receive_as_asked, receive_line};
+use ym_sending::{send, send_line};
 use ym_streams::{Input, Output, Outputs, StreamFault, Streams};
+use ym_teller::Teller;
 use ym_tools::{Draw, ExplainOrder, JudgeOrder, explain_and_draw, judge};
 use ym_words::{Job, JobFault, TellFlags, job_of};
 

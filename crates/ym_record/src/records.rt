@@ -11,7 +11,7 @@ use std::fmt::Display;
 use std::fs::{File, Files};
 use std::io;
 use std::io::{ErrorKind, Write};
-use ym_show::Teller;
+use ym_teller::Teller;
 use ym_text::Reason;
 
 /// The records that a command makes: none, or one for each of its connections, as far as the files

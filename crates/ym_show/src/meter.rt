@@ -1,9 +1,9 @@
 //! How far files are, shown to somebody who looks.
 
-use crate::teller::Teller;
 use std::alloc::Global;
 use std::io::Write;
 use std::time::{Clock, Duration, Instant};
+use ym_teller::Teller;
 use ym_text::{
     Awaited, Came, Coming, EchoMessage, FileMessage, Lately, Progress, Took, Waiting, WholeFile,
     progress_line, rate_of, waiting_line,

@@ -5,8 +5,9 @@
 use std::io::{ErrorKind, IsTerminal, Write};
 use std::process::ExitCode;
 use std::{env, io};
-use ym_command::{Charted, Outputs, Streams, command};
-use ym_show::{Look, Teller};
+use ym_command::{Charted, Draw, Outputs, Streams, command};
+use ym_streams::{Input, Output};
+use ym_teller::{Look, Teller};
 use ym_text::ShownOut;
 
 /// The status where a word is not UTF-8.
@@ -58,7 +59,29 @@ fn greet<E: Write + Drop>(rt: &HostRuntime, words: &[String], teller: &mut Telle
     }
 }
 
-/// Does what the words ask for. The answer is the status.
+/// Does what the words ask for, or tells why there are none. The answer is the status.
+fn answer<I: Input, O: Output + Draw, E: Output, T: Write + Drop>(
+    rt: &HostRuntime,
+    streams: &mut Streams<I, O, E>,
+    teller: &mut Teller<T>,
+) -> u8 {
+    match words(rt) {
+        Ok(words) => {
+            greet(rt, words.as_slice(), teller);
+            command(rt, rt.alloc(), words, streams, teller)
+        }
+        Err(error) if error.kind() == ErrorKind::InvalidData => {
+            let _ = rt.eprintln("error: a word is not UTF-8");
+            REFUSED
+        }
+        Err(_) => {
+            let _ = rt.eprintln("fault: memory");
+            FAILED
+        }
+    }
+}
+
+/// Does what the words ask for, over the program's own streams.
 fn run(rt: &HostRuntime) -> u8 {
     let look = look(rt);
     let mut teller = Teller::new(rt.stderr(), look);
@@ -70,21 +93,7 @@ fn run(rt: &HostRuntime) -> u8 {
             err: ShownOut::new(rt.alloc(), rt.stderr(), look.at_err),
         },
     };
-    let words = words(rt);
-    if let Ok(words) = &words {
-        greet(rt, words.as_slice(), &mut teller);
-    }
-    match words {
-        Ok(words) => command(rt, rt.alloc(), words, &mut streams, &mut teller),
-        Err(error) if error.kind() == ErrorKind::InvalidData => {
-            let _ = rt.eprintln("error: a word is not UTF-8");
-            REFUSED
-        }
-        Err(_) => {
-            let _ = rt.eprintln("fault: memory");
-            FAILED
-        }
-    }
+    answer(rt, &mut streams, &mut teller)
 }
 
 fn main(rt: HostRuntime) -> ExitCode {

@@ -4,7 +4,7 @@ use super::{all_show, shows};
 use std::io;
 use std::io::ErrorKind;
 use ym_header::{Header, HeaderFault, Stamp};
-use ym_show::{Look, Teller};
+use ym_teller::{Look, Teller};
 use ym_text::{Coming, FileMessage, LineMessage, Reason, Shown, TtyMessage};
 
 /// The messages of connections.

@@ -3,7 +3,7 @@
 use super::all_show;
 use std::io;
 use std::io::Write;
-use ym_show::{Look, Teller};
+use ym_teller::{Look, Teller};
 use ym_text::{Progress, ShownOut, Took, WholeFile, progress_line};
 
 const HALF: Progress = Progress {

@@ -4,9 +4,8 @@ use std::cell::RefCell;
 use ym_frame::{Block, Item, encode};
 use ym_header::{Header, Stamp, write, write_end};
 use ym_link::Wait;
-use ym_show::{
-    Look, Meter, PortWatch, ReceiveWatch, Receiving, SendWatch, Sending, SinkWatch, Teller,
-};
+use ym_show::{Meter, PortWatch, ReceiveWatch, Receiving, SendWatch, Sending, SinkWatch};
+use ym_teller::{Look, Teller};
 use ym_text::Came;
 
 /// A teller that is loud, where a terminal with so many columns is, or none.

@@ -18,8 +18,9 @@ use ym_folder::{DirSink, Durability, Leftover};
 use ym_frame::Bytes;
 use ym_header::Stamp;
 use ym_host::SystemFolder;
-use ym_jobs::{receive_batch, send_batch};
 use ym_link::{Confirm, Event, ReceiverInto, ScriptPort, SendFile, SenderFrom};
+use ym_receiving::receive_batch;
+use ym_sending::send_batch;
 
 /// An output that keeps what is written, or fails at each write.
 #[derive(Drop)]

@@ -1,7 +1,0 @@
--- A session with a new receiver.
-use Rattle.std.proofs.Common.{rules}
-use Rattle.ym_jobs.proofs.SessionLemmas.{batch}
-use Rattle.ym_jobs.proofs.receiving.receive_watched.Goals as goal
-
-pub returns : goal.returns
-returns g c = let ran = c.receive_batch-watched.ensures in batch _ _ _ _ _ _ _ _ _ _ _ _ ran.3 ran.6 (search rules) (search rules)

@@ -1,0 +1,2 @@
+pub mod DeskSession
+pub mod Looped

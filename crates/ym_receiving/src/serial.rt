@@ -1,0 +1,52 @@
+//! `rb`: files over a terminal, or over standard input and output.
+
+ghost use Rattle.ym_answer.specs.Page.{page};
+ghost use Rattle.ym_receiving.specs.Receiving.{ReceiveGives};
+
+use crate::receiving::{Order, look_at, receive_through};
+use std::alloc::AllocGlobal;
+use std::fs::{File, Files};
+use std::io;
+use std::io::{IsTerminal, Print, Write};
+use std::time::Clock;
+use ym_answer::CommandFault;
+use ym_ends::{OnLine, open_line};
+use ym_host::TtyWire;
+use ym_port::Role;
+use ym_record::Records;
+use ym_streams::Output;
+use ym_teller::Teller;
+
+/// Receives files into a folder over a line, and prints them and how the receiver has ended.
+pub fn receive_line<R, O, E>(
+    rt: &R,
+    asked: OnLine<'_, Order<'_>>,
+    out: &mut O,
+    teller: &mut Teller<E>,
+) -> Result<u8, CommandFault>
+where
+    R: Files<File = File> + Clock + io::Input + Print + AllocGlobal,
+    R::Reader: IsTerminal,
+    O: Output,
+    E: Write + Drop,
+    ensures { ReceiveGives asked.entry.order.confirm
+        (page (O.contents out.old) (O.failures out.old)) result
+        (page (O.contents out.new) (O.failures out.new)) }
+{
+    let OnLine { line, order } = asked;
+    look_at(rt, rt.alloc(), order.dir, teller)?;
+    let mut records = Records::open(rt, rt.alloc(), order.record_path, &[], teller)?;
+    match line {
+        Some(path) => {
+            let file = open_line(rt, path, teller)?;
+            let wire = TtyWire::new(rt, &file, &file, true, Role::Receiver);
+            receive_through(rt, wire, order, &mut records, out, teller)
+        }
+        None => {
+            let reader = rt.reader();
+            let is_terminal = reader.is_terminal();
+            let wire = TtyWire::new(rt, reader, io::writer(rt), is_terminal, Role::Receiver);
+            receive_through(rt, wire, order, &mut records, out, teller)
+        }
+    }
+}

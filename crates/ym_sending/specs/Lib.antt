@@ -1,0 +1,2 @@
+pub mod Sending
+pub use Rattle.ym_file.specs.Counts

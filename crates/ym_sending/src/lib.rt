@@ -1,0 +1,9 @@
+//! What `send` and `sb` do for their words: files sent over a connection, or over a serial line.
+//! Read first: `send` (`sending.rt`).
+#![tactic(auto)]
+
+mod sending;
+mod serial;
+
+pub use sending::{SendOrder, send, send_batch};
+pub use serial::send_line;

@@ -1,0 +1,391 @@
+//! `send`: files, to whoever listens.
+
+ghost use Rattle.std.specs.Prelude.{◌≡◌, ◌<◌, ◌^◌, ◌⊎◌, ℕ, Result, IfOk, IfErr, length, map};
+ghost use Rattle.ym_header.specs.Header.{IsName, IsRefused, length_limit};
+ghost use Rattle.ym_link.specs.declared.end_fault.EndFault.{EndFault as Why};
+ghost use Rattle.ym_core.specs.Standing.{new_standing};
+ghost use Rattle.ym_link.specs.Sender.{counts};
+ghost use Rattle.ym_machine.specs.declared.limits.TheConstants.{MOST_FILES};
+ghost use Rattle.ym_sending.specs.Sending.{last_part, header_at, IsBatch, IsNewSender, MayRefuse};
+ghost use Rattle.ym_sending.specs.Sending.{RefusesBatch, RefusesFile, SenderRuns, TellsSender};
+ghost use Rattle.ym_sending.specs.Sending.{SendsOn, SendGives, send_gives};
+ghost use Rattle.ym_answer.specs.Page.{page};
+ghost use Rattle.ym_answer.specs.Status.{IsHostFault, send_answer};
+
+use std::alloc::{AllocGlobal, Global};
+use std::cell::RefCell;
+use std::fs::{File, Files};
+use std::io::Write;
+use std::net::{Ipv4Addr, Net, SocketAddr, TcpStream};
+use std::path::Path;
+use std::time::{Clock, Duration};
+use std::{io, thread};
+use ym_answer::CommandFault;
+use ym_ends::{AtPort, ToldLine, ToldWire, tell_end};
+use ym_file::{Shape, Source};
+use ym_header::{HeaderFault, Stamp};
+use ym_host::{FileSource, SocketWire};
+use ym_line::SenderLine;
+use ym_link::laws::a_step_keeps_the_batch;
+use ym_link::{BatchFault, EndFault, Port, SendState, SenderFrom, SourceFile, send_over};
+use ym_pair::laws::a_sender_was_acknowledged;
+use ym_port::{Role, TimedPort};
+use ym_record::{RecordedWire, Records};
+use ym_show::{Meter, SendWatch, Sending, WatchedPort};
+use ym_streams::{Output, StreamFault};
+use ym_teller::Teller;
+use ym_text::{EndMessage, FileMessage, LineMessage, Reason};
+
+/// How many milliseconds a sender waits for somebody to answer its call.
+const CALL_WAIT_MS: u64 = 10_000;
+
+/// After so many seconds without a byte it gives up: ten deliveries, each waited for so long.
+const QUIET_S: u64 = 100;
+
+/// How often a sender calls again where nobody listens yet, and how many milliseconds it waits
+/// before: two seconds in all.
+const CALLS: u32 = 40;
+
+const CALL_MS: u64 = 50;
+
+/// The last part of a path, or nothing where it has none.
+fn last_part(path: &str) -> &str
+    ensures { result.now ≡ last_part path.now }
+{
+    Path::new(path).file_name().unwrap_or("")
+}
+
+/// The source of the file at this path, or why there is none told.
+fn open_source<'a, R: Files<File = File>, E: Write + Drop>(
+    rt: &'a R,
+    alloc: Global,
+    path: &'a str,
+    teller: &mut Teller<E>,
+) -> io::Result<FileSource<'a, &'a R>> {
+    let opened = FileSource::new(rt, alloc, path);
+    if let Err(error) = &opened {
+        teller.tell(FileMessage::CannotOpen(path, Reason::of(error)));
+    }
+    opened
+}
+
+/// The source with the header that it is sent under, or why there is none told.
+fn with_header<S: Source + Drop, E: Write + Drop>(
+    alloc: Global,
+    path: &str,
+    source: S,
+    teller: &mut Teller<E>,
+) -> Result<SourceFile<S>, HeaderFault>
+    ensures ok { IfOk result (λ file. file.header ≡ header_at path.now (S.size source)) }
+    ensures within { IfOk result (λ file. IsName (last_part path.now)) }
+    ensures refused { IfErr result
+        (λ fault. IsRefused length_limit (last_part path.now) (S.size source) fault) }
+{
+    let made = SourceFile::from_source(alloc, last_part(path), source, Stamp::Nothing);
+    if let Err(fault) = &made {
+        teller.tell(FileMessage::CannotSend(path, *fault));
+    }
+    made
+}
+
+/// The file at this path, under the last part of the path. No stamp is sent.
+fn open_file<'a, R: Files<File = File>, E: Write + Drop>(
+    rt: &'a R,
+    alloc: Global,
+    path: &'a str,
+    teller: &mut Teller<E>,
+) -> Result<SourceFile<FileSource<'a, &'a R>>, CommandFault>
+    ensures named { IfOk result (λ file. file.header.name ≡ last_part path.entry.now) }
+    ensures stamp { IfOk result (λ file. file.header.stamp ≡ Stamp.Nothing) }
+    ensures within { IfOk result (λ file. IsName (last_part path.entry.now)) }
+    ensures refused { IfErr result (λ why. MayRefuse (last_part path.entry.now) why) }
+{
+    let source = open_source(rt, alloc, path, teller)?;
+    let file = with_header(alloc, path, source, teller)?;
+    Ok(file)
+}
+
+/// The files at these paths, looked at in order, or the first fault.
+pub(crate) fn open_batch<'a, R: Files<File = File>, E: Write + Drop>(
+    rt: &'a R,
+    alloc: Global,
+    paths: &[&'a str],
+    teller: &mut Teller<E>,
+) -> Result<Vec<SourceFile<FileSource<'a, &'a R>>>, CommandFault>
+    ensures batch { IfOk result (λ batch. IsBatch (map (λ path. path.now) paths.now) batch.items) }
+    ensures refused { IfErr result (λ why. RefusesFile (map (λ path. path.now) paths.now) why) }
+{
+    let mut batch = Vec::new(alloc);
+    for path in paths {
+        let file = open_file(rt, alloc, path, teller)?;
+        if batch.push(file).is_err() {
+            return Err(CommandFault::Memory);
+        }
+    }
+    Ok(batch)
+}
+
+/// A sender of these files, of which there may be too many.
+pub(crate) fn sender_of<S: Source + Drop>(
+    batch: Vec<SourceFile<S>>,
+    shape: Shape,
+) -> Result<SenderFrom<S>, CommandFault>
+    ensures new { IfOk result (λ sender. (sender.shape ≡ shape) × (sender.files ≡ batch.items)
+        × (sender.standing ≡ new_standing (counts sender))) }
+    ensures refused { IfErr result
+        (λ why. (why ≡ CommandFault.TooManyFiles) × (MOST_FILES < length batch.items)) }
+{
+    match SenderFrom::new(batch, shape) {
+        Ok(sender) => Ok(sender),
+        Err(BatchFault::TooMany(_)) => Err(CommandFault::TooManyFiles),
+    }
+}
+
+/// A connection to whoever listens at this address now.
+fn connect_once<R: Net<Stream = TcpStream>>(rt: &R, address: SocketAddr) -> io::Result<TcpStream> {
+    let wait = Duration::from_millis(CALL_WAIT_MS);
+    let stream = TcpStream::connect_timeout(rt, &address, wait)?;
+    // Where nobody listens, the system may by chance connect a socket to itself.
+    if stream.local_addr()? == address {
+        return Err(io::Error::from(io::ErrorKind::ConnectionRefused));
+    }
+    Ok(stream)
+}
+
+/// The same, where nobody listens yet called again for two seconds: who starts both ends at once
+/// need not start the receiver first.
+fn connect<R: Net<Stream = TcpStream> + Clock>(rt: &R, port: u16) -> io::Result<TcpStream> {
+    let address = SocketAddr::from((Ipv4Addr::LOCALHOST, port));
+    for _call in 0..CALLS {
+        match connect_once(rt, address) {
+            Err(error) if error.kind() == io::ErrorKind::ConnectionRefused => {
+                thread::sleep(rt, Duration::from_millis(CALL_MS));
+            }
+            done => return done,
+        }
+    }
+    connect_once(rt, address)
+}
+
+/// The same, with what it does and why it failed told.
+fn connect_telling<R: Net<Stream = TcpStream> + Clock, E: Write + Drop>(
+    rt: &R,
+    port: u16,
+    teller: &mut Teller<E>,
+) -> io::Result<TcpStream> {
+    teller.tell(LineMessage::Connecting(port));
+    let connected = connect(rt, port);
+    if let Err(error) = &connected {
+        teller.tell(LineMessage::of_error(port, error));
+    }
+    connected
+}
+
+/// The status of a sender that no port stopped.
+fn status_of(state: SendState) -> Result<u8, CommandFault>
+    ensures { result ≡ send_answer state }
+{
+    match state {
+        SendState::Finished => Ok(0),
+        SendState::Running | SendState::NoReply | SendState::Cancelled => Ok(1),
+        SendState::SourceFailed => Err(CommandFault::Device),
+    }
+}
+
+/// What a sender's end comes to. Of several faults that of the engine is told, and then that of the
+/// output.
+fn answer_of(
+    ended: Result<(), EndFault>,
+    printed: Result<(), StreamFault>,
+    state: SendState,
+) -> Result<u8, CommandFault>
+    ensures { result ≡ send_gives ended printed state }
+{
+    ended?;
+    printed?;
+    status_of(state)
+}
+
+/// Prints how a sender has ended, and answers its status.
+fn tell_sender<S: Source, O: Output>(
+    ended: Result<(), EndFault>,
+    sender: &SenderFrom<S>,
+    out: &mut O,
+) -> Result<u8, CommandFault>
+    ensures { TellsSender ended sender.now (page (O.contents out.old) (O.failures out.old)) result
+        (page (O.contents out.new) (O.failures out.new)) }
+{
+    let done = sender.done();
+    let state = sender.state();
+    let printed = out.put_line(SenderLine { done, state });
+    answer_of(ended, printed, state)
+}
+
+/// Runs a sender over a port.
+fn run_sender<P: Port, S: Source>(port: &mut P, sender: &mut SenderFrom<S>) -> Result<(), EndFault>
+    ensures { SenderRuns (P.tells port.old) (P.tells port.new) sender.old
+        (P.failures port.old) (P.failures port.new) result sender.new }
+{
+    a_sender_was_acknowledged();
+    a_step_keeps_the_batch();
+    send_over(port, sender)
+}
+
+/// Runs a sender over a port, and prints how it has ended. The answer is its status: 0 where it has
+/// finished.
+pub fn send_batch<P: Port, S: Source, O: Output>(
+    port: &mut P,
+    sender: &mut SenderFrom<S>,
+    out: &mut O,
+) -> Result<u8, CommandFault>
+    ensures { (ended : Result Unit Why)
+        × SenderRuns (P.tells port.old) (P.tells port.new) sender.old
+        (P.failures port.old) (P.failures port.new) ended sender.new
+        × TellsSender ended sender.new (page (O.contents out.old) (O.failures out.old)) result
+        (page (O.contents out.new) (O.failures out.new)) }
+{
+    let ended = run_sender(port, sender);
+    tell_sender(ended, sender, out)
+}
+
+/// Who watches a sender's port, and shows it so.
+fn watch_of<'s, 't, E: Write + Drop, C: Clock + Drop>(
+    shown: &'s RefCell<Sending<'t, E, C>>,
+    is_looked_at: bool,
+) -> SendWatch<'s, 't, E, C> {
+    SendWatch {
+        shown,
+        is_looked_at,
+    }
+}
+
+/// The same over a port of the program's own. Where somebody looks, how far each file is or whom it
+/// waits for is shown, and why the sender has ended told.
+pub(crate) fn send_on<R, P, S, O, E>(
+    rt: &R,
+    port: P,
+    sender: &mut SenderFrom<S>,
+    out: &mut O,
+    teller: &mut Teller<E>,
+) -> Result<u8, CommandFault>
+where
+    R: Clock + AllocGlobal,
+    P: ToldLine + Drop,
+    S: Source,
+    O: Output,
+    E: Write + Drop,
+    ensures { SendsOn sender.old sender.new
+        (page (O.contents out.old) (O.failures out.old)) result
+        (page (O.contents out.new) (O.failures out.new)) }
+{
+    let is_looked_at = teller.is_loud;
+    let shown = RefCell::new(Sending::new(Meter::new(rt.alloc(), rt, teller, QUIET_S)));
+    let watch = watch_of(&shown, is_looked_at);
+    let mut port = WatchedPort {
+        port,
+        watch,
+        slowest: None,
+    };
+    let ended = run_sender(&mut port, sender);
+    let words = port.port.words();
+    let slowest = port.slowest;
+    drop(port);
+    // What is printed stands in lines of its own, also where both go to one terminal.
+    let lately = shown.into_inner().end().on_line(slowest);
+    let answer = tell_sender(ended, sender, out);
+    let state = sender.state();
+    let is_running = state == SendState::Running;
+    let message = EndMessage::of_sender(state, lately);
+    tell_end(teller, &answer, is_running, words, message);
+    answer
+}
+
+/// What is sent over a line.
+#[derive(Drop)]
+pub(crate) struct Outgoing<'a, S: Source> {
+    /// The sender.
+    pub(crate) sender: SenderFrom<S>,
+    /// What is recorded of it.
+    pub(crate) records: Records<'a>,
+}
+
+/// The same over a line, which is recorded where that is wanted.
+pub(crate) fn send_through<R, W, S, O, E>(
+    rt: &R,
+    wire: W,
+    outgoing: &mut Outgoing<'_, S>,
+    out: &mut O,
+    teller: &mut Teller<E>,
+) -> Result<u8, CommandFault>
+where
+    R: Clock + AllocGlobal,
+    W: ToldWire + Drop,
+    S: Source,
+    O: Output,
+    E: Write + Drop,
+    ensures { SendsOn outgoing.old.sender outgoing.new.sender
+        (page (O.contents out.old) (O.failures out.old)) result
+        (page (O.contents out.new) (O.failures out.new)) }
+{
+    let Outgoing { sender, records } = outgoing;
+    let wire = RecordedWire::new(wire, rt, Role::Sender, &mut records.recorder);
+    let port = TimedPort::new(wire, Role::Sender);
+    let answer = send_on(rt, port, sender, out, teller);
+    records.end(matches!(answer, Ok(0)), teller);
+    answer
+}
+
+/// What a sender is asked for.
+#[derive(Clone, Copy)]
+pub struct SendOrder<'a> {
+    /// The paths of its files, in order.
+    pub paths: &'a [&'a str],
+    /// How they are cut.
+    pub shape: Shape,
+    /// The file that what passes is recorded in, if any is.
+    pub record_path: Option<&'a str>,
+}
+
+/// A sender of the files that are asked for, and its records.
+pub(crate) fn outgoing_of<'a, R, E>(
+    rt: &'a R,
+    order: SendOrder<'a>,
+    teller: &mut Teller<E>,
+) -> Result<Outgoing<'a, FileSource<'a, &'a R>>, CommandFault>
+where
+    R: Files<File = File> + Clock + AllocGlobal,
+    E: Write + Drop,
+    ensures new { IfOk result (λ outgoing. IsNewSender order.entry.shape
+        (map (λ path. path.now) order.entry.paths.now) outgoing.sender) }
+    ensures refused { IfErr result (λ why. RefusesBatch
+        (map (λ path. path.now) order.entry.paths.now) why ⊎ IsHostFault why) }
+{
+    let alloc = rt.alloc();
+    let batch = open_batch(rt, alloc, order.paths, teller)?;
+    let sender = sender_of(batch, order.shape)?;
+    let records = Records::open(rt, alloc, order.record_path, order.paths, teller)?;
+    Ok(Outgoing { sender, records })
+}
+
+/// Sends files to whoever listens at a port, and prints how the sender has ended.
+pub fn send<R, O, E>(
+    rt: &R,
+    asked: AtPort<SendOrder<'_>>,
+    out: &mut O,
+    teller: &mut Teller<E>,
+) -> Result<u8, CommandFault>
+where
+    R: Files<File = File> + Net<Stream = TcpStream> + Clock + AllocGlobal,
+    O: Output,
+    E: Write + Drop,
+    ensures { SendGives asked.entry.order.shape
+        (map (λ path. path.now) asked.entry.order.paths.now)
+        (page (O.contents out.old) (O.failures out.old)) result
+        (page (O.contents out.new) (O.failures out.new)) }
+{
+    let AtPort { port, order } = asked;
+    let mut outgoing = outgoing_of(rt, order, teller)?;
+    let stream = connect_telling(rt, port, teller)?;
+    let wire = SocketWire::new(rt, stream, Role::Sender);
+    send_through(rt, wire, &mut outgoing, out, teller)
+}

@@ -1,0 +1,52 @@
+//! `sb`: files over a terminal, or over standard input and output.
+
+ghost use Rattle.std.specs.Prelude.{map};
+ghost use Rattle.ym_answer.specs.Page.{page};
+ghost use Rattle.ym_sending.specs.Sending.{SendGives};
+
+use crate::sending::{SendOrder, outgoing_of, send_through};
+use std::alloc::AllocGlobal;
+use std::fs::{File, Files};
+use std::io;
+use std::io::{IsTerminal, Print, Write};
+use std::time::Clock;
+use ym_answer::CommandFault;
+use ym_ends::{OnLine, open_line};
+use ym_host::TtyWire;
+use ym_port::Role;
+use ym_streams::Output;
+use ym_teller::Teller;
+
+/// Sends files over a line, and prints how the sender has ended.
+pub fn send_line<R, O, E>(
+    rt: &R,
+    asked: OnLine<'_, SendOrder<'_>>,
+    out: &mut O,
+    teller: &mut Teller<E>,
+) -> Result<u8, CommandFault>
+where
+    R: Files<File = File> + Clock + io::Input + Print + AllocGlobal,
+    R::Reader: IsTerminal,
+    O: Output,
+    E: Write + Drop,
+    ensures { SendGives asked.entry.order.shape
+        (map (λ path. path.now) asked.entry.order.paths.now)
+        (page (O.contents out.old) (O.failures out.old)) result
+        (page (O.contents out.new) (O.failures out.new)) }
+{
+    let OnLine { line, order } = asked;
+    let mut outgoing = outgoing_of(rt, order, teller)?;
+    match line {
+        Some(path) => {
+            let file = open_line(rt, path, teller)?;
+            let wire = TtyWire::new(rt, &file, &file, true, Role::Sender);
+            send_through(rt, wire, &mut outgoing, out, teller)
+        }
+        None => {
+            let reader = rt.reader();
+            let is_terminal = reader.is_terminal();
+            let wire = TtyWire::new(rt, reader, io::writer(rt), is_terminal, Role::Sender);
+            send_through(rt, wire, &mut outgoing, out, teller)
+        }
+    }
+}
