@@ -45,6 +45,9 @@ LOG = os.path.join(ROOT, "out", "build.log")
 # What ends the row of crates that the program waits for longest, and how far the others yield to it.
 # `rt ci` begins first what has most lines behind it, but what it has begun keeps its processor.
 ROW, BEHIND = ("ym_sending", "ym_receiving"), later(5)
+# Two runs prove twice as many crates at once as there are processors, and each goes by all memory
+# that is free. So much of it for each processor holds them.
+HOLDS_TWO = 3_000_000_000
 GREEN = os.path.join(ROOT, "out", "green.json")
 
 BEGUN = re.compile(r"rt: chose --jobs \d+ for (\w+)")
@@ -168,6 +171,16 @@ def copied(names, to):
         shutil.copy(it, there)
 
 
+def holds_two_runs():
+    """Whether the memory that is free holds two runs side by side."""
+    try:
+        with open("/proc/meminfo", encoding="ascii") as it:
+            free = int(re.search(r"^MemAvailable: *(\d+) kB", it.read(), re.M)[1]) * 1024
+    except (OSError, TypeError):
+        return False
+    return free >= HOLDS_TWO * len(os.sched_getaffinity(0))
+
+
 @contextlib.contextmanager
 def proved_ahead(top):
     """Has the long row proved meanwhile. What fails of it the other run tells, which tries it too."""
@@ -199,7 +212,7 @@ def build_from_nothing(shown, kept, place):
     shown.tell("proving %d crates" % len(names))
     with tempfile.TemporaryDirectory(prefix="ymodem-build-") as top:
         copied(names, top)
-        with proved_ahead(top):
+        with proved_ahead(top) if holds_two_runs() else contextlib.nullcontext():
             if followed([*BEHIND, "rt", "ci"], top, os.devnull, hear):
                 failed(shown, said)
         os.makedirs(os.path.dirname(place), exist_ok=True)

@@ -11,8 +11,9 @@ from support.terminal import UnderTerminal
 from support.tree import session, tree
 
 
-# What `make build` calls: the long row is proved beside the rest.
-PROVES = ["ci", "ci ym_sending ym_receiving"]
+# What `make build` calls: the long row is proved beside the rest, where the memory holds both.
+AHEAD = "ci ym_sending ym_receiving"
+PROVES = (["ci"], ["ci", AHEAD])
 NOT_PROVED = "this run is not proved: make build proves it (minutes the first time)\n"
 
 
@@ -49,7 +50,7 @@ def test_play():
         assert (status, out, it.called()) == (0, session(), ["try -- play"]), "the first play"
         has(err, NOT_PROVED)
         assert it.make("build")[0] == 0, "the build"
-        assert sorted(it.called()) == PROVES, "its calls"
+        assert sorted(it.called()) in PROVES, "its calls"
         assert (*it.make("play"), it.called()) == (0, session(), "", []), "play where it is built"
         os.utime(
             os.path.join(it.top, "crates", "ym_check", "src", "check.rt"),
@@ -75,7 +76,8 @@ def test_build():
     rt said is kept, and shown where it fails."""
     with tree() as it:
         status, out, err = it.make("build")
-        assert (status, out, sorted(it.called())) == (0, "", PROVES), "its status, output and calls"
+        assert (status, out) == (0, ""), "its status and output"
+        assert sorted(it.called()) in PROVES, "its calls"
         count = crates_of_program()
         has(
             err,
@@ -88,7 +90,8 @@ def test_build():
         it.edit("ym_check")
         it.mark("wrong")
         status, out, err = it.make("build")
-        assert (status, out, sorted(it.called())) == (2, "", PROVES), "its status, output and calls"
+        assert (status, out) == (2, ""), "its status and output"
+        assert sorted(it.called()) in PROVES, "its calls"
         has(err, "FAILED: ym_check", "out/build.log")
 
 
@@ -278,7 +281,8 @@ def test_gate():
             assert places == sorted(places), "%s in turn" % ", ".join(row)
         beside = [
             "ci",
-            *PROVES,
+            "ci",
+            *(call for call in called if call == AHEAD),
             *("%s %s" % (name, it.environment["YMODEM"]) for name in BESIDE),
             *("lib --target " + name for name in TARGETS),
         ]
