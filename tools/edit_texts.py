@@ -142,13 +142,15 @@ class Function:
 
 class Impl:
     """The part of a path that an impl block is: the names of the type and the trait, and what the
-    trait is given."""
+    trait is given. A type that is a parameter of the block is called any."""
 
     def __init__(self, head):
         head = re.sub(r"'\w+", "", re.split(r"\bwhere\b", head)[0]).strip()
-        head = head[angle_end(head) :] if head.startswith("<") else head
-        whole, _, of = head.rpartition(" for ")
-        self.name = (last_word(of) + last_word(whole)).lower()
+        of_all = head[: angle_end(head)] if head.startswith("<") else ""
+        whole, _, of = head[len(of_all) :].rpartition(" for ")
+        named = last_word(of)
+        is_any = named in re.findall(r"[<,]\s*(\w+)", of_all)
+        self.name = (("any" if is_any else named) + last_word(whole)).lower()
         self.given = "".join(re.findall(r"\w+", whole.partition("<")[2])).lower()
 
     def fits(self, part):
