@@ -8,6 +8,8 @@ import shutil
 import subprocess
 import tempfile
 
+from proved import RT
+
 STATE = re.compile(r"^fn (\S+): (.*)$", re.M)
 FAULT = re.compile(
     r"^(?:\./)?proofs/(\S+)/(?:Answers|Proof|Invariants)\.antt:\d+:\d+: error: (.*)$", re.M
@@ -68,7 +70,7 @@ class Checked:
             raise SystemExit
         with tempfile.TemporaryFile("w+", errors="replace") as said:
             how = {"stdin": subprocess.DEVNULL, "stdout": said, "stderr": subprocess.STDOUT}
-            child = subprocess.Popen(["rt", "check", "--jobs", "1"], cwd=folder, **how)
+            child = subprocess.Popen([*RT, "check", "--jobs", "1"], cwd=folder, **how)
             self.running.add(child)
             _, status, used = os.wait4(child.pid, 0)
             self.running.discard(child)

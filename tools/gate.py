@@ -2,11 +2,12 @@
 """Runs the gate, `rt ci`, and beside it all that is tried before a change lands.
 
 The gate proves every crate, tries the edits that have to be refused, and runs the crates' tests.
-The crates of the program are proved first, by themselves (tools/prove.py), and are kept for the
-gate. It begins when at most two of those that are left can be proved side by side: they still get
-all processors that they can use, and the gate the others. Once they are proved come, while the gate
-is at the rest, the tests of that very program, folder by folder of tests/. So nothing is proved
-twice, and most tests wait for lines and peers while the gate needs the processors.
+Where the toolchain's `rt ci` keeps what it proves, the crates of the program are proved first, by
+themselves (tools/prove.py), and are kept for the gate. It begins when at most two of those that are
+left can be proved side by side: they still get all processors that they can use, and the gate the
+others. Where it keeps nothing, the gate begins at once. Once the program is proved come, while the
+gate is at the rest, the tests of that very program, folder by folder of tests/. So nothing is
+proved twice, and most tests wait for lines and peers while the gate needs the processors.
 
 Beside all that come want of memory (tests/memory), what the crates keep to (tests/house), and the
 library for C with the page, made in a copy of the tree since the gate holds the crates' folders,
@@ -37,6 +38,7 @@ import time
 sys.dont_write_bytecode = True
 import checks
 import proved
+from libraries import Libraries
 from shares import later
 from shown import RUNNING, ran, reaped, shown, tell
 
@@ -444,7 +446,8 @@ def main():
         tell("%s failed" % result)
         return 1
     if not result:
-        proved.note("ymodem")
+        proved.note(PROGRAM)
+        Libraries(PROGRAM).take()
     return result
 
 

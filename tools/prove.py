@@ -1,11 +1,14 @@
 #!/usr/bin/env python3
 """Proves the program and builds it, and shows meanwhile which crate is being proved.
 
-Where nothing was proved in this tree before, `rt ci` proves the program's crates side by side, in a
-copy without edits and tests; what it proves is kept for the gate, and what the gate proved is taken.
-The long row, which all others end before, is proved by a run of its own, to which the rest yields.
-Else `rt run` proves what changed, over what stands in the crates' out/. A program that was proved
-from the text as it is, by the gate too, is taken as it lies here.
+The crates that changed are proved side by side, over what stands in the crates' out/
+(tools/libraries.py), and `rt run` proves and builds the program. A program that was proved from the
+text as it is, by the gate too, is taken as it lies here.
+
+Where nothing was proved in this tree before, and `rt ci` keeps what it proves, as that of some
+toolchains does, it proves the crates, in a copy without edits and tests. What it proves is kept for
+the gate, and what the gate proved is taken. The long row, which all others end before, is proved by
+a run of its own, to which the rest yields.
 
 On a terminal that is one line, rewritten in place; elsewhere it is a line a crate. What `rt` says is
 kept in out/build.log, and is shown where it fails. A build that is interrupted goes on where it was.
@@ -15,9 +18,9 @@ usage: prove.py [play|check|first]
           else by `rt try`, which proves nothing
   check   proves what changed, and tries unproved the tests of the crates that changed since the last
           green run, in them and in the crates of tests that use them
-  first   for the gate: proves the program's crates side by side, whatever stands here, since the
-          gate takes nothing but what was kept so, and puts the program into out/tried; where nothing
-          can be kept, it is not there
+  first   for the gate: has `rt ci` prove the program's crates, whatever stands here, since the gate
+          takes nothing but what that kept, and puts the program into out/tried; where nothing is
+          kept, it is not there
 """
 
 import contextlib
@@ -35,6 +38,7 @@ import time
 
 sys.dont_write_bytecode = True
 import proved
+from libraries import Libraries
 from proved import CRATES, PROGRAM, ROOT, crates, sources
 from shares import later
 
@@ -137,8 +141,26 @@ def failed(shown, said):
     sys.exit("the build failed; all that rt said is in %s" % os.path.relpath(LOG))
 
 
+def prove_libraries(shown, kept):
+    """Proves the crates below the program that changed, side by side."""
+    libraries, done = Libraries("ymodem"), []
+    count = len(libraries.lacking())
+
+    def hear(name, status, said):
+        kept.write("== %s\n%s" % (name, said))
+        if status:
+            failed(shown, said.splitlines(keepends=True))
+        done.append(name)
+        shown.tell("proved %d of %d crates, the last one %s" % (len(done), count, name))
+
+    if count:
+        shown.tell("proving %d crates" % count)
+        libraries.prove(hear)
+
+
 def build_here(shown, kept):
     """Proves what changed, over what stands in the crates' out/, and builds."""
+    prove_libraries(shown, kept)
     names, said = of_program(), []
 
     def hear(line):
@@ -153,8 +175,8 @@ def build_here(shown, kept):
         elif counted:
             shown.tell(shown.what, ": %s of %s functions" % counted.groups())
 
-    shown.tell("reading %d crates" % len(names))
-    if followed(["rt", "run"], TOP, os.path.join(TOP, "stdin"), hear):
+    shown.tell("proving the program, over %d crates" % (len(names) - 1))
+    if followed([*proved.RT, "run"], TOP, os.path.join(TOP, "stdin"), hear):
         failed(shown, said)
 
 
@@ -220,10 +242,17 @@ def build_from_nothing(shown, kept, place):
 
 
 def can_keep():
-    """Whether `rt ci` can keep what it proves: that lies beside the toolchain."""
-    kit = os.path.dirname(os.path.dirname(os.path.realpath(shutil.which("rt") or "rt")))
+    """Whether `rt ci` keeps what it proves, as that of some toolchains does, and can do so: that
+    lies beside the toolchain."""
+    rt = os.path.realpath(shutil.which("rt") or "rt")
+    kit = os.path.dirname(os.path.dirname(rt))
     store = kit + "-kept" if os.path.exists(kit + "-kept") else os.path.dirname(kit)
-    return os.access(store, os.W_OK)
+    try:
+        with open(rt, "rb") as it:
+            keeps = b"-kept" in it.read()
+    except OSError:
+        return False
+    return keeps and os.access(store, os.W_OK)
 
 
 def build(here=False):
@@ -234,10 +263,10 @@ def build(here=False):
     shown = Shown(sys.stderr)
     has_begun = os.path.isdir(os.path.join(CRATES, "ym_check", "out", "incremental"))
     with log_file() as kept:
-        if here or has_begun or not can_keep():
-            build_here(shown, kept)
-        else:
+        if can_keep() and not here and not has_begun:
             build_from_nothing(shown, kept, PROGRAM)
+        else:
+            build_here(shown, kept)
     shown.clear()
     # It is newer than its sources now, also where nothing had to be built.
     with contextlib.suppress(OSError):
@@ -319,7 +348,7 @@ def wrong_in(name, words):
     folder = os.path.join(CRATES, name)
     is_run = words == ["try"]
     with open(os.path.join(folder, "stdin") if is_run else os.devnull, "rb") as it:
-        tried = subprocess.run(["rt", *words], cwd=folder, stdin=it, capture_output=True, check=False)
+        tried = subprocess.run([*proved.RT, *words], cwd=folder, stdin=it, capture_output=True, check=False)
     if tried.returncode:
         return (tried.stdout + tried.stderr).decode(errors="replace")
     if is_run:

@@ -15,6 +15,8 @@ PROGRAM = os.path.join(CRATES, "ymodem", "out", "ymodem")
 NOTE = os.path.join(ROOT, "out", "proved.json")
 # What the proof of a crate reads, and then what its program is run on.
 PROOF_PARTS = ("src", "specs", "proofs")
+# `rt`, where it asks whether libraries changed.
+RT = [sys.executable, "-B", os.path.join(ROOT, "tools", "rt_once.py")]
 PARTS = (*PROOF_PARTS, "stdin", "stdout", "args", "status", "data")
 
 
@@ -62,13 +64,17 @@ def sum_of_file(name):
         return hashlib.sha256(it.read()).hexdigest()
 
 
+def kit():
+    """The toolchain, as it tells of itself."""
+    return subprocess.run(["rt", "version"], capture_output=True, text=True, check=False).stdout.strip()
+
+
 def state(name):
     """What the proof of a program rests on, and the program."""
-    kit = subprocess.run(["rt", "version"], capture_output=True, text=True, check=False).stdout.strip()
     with open(os.path.join(ROOT, "HANDLES"), encoding="utf-8") as it:
         handles = it.read()
     program = os.path.join(CRATES, name, "out", name)
-    return {"text": sum_of(made_of(name), PROOF_PARTS), "kit": kit, "handles": handles, "program": sum_of_file(program)}
+    return {"text": sum_of(made_of(name), PROOF_PARTS), "kit": kit(), "handles": handles, "program": sum_of_file(program)}
 
 
 def note(name):
@@ -79,7 +85,7 @@ def note(name):
             json.dump({name: state(name)}, it)
 
 
-def stamp(top, names):
+def stamp(top, names, say=print):
     """Has builds in this copy of the tree take the libraries of these crates as the gate made them.
 
     A build takes a library beside which stands for which text it was made. The gate leaves that out, so it is written here, by the toolchain's own
@@ -95,7 +101,7 @@ def stamp(top, names):
             with open(os.path.join(folder, "out", "rlib", "stamp"), "w", encoding="utf-8") as it:
                 it.write(crate_at(folder, top, known).stamp())
     except (ImportError, AttributeError, TypeError, OSError, SystemExit) as fault:
-        print("the libraries are proved once more: %s" % fault, flush=True)
+        say("the libraries are proved once more: %s" % fault)
     finally:
         sys.path.pop()
 

@@ -11,7 +11,8 @@ from support.terminal import UnderTerminal
 from support.tree import session, tree
 
 
-# What `make build` calls: the long row is proved beside the rest, where the memory holds both.
+# What `make build` calls of a toolchain that keeps what `rt ci` proves: the long row is proved
+# beside the rest, where the memory holds both.
 AHEAD = "ci ym_sending ym_receiving"
 PROVES = (["ci"], ["ci", AHEAD])
 NOT_PROVED = "this run is not proved: make build proves it (minutes the first time)\n"
@@ -36,6 +37,12 @@ def crates_of_program():
     return len(crates_below("ymodem"))
 
 
+def wants_libraries(called, count):
+    """So many crates have to be proved, side by side, and then the program."""
+    assert called[-1:] == ["run"], "the last call: %r" % called
+    assert [it.rpartition(" ")[0] for it in called[:-1]] == ["lib --jobs"] * count, "its calls"
+
+
 def has(text, *wanted):
     for it in wanted:
         assert it in text, "%r is not in %r" % (it, text)
@@ -50,7 +57,7 @@ def test_play():
         assert (status, out, it.called()) == (0, session(), ["try -- play"]), "the first play"
         has(err, NOT_PROVED)
         assert it.make("build")[0] == 0, "the build"
-        assert sorted(it.called()) in PROVES, "its calls"
+        wants_libraries(it.called(), crates_of_program() - 1)
         assert (*it.make("play"), it.called()) == (0, session(), "", []), "play where it is built"
         os.utime(
             os.path.join(it.top, "crates", "ym_check", "src", "check.rt"),
@@ -72,9 +79,39 @@ def test_play_that_fails():
 
 @sentence("make build shows which crate it proves")
 def test_build():
+    """The crates are proved side by side, and then the program. Later those that changed are, and
+    what stands on them. What rt said is kept, and shown where it fails."""
+    with tree() as it:
+        status, out, err = it.make("build")
+        assert (status, out) == (0, ""), "its status and output"
+        count = crates_of_program()
+        wants_libraries(it.called(), count - 1)
+        has(
+            err,
+            "proving %d crates (0:" % (count - 1),
+            "proved 1 of %d crates, the last one ym_" % (count - 1),
+            "proved %d of %d crates, the last one ym_command (" % (count - 1, count - 1),
+            "proving crate %d of %d, ymodem (" % (count, count),
+            "is proved and built (",
+        )
+        assert (it.make("build")[0], it.called()) == (0, []), "a second build"
+        it.edit("ym_tools")
+        assert it.make("build")[0] == 0, "a build behind an edit"
+        wants_libraries(it.called(), len({"ym_tools", "ym_command"}))
+        it.edit("ym_check")
+        it.mark("wrong")
+        status, out, err = it.make("build")
+        assert (status, out) == (2, ""), "its status and output"
+        has(err, "error: not so", "out/build.log")
+        it.unmark("wrong")
+        assert it.make("build")[0] == 0, "a build behind the mend"
+
+
+@sentence("make build where the toolchain keeps what it proves")
+def test_build_that_is_kept():
     """A line a crate where there is no terminal; what was proved is taken as it lies here; all that
     rt said is kept, and shown where it fails."""
-    with tree() as it:
+    with tree(keeps=True) as it:
         status, out, err = it.make("build")
         assert (status, out) == (0, ""), "its status and output"
         assert sorted(it.called()) in PROVES, "its calls"
@@ -97,20 +134,13 @@ def test_build():
 
 @sentence("make build over what stands here")
 def test_build_over_what_stands_here():
-    """Where crates were proved in this tree, what changed is proved over that; where it fails, what
-    was said of that crate is shown."""
-    with tree() as it:
+    """Where crates were proved in this tree, what changed is proved over that, though the toolchain
+    keeps what `rt ci` proves."""
+    with tree(keeps=True) as it:
         os.makedirs(os.path.join(it.top, "crates", "ym_check", "out", "incremental"))
         status, out, err = it.make("build")
-        assert (status, out, it.called()) == (0, "", ["run"]), "its status, output and calls"
-        count = crates_of_program()
-        has(
-            err,
-            "proving crate 1 of %d, ym_check (0:" % count,
-            "proving crate %d of %d, ymodem (" % (count, count),
-            "is proved and built",
-        )
-        assert err.count("\n") == 4, "the lines"
+        assert (status, out) == (0, ""), "its status and output"
+        wants_libraries(it.called(), crates_of_program() - 1)
         it.edit("ym_check")
         it.mark("wrong")
         status, out, err = it.make("build")
@@ -122,7 +152,7 @@ def test_build_over_what_stands_here():
 @sentence("make build under a terminal, and interrupted")
 def test_build_under_terminal():
     """One line, rewritten; an interrupt ends rt too, and it says how to go on."""
-    with tree() as it:
+    with tree(keeps=True) as it:
         it.mark("slow")
         shown = UnderTerminal([*it.words, "build"], cwd=it.top, env=it.environment)
         try:
@@ -137,6 +167,30 @@ def test_build_under_terminal():
         it.wants_ended()
 
 
+@sentence("make build interrupted while it proves side by side")
+def test_build_interrupted():
+    """What was kept of a proof that did not end is there for the next build."""
+    with tree() as it:
+        it.mark("slow")
+        shown = UnderTerminal([*it.words, "build"], cwd=it.top, env=it.environment)
+        try:
+            # of those that stand on no other crate
+            shown.sees(b"\r\x1b[Kproved 3 of %d crates" % (crates_of_program() - 1))
+            shown.type(b"\x03")
+            shown.sees(b"interrupted: the next build goes on where this one was")
+            shown.ended()
+        finally:
+            shown.stop()
+        it.wants_ended()
+        kept = os.path.join(it.top, "crates", "ym_check", "out")
+        assert os.listdir(kept) == ["incremental"], "what was kept of it"
+        assert not os.path.exists(os.path.join(it.top, "out", "rooms")), "its rooms"
+        it.unmark("slow")
+        it.called()
+        assert it.make("build")[0] == 0, "the next build"
+        wants_libraries(it.called(), crates_of_program() - 1 - 3)
+
+
 @sentence("make check tries what changed")
 def test_check():
     """The tests of the crates that changed since the last green run, where they stand, and no
@@ -145,9 +199,10 @@ def test_check():
         assert it.make("check")[0] == 0, "the first check"
         has(it.called(), "run", "try --test", "try")
         assert (it.make("check")[0], it.called()) == (0, []), "the second check"
+        one = "lib --jobs %d" % len(os.sched_getaffinity(0))
         for crate, *calls in (
-            ("ym_command", "run", "try --test"),
-            ("ym_words", "run", "try"),
+            ("ym_command", one, "run", "try --test"),
+            ("ym_words", one, one, one, "run", "try"),
             ("host_uses", "check", "try --test"),
         ):
             it.edit(crate)
@@ -251,8 +306,8 @@ TARGETS = [
 
 
 @contextlib.contextmanager
-def tree_with_gate():
-    with tree() as it:
+def tree_with_gate(keeps=True):
+    with tree(keeps) as it:
         stand_in = os.path.join(it.calls, "pytest")
         it.write(stand_in, TEST)
         it.environment["PYTEST"] = shlex.quote(stand_in)
@@ -301,6 +356,20 @@ def test_gate():
         count = len(TESTS) + len(BESIDE)
         told = "the tests of all folders: %d passed, 0 failed, %d skipped\n" % (2 * count, count)
         has(out, told)
+        assert (it.make("build")[0], it.called()) == (0, []), "a build behind it"
+
+
+@sentence("the gate of a toolchain that keeps nothing")
+def test_gate_that_keeps_nothing():
+    """It alone proves, and its program is tried."""
+    with tree_with_gate(keeps=False) as it:
+        status, out, err = it.run("tools/gate.py")
+        assert (status, err) == (0, ""), "its status"
+        called = it.called()
+        assert called.count("ci") == 1 and AHEAD not in called, "what proves"
+        tests = {"%s %s/out/tried/ymodem" % (name, it.top) for name in TESTS}
+        assert tests.issubset(called), "its tests"
+        assert out.splitlines()[-1] == "18 passed, 0 failed", "its last line"
         assert (it.make("build")[0], it.called()) == (0, []), "a build behind it"
 
 

@@ -11,12 +11,12 @@ from support.skipping import needs
 from support.waits import wait_until
 
 
-# It tells what it was called with in the file `called`. Where the file `slow` is there, `rt run`
-# and `rt ci` wait for their end, and where `else` is there, a program for tests prints something
-# else than its cases want. `below` has the crates that `rt ci` proves first. Where `late` or
-# `proves` is there, `rt ci` waits so in the whole tree alone, or says that an edit was not refused.
-# Where `first` is there, that of the program's crates waits until the other one was called. Of named
-# crates it proves nothing.
+# It tells what it was called with in the file `called`. Where the file `slow` is there, `rt run`,
+# `rt ci` and the `rt lib` of the lowest crate wait for their end, and where `else` is there, a
+# program for tests prints something else than its cases want. `below` has the crates that `rt ci`
+# proves first. Where `late` or `proves` is there, `rt ci` waits so in the whole tree alone, or says
+# that an edit was not refused. Where `first` is there, that of the program's crates waits until the
+# other one was called. Of named crates it proves nothing.
 STAND_IN = r"""#!/bin/sh
 [ "$1" = version ] || echo "$*" >> "$CALLED/called"
 case $1 in
@@ -34,7 +34,17 @@ run)
     cmp -s "$YMODEM" out/ymodem || { mkdir -p out && cp "$YMODEM" out/ymodem; }
     ;;
 lib)
-    mkdir -p out && echo "$*" > out/libym_c.a
+    mkdir -p out/incremental
+    case $PWD in
+    */rooms/ym_check/*)
+        [ ! -e "$CALLED/wrong" ] || { echo "src/check.rt:1:1: error: not so"; exit 1; }
+        [ ! -e "$CALLED/slow" ] || { echo $$ > "$CALLED/process"; exec sleep 1000; }
+        ;;
+    esac
+    case $PWD in
+    */rooms/*) mkdir -p out/rlib && echo "$*" > out/rlib/stamp ;;
+    *) echo "$*" > out/libym_c.a ;;
+    esac
     ;;
 ci)
     [ -z "$2" ] || exit 0
@@ -73,6 +83,10 @@ esac
 """
 
 
+# By this it is told that what `rt ci` proves is kept for another one.
+KEEPS = "# It is kept in /opt/a-toolchain-kept.\n"
+
+
 # The one for `rattle`, which lies beside `rt`. Where the file `loose` is there, a source is not
 # laid out.
 STAND_IN_BESIDE = r"""#!/bin/sh
@@ -82,9 +96,9 @@ STAND_IN_BESIDE = r"""#!/bin/sh
 
 class Tree:
     """A fresh copy of the tree, in a folder with a space in its name, with the stand-ins on the
-    path."""
+    path: of a toolchain that keeps what `rt ci` proves, or of one that does not."""
 
-    def __init__(self, top):
+    def __init__(self, top, keeps):
         self.top, self.calls = os.path.join(top, "a tree"), os.path.join(top, "calls")
         os.makedirs(self.calls)
         names = [it for it in os.listdir(ROOT) if it not in ("out", ".git")]
@@ -99,7 +113,7 @@ class Tree:
                 shutil.copy2(source, to)
         # What it is a copy of may be one that can only be read.
         subprocess.run(["chmod", "-R", "u+w", self.top], check=True)
-        for name, text in ("rt", STAND_IN), ("rattle", STAND_IN_BESIDE):
+        for name, text in ("rt", STAND_IN + KEEPS * keeps), ("rattle", STAND_IN_BESIDE):
             with open(os.path.join(self.calls, name), "w", encoding="utf-8") as it:
                 it.write(text)
             os.chmod(it.name, 0o755)
@@ -166,10 +180,10 @@ class Tree:
 
 
 @contextlib.contextmanager
-def tree():
+def tree(keeps=False):
     needs("make")
     with tempfile.TemporaryDirectory(prefix="ymodem-") as top:
-        yield Tree(top)
+        yield Tree(top, keeps)
 
 
 def session():

@@ -77,7 +77,12 @@ def templates():
     for source in files(SOURCES + FAULTS):
         # A text goes on behind a backslash at the end of a line.
         source = re.sub(r"\\\n\s*", "", source)
-        found |= set(re.findall(r"(?:write|format)!\(\s*f,\s*" + TEXT, source))
+        written = re.findall(r"(?:write|format)!\(\s*f,\s*" + TEXT, source)
+        found |= with_chosen(set(written), source)
+        # A text that is written as it is, and a function that is one. What does not begin with a
+        # letter is a part of another one.
+        found |= set(re.findall(r"\bf\.write_str\((?=\"[a-z])" + TEXT, source))
+        found |= set(re.findall(r"^\{\s*(?=\"[a-z])" + TEXT + r"\s*\}", source, re.M))
         found |= set(re.findall(r"#\[error\(" + TEXT, source))
         found |= set(re.findall(r"(?:tell|eprintln)\(\s*" + TEXT, source))
     # Of the report of `judge`, which is output, this alone goes to standard error.
@@ -85,6 +90,16 @@ def templates():
     found |= set(re.findall(r"write!\(\s*f,\s*\"(start the peer[^\"]*)\"", report))
     found = {re.sub(r"\{[^{}]*\}", "{}", it) for it in found}
     return {it for it in found if re.search(r"[a-z]", it)} | lines_of_script()
+
+
+def with_chosen(written, source):
+    """These texts, and those that are what a case of a `match` comes to. They stand alone, or in a
+    text that has one as its `{text}`. One word is no message."""
+    chosen = re.findall(r"=> (?:\{\s*)?(?:[\w:]+\(\s*)?" + TEXT, source)
+    chosen = {it for it in chosen if " " in it}
+    around = {it for it in written if "{text}" in it}
+    whole = {it.replace("{text}", one) for it in around for one in chosen}
+    return written - around | (whole or chosen)
 
 
 def lines_of_script():

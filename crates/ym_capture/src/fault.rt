@@ -3,7 +3,7 @@
 use std::fmt;
 
 /// Why a capture cannot be read on from a place.
-#[derive(Clone, Copy, Debug, PartialEq, Eq)]
+#[derive(Clone, Copy)]
 pub enum CaptureFault {
     /// It ends before the end of what begins there.
     Cut,
@@ -29,19 +29,19 @@ impl fmt::Display for CaptureFault {
 
     fn fmt<W: fmt::Write>(&self, f: &mut fmt::Formatter<W>) -> fmt::Result {
         match *self {
-            CaptureFault::Cut => write!(f, "the capture ends in what begins there"),
+            CaptureFault::Cut => f.write_str("the capture ends in what begins there"),
             CaptureFault::Link(number) => write!(f, "a link of type {number} is none that is read"),
-            CaptureFault::Long => write!(f, "a packet states more than 262144 bytes"),
-            CaptureFault::Short => write!(
-                f,
-                "not all bytes of the packet were kept (tcpdump -s 0 keeps them)"
+            CaptureFault::Long => f.write_str("a packet states more than 262144 bytes"),
+            CaptureFault::Short => {
+                f.write_str("not all bytes of the packet were kept (tcpdump -s 0 keeps them)")
+            }
+            CaptureFault::Fragment => f.write_str("the packet is a fragment"),
+            CaptureFault::Second => f.write_str(
+                "the packet is of a second connection (tcpdump -r IN -w OUT tcp port N keeps one)",
             ),
-            CaptureFault::Fragment => write!(f, "the packet is a fragment"),
-            CaptureFault::Second => write!(
-                f,
-                "the packet is of a second connection (tcpdump -r IN -w OUT tcp port N keeps one)"
+            CaptureFault::Gap => f.write_str(
+                "bytes before those of the packet are missing or late",
             ),
-            CaptureFault::Gap => write!(f, "bytes before those of the packet are missing or late"),
         }
     }
 }

@@ -18,7 +18,7 @@ pub const PACKET_HEAD: usize = 16;
 pub const MOST_PACKET: u32 = 262_144;
 
 /// In which order the bytes of a number stand.
-#[derive(Clone, Copy, Debug, PartialEq, Eq)]
+#[derive(Clone, Copy)]
 pub enum ByteOrder {
     /// The highest one first.
     HighFirst,
@@ -27,7 +27,7 @@ pub enum ByteOrder {
 }
 
 /// What a part of a second is counted in.
-#[derive(Clone, Copy, Debug, PartialEq, Eq)]
+#[derive(Clone, Copy)]
 pub enum Part {
     /// Microseconds.
     Micros,
@@ -36,7 +36,7 @@ pub enum Part {
 }
 
 /// What a packet has before the internet protocol.
-#[derive(Clone, Copy, Debug, PartialEq, Eq)]
+#[derive(Clone, Copy)]
 pub enum Link {
     /// Four bytes that name the protocol, as the loopback of BSD has it.
     Loopback,
@@ -51,7 +51,7 @@ pub enum Link {
 }
 
 /// What a file is, by its first four bytes.
-#[derive(Clone, Copy, Debug, PartialEq, Eq)]
+#[derive(Clone, Copy)]
 pub enum CaptureKind {
     /// A capture of packets.
     Pcap(ByteOrder, Part),
@@ -62,7 +62,7 @@ pub enum CaptureKind {
 }
 
 /// How a capture is written.
-#[derive(Clone, Copy, Debug, PartialEq, Eq)]
+#[derive(Clone, Copy)]
 pub struct Form {
     /// The order of its numbers' bytes.
     pub order: ByteOrder,
@@ -73,7 +73,7 @@ pub struct Form {
 }
 
 /// What stands before a packet.
-#[derive(Clone, Copy, Debug, PartialEq, Eq)]
+#[derive(Clone, Copy)]
 pub struct PacketHead {
     /// Its moment, in microseconds since 1970.
     pub at: u64,

@@ -10,7 +10,7 @@ use crate::head::Link;
 use crate::numbers::{behind, byte_at, front, two};
 
 /// Which internet protocol it is.
-#[derive(Clone, Copy, PartialEq, Eq)]
+#[derive(Clone, Copy)]
 pub(crate) enum Version {
     /// That of addresses of four bytes.
     Four,

@@ -14,7 +14,7 @@ use crate::numbers::{behind, eight, four, two};
 use ym_told::Direction;
 
 /// An end of a connection: its address, as two numbers, and its port.
-#[derive(Clone, Copy, Debug, PartialEq, Eq)]
+#[derive(Clone, Copy)]
 pub struct End {
     /// The upper half of an address of sixteen bytes; else 0.
     pub high: u64,

@@ -1,6 +1,6 @@
 //! The rows of a session, as its lines come.
 
-ghost use Rattle.std.specs.Prelude.{◌≡◌, IfOk, OnOk, string_bytes};
+ghost use Rattle.std.specs.Prelude.{◌≡◌, ◌<◌, ◌∷◌, ◌++◌, [], IfOk, OnOk, length, string_bytes};
 ghost use Rattle.ym_chart.specs.Rows as spec;
 ghost use Rattle.ym_chart.specs.Drawing.{chart_words};
 
@@ -174,13 +174,9 @@ impl Chart {
     fn add_pair(&mut self, block: Arrow, answer: Arrow) -> Result<(), AllocError>
         ensures { OnOk result (self.new ≡ spec.after_pair self.old block answer) }
     {
-        match self.streak.take() {
+        match &mut self.streak {
             Some(streak) => {
-                self.streak = Some(Streak {
-                    first: streak.first,
-                    last: block,
-                    count: streak.count.saturating_add(1),
-                });
+                streak.go_on(block);
                 Ok(())
             }
             None => self.add_few(block, answer),
@@ -192,17 +188,33 @@ impl Chart {
         ensures { OnOk result (self.new ≡ spec.after_few self.old block answer) }
     {
         if self.few.len() < FEW {
-            self.few.push(block)?;
-            self.few.push(answer)?;
-            return Ok(());
+            return self.push_few(block, answer);
         }
+        self.begin_streak(block);
+        Ok(())
+    }
+
+    /// Puts a block and its answer behind the others that wait.
+    fn push_few(&mut self, block: Arrow, answer: Arrow) -> Result<(), AllocError>
+        ensures { OnOk result
+            (self.new ≡ record self.old { few = self.old.few ++ block ∷ answer ∷ [] }) }
+    {
+        self.few.push(block)?;
+        self.few.push(answer)?;
+        Ok(())
+    }
+
+    /// Makes a streak of the few blocks that wait, and of this one behind them.
+    fn begin_streak(&mut self, block: Arrow)
+        requires { 0 < length self.old.few }
+        ensures { self.new ≡ spec.streak_begun self.old self.old.few block }
+    {
         self.streak = Some(Streak {
             first: self.few.remove(0),
             last: block,
             count: 4,
         });
         self.few.clear();
-        Ok(())
     }
 
     /// Makes rows of all that waits.
@@ -251,9 +263,9 @@ impl Chart {
     {
         if self.rows.len() < MOST_ROWS {
             self.rows.push(row)?;
-        } else {
-            self.left_out = self.left_out.saturating_add(1);
+            return Ok(());
         }
+        self.left_out = self.left_out.saturating_add(1);
         Ok(())
     }
 
@@ -264,6 +276,14 @@ impl Chart {
     /// At want of memory.
     pub fn picture(mut self) -> Result<String, AllocError>
         ensures { IfOk result (λ text. string_bytes text ≡ chart_words (spec.flushed self)) }
+    {
+        self.finished()
+    }
+
+    /// Makes rows of all that waits, and answers the picture.
+    fn finished(&mut self) -> Result<String, AllocError>
+        ensures { IfOk result (λ text.
+            string_bytes text ≡ chart_words (spec.flushed self.old)) }
     {
         self.flush()?;
         self.drawn()

@@ -1,6 +1,7 @@
 //! The rows of a chart.
 
-ghost use Rattle.std.specs.Prelude.{Some};
+ghost use Rattle.std.specs.Prelude.{◌≡◌, ◌+◌, Some};
+ghost use Rattle.ym_chart.specs.Rows.{capped};
 ghost use Rattle.ym_chart.specs.Drawing.{boxed_words, left_out_words, row_words};
 
 use crate::arrow::{Arrow, Drawn, Opened};
@@ -16,6 +17,19 @@ pub(crate) struct Streak {
     pub(crate) last: Arrow,
     /// How many there are.
     pub(crate) count: u64,
+}
+
+impl Streak {
+    /// Goes on with the next block.
+    pub(crate) fn go_on(&mut self, block: Arrow)
+        ensures { self.new ≡ record self.old {
+          last = block;
+          count = capped (self.old.count + 1);
+        } }
+    {
+        self.last = block;
+        self.count = self.count.saturating_add(1);
+    }
 }
 
 /// A row of a chart.

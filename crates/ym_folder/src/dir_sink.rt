@@ -23,7 +23,7 @@ use ym_file::{Sink, SinkFault};
 use ym_header::Header;
 
 /// When a file counts as stored.
-#[derive(Clone, Copy, Debug, PartialEq, Eq)]
+#[derive(Clone, Copy)]
 pub enum Durability {
     /// When it and its name are on the disk: they outlive a power cut.
     Disk,
@@ -33,7 +33,7 @@ pub enum Durability {
 }
 
 /// What becomes of a NAME.part that is there when NAME comes.
-#[derive(Clone, Copy, Debug, PartialEq, Eq)]
+#[derive(Clone, Copy)]
 pub enum Leftover {
     /// NAME is refused.
     Refused,
@@ -43,7 +43,7 @@ pub enum Leftover {
 }
 
 /// Why a sink failed.
-#[derive(Clone, Copy, Debug)]
+#[derive(Clone, Copy)]
 pub enum StoreFault {
     /// The name of the file has been taken already.
     IsThere,
@@ -115,7 +115,8 @@ fn may_discard(leftover: Leftover, stored: &[Header], part_name: &str) -> bool
     ensures not_stored { result ≡ true →
         All (λ header. header.name ≢ part_name.now) stored.now }
 {
-    leftover == Leftover::Discarded && stored.iter().all(|header| header.name() != part_name)
+    matches!(leftover, Leftover::Discarded)
+        && stored.iter().all(|header| header.name() != part_name)
 }
 
 /// Makes a part new at this place, after one that an earlier run left there was removed where that
@@ -269,7 +270,7 @@ impl<D: Folder + Drop> DirSink<D> {
         let Some(open) = self.taking.take() else {
             return Ok(());
         };
-        if open.standing == Standing::Named {
+        if matches!(open.standing, Standing::Named) {
             return Ok(());
         }
         match remove_part(&mut self.folder, &open.file, &open.part) {

@@ -19,7 +19,7 @@ use std::io::ErrorKind;
 use ym_header::Header;
 
 /// What the disk has of the file that is being taken.
-#[derive(Clone, Copy, PartialEq, Eq)]
+#[derive(Clone, Copy)]
 pub(crate) enum Standing {
     /// The bytes that were written.
     Sound,

@@ -13,7 +13,7 @@ use ym_frame::ItemRef;
 use ym_header::{HeaderRef, Stamp, ZeroRef, read_borrowed, write_body};
 
 /// What a block 0 or an end block is beside the fields that are read from it.
-#[derive(Clone, Copy, Debug, PartialEq, Eq)]
+#[derive(Clone, Copy, PartialEq, Eq)]
 pub enum BlockForm {
     /// It is what is written of its fields.
     Fields,
@@ -98,6 +98,23 @@ pub fn has_name_of(bytes: &[u8], count: usize) -> bool
     }
 }
 
+impl BlockForm {
+    ghost use Rattle.ym_form.specs.Forms.{form_text};
+
+    /// What it is, in words.
+    fn text(self) -> &'static str
+        ensures { result.now ≡ form_text self }
+    {
+        match self {
+            BlockForm::Fields => "its fields alone",
+            BlockForm::OtherLength => "another length",
+            BlockForm::TypedMode => "the file's type in the mode",
+            BlockForm::More => "other bytes behind its fields",
+            BlockForm::Unread => "fields that cannot be read",
+        }
+    }
+}
+
 impl fmt::Display for BlockForm {
     ghost use Rattle.std.specs.Prelude.{Some};
     ghost use Rattle.ym_form.specs.Forms.{form_text};
@@ -105,12 +122,6 @@ impl fmt::Display for BlockForm {
     ghost output = { λ form. Some (form_text form) };
 
     fn fmt<W: fmt::Write>(&self, f: &mut fmt::Formatter<W>) -> fmt::Result {
-        match self {
-            BlockForm::Fields => write!(f, "its fields alone"),
-            BlockForm::OtherLength => write!(f, "another length"),
-            BlockForm::TypedMode => write!(f, "the file's type in the mode"),
-            BlockForm::More => write!(f, "other bytes behind its fields"),
-            BlockForm::Unread => write!(f, "fields that cannot be read"),
-        }
+        f.write_str(self.text())
     }
 }

@@ -17,7 +17,7 @@ pub const HUNG_UP_READS: u32 = 5;
 pub const ENDLESS_MS: u64 = 1000;
 
 /// What a read says of its line.
-#[derive(Clone, Copy, Debug, PartialEq, Eq)]
+#[derive(Clone, Copy)]
 pub enum Tick {
     /// Bytes came.
     Bytes,
@@ -30,7 +30,7 @@ pub enum Tick {
 }
 
 /// What the reads of a line have said so far.
-#[derive(Clone, Copy, Debug, PartialEq, Eq)]
+#[derive(Clone, Copy)]
 pub struct Ticks {
     /// How many of the last ones, in a row, got nothing and did not wait.
     pub early: u32,

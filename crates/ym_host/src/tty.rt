@@ -13,7 +13,7 @@ const NO_DEVICE_OR_ADDRESS: u32 = 6;
 const NO_DEVICE: u32 = 19;
 
 /// Why a terminal is not opened.
-#[derive(Clone, Copy, Debug)]
+#[derive(Clone, Copy)]
 pub enum OpenFault {
     /// Nothing is there.
     Absent,

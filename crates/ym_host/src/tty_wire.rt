@@ -24,7 +24,7 @@ const PAUSE_MS: u64 = 10;
 const HANGUP_ERROR: i32 = 5;
 
 /// Why a terminal failed, or why nothing will come from it any more.
-#[derive(Clone, Copy, Debug)]
+#[derive(Clone, Copy)]
 pub enum TtyFault {
     /// It hung up.
     HungUp,

@@ -5,7 +5,7 @@ use std::fmt;
 use ym_capture::CaptureFault;
 
 /// What is wrong with a line of a record.
-#[derive(Clone, Copy, Debug, PartialEq, Eq)]
+#[derive(Clone, Copy)]
 pub enum RecordFault {
     /// It does not begin with a number of seconds and a space.
     Seconds,
@@ -17,6 +17,23 @@ pub enum RecordFault {
     HalfByte,
 }
 
+impl RecordFault {
+    ghost use Rattle.std.specs.Prelude.{◌≡◌};
+    ghost use Rattle.ym_inspect.specs.CaptureFaults.{record_words};
+
+    /// What is wrong, in words.
+    fn sentence(self) -> &'static str
+        ensures { result.now ≡ record_words self }
+    {
+        match self {
+            RecordFault::Seconds => "it does not begin with its seconds and a space",
+            RecordFault::Way => "no > and no < stands behind its seconds",
+            RecordFault::Digit => "a character is no hexadecimal digit",
+            RecordFault::HalfByte => "its last byte has one digit",
+        }
+    }
+}
+
 impl fmt::Display for RecordFault {
     ghost use Rattle.std.specs.Prelude.{Some};
     ghost use Rattle.ym_inspect.specs.CaptureFaults.{record_words};
@@ -24,17 +41,12 @@ impl fmt::Display for RecordFault {
     ghost output = { λ fault. Some (record_words fault) };
 
     fn fmt<W: fmt::Write>(&self, f: &mut fmt::Formatter<W>) -> fmt::Result {
-        match self {
-            RecordFault::Seconds => write!(f, "it does not begin with its seconds and a space"),
-            RecordFault::Way => write!(f, "no > and no < stands behind its seconds"),
-            RecordFault::Digit => write!(f, "a character is no hexadecimal digit"),
-            RecordFault::HalfByte => write!(f, "its last byte has one digit"),
-        }
+        f.write_str(self.sentence())
     }
 }
 
 /// Why a capture is not told to its end.
-#[derive(Clone, Copy, Debug, PartialEq, Eq)]
+#[derive(Clone, Copy)]
 pub enum InspectFault {
     /// Out of memory.
     Memory,
@@ -70,12 +82,12 @@ impl fmt::Display for InspectFault {
 
     fn fmt<W: fmt::Write>(&self, f: &mut fmt::Formatter<W>) -> fmt::Result {
         match *self {
-            InspectFault::Memory => write!(f, "out of memory"),
-            InspectFault::Read => write!(f, "a read of the capture failed"),
-            InspectFault::Write => write!(f, "a write failed"),
-            InspectFault::Endless => write!(f, "the capture has no end"),
+            InspectFault::Memory => f.write_str("out of memory"),
+            InspectFault::Read => f.write_str("a read of the capture failed"),
+            InspectFault::Write => f.write_str("a write failed"),
+            InspectFault::Endless => f.write_str("the capture has no end"),
             InspectFault::Line { number, why } => write!(f, "line {number}: {why}"),
-            InspectFault::Pcapng => write!(f, "it is a pcapng capture, which is not read"),
+            InspectFault::Pcapng => f.write_str("it is a pcapng capture, which is not read"),
             InspectFault::Packet { place, why } => write!(f, "byte {place}: {why}"),
         }
     }

@@ -116,8 +116,7 @@ impl Inspection {
         self.settle(way, at, piece, out)?;
         self.pass(way, at);
         self.hold(way, piece)?;
-        self.tell_way(way, Settle::Nothing, out)?;
-        Ok(())
+        self.tell_way(way, Settle::Nothing, out)
     }
 
     /// Tells what is over before this piece comes this way, at this moment.

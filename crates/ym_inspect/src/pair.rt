@@ -5,6 +5,7 @@ ghost use Rattle.std.specs.Prelude.{◌≡◌, ◌≢◌, ℕ, List, Option, Som
 ghost use Rattle.std.specs.Io.KnownBytes.{IsAtEnd};
 ghost use Rattle.ym_inspect.specs.CaptureFaults.{CountsWrites};
 ghost use Rattle.ym_inspect.specs.CaptureTold.{TellsLast};
+ghost use Rattle.ym_inspect.specs.Inspecting.{Parts};
 ghost use Rattle.ym_inspect.specs.PairTold.{ExplainsPair, KeepsEnd, PairOn, WayOn};
 
 use crate::fault::InspectFault;
@@ -122,63 +123,32 @@ fn is_its_turn(inspection: &Inspection) -> bool {
     }
 }
 
-/// Tells the next of the sender's way, or else of the receiver's. Where nothing is left, the answer
-/// is no.
-fn tell_there_first<I: Input, J: Input, O: Output>(
-    there: &mut OneWay<'_, I>,
-    back: &mut OneWay<'_, J>,
+/// Tells the next of the first way, or else of the second. Where nothing is left, the answer is no.
+fn tell_either<I: Input, J: Input, O: Output>(
+    first: &mut OneWay<'_, I>,
+    second: &mut OneWay<'_, J>,
     inspection: &mut Inspection,
     out: &mut O,
 ) -> Result<bool, InspectFault>
-    requires there { there.old.way ≡ Direction.There }
-    requires back { back.old.way ≡ Direction.Back }
-    ensures there { there.new.way ≡ Direction.There }
-    ensures back { back.new.way ≡ Direction.Back }
-    ensures reads { OnOk result (PairOn (I.remaining there.old.input.now)
-        (J.remaining back.old.input.now) inspection.old (O.contents out.old)
-        (I.remaining there.new.input.now) (J.remaining back.new.input.now) inspection.new
-        (O.contents out.new)) }
-    ensures there_over { OnOk result (KeepsEnd there.old.is_over (I.remaining there.old.input.now)
-        there.new.is_over (I.remaining there.new.input.now)) }
-    ensures back_over { OnOk result (KeepsEnd back.old.is_over (J.remaining back.old.input.now)
-        back.new.is_over (J.remaining back.new.input.now)) }
-    ensures there_done { result ≡ Ok false → there.new.is_over ≡ true }
-    ensures back_done { result ≡ Ok false → back.new.is_over ≡ true }
+    ensures first { first.new.way ≡ first.old.way }
+    ensures second { second.new.way ≡ second.old.way }
+    ensures reads { OnOk result ((mid : Parts) × (between : Option (List ℕ))
+        × WayOn first.old.way (I.remaining first.old.input.now) inspection.old
+        (O.contents out.old) (I.remaining first.new.input.now) mid between
+        × WayOn second.old.way (J.remaining second.old.input.now) mid between
+        (J.remaining second.new.input.now) inspection.new (O.contents out.new)) }
+    ensures first_over { OnOk result (KeepsEnd first.old.is_over
+        (I.remaining first.old.input.now) first.new.is_over (I.remaining first.new.input.now)) }
+    ensures second_over { OnOk result (KeepsEnd second.old.is_over
+        (J.remaining second.old.input.now) second.new.is_over (J.remaining second.new.input.now)) }
+    ensures first_done { result ≡ Ok false → first.new.is_over ≡ true }
+    ensures second_done { result ≡ Ok false → second.new.is_over ≡ true }
     ensures failed { CountsWrites result (O.failures out.old) (O.failures out.new) }
 {
-    if there.tell(inspection, out)? {
+    if first.tell(inspection, out)? {
         return Ok(true);
     }
-    back.tell(inspection, out)
-}
-
-/// Tells the next of the receiver's way, or else of the sender's.
-fn tell_back_first<I: Input, J: Input, O: Output>(
-    there: &mut OneWay<'_, I>,
-    back: &mut OneWay<'_, J>,
-    inspection: &mut Inspection,
-    out: &mut O,
-) -> Result<bool, InspectFault>
-    requires there { there.old.way ≡ Direction.There }
-    requires back { back.old.way ≡ Direction.Back }
-    ensures there { there.new.way ≡ Direction.There }
-    ensures back { back.new.way ≡ Direction.Back }
-    ensures reads { OnOk result (PairOn (I.remaining there.old.input.now)
-        (J.remaining back.old.input.now) inspection.old (O.contents out.old)
-        (I.remaining there.new.input.now) (J.remaining back.new.input.now) inspection.new
-        (O.contents out.new)) }
-    ensures there_over { OnOk result (KeepsEnd there.old.is_over (I.remaining there.old.input.now)
-        there.new.is_over (I.remaining there.new.input.now)) }
-    ensures back_over { OnOk result (KeepsEnd back.old.is_over (J.remaining back.old.input.now)
-        back.new.is_over (J.remaining back.new.input.now)) }
-    ensures there_done { result ≡ Ok false → there.new.is_over ≡ true }
-    ensures back_done { result ≡ Ok false → back.new.is_over ≡ true }
-    ensures failed { CountsWrites result (O.failures out.old) (O.failures out.new) }
-{
-    if back.tell(inspection, out)? {
-        return Ok(true);
-    }
-    there.tell(inspection, out)
+    second.tell(inspection, out)
 }
 
 /// Tells the next of the way whose turn it is, or else of the other.
@@ -205,9 +175,9 @@ fn tell_next<I: Input, J: Input, O: Output>(
     ensures failed { CountsWrites result (O.failures out.old) (O.failures out.new) }
 {
     if is_its_turn(inspection) {
-        return tell_back_first(there, back, inspection, out);
+        return tell_either(back, there, inspection, out);
     }
-    tell_there_first(there, back, inspection, out)
+    tell_either(there, back, inspection, out)
 }
 
 /// Tells all of both ways.

@@ -16,7 +16,7 @@ impl fmt::Display for Parting {
     fn fmt<W: fmt::Write>(&self, f: &mut fmt::Formatter<W>) -> fmt::Result {
         match self.0 {
             Some(at) => write!(f, "{at}here the two ends parted\n"),
-            None => write!(f, ""),
+            None => Ok(()),
         }
     }
 }

@@ -37,8 +37,7 @@ pub fn explain_one_way<I: Input, O: Output>(
 {
     let mut inspection = Inspection::new(alloc);
     tell_file(input, way, &mut inspection, out)?;
-    let verdict = inspection.end(one_way(way), out)?;
-    Ok(verdict)
+    inspection.end(one_way(way), out)
 }
 
 /// The ways that are known where this one alone is.

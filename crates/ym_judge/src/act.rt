@@ -10,7 +10,7 @@ use ym_form::BlockForm;
 use ym_frame::{CAN, ItemRef, Reply};
 
 /// What an end does in its turn.
-#[derive(Clone, Copy, Debug, PartialEq, Eq)]
+#[derive(Clone, Copy, PartialEq, Eq)]
 pub enum Act {
     /// It writes nothing.
     Nothing,
@@ -127,6 +127,24 @@ pub fn answered(bytes: &[u8]) -> Act
 #[derive(Clone, Copy)]
 struct AnswerWords(Reply);
 
+impl AnswerWords {
+    ghost use Rattle.ym_judge.specs.JudgeText.{answer_text};
+
+    /// Its name.
+    fn text(self) -> &'static str
+        ensures { result.now ≡ answer_text self.0 }
+    {
+        match self.0 {
+            Reply::Silence => "nothing",
+            Reply::Start => "C",
+            Reply::Ack => "ACK",
+            Reply::AckStart => "ACK C",
+            Reply::Nak => "NAK",
+            Reply::Cancel => "CAN CAN",
+        }
+    }
+}
+
 impl fmt::Display for AnswerWords {
     ghost use Rattle.std.specs.Prelude.{Some};
     ghost use Rattle.ym_judge.specs.JudgeText.{answer_text};
@@ -134,14 +152,7 @@ impl fmt::Display for AnswerWords {
     ghost output = { λ answer. Some (answer_text answer.0) };
 
     fn fmt<W: fmt::Write>(&self, f: &mut fmt::Formatter<W>) -> fmt::Result {
-        match self.0 {
-            Reply::Silence => write!(f, "nothing"),
-            Reply::Start => write!(f, "C"),
-            Reply::Ack => write!(f, "ACK"),
-            Reply::AckStart => write!(f, "ACK C"),
-            Reply::Nak => write!(f, "NAK"),
-            Reply::Cancel => write!(f, "CAN CAN"),
-        }
+        f.write_str(self.text())
     }
 }
 

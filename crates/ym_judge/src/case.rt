@@ -6,7 +6,7 @@ use crate::twist::Twist;
 use std::fmt;
 
 /// A case that a peer is tried by.
-#[derive(Clone, Copy, Debug, PartialEq, Eq)]
+#[derive(Clone, Copy, PartialEq, Eq)]
 pub enum Case {
     /// A session in which nothing goes wrong.
     Plain,

@@ -9,7 +9,7 @@ use crate::spot::Spot;
 use crate::twist::Twist;
 
 /// What a peer does.
-#[derive(Clone, Copy, Debug, PartialEq, Eq)]
+#[derive(Clone, Copy)]
 pub enum Peer {
     /// It sends files.
     Sender,

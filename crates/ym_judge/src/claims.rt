@@ -7,7 +7,7 @@ use crate::act::Act;
 
 /// What a sender tells of its files: it goes on to the next one, or to the end, where it takes
 /// those before for done.
-#[derive(Clone, Copy, Debug, PartialEq, Eq)]
+#[derive(Clone, Copy)]
 pub struct Claims {
     /// How many files it has begun.
     pub begun: usize,

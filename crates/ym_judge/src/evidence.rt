@@ -6,7 +6,7 @@ ghost use Rattle.ym_judge.specs.Judging.{IsLoss, Conforms};
 use crate::finding::Finding;
 
 /// What was seen of a case.
-#[derive(Clone, Copy, Debug, PartialEq, Eq)]
+#[derive(Clone, Copy)]
 pub struct Evidence {
     /// The session came to the place of the case.
     pub tried: bool,

@@ -1,9 +1,12 @@
 //! What comes of a case.
 
+ghost use Rattle.std.specs.Prelude.{◌≡◌, Some};
+ghost use Rattle.ym_judge.specs.JudgeText.{finding_text};
+
 use std::fmt;
 
 /// What comes of a case.
-#[derive(Clone, Copy, Debug, PartialEq, Eq)]
+#[derive(Clone, Copy)]
 pub enum Finding {
     /// The peer does at each step what the reference does.
     Conforms,
@@ -17,19 +20,25 @@ pub enum Finding {
     NotTried,
 }
 
-impl fmt::Display for Finding {
-    ghost use Rattle.std.specs.Prelude.{Some};
-    ghost use Rattle.ym_judge.specs.JudgeText.{finding_text};
+impl Finding {
+    /// What it is, in words.
+    fn text(self) -> &'static str
+        ensures { result.now ≡ finding_text self }
+    {
+        match self {
+            Finding::Conforms => "conforms",
+            Finding::Differs => "differs (harmless)",
+            Finding::Loses => "loses data",
+            Finding::NoAnswer => "no answer",
+            Finding::NotTried => "not tried",
+        }
+    }
+}
 
+impl fmt::Display for Finding {
     ghost output = { λ finding. Some (finding_text finding) };
 
     fn fmt<W: fmt::Write>(&self, f: &mut fmt::Formatter<W>) -> fmt::Result {
-        match self {
-            Finding::Conforms => write!(f, "conforms"),
-            Finding::Differs => write!(f, "differs (harmless)"),
-            Finding::Loses => write!(f, "loses data"),
-            Finding::NoAnswer => write!(f, "no answer"),
-            Finding::NotTried => write!(f, "not tried"),
-        }
+        f.write_str(self.text())
     }
 }

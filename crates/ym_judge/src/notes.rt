@@ -8,7 +8,7 @@ use crate::act::Act;
 use ym_frame::Reply;
 
 /// One step of a session.
-#[derive(Clone, Copy, Debug, PartialEq, Eq)]
+#[derive(Clone, Copy)]
 pub struct Passage {
     /// What the reference does.
     pub asked: Act,
@@ -23,7 +23,7 @@ pub struct Passage {
 }
 
 /// What a case has shown so far.
-#[derive(Clone, Copy, Debug, PartialEq, Eq)]
+#[derive(Clone, Copy)]
 pub struct Notes {
     /// The step that tells most: the first that does not fit, else the last of the case.
     pub shown: Passage,
@@ -88,7 +88,7 @@ impl Notes {
 }
 
 /// Which of the reference's receivers the peer may be.
-#[derive(Clone, Copy, Debug, PartialEq, Eq)]
+#[derive(Clone, Copy)]
 pub struct Fits {
     /// The one that wants to hear an EOT twice.
     pub twice: bool,

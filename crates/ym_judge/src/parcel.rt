@@ -1,9 +1,12 @@
 //! What is sent to a receiver.
 
+ghost use Rattle.std.specs.Prelude.{◌≡◌, Some};
+ghost use Rattle.ym_judge.specs.JudgeText.{parcel_text};
+
 use std::fmt;
 
 /// What is sent to a receiver in a case.
-#[derive(Clone, Copy, Debug, PartialEq, Eq)]
+#[derive(Clone, Copy, PartialEq, Eq)]
 pub enum Parcel {
     /// A file of one long block and a short one.
     Usual,
@@ -37,29 +40,35 @@ pub enum Parcel {
     Path,
 }
 
-impl fmt::Display for Parcel {
-    ghost use Rattle.std.specs.Prelude.{Some};
-    ghost use Rattle.ym_judge.specs.JudgeText.{parcel_text};
+impl Parcel {
+    /// What it is, in words.
+    fn text(self) -> &'static str
+        ensures { result.now ≡ parcel_text self }
+    {
+        match self {
+            Parcel::Usual => "a file of two blocks",
+            Parcel::OneByte => "a file of one byte",
+            Parcel::Empty => "an empty file",
+            Parcel::ShortFull => "a file of 128 bytes",
+            Parcel::LongFull => "a file of 1024 bytes",
+            Parcel::TwoFiles => "two files",
+            Parcel::TwoEmpty => "two empty files",
+            Parcel::NoFiles => "no file",
+            Parcel::NoTime => "a block 0 without time",
+            Parcel::LongName => "a name of 124 bytes",
+            Parcel::LongestName => "a name of 255 bytes",
+            Parcel::Spaces => "a name with spaces",
+            Parcel::LongHeader => "a block 0 of 1024 bytes",
+            Parcel::NoLength => "a block 0 without length",
+            Parcel::Path => "a name with folders",
+        }
+    }
+}
 
+impl fmt::Display for Parcel {
     ghost output = { λ parcel. Some (parcel_text parcel) };
 
     fn fmt<W: fmt::Write>(&self, f: &mut fmt::Formatter<W>) -> fmt::Result {
-        match self {
-            Parcel::Usual => write!(f, "a file of two blocks"),
-            Parcel::OneByte => write!(f, "a file of one byte"),
-            Parcel::Empty => write!(f, "an empty file"),
-            Parcel::ShortFull => write!(f, "a file of 128 bytes"),
-            Parcel::LongFull => write!(f, "a file of 1024 bytes"),
-            Parcel::TwoFiles => write!(f, "two files"),
-            Parcel::TwoEmpty => write!(f, "two empty files"),
-            Parcel::NoFiles => write!(f, "no file"),
-            Parcel::NoTime => write!(f, "a block 0 without time"),
-            Parcel::LongName => write!(f, "a name of 124 bytes"),
-            Parcel::LongestName => write!(f, "a name of 255 bytes"),
-            Parcel::Spaces => write!(f, "a name with spaces"),
-            Parcel::LongHeader => write!(f, "a block 0 of 1024 bytes"),
-            Parcel::NoLength => write!(f, "a block 0 without length"),
-            Parcel::Path => write!(f, "a name with folders"),
-        }
+        f.write_str(self.text())
     }
 }

@@ -10,7 +10,7 @@ use std::fmt;
 
 /// A case that was tried, with the step that tells most: the first at which the peer did something
 /// else than the reference, or that of the case.
-#[derive(Clone, Copy, Debug, PartialEq, Eq)]
+#[derive(Clone, Copy)]
 pub struct Tried {
     /// The case.
     pub case: Case,
@@ -63,6 +63,23 @@ impl fmt::Display for Seconds {
 #[derive(Clone, Copy)]
 struct FindingWord(Finding);
 
+impl FindingWord {
+    ghost use Rattle.ym_judge.specs.JudgeText.{finding_word};
+
+    /// That word.
+    fn text(self) -> &'static str
+        ensures { result.now ≡ finding_word self.0 }
+    {
+        match self.0 {
+            Finding::Conforms => "conforms",
+            Finding::Differs => "differs",
+            Finding::Loses => "loses-data",
+            Finding::NoAnswer => "no-answer",
+            Finding::NotTried => "not-tried",
+        }
+    }
+}
+
 impl fmt::Display for FindingWord {
     ghost use Rattle.std.specs.Prelude.{Some};
     ghost use Rattle.ym_judge.specs.JudgeText.{finding_word};
@@ -70,13 +87,7 @@ impl fmt::Display for FindingWord {
     ghost output = { λ it. Some (finding_word it.0) };
 
     fn fmt<W: fmt::Write>(&self, f: &mut fmt::Formatter<W>) -> fmt::Result {
-        match self.0 {
-            Finding::Conforms => write!(f, "conforms"),
-            Finding::Differs => write!(f, "differs"),
-            Finding::Loses => write!(f, "loses-data"),
-            Finding::NoAnswer => write!(f, "no-answer"),
-            Finding::NotTried => write!(f, "not-tried"),
-        }
+        f.write_str(self.text())
     }
 }
 
@@ -107,6 +118,17 @@ impl fmt::Display for CaseLine {
 #[derive(Clone, Copy)]
 struct Truth(bool);
 
+impl Truth {
+    ghost use Rattle.ym_judge.specs.JudgeText.{truth_text};
+
+    /// That word.
+    fn text(self) -> &'static str
+        ensures { result.now ≡ truth_text self.0 }
+    {
+        if self.0 { "true" } else { "false" }
+    }
+}
+
 impl fmt::Display for Truth {
     ghost use Rattle.std.specs.Prelude.{Some};
     ghost use Rattle.ym_judge.specs.JudgeText.{truth_text};
@@ -114,11 +136,7 @@ impl fmt::Display for Truth {
     ghost output = { λ it. Some (truth_text it.0) };
 
     fn fmt<W: fmt::Write>(&self, f: &mut fmt::Formatter<W>) -> fmt::Result {
-        if self.0 {
-            write!(f, "true")
-        } else {
-            write!(f, "false")
-        }
+        f.write_str(self.text())
     }
 }
 
@@ -203,6 +221,22 @@ impl fmt::Display for StartLine {
 #[derive(Clone, Copy)]
 struct Harm(Tried);
 
+impl Harm {
+    ghost use Rattle.ym_judge.specs.JudgeText.{harm_text};
+
+    /// What it does.
+    fn text(self) -> &'static str
+        ensures { result.now ≡ harm_text self.0.finding self.0.takes_back }
+    {
+        match (self.0.finding, self.0.takes_back) {
+            (Finding::Loses, _) => "it loses data",
+            (Finding::NoAnswer, _) => "it does not answer",
+            (_, true) => "it takes an ACK back",
+            (_, false) => "it does not come to the end",
+        }
+    }
+}
+
 impl fmt::Display for Harm {
     ghost use Rattle.std.specs.Prelude.{Some};
     ghost use Rattle.ym_judge.specs.JudgeText.{harm_text};
@@ -210,12 +244,7 @@ impl fmt::Display for Harm {
     ghost output = { λ it. Some (harm_text it.0.finding it.0.takes_back) };
 
     fn fmt<W: fmt::Write>(&self, f: &mut fmt::Formatter<W>) -> fmt::Result {
-        match (self.0.finding, self.0.takes_back) {
-            (Finding::Loses, _) => write!(f, "it loses data"),
-            (Finding::NoAnswer, _) => write!(f, "it does not answer"),
-            (_, true) => write!(f, "it takes an ACK back"),
-            (_, false) => write!(f, "it does not come to the end"),
-        }
+        f.write_str(self.text())
     }
 }
 
@@ -237,7 +266,7 @@ impl fmt::Display for Avoided {
 }
 
 /// How many cases came out so.
-#[derive(Clone, Copy, Debug, PartialEq, Eq)]
+#[derive(Clone, Copy)]
 pub struct Sums {
     /// They conform.
     pub conform: u64,

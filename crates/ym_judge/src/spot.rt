@@ -1,13 +1,14 @@
 //! The places of a session at which a case does something.
 
-ghost use Rattle.std.specs.Prelude.{◌≡◌};
+ghost use Rattle.std.specs.Prelude.{◌≡◌, Some};
 ghost use Rattle.ym_judge.specs.Cases.{spot_at};
+ghost use Rattle.ym_judge.specs.JudgeText.{spot_text};
 
 use crate::act::Act;
 use std::fmt;
 
 /// A place of a session: what is sent there, or that nothing was sent yet.
-#[derive(Clone, Copy, Debug, PartialEq, Eq)]
+#[derive(Clone, Copy, PartialEq, Eq)]
 pub enum Spot {
     /// Nothing was sent yet.
     Start,
@@ -51,21 +52,27 @@ pub fn spot_of(act: Act, eots: u8) -> Option<Spot>
     }
 }
 
-impl fmt::Display for Spot {
-    ghost use Rattle.std.specs.Prelude.{Some};
-    ghost use Rattle.ym_judge.specs.JudgeText.{spot_text};
+impl Spot {
+    /// What it is, in words.
+    fn text(self) -> &'static str
+        ensures { result.now ≡ spot_text self }
+    {
+        match self {
+            Spot::Start => "start",
+            Spot::Header => "block 0",
+            Spot::First => "data block 1",
+            Spot::Second => "data block 2",
+            Spot::Eot => "EOT",
+            Spot::EotAgain => "second EOT",
+            Spot::End => "end block",
+        }
+    }
+}
 
+impl fmt::Display for Spot {
     ghost output = { λ spot. Some (spot_text spot) };
 
     fn fmt<W: fmt::Write>(&self, f: &mut fmt::Formatter<W>) -> fmt::Result {
-        match self {
-            Spot::Start => write!(f, "start"),
-            Spot::Header => write!(f, "block 0"),
-            Spot::First => write!(f, "data block 1"),
-            Spot::Second => write!(f, "data block 2"),
-            Spot::Eot => write!(f, "EOT"),
-            Spot::EotAgain => write!(f, "second EOT"),
-            Spot::End => write!(f, "end block"),
-        }
+        f.write_str(self.text())
     }
 }

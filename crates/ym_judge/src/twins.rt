@@ -20,7 +20,7 @@ pub struct Twins {
 }
 
 /// What both answer.
-#[derive(Clone, Copy, Debug, PartialEq, Eq)]
+#[derive(Clone, Copy, PartialEq, Eq)]
 pub struct Answers {
     /// What the first one does.
     pub twice: Reply,

@@ -1,9 +1,12 @@
 //! What becomes of what this end writes, or of what it would hear.
 
+ghost use Rattle.std.specs.Prelude.{◌≡◌, Some};
+ghost use Rattle.ym_judge.specs.JudgeText.{twist_text};
+
 use std::fmt;
 
 /// What becomes of a frame or of an answer.
-#[derive(Clone, Copy, Debug, PartialEq, Eq)]
+#[derive(Clone, Copy, PartialEq, Eq)]
 pub enum Twist {
     /// It is not written.
     Lost,
@@ -43,32 +46,38 @@ pub enum Twist {
     Prompt,
 }
 
-impl fmt::Display for Twist {
-    ghost use Rattle.std.specs.Prelude.{Some};
-    ghost use Rattle.ym_judge.specs.JudgeText.{twist_text};
+impl Twist {
+    /// What becomes of it, in words.
+    fn text(self) -> &'static str
+        ensures { result.now ≡ twist_text self }
+    {
+        match self {
+            Twist::Lost => "lost",
+            Twist::Damaged => "damaged",
+            Twist::Garbled => "garbled",
+            Twist::Cut => "cut",
+            Twist::Doubled => "doubled",
+            Twist::Late => "late",
+            Twist::Junk => "behind junk",
+            Twist::LoneCan => "behind one CAN",
+            Twist::Cancel => "CAN CAN in its place",
+            Twist::Misnumbered => "a wrong number",
+            Twist::Early => "an early EOT in its place",
+            Twist::AnswerLost => "its answer lost",
+            Twist::Unheard => "as if nothing was heard",
+            Twist::Refused => "NAK in its place",
+            Twist::Asked => "C in its place",
+            Twist::Taken => "ACK in its place",
+            Twist::Behind => "NAK behind it",
+            Twist::Prompt => "C with its ACK",
+        }
+    }
+}
 
+impl fmt::Display for Twist {
     ghost output = { λ twist. Some (twist_text twist) };
 
     fn fmt<W: fmt::Write>(&self, f: &mut fmt::Formatter<W>) -> fmt::Result {
-        match self {
-            Twist::Lost => write!(f, "lost"),
-            Twist::Damaged => write!(f, "damaged"),
-            Twist::Garbled => write!(f, "garbled"),
-            Twist::Cut => write!(f, "cut"),
-            Twist::Doubled => write!(f, "doubled"),
-            Twist::Late => write!(f, "late"),
-            Twist::Junk => write!(f, "behind junk"),
-            Twist::LoneCan => write!(f, "behind one CAN"),
-            Twist::Cancel => write!(f, "CAN CAN in its place"),
-            Twist::Misnumbered => write!(f, "a wrong number"),
-            Twist::Early => write!(f, "an early EOT in its place"),
-            Twist::AnswerLost => write!(f, "its answer lost"),
-            Twist::Unheard => write!(f, "as if nothing was heard"),
-            Twist::Refused => write!(f, "NAK in its place"),
-            Twist::Asked => write!(f, "C in its place"),
-            Twist::Taken => write!(f, "ACK in its place"),
-            Twist::Behind => write!(f, "NAK behind it"),
-            Twist::Prompt => write!(f, "C with its ACK"),
-        }
+        f.write_str(self.text())
     }
 }

@@ -50,7 +50,7 @@ const ACK: u8 = 0x06;
 const PIECE: usize = 2048;
 
 /// What is listened for.
-#[derive(Clone, Copy, Debug, PartialEq, Eq)]
+#[derive(Clone, Copy)]
 pub(crate) enum Ear {
     /// Answers, beside which there may be text.
     Answers,

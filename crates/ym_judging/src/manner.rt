@@ -3,7 +3,7 @@
 use ym_judge::{Spot, Twist};
 
 /// In which manner something is written.
-#[derive(Clone, Copy, Debug, PartialEq, Eq)]
+#[derive(Clone, Copy, PartialEq, Eq)]
 pub(crate) enum Manner {
     /// Once.
     Once,

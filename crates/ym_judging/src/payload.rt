@@ -19,42 +19,42 @@ pub struct Payload {
     pub is_long: bool,
 }
 
-const USUAL: [Payload; 1] = [Payload {
+static USUAL: [Payload; 1] = [Payload {
     name: "judge.bin",
     fields: "1100 14700000000 100644",
     length: 1100,
     is_long: false,
 }];
 
-const ONE_BYTE: [Payload; 1] = [Payload {
+static ONE_BYTE: [Payload; 1] = [Payload {
     name: "judge.bin",
     fields: "1 14700000000 100644",
     length: 1,
     is_long: false,
 }];
 
-const EMPTY: [Payload; 1] = [Payload {
+static EMPTY: [Payload; 1] = [Payload {
     name: "judge.bin",
     fields: "0 14700000000 100644",
     length: 0,
     is_long: false,
 }];
 
-const SHORT_FULL: [Payload; 1] = [Payload {
+static SHORT_FULL: [Payload; 1] = [Payload {
     name: "judge.bin",
     fields: "128 14700000000 100644",
     length: 128,
     is_long: false,
 }];
 
-const LONG_FULL: [Payload; 1] = [Payload {
+static LONG_FULL: [Payload; 1] = [Payload {
     name: "judge.bin",
     fields: "1024 14700000000 100644",
     length: 1024,
     is_long: false,
 }];
 
-const TWO_FILES: [Payload; 2] = [
+static TWO_FILES: [Payload; 2] = [
     Payload {
         name: "judge-1.bin",
         fields: "1100 14700000000 100644",
@@ -69,7 +69,7 @@ const TWO_FILES: [Payload; 2] = [
     },
 ];
 
-const TWO_EMPTY: [Payload; 2] = [
+static TWO_EMPTY: [Payload; 2] = [
     Payload {
         name: "judge-1.bin",
         fields: "0 14700000000 100644",
@@ -84,14 +84,14 @@ const TWO_EMPTY: [Payload; 2] = [
     },
 ];
 
-const NO_TIME: [Payload; 1] = [Payload {
+static NO_TIME: [Payload; 1] = [Payload {
     name: "judge.bin",
     fields: "1100",
     length: 1100,
     is_long: false,
 }];
 
-const LONG_NAME: [Payload; 1] = [Payload {
+static LONG_NAME: [Payload; 1] = [Payload {
     name: "judge-aaaaaaaaaaaaaaaaaaaaaaaaaaaaaaaaaaaaaaaaaaaaaaaaaaaaaaaaaa\
            bbbbbbbbbbbbbbbbbbbbbbbbbbbbbbbbbbbbbbbbbbbbbbbbbbbbbbbb.bin",
     fields: "1100 14700000000 100644",
@@ -99,7 +99,7 @@ const LONG_NAME: [Payload; 1] = [Payload {
     is_long: true,
 }];
 
-const LONGEST_NAME: [Payload; 1] = [Payload {
+static LONGEST_NAME: [Payload; 1] = [Payload {
     name: "judge-aaaaaaaaaaaaaaaaaaaaaaaaaaaaaaaaaaaaaaaaaaaaaaaaaaaaaaaaaa\
            bbbbbbbbbbbbbbbbbbbbbbbbbbbbbbbbbbbbbbbbbbbbbbbbbbbbbbbbbbbbbbbb\
            cccccccccccccccccccccccccccccccccccccccccccccccccccccccccccccccc\
@@ -109,28 +109,28 @@ const LONGEST_NAME: [Payload; 1] = [Payload {
     is_long: true,
 }];
 
-const SPACES: [Payload; 1] = [Payload {
+static SPACES: [Payload; 1] = [Payload {
     name: "judge this one.bin",
     fields: "1100 14700000000 100644",
     length: 1100,
     is_long: false,
 }];
 
-const LONG_HEADER: [Payload; 1] = [Payload {
+static LONG_HEADER: [Payload; 1] = [Payload {
     name: "judge.bin",
     fields: "1100 14700000000 100644",
     length: 1100,
     is_long: true,
 }];
 
-const NO_LENGTH: [Payload; 1] = [Payload {
+static NO_LENGTH: [Payload; 1] = [Payload {
     name: "judge.bin",
     fields: "",
     length: 1024,
     is_long: false,
 }];
 
-const PATH: [Payload; 1] = [Payload {
+static PATH: [Payload; 1] = [Payload {
     name: "folder/judge.bin",
     fields: "1100 14700000000 100644",
     length: 1100,

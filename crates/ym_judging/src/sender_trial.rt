@@ -1,6 +1,6 @@
 //! A sender that is tried: what it sends is received.
 
-ghost use Rattle.std.specs.Prelude.{◌≡◌, ◌≤◌, ◌+◌, ◌*◌, ℕ, List, IfOk, IfSome, Some, length};
+ghost use Rattle.std.specs.Prelude.{◌≡◌, ◌≤◌, ◌+◌, ◌*◌, ℕ, List, IfOk, IfSome, OnOk, Some, length};
 ghost use Rattle.ym_judge.specs.Noted.{no_notes};
 ghost use Rattle.ym_judging.specs.Manners.{twisted_as};
 ghost use Rattle.ym_judging.specs.JudgedSteps.{GoesOn, GrowsBy, IsNoted};
@@ -311,6 +311,19 @@ impl SenderTrial {
     }
 }
 
+/// Plays one turn.
+fn play_turn<W: Wire>(line: &mut Line<'_, W>, trial: &mut SenderTrial) -> Result<(), AllocError>
+    ensures { OnOk result (GrowsBy 3 trial.old.notes trial.new.notes) }
+{
+    let turn = trial.turn()?;
+    let before = line.before(&turn)?;
+    trial.take_before(before.as_slice());
+    trial.hear(turn.out.as_slice());
+    let heard = line.behind(&turn, before, trial.patience())?;
+    trial.take(&turn, &heard)?;
+    Ok(())
+}
+
 /// Hears what comes when the session is over.
 fn hear_rest<W: Wire>(line: &mut Line<'_, W>, trial: &mut SenderTrial) -> Result<(), AllocError>
     ensures { GrowsBy 1 trial.old.notes trial.new.notes }
@@ -344,12 +357,7 @@ pub fn try_sender<W: Wire>(alloc: Global, wire: &mut W, case: Case) -> Result<Ou
         if line.is_over() || trial.is_over() {
             break;
         }
-        let turn = trial.turn()?;
-        let before = line.before(&turn)?;
-        trial.take_before(before.as_slice());
-        trial.hear(turn.out.as_slice());
-        let heard = line.behind(&turn, before, trial.patience())?;
-        trial.take(&turn, &heard)?;
+        play_turn(&mut line, &mut trial)?;
     }
     end_sender(&mut line, &mut trial)?;
     trial.outcome(line.has_failed)

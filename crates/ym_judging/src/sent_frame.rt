@@ -1,6 +1,8 @@
 //! The frames of the files that are sent to a receiver.
 
 ghost use Rattle.std.specs.Prelude.{◌≡◌, IfOk, option_map};
+ghost use Rattle.ym_file.specs.Plan.{count_of};
+ghost use Rattle.ym_file.specs.declared.plan.Shape.TheVariants.{Mixed};
 ghost use Rattle.ym_frame.specs.Frame.{IsFrame};
 ghost use Rattle.ym_judging.specs.SentFrames.{IsBlock, IsDataBlock, IsWritten, header_body};
 ghost use Rattle.ym_judging.specs.SentFrames.{sent_of};
@@ -12,11 +14,18 @@ use ym_frame::{Block, Item, encode};
 use ym_header::write_end;
 use ym_judge::Act;
 
+/// In how many data blocks a file is sent.
+fn count_of(file: &Payload) -> u64
+    ensures { result ≡ count_of Mixed file.now.length }
+{
+    block_count(u64::from(file.length), Shape::Mixed)
+}
+
 /// In how many data blocks each file is sent.
 pub(crate) fn counts_of(alloc: Global, files: &[Payload]) -> Result<Vec<u64>, AllocError> {
     let mut counts = Vec::new(alloc);
     for file in files {
-        counts.push(block_count(u64::from(file.length), Shape::Mixed))?;
+        counts.push(count_of(file))?;
     }
     Ok(counts)
 }
@@ -57,7 +66,7 @@ fn block_frame(alloc: Global, file: &Payload, number: u8) -> Result<Vec<u8>, All
     ensures { IfOk result (λ frame. IsDataBlock (sent_of file.now) number frame.items) }
 {
     let place = u64::from(number);
-    if place == 0 || place > block_count(u64::from(file.length), Shape::Mixed) {
+    if place == 0 || place > count_of(file) {
         return Ok(Vec::new(alloc));
     }
     let bytes = content(alloc, file.length)?;

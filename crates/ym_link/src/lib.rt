@@ -4,6 +4,7 @@
 mod delivery;
 mod end_fault;
 mod event;
+mod event_queue;
 pub mod laws;
 mod port;
 mod receive_engine;

@@ -6,6 +6,7 @@ ghost use Rattle.ym_link.specs.Port.{seen_of, read_gives};
 ghost use Rattle.ym_link.specs.declared.port.Wait.{Wait as Asked};
 
 use crate::event::Event;
+use crate::event_queue::EventQueue;
 use crate::port::{Got, Port, PortFault, Wait};
 use std::alloc::Global;
 use std::marker::Model;
@@ -13,9 +14,7 @@ use std::marker::Model;
 /// A port that plays a list of events, and keeps what is written.
 #[derive(Drop)]
 pub struct ScriptPort {
-    events: Vec<Event>,
-    next: usize,
-    used: usize,
+    coming: EventQueue,
     log: Vec<u8>,
     waits: Vec<Wait>,
     /// Whether there was memory to keep all of them.
@@ -26,13 +25,13 @@ pub struct ScriptPort {
 }
 
 impl Model for ScriptPort {
-    ghost use Rattle.ym_link.specs.ScriptPort.{PortParts, coming_of, kept_waits};
+    ghost use Rattle.ym_link.specs.ScriptPort.{PortParts, kept_waits};
 
     ghost Value = { PortParts };
 
     ghost view = { λ p.
         record {
-          coming = coming_of p.used p.next p.events.items;
+          coming = p.coming;
           written = p.log.items;
           waits = kept_waits p.keeps_waits p.waits.items;
           tally = record { failing = p.failing; failures = p.failed };
@@ -49,9 +48,7 @@ impl ScriptPort {
         ensures { result ≡ new_port events.items failing_write }
     {
         ScriptPort {
-            events,
-            next: 0,
-            used: 0,
+            coming: EventQueue::new(events),
             log: Vec::new(alloc),
             waits: Vec::new(alloc),
             keeps_waits: true,
@@ -106,33 +103,10 @@ impl ScriptPort {
         ensures after { self.new ≡ after_read (is_ok result) (length buf.old) self.old }
         ensures failed { OnErr result (Rose self.old.tally.failures self.new.tally.failures) }
     {
-        let Some(event) = self.events.get(self.next) else {
-            return Ok(Got::Closed);
-        };
-        let answer = match event {
-            Event::Piece(bytes) => {
-                let rest = bytes.as_slice().get(self.used..).unwrap_or(&[]);
-                if buf.len() < rest.len() {
-                    buf.copy_from_slice(&rest[..buf.len()]);
-                    self.used += buf.len();
-                    return Ok(Got::Bytes(buf.len()));
-                }
-                if rest.is_empty() {
-                    Ok(Got::Quiet)
-                } else {
-                    buf[..rest.len()].copy_from_slice(rest);
-                    Ok(Got::Bytes(rest.len()))
-                }
-            }
-            Event::Quiet => Ok(Got::Quiet),
-            Event::Closed => Ok(Got::Closed),
-            Event::Fault => {
-                self.failed = self.failed.saturating_add(1);
-                Err(PortFault)
-            }
-        };
-        self.next += 1;
-        self.used = 0;
+        let answer = self.coming.take(buf);
+        if answer.is_err() {
+            self.failed = self.failed.saturating_add(1);
+        }
         answer
     }
 

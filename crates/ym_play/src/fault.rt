@@ -34,21 +34,30 @@ pub enum ScriptWhy {
     TooMany,
 }
 
+impl ScriptWhy {
+    /// What it is, in words.
+    fn text(self) -> &'static str
+        ensures { result.now ≡ why_text self }
+    {
+        match self {
+            ScriptWhy::Large => "too large",
+            ScriptWhy::NotText => "not text",
+            ScriptWhy::NotCommand => "not a command",
+            ScriptWhy::Late => "too late",
+            ScriptWhy::Number => "bad number",
+            ScriptWhy::Hex => "bad hex",
+            ScriptWhy::Stamp => "bad stamp",
+            ScriptWhy::Name => "bad name",
+            ScriptWhy::TooMany => "too many files",
+        }
+    }
+}
+
 impl fmt::Display for ScriptWhy {
     ghost output = { λ why. Some (why_text why) };
 
     fn fmt<W: fmt::Write>(&self, f: &mut fmt::Formatter<W>) -> fmt::Result {
-        match self {
-            ScriptWhy::Large => write!(f, "too large"),
-            ScriptWhy::NotText => write!(f, "not text"),
-            ScriptWhy::NotCommand => write!(f, "not a command"),
-            ScriptWhy::Late => write!(f, "too late"),
-            ScriptWhy::Number => write!(f, "bad number"),
-            ScriptWhy::Hex => write!(f, "bad hex"),
-            ScriptWhy::Stamp => write!(f, "bad stamp"),
-            ScriptWhy::Name => write!(f, "bad name"),
-            ScriptWhy::TooMany => write!(f, "too many files"),
-        }
+        f.write_str(self.text())
     }
 }
 
@@ -83,8 +92,8 @@ impl fmt::Display for RoundWords {
         match self.0 {
             LineFault::NotDamage(round) => write!(f, "round {round}: not damage"),
             LineFault::TooLong(round) => write!(f, "round {round}: too long"),
-            LineFault::Carrier => write!(f, "fault: device"),
-            LineFault::Memory => write!(f, "fault: memory"),
+            LineFault::Carrier => f.write_str("fault: device"),
+            LineFault::Memory => f.write_str("fault: memory"),
         }
     }
 }
@@ -105,7 +114,7 @@ impl fmt::Display for PlayFault {
                 let words = RoundWords(fault);
                 write!(f, "{words}")
             }
-            PlayFault::Memory => write!(f, "fault: memory"),
+            PlayFault::Memory => f.write_str("fault: memory"),
         }
     }
 }
@@ -129,7 +138,7 @@ impl From<LineFault> for PlayFault {
 }
 
 /// Why a line is not followed.
-#[derive(Clone, Copy, Debug, PartialEq, Eq)]
+#[derive(Clone, Copy)]
 pub(crate) enum Refusal {
     Why(ScriptWhy),
     Memory,

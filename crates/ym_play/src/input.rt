@@ -10,7 +10,7 @@ use std::alloc::Global;
 use ym_streams::{Input, StreamFault};
 
 /// Why a script was not taken.
-#[derive(Clone, Copy, Debug, PartialEq, Eq)]
+#[derive(Clone, Copy)]
 pub(crate) enum InputFault {
     /// A read failed.
     Device,

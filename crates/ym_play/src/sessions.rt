@@ -36,7 +36,7 @@ impl fmt::Display for SessionFault {
 
     fn fmt<W: fmt::Write>(&self, f: &mut fmt::Formatter<W>) -> fmt::Result {
         match self {
-            SessionFault::Device => write!(f, "fault: device"),
+            SessionFault::Device => f.write_str("fault: device"),
             SessionFault::Play(fault) => write!(f, "{fault}"),
         }
     }

@@ -37,8 +37,9 @@ drop-one fn l new bytes i start c next more same is next_is all =
     let nt : new.timing ≡ clears.after_dropped c b l.written l.clock.at l.timing =
     ap (λ (x : Line). x.timing) is in
     let nf : new.timing ≡ clears.after_dropped c b fn.written fn.clock.at l.timing =
-    rw (w, at) at nt in
-    let cf : next ≡ clears.dropped c b fn.written fn.clock.at l.timing = rw (w, at) at next_is in (
+    nt ∙ (ap (λ (x : List ℕ). clears.after_dropped c b x l.clock.at l.timing) w ∙ ap (λ (x : ℕ). clears.after_dropped c b fn.written x l.timing) at) in
+    let cf : next ≡ clears.dropped c b fn.written fn.clock.at l.timing =
+    next_is ∙ (ap (λ (x : List ℕ). clears.dropped c b x l.clock.at l.timing) w ∙ ap (λ (x : ℕ). clears.dropped c b fn.written x l.timing) at) in (
       is ∙ (ap (λ (x : Line). let y : Line = record x { timing = clears.after_dropped c b l.written l.clock.at l.timing } in y) same
           ∙ ap (λ (m : Timing). let y : Line = record fn { timing = m } in y) (sym nt)),
       all ∙ (dropped-step bytes i fn.clock.at fn.written (record { clearing = c; timing = l.timing }) more

@@ -1,6 +1,5 @@
 -- What is heard of a row of bytes, byte by byte.
-use Rattle.std.proofs.Common.{◌≡◌, ℕ, ◌+◌, ◌<◌, ◌≤◌, List, [], ◌∷◌, ◌++◌, length, get_or, take, drop}
-use Rattle.std.proofs.Common.{min, ◌∙◌, sym, ap, refl, arith, append_assoc, add-one}
+use Rattle.std.proofs.Common.{◌≡◌, ℕ, ◌+◌, ◌<◌, ◌≤◌, List, [], ◌∷◌, ◌++◌, length, get_or, take, drop, min, ◌∙◌, sym, ap, refl, arith, append_assoc, add-one}
 use Rattle.std.proofs.Math.ListN.{set}
 use Rattle.std.proofs.Math.Seq.{drop-cons, take-suc}
 use Rattle.std.proofs.lemmas.List.{get_or-drop, length-drop, length-take-le, take-append-le, take-take, take_min, take_more_set}
@@ -51,8 +50,8 @@ hear-one fn l new came i say front put more same is heard puts after all =
     let at : l.clock.at ≡ fn.clock.at = ap (λ (x : Line). x.clock.at) same in
     let nt : new.timing ≡ after_byte b l.written l.clock.at l.timing =
     ap (λ (x : Line). x.timing) is in
-    let nf : new.timing ≡ after_byte b fn.written fn.clock.at l.timing = rw (w, at) at nt in
-    let sf : say ≡ said b fn.written fn.clock.at l.timing = rw (w, at) at heard in
+    let nf : new.timing ≡ after_byte b fn.written fn.clock.at l.timing = nt ∙ (ap (λ (x : List ℕ). after_byte b x l.clock.at l.timing) w ∙ ap (λ (x : ℕ). after_byte b fn.written x l.timing) at) in
+    let sf : say ≡ said b fn.written fn.clock.at l.timing = heard ∙ (ap (λ (x : List ℕ). said b x l.clock.at l.timing) w ∙ ap (λ (x : ℕ). said b fn.written x l.timing) at) in
     let step = heard-step came i fn.clock.at fn.written l.timing more in
     let puts_said : put ≡ front ++ bytes_of (said b fn.written fn.clock.at l.timing) b =
     puts ∙ ap (λ (s : Say). front ++ bytes_of s b) sf in (

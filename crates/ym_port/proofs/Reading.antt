@@ -1,9 +1,7 @@
 -- A read of a port that takes several reads of its line.
-use Rattle.std.proofs.Common.{◌≡◌, ◌<◌, ◌≤◌, ◌-◌, ◌+◌, ℕ, zero, suc, List, [], ◌∷◌, length, take}
-use Rattle.std.proofs.Common.{Option, Some, None, refl, ◌∙◌, ap, arith}
+use Rattle.std.proofs.Common.{◌≡◌, ◌<◌, ◌≤◌, ◌-◌, ◌+◌, ℕ, zero, suc, List, [], ◌∷◌, length, take, Option, Some, None, refl, sym, ◌∙◌, ap, arith}
 use Rattle.ym_link.specs.Port.{Seen, Data, Silence}
-use Rattle.ym_port.specs.TimedPort.{Step, Read, step, gives, behind, looked, hears, heard_in}
-use Rattle.ym_port.specs.TimedPort.{brings, brings_of, unheard}
+use Rattle.ym_port.specs.TimedPort.{Step, Read, step, gives, behind, looked, hears, heard_in, brings, brings_of, unheard}
 unfoldable use Rattle.ym_port.specs.TimedPort.{reads}
 use Rattle.ym_port.specs.Wire.{Tape, moment_of, after_moment}
 use Rattle.ym_port.specs.declared.line.Line.{Line}
@@ -32,13 +30,17 @@ reads-once most i w start room l m t u answer whole more is before =
     before ∙ (reads-step (most - i) (most - (i + 1)) w start room l t (omega arith)
     ∙ ap (λ (s : Step). behind (reads (most - (i + 1)) w start room) s.answer s.line s.tape) is)
 
+-- what one read comes to, by another name of the room
+at-room : (w : Expected) (start r room : ℕ) (l : Line) (t : Tape) (s : Step) → r ≡ room → step w start r l t ≡ s → step w start room l t ≡ s
+at-room w start r room l t s same is = ap (λ (x : ℕ). step w start x l t) (sym same) ∙ is
+
 -- it ends with this
 pub read-ends : (most i : ℕ) (w : Expected) (start r room : ℕ) (l m : Line) (t u : Tape)
     (answer : Option Seen) (seen : Seen) (whole : Read) → i < most → r ≡ room
     → step w start r l t ≡ record { answer = answer; line = m; tape = u } → answer ≡ Some seen
     → whole ≡ reads (most - i) w start room l t → whole ≡ gives seen m u
 read-ends most i w start r room l m t u answer seen whole more same is ends before =
-    let once = reads-once most i w start room l m t u answer whole more (rw same at is) before in
+    let once = reads-once most i w start room l m t u answer whole more (at-room w start r room l t _ same is) before in
     once ∙ ap (λ (a : Option Seen). behind (reads (most - (i + 1)) w start room) a m u) ends
 
 -- it goes on
@@ -48,7 +50,7 @@ pub read-goes-on : (most i : ℕ) (w : Expected) (start r room : ℕ) (l m : Lin
     → whole ≡ reads (most - i) w start room l t
     → whole ≡ reads (most - (i + 1)) w start room m u
 read-goes-on most i w start r room l m t u answer whole more same is on before =
-    let once = reads-once most i w start room l m t u answer whole more (rw same at is) before in
+    let once = reads-once most i w start room l m t u answer whole more (at-room w start r room l t _ same is) before in
     once ∙ ap (λ (a : Option Seen). behind (reads (most - (i + 1)) w start room) a m u) on
 
 -- what came, as it was heard

@@ -5,6 +5,7 @@ ghost use Rattle.ym_timing.specs.ByteRows.{bytes_of, heard_of};
 ghost use Rattle.ym_timing.specs.Clears.{dropped};
 ghost use Rattle.ym_timing.specs.Timing.{is_acked, said};
 ghost use Rattle.ym_timing.specs.declared.role.Role.{Role};
+ghost use Rattle.ym_port.specs.TimedPort.{cancel};
 ghost use Rattle.ym_port.specs.declared.line.TheConstants.{PIECE};
 
 use crate::written::Written;
@@ -106,8 +107,24 @@ impl Line {
         count
     }
 
-    /// The same of what came to a sender and stands in `buf`: a reply behind which the peer cancels
-    /// is none.
+    /// The same of what came to a sender and stands in `buf`.
+    #[inline]
+    fn reply_at_front(&mut self, buf: &mut [u8], count: usize) -> usize
+        requires piece { count ≤ PIECE }
+        requires room { 2 * count ≤ length buf.old }
+        ensures line { self.new ≡ table.takes (take count buf.old) self.old }
+        ensures role { self.new.timing.role ≡ self.old.timing.role }
+        ensures within { result ≤ 2 * count }
+        ensures sized { length buf.new ≡ length buf.old }
+        ensures heard { take result buf.new
+            ≡ heard_of (take count buf.old) self.old.written self.old.clock.at self.old.timing }
+    {
+        let mut came = [0; PIECE];
+        came[..count].copy_from_slice(&buf[..count]);
+        self.reply(&came[..count], buf)
+    }
+
+    /// The same, where a reply behind which the peer cancels is none.
     #[inline]
     fn reply_in(&mut self, buf: &mut [u8], count: usize) -> usize
         requires some { 0 < count }
@@ -120,11 +137,9 @@ impl Line {
         ensures sized { length buf.new ≡ length buf.old }
         ensures heard { take result buf.new ≡ table.heard_in (take count buf.old) self.old }
     {
-        let mut came = [0; PIECE];
-        came[..count].copy_from_slice(&buf[..count]);
-        let heard = self.reply(&came[..count], buf);
+        let heard = self.reply_at_front(buf, count);
         if cancels(&buf[..heard]) {
-            buf[..2].copy_from_slice(&[CAN, CAN]);
+            put_cancel(buf);
             return 2;
         }
         heard
@@ -295,6 +310,15 @@ impl Line {
         self.timing.wrote(bytes, clearing, self.clock.at);
         self.written.keep(bytes);
     }
+}
+
+/// Puts CAN CAN at the front.
+pub fn put_cancel(buf: &mut [u8])
+    requires { 2 ≤ length buf.old }
+    ensures same { length buf.new ≡ length buf.old }
+    ensures put { take 2 buf.new ≡ cancel }
+{
+    buf[..2].copy_from_slice(&[CAN, CAN]);
 }
 
 /// Puts what is to be heard of a byte behind so many others.

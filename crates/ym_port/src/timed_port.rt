@@ -9,7 +9,7 @@ ghost use Rattle.ym_port.specs.Wire.{Tape};
 
 use crate::clears::let_clear;
 use crate::learned::Learned;
-use crate::line::{CAN, Line};
+use crate::line::{Line, put_cancel};
 use crate::reads::read_on;
 use crate::waits::Waits;
 use crate::wire::Wire;
@@ -69,7 +69,7 @@ impl<W: Wire + Drop> TimedPort<W> {
         ensures two { result ≡ Got.Bytes 2 }
     {
         let _ = self.line.timing.hears_cancel();
-        buf[..2].copy_from_slice(&[CAN, CAN]);
+        put_cancel(buf);
         Got::Bytes(2)
     }
 

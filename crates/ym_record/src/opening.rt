@@ -10,7 +10,7 @@ use std::{fs, io};
 const DASH: &str = "-";
 
 /// Why no record is made.
-#[derive(Clone, Copy, Debug)]
+#[derive(Clone, Copy)]
 pub enum RecordRefusal {
     /// Its path is `-`, which is no file.
     Dash,

@@ -14,7 +14,7 @@ const LIVE_MS: u64 = 100;
 const LINES_MS: u64 = 10_000;
 
 /// Where somebody looks.
-#[derive(Clone, Copy, Debug, PartialEq, Eq)]
+#[derive(Clone, Copy)]
 pub struct Look {
     /// Standard error is a terminal.
     pub at_err: bool,

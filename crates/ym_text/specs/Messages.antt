@@ -16,6 +16,8 @@ use Rattle.ym_text.specs.declared.echo_message.EchoMessage.{EchoMessage}
 use Rattle.ym_text.specs.declared.echo_message.EchoMessage.TheVariants as echo
 use Rattle.ym_text.specs.declared.end_message.EndMessage.{EndMessage}
 use Rattle.ym_text.specs.declared.end_message.EndMessage.TheVariants as end
+use Rattle.ym_text.specs.declared.end_message.EndWords.{EndWords}
+use Rattle.ym_text.specs.declared.end_message.EndWords.TheVariants as words
 use Rattle.std.specs.IoError.{error_kind}
 use Rattle.std.specs.declared.io.Error.{Error}
 use Rattle.std.specs.declared.io.ErrorKind.{ErrorKind}
@@ -104,6 +106,12 @@ end_text end.OutOfStep =
     codes "a block came out of turn: the two ends are out of step, send again"
 end_text (end.BadHeader fault) = header_text fault
 end_text end.TooManyFiles = codes "more than 65535 files came: send the rest in another batch"
+
+-- the line that is made of these words
+abbrev pub words_text : EndWords → List ℕ
+words_text (words.Text text) = text.now
+words_text (words.Refused why) = codes "the line failed: " ++ reason_text why
+words_text (words.Lately lately other) = lately_text other.now lately
 
 -- why a sender has ended so, where this came of late, unless it has finished or still runs
 abbrev pub sender_end : Lately → SendState → Option EndMessage

@@ -1,6 +1,7 @@
 //! What is told of a line that echoes.
 
 ghost use Rattle.std.specs.Prelude.{◌≡◌, Some};
+ghost use Rattle.ym_text.specs.Messages.{echo_text};
 
 use std::fmt;
 
@@ -14,23 +15,22 @@ pub enum EchoMessage {
     ToReceiver,
 }
 
-impl fmt::Display for EchoMessage {
-    ghost use Rattle.ym_text.specs.Messages.{echo_text};
+impl EchoMessage {
+    /// The line.
+    fn text(self) -> &'static str
+        ensures { result.now ≡ echo_text self }
+    {
+        match self {
+            EchoMessage::ToSender => "the line echoes what is sent: is a receiver running there?",
+            EchoMessage::ToReceiver => "the line echoes what is sent: is a sender running there?",
+        }
+    }
+}
 
+impl fmt::Display for EchoMessage {
     ghost output = { λ message. Some (echo_text message) };
 
     fn fmt<W: fmt::Write>(&self, f: &mut fmt::Formatter<W>) -> fmt::Result {
-        match self {
-            EchoMessage::ToSender => write!(
-                f,
-                "the line echoes what is sent: is a receiver running there?"
-            ),
-            EchoMessage::ToReceiver => {
-                write!(
-                    f,
-                    "the line echoes what is sent: is a sender running there?"
-                )
-            }
-        }
+        f.write_str(self.text())
     }
 }

@@ -1,7 +1,8 @@
 //! What is told of how an end has ended.
 
 ghost use Rattle.std.specs.Prelude.{◌≡◌, Some};
-ghost use Rattle.ym_text.specs.Messages.{end_text, sender_end, receiver_end};
+ghost use Rattle.ym_text.specs.Messages.{end_text, words_text, header_text};
+ghost use Rattle.ym_text.specs.Messages.{sender_end, receiver_end};
 
 use crate::came::{Came, Lately};
 use crate::reason::Reason;
@@ -68,35 +69,21 @@ impl EndMessage {
     }
 }
 
-/// Why a block 0 was refused.
-#[derive(Clone, Copy)]
-struct HeaderWords(HeaderFault);
-
-impl fmt::Display for HeaderWords {
-    ghost use Rattle.ym_text.specs.Messages.{header_text};
-
-    ghost output = { λ words. Some (header_text words.0) };
-
-    fn fmt<W: fmt::Write>(&self, f: &mut fmt::Formatter<W>) -> fmt::Result {
-        match self.0 {
-            HeaderFault::NameEmpty => write!(f, "the sender gave a file an empty name"),
-            HeaderFault::NameLong => {
-                write!(f, "the sender gave a file a name of more than 255 bytes")
-            }
-            HeaderFault::NameUnsafe => write!(
-                f,
-                "the sender gave an unsafe name: a path, not UTF-8, or with control characters"
-            ),
-            HeaderFault::NoLength => write!(
-                f,
-                "the sender gave a file no length: let it send by YMODEM, and not by XMODEM"
-            ),
-            HeaderFault::LengthLarge => write!(
-                f,
-                "the sender gave a file a length above 9223372036854775807"
-            ),
-            HeaderFault::Memory => write!(f, "out of memory"),
+/// Why a block 0 was refused, in words.
+fn header_words(fault: HeaderFault) -> &'static str
+    ensures { result.now ≡ header_text fault }
+{
+    match fault {
+        HeaderFault::NameEmpty => "the sender gave a file an empty name",
+        HeaderFault::NameLong => "the sender gave a file a name of more than 255 bytes",
+        HeaderFault::NameUnsafe => {
+            "the sender gave an unsafe name: a path, not UTF-8, or with control characters"
         }
+        HeaderFault::NoLength => {
+            "the sender gave a file no length: let it send by YMODEM, and not by XMODEM"
+        }
+        HeaderFault::LengthLarge => "the sender gave a file a length above 9223372036854775807",
+        HeaderFault::Memory => "out of memory",
     }
 }
 
@@ -172,47 +159,59 @@ impl fmt::Display for LatelyWords {
     }
 }
 
+/// What the line of an end is made of.
+#[derive(Clone, Copy)]
+pub(crate) enum EndWords {
+    /// A text that is the same each time.
+    Text(&'static str),
+    /// Why the system refused a call.
+    Refused(Reason),
+    /// What came in place of what this other end should have sent.
+    Lately(Lately, &'static str),
+}
+
+impl EndMessage {
+    /// What its line is made of.
+    fn words(self) -> EndWords
+        ensures { end_text self ≡ words_text result }
+    {
+        match self {
+            EndMessage::PeerCancelled => EndWords::Text("the other end cancelled (CAN CAN)"),
+            EndMessage::PeerClosed => EndWords::Text("the other end closed the connection"),
+            EndMessage::LineFailed => EndWords::Text("the connection failed"),
+            EndMessage::LineHungUp => EndWords::Text("the line hung up"),
+            EndMessage::LineEndless => EndWords::Text(
+                "reads of the line do not end by themselves: \
+                set it by `stty raw -echo clocal min 0 time 1`",
+            ),
+            EndMessage::LineRefused(why) => EndWords::Refused(why),
+            EndMessage::NoReply(lately) => EndWords::Lately(lately, "receiver"),
+            EndMessage::NoBlock(lately) => EndWords::Lately(lately, "sender"),
+            EndMessage::SourceFailed => EndWords::Text(
+                "a file could not be read, or has changed since it was looked at",
+            ),
+            EndMessage::OutOfStep => EndWords::Text(
+                "a block came out of turn: the two ends are out of step, send again",
+            ),
+            EndMessage::BadHeader(fault) => EndWords::Text(header_words(fault)),
+            EndMessage::TooManyFiles => {
+                EndWords::Text("more than 65535 files came: send the rest in another batch")
+            }
+        }
+    }
+}
+
 impl fmt::Display for EndMessage {
     ghost output = { λ message. Some (end_text message) };
 
     fn fmt<W: fmt::Write>(&self, f: &mut fmt::Formatter<W>) -> fmt::Result {
-        match *self {
-            EndMessage::PeerCancelled => write!(f, "the other end cancelled (CAN CAN)"),
-            EndMessage::PeerClosed => write!(f, "the other end closed the connection"),
-            EndMessage::LineFailed => write!(f, "the connection failed"),
-            EndMessage::LineHungUp => write!(f, "the line hung up"),
-            EndMessage::LineEndless => write!(
-                f,
-                "reads of the line do not end by themselves: \
-                set it by `stty raw -echo clocal min 0 time 1`"
-            ),
-            EndMessage::LineRefused(why) => write!(f, "the line failed: {why}"),
-            EndMessage::NoReply(lately) => {
-                let other = "receiver";
+        match self.words() {
+            EndWords::Text(text) => f.write_str(text),
+            EndWords::Refused(why) => write!(f, "the line failed: {why}"),
+            EndWords::Lately(lately, other) => {
                 let words = LatelyWords { lately, other };
                 write!(f, "{words}")
             }
-            EndMessage::NoBlock(lately) => {
-                let other = "sender";
-                let words = LatelyWords { lately, other };
-                write!(f, "{words}")
-            }
-            EndMessage::SourceFailed => write!(
-                f,
-                "a file could not be read, or has changed since it was looked at"
-            ),
-            EndMessage::OutOfStep => write!(
-                f,
-                "a block came out of turn: the two ends are out of step, send again"
-            ),
-            EndMessage::BadHeader(fault) => {
-                let words = HeaderWords(fault);
-                write!(f, "{words}")
-            }
-            EndMessage::TooManyFiles => write!(
-                f,
-                "more than 65535 files came: send the rest in another batch"
-            ),
         }
     }
 }

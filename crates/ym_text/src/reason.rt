@@ -1,6 +1,6 @@
 //! Why the system refused a call.
 
-ghost use Rattle.std.specs.Prelude.{◌≡◌, Some};
+ghost use Rattle.std.specs.Prelude.{◌≡◌, Some, IfOk, IfErr};
 ghost use Rattle.ym_text.specs.Reasons.{reason_text};
 
 use std::io::ErrorKind;
@@ -47,21 +47,32 @@ impl Reason {
             },
         }
     }
+
+    /// Its words, or else its number.
+    fn text(self) -> Result<&'static str, u32>
+        ensures text { IfOk result (λ text. reason_text self ≡ text.now) }
+        ensures number { IfErr result (λ number. self ≡ Reason.Number number) }
+    {
+        match self {
+            Reason::Absent => Ok("no such file or directory"),
+            Reason::Denied => Ok("permission denied"),
+            Reason::NoFolder => Ok("not a directory"),
+            Reason::NoRegularFile => Ok("not a regular file"),
+            Reason::ReadOnly => Ok("read-only file system"),
+            Reason::Full => Ok("no space left on device"),
+            Reason::Number(number) => Err(number),
+            Reason::Other => Ok("the system refused it"),
+        }
+    }
 }
 
 impl fmt::Display for Reason {
     ghost output = { λ why. Some (reason_text why) };
 
     fn fmt<W: fmt::Write>(&self, f: &mut fmt::Formatter<W>) -> fmt::Result {
-        match *self {
-            Reason::Absent => write!(f, "no such file or directory"),
-            Reason::Denied => write!(f, "permission denied"),
-            Reason::NoFolder => write!(f, "not a directory"),
-            Reason::NoRegularFile => write!(f, "not a regular file"),
-            Reason::ReadOnly => write!(f, "read-only file system"),
-            Reason::Full => write!(f, "no space left on device"),
-            Reason::Number(number) => write!(f, "error {number} of the system"),
-            Reason::Other => write!(f, "the system refused it"),
+        match self.text() {
+            Ok(text) => f.write_str(text),
+            Err(number) => write!(f, "error {number} of the system"),
         }
     }
 }

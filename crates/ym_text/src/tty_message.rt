@@ -39,16 +39,14 @@ impl TtyMessage<'_> {
 impl fmt::Display for TtyMessage<'_> {
     fn fmt<W: fmt::Write>(&self, f: &mut fmt::Formatter<W>) -> fmt::Result {
         let path = Shown(self.path());
-        match *self {
-            TtyMessage::Opened(_) => write!(f, "the line is '{path}'"),
-            TtyMessage::Absent(_) => write!(f, "cannot open '{path}': no such device"),
-            TtyMessage::Denied(_) => write!(
-                f,
-                "cannot open '{path}': permission denied; members of the group dialout may open it"
-            ),
-            TtyMessage::Busy(_) => write!(f, "cannot open '{path}': another program has it open"),
-            TtyMessage::NoTerminal(_) => write!(f, "cannot open '{path}': it is no terminal"),
-            TtyMessage::Failed(_, why) => write!(f, "cannot open '{path}': {why}"),
-        }
+        let why = match *self {
+            TtyMessage::Opened(_) => return write!(f, "the line is '{path}'"),
+            TtyMessage::Absent(_) => "no such device",
+            TtyMessage::Denied(_) => "permission denied; members of the group dialout may open it",
+            TtyMessage::Busy(_) => "another program has it open",
+            TtyMessage::NoTerminal(_) => "it is no terminal",
+            TtyMessage::Failed(_, why) => return write!(f, "cannot open '{path}': {why}"),
+        };
+        write!(f, "cannot open '{path}': {why}")
     }
 }

@@ -10,7 +10,7 @@ use std::fmt;
 use unicode_width::UnicodeWidthStr;
 
 /// What an end waits for.
-#[derive(Clone, Copy, PartialEq, Eq)]
+#[derive(Clone, Copy)]
 pub enum Awaited {
     /// A sender: that the receiver asks for the first file.
     Asking,
@@ -36,21 +36,32 @@ pub struct Waiting {
     pub limit: u64,
 }
 
+impl Awaited {
+    ghost use Rattle.std.specs.Prelude.{ℕ, ◌++◌};
+    ghost use Rattle.ym_text.specs.Waiting.{seconds_text};
+
+    /// That an end waits for it.
+    fn text(self) -> &'static str
+        ensures { (seconds limit : ℕ) →
+            waiting_text self seconds limit ≡ result.now ++ seconds_text seconds limit }
+    {
+        match self {
+            Awaited::Asking => "waiting for the receiver to ask (C)",
+            Awaited::C => "waiting for C",
+            Awaited::Answer => "waiting for an answer",
+            Awaited::Sender => "waiting for the sender",
+            Awaited::More => "waiting for more",
+        }
+    }
+}
+
 impl fmt::Display for Waiting {
     ghost output = { λ w. Some (waiting_text w.awaited w.seconds w.limit) };
 
     fn fmt<W: fmt::Write>(&self, f: &mut fmt::Formatter<W>) -> fmt::Result {
+        let text = self.awaited.text();
         let Waiting { seconds, limit, .. } = *self;
-        match self.awaited {
-            Awaited::Asking => write!(
-                f,
-                "waiting for the receiver to ask (C), {seconds} s of {limit}"
-            ),
-            Awaited::C => write!(f, "waiting for C, {seconds} s of {limit}"),
-            Awaited::Answer => write!(f, "waiting for an answer, {seconds} s of {limit}"),
-            Awaited::Sender => write!(f, "waiting for the sender, {seconds} s of {limit}"),
-            Awaited::More => write!(f, "waiting for more, {seconds} s of {limit}"),
-        }
+        write!(f, "{text}, {seconds} s of {limit}")
     }
 }
 
@@ -59,7 +70,7 @@ pub fn waiting_line(alloc: Global, waiting: Waiting, columns: usize) -> Result<S
     ensures { IfOk result (λ line. str_width false (chars (string_bytes line)) ≤ columns) }
 {
     let line = format!(in alloc; "{waiting}")?;
-    if waiting.awaited == Awaited::Asking && columns < line.as_str().width() {
+    if matches!(waiting.awaited, Awaited::Asking) && columns < line.as_str().width() {
         let short = Waiting {
             awaited: Awaited::C,
             ..waiting

@@ -77,8 +77,8 @@ impl fmt::Display for ShortWords {
 
     fn fmt<W: fmt::Write>(&self, f: &mut fmt::Formatter<W>) -> fmt::Result {
         match self.0 {
-            true => write!(f, ", and another begins there"),
-            false => write!(f, ""),
+            true => f.write_str(", and another begins there"),
+            false => Ok(()),
         }
     }
 }
@@ -103,7 +103,7 @@ impl fmt::Display for Telling {
                 let footing = FootingWords(footing);
                 write!(f, "EOT: {kind}{footing}")
             }
-            Telling::Cancel => write!(f, "CAN CAN: the sender cancels"),
+            Telling::Cancel => f.write_str("CAN CAN: the sender cancels"),
             Telling::Damage {
                 broken,
                 used,
@@ -118,9 +118,9 @@ impl fmt::Display for Telling {
                 let meaning = MeaningWords(meaning);
                 write!(f, "{control}: {meaning}")
             }
-            Telling::ReceiverCancel => write!(f, "CAN CAN: the receiver cancels"),
+            Telling::ReceiverCancel => f.write_str("CAN CAN: the receiver cancels"),
             Telling::Echo { used } => write!(f, "{used} bytes of the sender's own: an echo"),
-            Telling::Zmodem => write!(f, "a header of ZMODEM"),
+            Telling::Zmodem => f.write_str("a header of ZMODEM"),
         }
     }
 }

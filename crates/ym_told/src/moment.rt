@@ -14,7 +14,7 @@ impl fmt::Display for CaptureMoment {
 
     fn fmt<W: fmt::Write>(&self, f: &mut fmt::Formatter<W>) -> fmt::Result {
         match self.0 {
-            None => write!(f, ""),
+            None => Ok(()),
             Some(micros) => {
                 let seconds = micros / 1_000_000;
                 let millis = micros / 1000 % 1000;

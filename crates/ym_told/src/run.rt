@@ -107,11 +107,11 @@ impl fmt::Display for RunEnd {
         let run = self.0;
         let count = run.count;
         if !run.going {
-            write!(f, "")
+            Ok(())
         } else if count > run.shown as u64 {
             write!(f, " .. {count} bytes\n")
         } else {
-            write!(f, "\n")
+            f.write_str("\n")
         }
     }
 }

@@ -73,18 +73,18 @@ impl fmt::Display for Announced<'_> {
                 write!(f, "  file {name}, {length} bytes\n")
             }
             Announced::Unread(HeaderFault::NoLength) => {
-                write!(f, "  a file with no length behind its name\n")
+                f.write_str("  a file with no length behind its name\n")
             }
             Announced::Unread(HeaderFault::LengthLarge) => {
-                write!(f, "  a file with a length that is too large\n")
+                f.write_str("  a file with a length that is too large\n")
             }
             Announced::Unread(
                 HeaderFault::NameEmpty
                 | HeaderFault::NameLong
                 | HeaderFault::NameUnsafe
                 | HeaderFault::Memory,
-            ) => write!(f, "  a file with a name that no file may have\n"),
-            Announced::Nothing => write!(f, ""),
+            ) => f.write_str("  a file with a name that no file may have\n"),
+            Announced::Nothing => Ok(()),
         }
     }
 }

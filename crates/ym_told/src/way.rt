@@ -6,7 +6,7 @@ ghost use Rattle.ym_told.specs.BothStand.{other_way};
 use std::fmt;
 
 /// A way of a line.
-#[derive(Clone, Copy, Debug, PartialEq, Eq)]
+#[derive(Clone, Copy, PartialEq, Eq)]
 pub enum Direction {
     /// From the sender of the files to their receiver.
     There,
@@ -34,8 +34,8 @@ impl fmt::Display for Direction {
 
     fn fmt<W: fmt::Write>(&self, f: &mut fmt::Formatter<W>) -> fmt::Result {
         match self {
-            Direction::There => write!(f, "> "),
-            Direction::Back => write!(f, "< "),
+            Direction::There => f.write_str("> "),
+            Direction::Back => f.write_str("< "),
         }
     }
 }

@@ -18,21 +18,28 @@ pub(crate) enum JudgeMessage<'a> {
     Failed(Case),
 }
 
+/// The word that names such a peer.
+fn word_of(peer: Peer) -> &'static str {
+    match peer {
+        Peer::Sender => "sender",
+        Peer::Receiver => "receiver",
+    }
+}
+
 impl fmt::Display for JudgeMessage<'_> {
     fn fmt<W: fmt::Write>(&self, f: &mut fmt::Formatter<W>) -> fmt::Result {
         match *self {
             JudgeMessage::NoPeer(word) => {
                 write!(f, "judge takes `sender` or `receiver`, and not '{word}'")
             }
-            JudgeMessage::NoCase(Peer::Sender, word) => write!(
-                f,
-                "no case of a sender is called '{word}'; judge sender --list names them"
-            ),
-            JudgeMessage::NoCase(Peer::Receiver, word) => write!(
-                f,
-                "no case of a receiver is called '{word}'; judge receiver --list names them"
-            ),
-            JudgeMessage::NoPlace => write!(f, "judge takes --port or --line, and one of them"),
+            JudgeMessage::NoCase(peer, word) => {
+                let peer = word_of(peer);
+                write!(
+                    f,
+                    "no case of a {peer} is called '{word}'; judge {peer} --list names them"
+                )
+            }
+            JudgeMessage::NoPlace => f.write_str("judge takes --port or --line, and one of them"),
             JudgeMessage::NoLine(path) => write!(f, "the line '{path}' cannot be opened"),
             JudgeMessage::Failed(case) => write!(f, "the line failed: {case}"),
         }

@@ -1,7 +1,7 @@
 //! Why a capture is not told to its end.
 
-ghost use Rattle.std.specs.Prelude.{Some};
-ghost use Rattle.ym_tools.specs.Explaining.{untold_words};
+ghost use Rattle.std.specs.Prelude.{◌≡◌, Some};
+ghost use Rattle.ym_tools.specs.Explaining.{forms_words, too_many_words, untold_words};
 
 use std::fmt;
 use ym_inspect::{CaptureFault, RecordFault};
@@ -32,6 +32,20 @@ pub(crate) enum Untold<'a> {
     ChartUnwritten(&'a str, Reason),
 }
 
+/// What the lines of a record are.
+fn forms() -> &'static str
+    ensures { result.now ≡ forms_words }
+{
+    "; its lines are SECONDS > HEX or SECONDS < HEX; files of bytes go by --there and --back"
+}
+
+/// What is said where a record and files of one way are given.
+fn too_many() -> &'static str
+    ensures { result.now ≡ too_many_words }
+{
+    "a record has both ways: give it alone, or else --there and --back"
+}
+
 impl fmt::Display for Untold<'_> {
     ghost output = { λ why. Some (untold_words why) };
 
@@ -41,11 +55,10 @@ impl fmt::Display for Untold<'_> {
             Untold::Unread(name) => write!(f, "cannot read '{name}'"),
             Untold::UnreadPair(there, back) => write!(f, "cannot read '{there}' or '{back}'"),
             Untold::Endless(name) => write!(f, "'{name}' has no end"),
-            Untold::NoRecord(name, number, why) => write!(
-                f,
-                "'{name}' is no record: line {number}: {why}; its lines are SECONDS > HEX or \
-                 SECONDS < HEX; files of bytes go by --there and --back"
-            ),
+            Untold::NoRecord(name, number, why) => {
+                let forms = forms();
+                write!(f, "'{name}' is no record: line {number}: {why}{forms}")
+            }
             Untold::Pcapng(name) => write!(
                 f,
                 "'{name}' is a pcapng capture, which is not read; editcap -F pcap IN OUT makes a \
@@ -54,10 +67,7 @@ impl fmt::Display for Untold<'_> {
             Untold::NoCapture(name, place, why) => {
                 write!(f, "'{name}' cannot be read on: byte {place}: {why}")
             }
-            Untold::TooMany => write!(
-                f,
-                "a record has both ways: give it alone, or else --there and --back"
-            ),
+            Untold::TooMany => f.write_str(too_many()),
             Untold::ChartThere(path) => {
                 write!(f, "'{path}' is there already: no chart is written")
             }

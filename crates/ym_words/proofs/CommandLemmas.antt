@@ -50,8 +50,3 @@ pub with_last_sub : {E : Type 0} (r : Result Command E) {old sub : Command} {app
     → IfOk r (λ new. AddsSubcommand old sub new) → HasApp old app → HasApp sub inner
     → IfOk r (λ c. HasApp c (with_subcommand app inner.top))
 with_last_sub r adds old_is sub_is = IfOk-weaker r _ _ (λ c h. with_sub h old_is sub_is) adds
-
-pub with_last_arg : {E : Type 0} (r : Result Command E) {old : Command} {a : Arg} {app : App} {rule : Rule}
-    → IfOk r (λ new. AddsArg old a new) → HasApp old app → HasRule a rule
-    → IfOk r (λ c. HasApp c (with_rule app rule))
-with_last_arg r adds old_is arg_is = IfOk-weaker r _ _ (λ c h. with_arg h old_is arg_is) adds

@@ -217,3 +217,21 @@ pub(crate) fn with_words<'a>(
     }
     Ok(grown)
 }
+
+/// The same of a command that was made before, if it was. So what grows a command by many words
+/// needs no way out between them.
+pub(crate) fn with_more<'a>(
+    alloc: Global,
+    made: Result<Command<'a>, AllocError>,
+    arg: Arg<'a>,
+    flags: &[Flag],
+) -> Result<Command<'a>, AllocError>
+    ensures { (app : App) (rule : Rule) → IfOk made.entry (λ m. HasApp m app)
+        → HasRule arg.entry rule
+        → IfOk result (λ c. HasApp c (with_flags (with_rule app rule) flags.now)) }
+{
+    match made {
+        Ok(command) => with_words(alloc, command, arg, flags),
+        Err(fault) => Err(fault),
+    }
+}

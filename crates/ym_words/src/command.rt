@@ -7,7 +7,7 @@ ghost use Rattle.ym_words.specs.CommandLine.{the_app};
 
 use crate::args::{
     DISCARD_PARTS, EAGER, KEEP, NO_SYNC, QUIET, SHORT, SINGLE, VERBOSE, dir_arg, files_arg,
-    port_arg, recorded_arg, with_words,
+    port_arg, recorded_arg, with_more, with_words,
 };
 use crate::explain_command::explain_command;
 use crate::help::{bare_loop, bare_receive, bare_send, bare_top, play_command};
@@ -32,9 +32,9 @@ fn send_command<'a>(alloc: Global) -> Result<Command<'a>, AllocError>
 {
     let sending = [SHORT];
     let telling = [VERBOSE, QUIET];
-    let with_port = with_words(alloc, bare_send(alloc), port_arg(alloc), &sending)?;
-    let with_record = with_port.arg(recorded_arg(alloc))?;
-    with_words(alloc, with_record, files_arg(alloc), &telling)
+    let with_port = with_words(alloc, bare_send(alloc), port_arg(alloc), &sending);
+    let with_record = with_more(alloc, with_port, recorded_arg(alloc), &[]);
+    with_more(alloc, with_record, files_arg(alloc), &telling)
 }
 
 fn receive_command<'a>(alloc: Global) -> Result<Command<'a>, AllocError>
@@ -42,9 +42,9 @@ fn receive_command<'a>(alloc: Global) -> Result<Command<'a>, AllocError>
 {
     let storing = [SINGLE, EAGER, KEEP, NO_SYNC, DISCARD_PARTS];
     let telling = [VERBOSE, QUIET];
-    let with_port = with_words(alloc, bare_receive(alloc), port_arg(alloc), &storing)?;
-    let with_record = with_port.arg(recorded_arg(alloc))?;
-    with_words(alloc, with_record, dir_arg(alloc), &telling)
+    let with_port = with_words(alloc, bare_receive(alloc), port_arg(alloc), &storing);
+    let with_record = with_more(alloc, with_port, recorded_arg(alloc), &[]);
+    with_more(alloc, with_record, dir_arg(alloc), &telling)
 }
 
 fn bare_command<'a>(alloc: Global) -> Command<'a>
@@ -53,28 +53,30 @@ fn bare_command<'a>(alloc: Global) -> Command<'a>
     bare_top(alloc).version(VERSION)
 }
 
-/// The command with one more, if that was made.
+/// The command with one more, if both were made.
 fn with_command<'a>(
-    command: Command<'a>,
+    command: Result<Command<'a>, AllocError>,
     made: Result<Command<'a>, AllocError>,
 ) -> Result<Command<'a>, AllocError>
-    ensures { (app inner : App) → HasApp command.entry app → IfOk made.entry (λ m. HasApp m inner)
+    ensures { (app inner : App) → IfOk command.entry (λ c. HasApp c app)
+        → IfOk made.entry (λ m. HasApp m inner)
         → IfOk result (λ c. HasApp c (with_subcommand app inner.top)) }
 {
+    let outer = command?;
     let inner = made?;
-    command.subcommand(inner)
+    outer.subcommand(inner)
 }
 
 /// The command line of the program, serial lines first.
 pub(crate) fn the_command<'a>(alloc: Global) -> Result<Command<'a>, AllocError>
     ensures { IfOk result (λ c. HasApp c the_app) }
 {
-    let with_sb = with_command(bare_command(alloc), sb_command(alloc))?;
-    let with_rb = with_command(with_sb, rb_command(alloc))?;
-    let with_send = with_command(with_rb, send_command(alloc))?;
-    let with_receive = with_command(with_send, receive_command(alloc))?;
-    let with_play = with_receive.subcommand(play_command(alloc))?;
-    let with_loop = with_command(with_play, loop_command(alloc))?;
-    let with_explain = with_command(with_loop, explain_command(alloc))?;
+    let with_sb = with_command(Ok(bare_command(alloc)), sb_command(alloc));
+    let with_rb = with_command(with_sb, rb_command(alloc));
+    let with_send = with_command(with_rb, send_command(alloc));
+    let with_receive = with_command(with_send, receive_command(alloc));
+    let with_play = with_command(with_receive, Ok(play_command(alloc)));
+    let with_loop = with_command(with_play, loop_command(alloc));
+    let with_explain = with_command(with_loop, explain_command(alloc));
     with_command(with_explain, judge_command(alloc))
 }

@@ -8,9 +8,9 @@ ghost use Rattle.ym_words.specs.CommandLine.{HasApp, play_app};
 use clap::Command;
 use std::alloc::Global;
 
-const ABOUT: &str = "Sends and receives files by YMODEM over serial lines and connections";
+static ABOUT: &str = "Sends and receives files by YMODEM over serial lines and connections";
 
-const TOP_HELP: &str = "`ymodem-tty` sets a serial line, runs `sb` or `rb` on it, and sets it back.
+static TOP_HELP: &str = "`ymodem-tty` sets a serial line, runs `sb` or `rb` on it, and sets it back.
 A file goes to a board with U-Boot by three commands. Type the first and the
 last at the prompt of the board, and the second here, while no other program
 has the line:
@@ -35,9 +35,9 @@ Exit status:
 Example of a session that is played:
   printf 'file a.txt 48656C6C6F\\nok 6\\n' | ymodem";
 
-const SB_ABOUT: &str = "Sends files over a serial line, in order";
+static SB_ABOUT: &str = "Sends files over a serial line, in order";
 
-const SB_HELP: &str = "The line is DEVICE, or else standard input and output. `ymodem-tty` sets the
+static SB_HELP: &str = "The line is DEVICE, or else standard input and output. `ymodem-tty` sets the
 line and runs this; by hand, set it so before:
 
   stty -F /dev/ttyUSB0 115200 raw -echo clocal min 0 time 1
@@ -50,9 +50,9 @@ Examples:
   ymodem-tty --device /dev/ttyUSB0 --speed 115200 send firmware.bin
   ymodem sb --line /dev/ttyUSB0 firmware.bin";
 
-const RB_ABOUT: &str = "Receives files over a serial line into a folder";
+static RB_ABOUT: &str = "Receives files over a serial line into a folder";
 
-const RB_HELP: &str = "The line is DEVICE, or else standard input and output. `ymodem-tty` sets the
+static RB_HELP: &str = "The line is DEVICE, or else standard input and output. `ymodem-tty` sets the
 line and runs this; by hand, set it so before:
 
   stty -F /dev/ttyUSB0 115200 raw -echo clocal min 0 time 1
@@ -67,9 +67,9 @@ Examples:
   ymodem-tty --device /dev/ttyUSB0 --speed 115200 receive
   ymodem rb --line /dev/ttyUSB0";
 
-const SEND_ABOUT: &str = "Connects to 127.0.0.1 and sends files, in order";
+static SEND_ABOUT: &str = "Connects to 127.0.0.1 and sends files, in order";
 
-const SEND_HELP: &str =
+static SEND_HELP: &str =
     "Each file is sent under the last part of its path, without time and mode, in
 blocks of 1024 bytes while as many remain and then of 128. Where nobody listens
 yet it tries again for 2 seconds. It waits 10 seconds for each reply, and gives
@@ -85,9 +85,9 @@ connection or want of memory.
 Example:
   ymodem send --port 4000 firmware.bin settings.txt";
 
-const RECEIVE_ABOUT: &str = "Waits for one connection on 127.0.0.1, and receives into a folder";
+static RECEIVE_ABOUT: &str = "Waits for one connection on 127.0.0.1, and receives into a folder";
 
-const RECEIVE_HELP: &str =
+static RECEIVE_HELP: &str =
     "A file NAME is written as NAME.part and renamed when it is whole. Nothing that
 is there is overwritten. It acknowledges a file when the disk has it. A
 NAME.part that is there, as a receiver leaves it that is killed, refuses NAME.
@@ -104,9 +104,9 @@ words are refused, 3 at a device fault, a closed connection or want of memory.
 Example:
   ymodem receive --port 4000 .";
 
-const EXPLAIN_ABOUT: &str = "Tells what passed on a line, and what went wrong there";
+static EXPLAIN_ABOUT: &str = "Tells what passed on a line, and what went wrong there";
 
-const EXPLAIN_HELP: &str =
+static EXPLAIN_HELP: &str =
     "A record has a line for each piece that passed: the seconds, `>` for what the
 sender of the files wrote or `<` for what their receiver wrote, and the bytes as
 hexadecimal digits. Or give one file of bytes for each way, or for one alone.
@@ -130,9 +130,9 @@ Examples:
   ymodem explain session.pcap
   ymodem explain --there sent.bin --back answered.bin";
 
-const JUDGE_ABOUT: &str = "Tries a sender or a receiver of YMODEM by a list of cases";
+static JUDGE_ABOUT: &str = "Tries a sender or a receiver of YMODEM by a list of cases";
 
-const JUDGE_HELP: &str =
+static JUDGE_HELP: &str =
     "It plays each case to the peer and prints a line for it: what the reference
 does there, what the peer did, and `conforms`, `differs (harmless)` or `loses
 data`. The last lines say what to avoid with this peer.
@@ -154,9 +154,9 @@ Examples:
   ymodem judge sender --line /dev/ttyUSB0
   ymodem judge receiver --list";
 
-const PLAY_ABOUT: &str = "Plays the session of a script, and prints what was seen";
+static PLAY_ABOUT: &str = "Plays the session of a script, and prints what was seen";
 
-const PLAY_HELP: &str = "It reads the script from standard input. Lines of a script:
+static PLAY_HELP: &str = "It reads the script from standard input. Lines of a script:
   short                      short blocks alone
   single                     the receiver acknowledges the first EOT
   file NAME HEX|- [TIME [MODE]]   a file, with its time and mode in octal
@@ -169,9 +169,9 @@ refused, 3 at a device fault or want of memory.
 Example:
   printf 'file a.txt 48656C6C6F\\nok 6\\n' | ymodem play";
 
-const LOOP_ABOUT: &str = "Plays the session of a script over a connection to itself";
+static LOOP_ABOUT: &str = "Plays the session of a script over a connection to itself";
 
-const LOOP_HELP: &str = "It reads the script from standard input, and prints what `play` prints.
+static LOOP_HELP: &str = "It reads the script from standard input, and prints what `play` prints.
 
 Exit status: 0 where both ends finished, 1 where not, 2 where the words or the
 script are refused, 3 at a device fault or want of memory.

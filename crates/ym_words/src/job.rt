@@ -18,7 +18,7 @@ use clap::{ArgMatches, Error};
 use std::alloc::Global;
 
 /// How a receiver answers and stores.
-#[derive(Clone, Copy, Debug, PartialEq, Eq)]
+#[derive(Clone, Copy)]
 pub struct StoreFlags {
     /// It acknowledges the first EOT of a file.
     pub single: bool,
@@ -29,7 +29,7 @@ pub struct StoreFlags {
 }
 
 /// The same of a receiver that takes connections, and when and how often it asks.
-#[derive(Clone, Copy, Debug, PartialEq, Eq)]
+#[derive(Clone, Copy)]
 pub struct ReceiveFlags {
     /// How it answers and stores.
     pub store: StoreFlags,
@@ -40,7 +40,7 @@ pub struct ReceiveFlags {
 }
 
 /// How much is told on standard error besides fault lines.
-#[derive(Clone, Copy, Debug, PartialEq, Eq)]
+#[derive(Clone, Copy)]
 pub struct TellFlags {
     /// It is told also where standard error is no terminal.
     pub verbose: bool,

@@ -4,7 +4,7 @@ ghost use Rattle.std.specs.Prelude.{IfOk};
 ghost use Rattle.ym_words.specs.CommandLine.{HasApp, HasRule, judge_app, line_rule};
 ghost use Rattle.ym_words.specs.CommandLine.{any_port_rule, only_rule, peer_rule, stored_rule};
 
-use crate::args::{Flag, value_arg, with_words};
+use crate::args::{Flag, value_arg, with_more, with_words};
 use crate::help::bare_judge;
 use clap::{Arg, Command};
 use std::alloc::{AllocError, Global};
@@ -81,10 +81,10 @@ fn stored_arg<'a>(alloc: Global) -> Arg<'a>
 pub(crate) fn judge_command<'a>(alloc: Global) -> Result<Command<'a>, AllocError>
     ensures { IfOk result (λ c. HasApp c judge_app) }
 {
-    let with_peer = bare_judge(alloc).arg(peer_arg(alloc))?;
-    let with_port = with_peer.arg(any_port_arg(alloc))?;
-    let with_line = with_port.arg(judged_line_arg(alloc))?;
-    let with_only = with_line.arg(only_arg(alloc))?;
     let flags = [LIST, JSON];
-    with_words(alloc, with_only, stored_arg(alloc), &flags)
+    let with_peer = with_words(alloc, bare_judge(alloc), peer_arg(alloc), &[]);
+    let with_port = with_more(alloc, with_peer, any_port_arg(alloc), &[]);
+    let with_line = with_more(alloc, with_port, judged_line_arg(alloc), &[]);
+    let with_only = with_more(alloc, with_line, only_arg(alloc), &[]);
+    with_more(alloc, with_only, stored_arg(alloc), &flags)
 }

@@ -5,7 +5,7 @@ ghost use Rattle.ym_words.specs.CommandLine.{HasApp, rb_app, sb_app};
 
 use crate::args::{
     DISCARD_PARTS, NO_SYNC, QUIET, SHORT, SINGLE, VERBOSE, files_arg, folder_arg, line_arg,
-    recorded_arg, with_words,
+    recorded_arg, with_more, with_words,
 };
 use crate::help::{bare_rb, bare_sb};
 use clap::Command;
@@ -16,9 +16,9 @@ pub(crate) fn sb_command<'a>(alloc: Global) -> Result<Command<'a>, AllocError>
 {
     let sending = [SHORT];
     let telling = [VERBOSE, QUIET];
-    let with_line = with_words(alloc, bare_sb(alloc), line_arg(alloc), &sending)?;
-    let with_record = with_line.arg(recorded_arg(alloc))?;
-    with_words(alloc, with_record, files_arg(alloc), &telling)
+    let with_line = with_words(alloc, bare_sb(alloc), line_arg(alloc), &sending);
+    let with_record = with_more(alloc, with_line, recorded_arg(alloc), &[]);
+    with_more(alloc, with_record, files_arg(alloc), &telling)
 }
 
 pub(crate) fn rb_command<'a>(alloc: Global) -> Result<Command<'a>, AllocError>
@@ -26,7 +26,7 @@ pub(crate) fn rb_command<'a>(alloc: Global) -> Result<Command<'a>, AllocError>
 {
     let storing = [SINGLE, NO_SYNC, DISCARD_PARTS];
     let telling = [VERBOSE, QUIET];
-    let with_line = with_words(alloc, bare_rb(alloc), line_arg(alloc), &storing)?;
-    let with_record = with_line.arg(recorded_arg(alloc))?;
-    with_words(alloc, with_record, folder_arg(alloc), &telling)
+    let with_line = with_words(alloc, bare_rb(alloc), line_arg(alloc), &storing);
+    let with_record = with_more(alloc, with_line, recorded_arg(alloc), &[]);
+    with_more(alloc, with_record, folder_arg(alloc), &telling)
 }

@@ -1,0 +1,97 @@
+"""The sums of crates' texts, each made once for a question (tools/rt_once.py)."""
+
+import os
+import subprocess
+import sys
+import tempfile
+
+from support.cases import case, cases, sentence
+from support.program import ROOT
+
+ONCE = os.path.join(ROOT, "tools", "rt_once.py")
+# A module like that of `rt`, and a script over it: each crate of a row stands on all below it.
+MODULE = """
+made = []
+
+
+class Crate:
+    def __init__(self, name, deps):
+        self.name, self.deps, self.text = name, deps, ""
+
+    def stamp(self):
+        made.append(self.name)
+        return self.name + self.text + repr([dep.stamp() for dep in self.deps])
+"""
+SCRIPT = """#!/usr/bin/env python3
+import sys
+
+%s
+
+
+class Crate(rtlib.Crate):
+    pass
+
+
+row = []
+for name in "abcdefgh":
+    row.append(Crate(name, list(row)))
+first = row[-1].stamp()
+count = len(rtlib.made)
+row[0].text = "changed"
+second = row[-1].stamp()
+print(sys.argv[1:], count, len(rtlib.made) - count)
+print(first)
+print(second)
+"""
+
+
+# How such a script comes by the module: as any does, or by itself.
+IMPORTS = "import rtlib"
+LOADS = """
+import importlib.machinery
+import importlib.util
+import os
+
+file = os.path.join(os.path.dirname(os.path.realpath(__file__)), "rtlib.py")
+loader = importlib.machinery.SourceFileLoader("rtlib", file)
+rtlib = importlib.util.module_from_spec(importlib.util.spec_from_loader("rtlib", loader))
+sys.modules["rtlib"] = rtlib
+loader.exec_module(rtlib)
+"""
+
+
+def said(words, path):
+    environment = {**os.environ, "PATH": path + ":" + os.environ["PATH"]}
+    ran = subprocess.run(words, env=environment, capture_output=True, text=True, check=True)
+    return ran.stdout.splitlines()
+
+
+@cases(
+    case("the sum of each crate is made once for a question", IMPORTS),
+    case("the sum of each crate is made once, where the script loads its module", LOADS),
+)
+def test_sums(module):
+    """And it is the same."""
+    with tempfile.TemporaryDirectory(prefix="ymodem-") as top:
+        script = SCRIPT.replace("%s", module, 1)
+        for name, text in ("rtlib.py", MODULE), ("rt", script):
+            with open(os.path.join(top, name), "w", encoding="utf-8") as it:
+                it.write(text)
+        os.chmod(it.name, 0o755)
+        plain = said([it.name, "run", "it"], top)
+        once = said([sys.executable, ONCE, "run", "it"], top)
+        # as many sums as there are ways from the highest crate
+        assert plain[0] == "['run', 'it'] %d %d" % (2**7, 2**7), "by the script alone"
+        assert once[0] == "['run', 'it'] 8 8", "with each made once"
+        assert once[1:] == plain[1:], "the sums"
+        assert once[1] != once[2], "a change is seen by the next question"
+
+
+@sentence("an rt that is no such script is run as it is")
+def test_another_rt():
+    with tempfile.TemporaryDirectory(prefix="ymodem-") as top:
+        with open(os.path.join(top, "rt"), "w", encoding="utf-8") as it:
+            it.write('#!/bin/sh\necho "another one: $*"\n')
+        os.chmod(it.name, 0o755)
+        told = said([sys.executable, ONCE, "check", "--jobs", "1"], top)
+        assert told == ["another one: check --jobs 1"], "what it said"

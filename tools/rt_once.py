@@ -1,0 +1,70 @@
+#!/usr/bin/env python3
+"""Runs `rt` with these words, and has it make the sum of each crate's text once for a question.
+
+`rt` asks whether the text of a library changed, by a sum of it and of those of the crates below.
+It makes that anew for each way that leads from a crate to one below. Of these crates there are
+thousands of ways, and one call of `rt` takes minutes for them. Here a sum is made once for each
+crate and each question, so the answers are the same. An `rt` that is no such script is run as it is.
+
+usage: rt_once.py WORD..
+"""
+
+import importlib
+import importlib.machinery
+import os
+import runpy
+import shutil
+import sys
+import threading
+
+sys.dont_write_bytecode = True
+
+# What the script has its crates from.
+MODULE = "rtlib"
+
+
+def summed_once(stamp):
+    """The sum of a crate, which asks for those of the crates below, with each of these made once."""
+    found = threading.local()
+
+    def sum_of(crate):
+        known = getattr(found, "known", None)
+        if known is not None and id(crate) in known:
+            return known[id(crate)]
+        is_asked = known is None
+        if is_asked:
+            known = found.known = {}
+        try:
+            known[id(crate)] = stamp(crate)
+            return known[id(crate)]
+        finally:
+            if is_asked:
+                found.known = None
+
+    return sum_of
+
+
+class Loader(importlib.machinery.SourceFileLoader):
+    """Loads the module of `rt` for a script that loads it by itself."""
+
+    def exec_module(self, module):
+        super().exec_module(module)
+        if module.__name__ == MODULE:
+            module.Crate.stamp = summed_once(module.Crate.stamp)
+
+
+def main(words):
+    rt = os.path.realpath(shutil.which("rt") or "rt")
+    sys.path.insert(0, os.path.dirname(rt))
+    try:
+        module = importlib.import_module(MODULE)
+        module.Crate.stamp = summed_once(module.Crate.stamp)
+    except (ImportError, AttributeError):
+        os.execv(rt, [rt, *words])
+    importlib.machinery.SourceFileLoader = Loader
+    sys.argv = [rt, *words]
+    runpy.run_path(rt, run_name="__main__")
+
+
+if __name__ == "__main__":
+    main(sys.argv[1:])
