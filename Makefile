@@ -22,7 +22,7 @@
 PREFIX ?= /usr/local
 PROGRAM = crates/ymodem/out/ymodem
 
-.PHONY: play build check layout test cases memory edits plants interop install deb dist charts recording bench clean
+.PHONY: play build program check layout test cases memory edits plants interop install deb dist charts recording bench clean
 
 play:
 	@tools/prove.py play
@@ -30,6 +30,10 @@ play:
 # `rt run` proves what changed, and builds. It goes on where an interrupted run was.
 build:
 	@tools/prove.py
+
+# What needs the program alone: a first build reads less, and keeps less for the next one.
+program:
+	@tools/prove.py alone
 
 check: layout
 	@tools/prove.py check
@@ -63,16 +67,16 @@ interop: build
 	@command -v sb > /dev/null && command -v rb > /dev/null || { echo "lrzsz is not installed" >&2; exit 1; }
 	@tools/checks.py peers -k test_lrzsz
 
-install: build
+install: program
 	tools/install.sh $(PROGRAM) "$(DESTDIR)$(PREFIX)"
 
-deb: build
+deb: program
 	packaging/package.py deb $(PROGRAM) out
 	@$(MAKE) --no-print-directory lib TARGETS=x86_64-unknown-linux-gnu
 	@$(MAKE) --no-print-directory portable
 	packaging/package.py dev out/lib/x86_64-unknown-linux-gnu/libymodem.a out out/portable
 
-dist: build portable
+dist: program portable
 	packaging/package.py dist $(PROGRAM) out out/portable
 
 charts: build

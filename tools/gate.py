@@ -14,7 +14,7 @@ library for C with the page, made in a copy of the tree since the gate holds the
 over the crates that the gate proved.
 
 Of each folder a line tells how many tests passed, failed and were skipped, and others why they were
-skipped; where one fails, all that pytest said is told.
+skipped; where one fails, all that pytest said is told, and the end of it once more behind all else.
 
 What the gate does is told in a line each as it comes. All that it says stands in out/gate.log and
 is written last, so that the last line is its verdict. Where anything else fails the gate is
@@ -235,8 +235,10 @@ def packages():
     )
 
 
-# How the tests of each folder came out.
-COUNTS = {}
+# How the tests of each folder came out, and what was said of those that failed.
+COUNTS, FAILED = {}, {}
+# So many of its last lines are told once more at the end: what the gate proved stands between.
+LAST_LINES = 60
 
 
 def made(name, environment=None, ahead=()):
@@ -245,6 +247,8 @@ def made(name, environment=None, ahead=()):
     words = [*ahead, *checks.words_of(os.path.join(checks.TESTS, name))]
     status, said, used = ran(words, env=environment)
     counts = COUNTS[name] = checks.counts_of(said) or (0, 1, 0)
+    if status:
+        FAILED["tests/" + name] = said
     took = (time.monotonic() - began) / 60, used
     lines = checks.skipped_of(said) if status == 0 else [said.rstrip("\n")]
     line = "tests/%s: %s; %%.1f minutes, %%.1f processor minutes" % (name, checks.told(counts))
@@ -443,6 +447,8 @@ def main():
     if isinstance(result, str):
         if gate.is_over:
             gate.ended()
+        for line in FAILED.get(result, "").splitlines()[-LAST_LINES:]:
+            tell(line)
         tell("%s failed" % result)
         return 1
     if not result:

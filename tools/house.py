@@ -29,7 +29,7 @@ EDITS = 50
 # file is committed twice or reported early, an end is deaf to a quiet line, a line is never let
 # clear, a call says well what is not, a session ends in the wrong status. To try one costs the
 # crate's whole proof once more. `make edits` tries those of all crates.
-TRIED = {"ym_frame", "ym_core", "ym_link", "ym_port", "ym_pair", "ym_delay", "ym_play"}
+TRIED = {"ym_frame", "ym_core", "ym_link", "ym_port", "ym_pair", "ym_delay", "ym_looped"}
 README, README_LINES = "README.md", 80
 MAP = "docs/map.md"
 # The two pages that say what is promised and how to believe it, and the words of both together.

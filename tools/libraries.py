@@ -7,6 +7,9 @@ interrupted goes on where it was, and a later one takes what was proved.
 
 A crate waits for those below it. Of those that wait for none the one is begun first that has most
 lines behind it. Where fewer can begin than there are processors, each gets more of them.
+
+Where nothing but the program is wanted, a library holds its statements alone, as those of `rt ci`
+do. Then there is less to read for the proofs above, and nothing is kept for the next check.
 """
 
 import contextlib
@@ -69,8 +72,9 @@ def lanes():
 class Libraries:
     """The libraries of a program, and what has to be proved of them."""
 
-    def __init__(self, top):
+    def __init__(self, top, are_cut=False):
         self.names, self.used = [it for it in made_of(top) if it != top], crates()
+        self.verb = ["--statements", "lib"] if are_cut else ["lib"]
         version = proved.kit()
         with open(os.path.join(ROOT, "crates.txt"), encoding="utf-8") as it:
             self.lines = {line.partition(":")[0].split()[0]: line for line in it if is_line(line)}
@@ -140,7 +144,7 @@ class Libraries:
         with self.lock:
             if self.is_over:
                 return 1, ""
-            words = [*proved.RT, "lib", "--jobs", str(jobs)]
+            words = [*proved.RT, *self.verb, "--jobs", str(jobs)]
             child = subprocess.Popen(words, cwd=os.path.join(top, "crates", name), **how)
             self.running.add(child)
         said, _ = child.communicate()

@@ -13,7 +13,8 @@ a run of its own, to which the rest yields.
 On a terminal that is one line, rewritten in place; elsewhere it is a line a crate. What `rt` says is
 kept in out/build.log, and is shown where it fails. A build that is interrupted goes on where it was.
 
-usage: prove.py [play|check|first]
+usage: prove.py [alone|play|check|first]
+  alone   proves and builds the program, and keeps less of a first build for the next one
   play    plays the example session, by the program where it is built and no source has changed since,
           else by `rt try`, which proves nothing
   check   proves what changed, and tries unproved the tests of the crates that changed since the last
@@ -141,9 +142,9 @@ def failed(shown, said):
     sys.exit("the build failed; all that rt said is in %s" % os.path.relpath(LOG))
 
 
-def prove_libraries(shown, kept):
+def prove_libraries(shown, kept, is_alone):
     """Proves the crates below the program that changed, side by side."""
-    libraries, done = Libraries("ymodem"), []
+    libraries, done = Libraries("ymodem", is_alone), []
     count = len(libraries.lacking())
 
     def hear(name, status, said):
@@ -158,9 +159,9 @@ def prove_libraries(shown, kept):
         libraries.prove(hear)
 
 
-def build_here(shown, kept):
+def build_here(shown, kept, is_alone):
     """Proves what changed, over what stands in the crates' out/, and builds."""
-    prove_libraries(shown, kept)
+    prove_libraries(shown, kept, is_alone)
     names, said = of_program(), []
 
     def hear(line):
@@ -255,18 +256,22 @@ def can_keep():
     return keeps and os.access(store, os.W_OK)
 
 
-def build(here=False):
+def has_kept():
+    """Whether a build has kept what it proved of a crate, for the next one."""
+    return any(os.path.isdir(os.path.join(CRATES, it, "out", "incremental")) for it in of_program())
+
+
+def build(here=False, is_alone=False):
     """Proves what changed, and builds. Whatever goes wrong ends this script."""
     if proved.holds("ymodem"):
         print("%s is proved and built" % os.path.relpath(PROGRAM), file=sys.stderr)
         return
-    shown = Shown(sys.stderr)
-    has_begun = os.path.isdir(os.path.join(CRATES, "ym_check", "out", "incremental"))
+    shown, has_begun = Shown(sys.stderr), has_kept()
     with log_file() as kept:
         if can_keep() and not here and not has_begun:
             build_from_nothing(shown, kept, PROGRAM)
         else:
-            build_here(shown, kept)
+            build_here(shown, kept, is_alone and not has_begun)
     shown.clear()
     # It is newer than its sources now, also where nothing had to be built.
     with contextlib.suppress(OSError):
@@ -390,7 +395,8 @@ def check():
 
 
 def main(words):
-    verbs = {(): build, ("play",): play, ("check",): check, ("first",): first}
+    alone = lambda: build(is_alone=True)
+    verbs = {(): build, ("alone",): alone, ("play",): play, ("check",): check, ("first",): first}
     if tuple(words) not in verbs:
         sys.exit(__doc__)
     signal.signal(signal.SIGTERM, lambda *_: sys.exit(143))

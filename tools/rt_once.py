@@ -6,7 +6,9 @@ It makes that anew for each way that leads from a crate to one below. Of these c
 thousands of ways, and one call of `rt` takes minutes for them. Here a sum is made once for each
 crate and each question, so the answers are the same. An `rt` that is no such script is run as it is.
 
-usage: rt_once.py WORD..
+usage: rt_once.py [--statements] WORD..
+  --statements   a library that is built holds what other crates can cite, as those of `rt ci` do, and
+                 not its checked proofs, and nothing is kept for its next check
 """
 
 import importlib
@@ -21,6 +23,9 @@ sys.dont_write_bytecode = True
 
 # What the script has its crates from.
 MODULE = "rtlib"
+STATEMENTS = "--statements"
+# Whether libraries are built so.
+IS_CUT = False
 
 
 def summed_once(stamp):
@@ -44,21 +49,44 @@ def summed_once(stamp):
     return sum_of
 
 
+def cut(module):
+    """Has the libraries that are built hold their statements alone, where `rt` can do that."""
+    if STATEMENTS not in module.help_of("build"):
+        return
+    build, words_of = module.Crate.build_rlib, module.Crate.words
+    # what is kept for the next check cannot be made by the same run
+    module.libraries_keep = lambda: False
+
+    def build_cut(crate, *given, **named):
+        crate.words = lambda *words, **more: [*words_of(crate, *words, **more), STATEMENTS]
+        try:
+            return build(crate, *given, **named)
+        finally:
+            del crate.words
+
+    module.Crate.build_rlib = build_cut
+
+
 class Loader(importlib.machinery.SourceFileLoader):
     """Loads the module of `rt` for a script that loads it by itself."""
 
     def exec_module(self, module):
         super().exec_module(module)
         if module.__name__ == MODULE:
-            module.Crate.stamp = summed_once(module.Crate.stamp)
+            change(module)
+
+
+def change(module):
+    module.Crate.stamp = summed_once(module.Crate.stamp)
+    if IS_CUT:
+        cut(module)
 
 
 def main(words):
     rt = os.path.realpath(shutil.which("rt") or "rt")
     sys.path.insert(0, os.path.dirname(rt))
     try:
-        module = importlib.import_module(MODULE)
-        module.Crate.stamp = summed_once(module.Crate.stamp)
+        change(importlib.import_module(MODULE))
     except (ImportError, AttributeError):
         os.execv(rt, [rt, *words])
     importlib.machinery.SourceFileLoader = Loader
@@ -67,4 +95,5 @@ def main(words):
 
 
 if __name__ == "__main__":
-    main(sys.argv[1:])
+    IS_CUT = sys.argv[1:2] == [STATEMENTS]
+    main(sys.argv[1 + IS_CUT :])

@@ -1,4 +1,5 @@
-"""The sums of crates' texts, each made once for a question (tools/rt_once.py)."""
+"""The sums of crates' texts, each made once for a question, and libraries that hold their statements
+alone (tools/rt_once.py)."""
 
 import os
 import subprocess
@@ -85,6 +86,55 @@ def test_sums(module):
         assert once[0] == "['run', 'it'] 8 8", "with each made once"
         assert once[1:] == plain[1:], "the sums"
         assert once[1] != once[2], "a change is seen by the next question"
+
+
+# A module that builds a library, and says by which words. Its `rattle` knows the flag, or not.
+BUILDS = """
+def help_of(command):
+    return "%s"
+
+
+def libraries_keep():
+    return True
+
+
+class Crate:
+    def stamp(self):
+        return ""
+
+    def words(self, flags, keeps=True):
+        return [*flags, "keeps"] if keeps else flags
+
+    def build_rlib(self, flags, anew):
+        kept = ["--incremental"] if libraries_keep() else []
+        print(self.words(flags, keeps=not anew) + kept)
+"""
+BUILT = """#!/usr/bin/env python3
+import sys
+
+import rtlib
+
+crate = rtlib.Crate()
+crate.build_rlib(sys.argv[1:], False)
+print(crate.words(sys.argv[1:]))
+"""
+
+
+@cases(
+    case("a library holds its statements alone", "--statements", ["--statements"]),
+    case("a library, where rattle knows no statements", "", ["--incremental"]),
+)
+def test_statements(known, built):
+    """Then nothing is kept of it. No other command has the flag."""
+    with tempfile.TemporaryDirectory(prefix="ymodem-") as top:
+        for name, text in ("rtlib.py", BUILDS % known), ("rt", BUILT):
+            with open(os.path.join(top, name), "w", encoding="utf-8") as it:
+                it.write(text)
+        os.chmod(it.name, 0o755)
+        told = said([sys.executable, ONCE, "--statements", "lib"], top)
+        assert told == [str(["lib", "keeps", *built]), "['lib', 'keeps']"], "its words"
+        told = said([sys.executable, ONCE, "lib"], top)
+        assert told == ["['lib', 'keeps', '--incremental']", "['lib', 'keeps']"], "as it is"
 
 
 @sentence("an rt that is no such script is run as it is")
