@@ -10,8 +10,8 @@ sys.dont_write_bytecode = True
 from support.program import PROGRAM
 from support.side_by_side import SideBySide, folder_of
 
-# The folders whose tests try other things than the program.
-WITHOUT_PROGRAM = ("house", "memory", "portable")
+# The folders whose tests try other things than the program, but for those that are marked so.
+WITHOUT_PROGRAM = ("house", "memory", "portable", "web")
 
 
 def pytest_addoption(parser):
@@ -35,5 +35,6 @@ def program():
 @pytest.fixture(autouse=True)
 def there_is_a_program(request):
     """Without the program its tests fail."""
-    if folder_of(request.node) not in WITHOUT_PROGRAM:
+    is_of_program = request.node.get_closest_marker("program")
+    if is_of_program or folder_of(request.node) not in WITHOUT_PROGRAM:
         request.getfixturevalue("program")

@@ -11,7 +11,8 @@ proved twice, and most tests wait for lines and peers while the gate needs the p
 
 Beside all that come want of memory (tests/memory), what the crates keep to (tests/house), and the
 library for C with the page, made in a copy of the tree since the gate holds the crates' folders,
-over the crates that the gate proved.
+over the crates that the gate proved. Those tests of the page and of the files for every processor
+that need no program begin once these are made.
 
 Of each folder a line tells how many tests passed, failed and were skipped, and others why they were
 skipped; where one fails, all that pytest said is told, and the end of it once more behind all else.
@@ -58,13 +59,16 @@ ROWS = (
     ("peers", "explain", "serial", "package"),
     ("sessions",),
     ("judge",),
-    ("library", "portable"),
+    ("library",),
     ("web",),
     ("uboot", "boards"),
 )
 # These need the library or the page, which are made meanwhile, and these the programs of cases.
-TESTS_OF_LIBRARY = {"library", "web", "uboot", "boards", "portable"}
+TESTS_OF_LIBRARY = {"library", "web", "uboot", "boards"}
 TESTS_OF_CASES = {"line", "library"}
+# Of these folders a row makes the tests that are marked so. The others begin before the program is
+# there, as do those of folders that need none.
+MARKED = {"web": "program"}
 # The crate of the library for C.
 LIBRARY = "ym_c"
 # What the library as files for every processor is made of, and by.
@@ -236,29 +240,34 @@ def packages():
 
 
 # How the tests of each folder came out, and what was said of those that failed.
-COUNTS, FAILED = {}, {}
+COUNTS, FAILED = [], {}
 # So many of its last lines are told once more at the end: what the gate proved stands between.
 LAST_LINES = 60
 
 
-def made(name, environment=None, ahead=()):
-    """Makes the tests of a folder, and tells how they came out. Gives the status."""
+def made(name, environment=None, ahead=(), marked=""):
+    """Makes the tests of a folder, or those with marks of it, and tells how they came out. Gives the
+    status."""
     began = time.monotonic()
-    words = [*ahead, *checks.words_of(os.path.join(checks.TESTS, name))]
+    chosen = ["-m", marked + " and not long"] if marked else []
+    words = [*ahead, *checks.words_of(*chosen, os.path.join(checks.TESTS, name))]
     status, said, used = ran(words, env=environment)
-    counts = COUNTS[name] = checks.counts_of(said) or (0, 1, 0)
+    counts = checks.counts_of(said) or (0, 1, 0)
+    COUNTS.append(counts)
+    title = "tests/" + name
     if status:
-        FAILED["tests/" + name] = said
+        FAILED[title] = said
     took = (time.monotonic() - began) / 60, used
     lines = checks.skipped_of(said) if status == 0 else [said.rstrip("\n")]
-    line = "tests/%s: %s; %%.1f minutes, %%.1f processor minutes" % (name, checks.told(counts))
+    title += " (%s)" % marked if marked else ""
+    line = "%s: %s; %%.1f minutes, %%.1f processor minutes" % (title, checks.told(counts))
     tell("\n".join([line % took, *lines]))
     return status
 
 
 def in_all():
     """How the tests of all folders came out."""
-    return checks.told(map(sum, zip(*COUNTS.values())))
+    return checks.told(map(sum, zip(*COUNTS)))
 
 
 def beside_proofs(name, installed):
@@ -267,14 +276,29 @@ def beside_proofs(name, installed):
     return made(name, ahead=LATER)
 
 
+def below_library():
+    return [name for name in proved.made_of(LIBRARY) if name != LIBRARY]
+
+
+def has_proved_below_library(gate):
+    return gate.has_proved(*below_library()) and not gate.is_given_up
+
+
+def beside_library(name, library, gate):
+    """Makes those tests of a folder that need the library or the page, and no program."""
+    if not library.has_ended_well() or not has_proved_below_library(gate):
+        return 0
+    return made(name, marked="not " + MARKED[name] if name in MARKED else "")
+
+
 def library_and_page(installed, gate):
     """Makes the library for C and the page in a copy of the tree, where no gate holds the crates'
     folders.
 
     It waits for the crates below the library, and takes them as the gate proved and built them."""
-    below = [name for name in proved.made_of(LIBRARY) if name != LIBRARY]
-    if not gate.has_proved(*below):
+    if not has_proved_below_library(gate):
         return 0
+    below = below_library()
     with tempfile.TemporaryDirectory(prefix="ymodem-lib-") as top:
         copy = os.path.join(top, "tree")
         shutil.copytree(
@@ -356,7 +380,7 @@ class Row:
                 return None
             if self.gate.is_given_up:
                 return None
-            if made(name, self.environment):
+            if made(name, self.environment, marked=MARKED.get(name, "")):
                 return "tests/" + name
         return None
 
@@ -414,6 +438,8 @@ def judged(gate, beside):
     works = {
         "tests/memory": lambda: beside_proofs("memory", installed),
         "tests/house": lambda: beside_proofs("house", installed),
+        "tests/portable": lambda: beside_library("portable", library, gate),
+        "tests/web": lambda: beside_library("web", library, gate),
     }
     beside += [installed, library, *(Beside(name, work, gate) for name, work in works.items())]
     failed = None

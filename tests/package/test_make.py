@@ -290,12 +290,12 @@ ROWS = (
     ("peers", "explain", "serial", "package"),
     ("sessions",),
     ("judge",),
-    ("library", "portable"),
+    ("library",),
     ("web",),
     ("uboot", "boards"),
 )
-# Those that are made beside the proofs.
-BESIDE = ("memory", "house")
+# Those that are made beside the proofs: of the page the tests that need no program.
+BESIDE = ("memory", "house", "portable", "web")
 TESTS = [name for row in ROWS for name in row]
 # The page is made of one of the archives once more.
 TARGETS = [

@@ -7,6 +7,7 @@ import random
 import re
 import tempfile
 
+import pytest
 from support.cases import NEEDS_LRZSZ, case, cases_in
 from support.commands import command
 from support.empty_page import WEB, Empty, received, sends
@@ -95,6 +96,7 @@ def test_to_rb(room, damage=None):
         wants_stored(there, batch)
 
 
+@pytest.mark.program
 @cases_in(
     BROWSERS,
     case("receives thirty files from ymodem send"),
@@ -111,6 +113,7 @@ def test_from_program(room, line=None):
             assert ended().status == 0, "ymodem send failed"
 
 
+@pytest.mark.program
 @cases_in(
     BROWSERS,
     case("sends thirty files to ymodem receive"),

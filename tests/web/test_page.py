@@ -6,6 +6,7 @@ import json
 import os
 import random
 
+import pytest
 from support.cases import NEEDS_LRZSZ, case, cases_in
 from support.page import (
     SIZE,
@@ -109,6 +110,7 @@ def thirty():
     return [("file %02d.bin" % at, chance.randbytes(at * at * 17)) for at in range(30)]
 
 
+@pytest.mark.program
 @cases_in(BROWSERS, case("page: sends thirty files, four deliveries damaged"))
 def test_sends_thirty(room):
     """By the page, on a line that is damaged."""
@@ -131,6 +133,7 @@ globalThis.showDirectoryPicker = async () => ({ getFileHandle: async (name) => (
 """
 
 
+@pytest.mark.program
 @cases_in(BROWSERS, case("page: receives thirty files, four deliveries damaged, and saves them"))
 def test_receives_thirty(room):
     with folders() as (here, _), Shown(room, FOLDER) as page:
@@ -175,6 +178,7 @@ def test_cancels_sending(room):
         picture(page, "7-cancelled")
 
 
+@pytest.mark.program
 @cases_in(BROWSERS, case("page: cancelled while it receives"))
 def test_cancels_receiving(room):
     with folders() as (here, _), Shown(room) as page:

@@ -3,6 +3,7 @@
 import select
 import threading
 
+import pytest
 from support.cases import case, cases_in
 from support.empty_page import Empty, received, sends
 from support.frames import (
@@ -234,6 +235,7 @@ def delayed(millis):
     return DELAYED + "tools.over = (port) => tools.delayed(port, %d);" % millis
 
 
+@pytest.mark.program
 @cases_in(BROWSERS, case("receives from ymodem send, 1.5 s each way"))
 def test_from_program_late(room):
     with folders() as (here, _), Empty(room, delayed(1500)) as page:
@@ -242,6 +244,7 @@ def test_from_program_late(room):
             assert ended().status == 0, "ymodem send failed"
 
 
+@pytest.mark.program
 @cases_in(BROWSERS, case("sends to ymodem receive, 1.5 s each way"))
 def test_to_program_late(room):
     with folders() as (_, there), Empty(room, delayed(1500)) as page:
