@@ -25,6 +25,8 @@ use Rattle.ym_text.specs.declared.reason.Reason.{Reason}
 use Rattle.ym_told.specs.declared.way.Direction.TheVariants.{There, Back}
 use Rattle.ym_tools.specs.declared.explaining.Form.{Form}
 use Rattle.ym_tools.specs.declared.explaining.Form.TheVariants.{Capture, OneWay}
+use Rattle.ym_tools.specs.declared.explaining.Reading.{Reading}
+use Rattle.ym_tools.specs.declared.explaining.Reading.TheVariants as reading
 use Rattle.ym_tools.specs.declared.untold.Untold.{Untold}
 use Rattle.ym_tools.specs.declared.untold.Untold.TheVariants as untold
 
@@ -224,6 +226,13 @@ ExplainGives None (Some path) None turned old answer new =
     FileGives path (OneWay Back) old answer new
 ExplainGives (Some there) (Some back) None turned old answer new =
     PairGives there back old.out old.err answer new.out new.err × KeepsInput old new
+
+-- what is told of one file, or of one for each way, and where the words ask for too many
+abbrev pub ReadingGives : Reading → Desk → Result ℕ CommandFault → Desk → Type 0
+ReadingGives (reading.One path form) old answer new = FileGives path.now form old answer new
+ReadingGives (reading.Pair there back) old answer new =
+    PairGives there.now back.now old.out old.err answer new.out new.err × KeepsInput old new
+ReadingGives reading.TooMany old answer new = RefusesBoth old answer new
 
 -- ---- The chart
 

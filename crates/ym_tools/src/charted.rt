@@ -4,6 +4,7 @@ ghost use Rattle.std.specs.Prelude.{◌≡◌};
 
 use std::alloc::{AllocError, Global};
 use std::fmt::Display;
+use std::mem;
 use ym_chart::Chart;
 use ym_streams::{Output, StreamFault};
 
@@ -31,6 +32,10 @@ pub struct Charted<O: Output + Drop> {
     short: bool,
 }
 
+/// Lets a chart go. Its parts are dropped here and nowhere else, since each place at which they are
+/// is proved for itself.
+fn discard(_chart: Option<Chart>) {}
+
 impl<O: Output + Drop> Charted<O> {
     /// This output, of which nothing is drawn yet.
     pub fn new(alloc: Global, out: O) -> Charted<O>
@@ -48,6 +53,7 @@ impl<O: Output + Drop> Charted<O> {
     pub fn into_out(self) -> O
         ensures { result ≡ self.out }
     {
+        discard(self.chart);
         self.out
     }
 
@@ -100,15 +106,17 @@ impl<O: Output + Drop> Output for Charted<O> {
 
 impl<O: Output + Drop> Draw for Charted<O> {
     fn begin_chart(&mut self) {
-        self.chart = Some(Chart::new(self.alloc));
+        let earlier = mem::replace(&mut self.chart, Some(Chart::new(self.alloc)));
+        discard(earlier);
         self.short = false;
     }
 
     fn end_chart(&mut self) -> Option<String> {
-        let chart = self.chart.take()?;
+        let chart = self.chart.take();
         if self.short {
+            discard(chart);
             return None;
         }
-        chart.picture().ok()
+        chart?.picture().ok()
     }
 }

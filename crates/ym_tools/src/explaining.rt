@@ -1,10 +1,11 @@
 //! `explain`: tells what passed on a line, as a record or a capture of both ways says it, or files
 //! of bytes.
 
-ghost use Rattle.std.specs.Prelude.{◌≡◌, ◌≤◌, ◌⊎◌, IfOk, Ok, option_map};
-ghost use Rattle.ym_answer.specs.Desk.{desk};
+ghost use Rattle.std.specs.Prelude.{◌≡◌, ◌≤◌, ◌⊎◌, ℕ, IfOk, Result, option_map};
+ghost use Rattle.ym_answer.specs.Desk.{Desk, desk};
 ghost use Rattle.ym_answer.specs.Page.{page};
-ghost use Rattle.ym_tools.specs.Explaining.{AnswersCapture, AnswersChart, AnswersClosed, ChartBehind, DrawsGives, ExplainGives, FileGives, PairGives, Refuses, Told, untold_words};
+ghost use Rattle.ym_answer.specs.declared.command_fault.CommandFault.{CommandFault};
+ghost use Rattle.ym_tools.specs.Explaining.{AnswersCapture, AnswersChart, AnswersClosed, ChartBehind, DrawsGives, ExplainGives, FileGives, PairGives, ReadingGives, Refuses, Told, untold_words};
 
 use crate::chart_file::{ChartFault, write_chart};
 use crate::charted::Draw;
@@ -186,6 +187,38 @@ pub struct ExplainOrder<'a> {
     pub chart: Option<&'a str>,
 }
 
+/// What is read.
+#[derive(Clone, Copy)]
+pub(crate) enum Reading<'a> {
+    /// The file at this path, which has this form. `-` is standard input.
+    One(&'a str, Form),
+    /// A file of what the sender wrote, and one of what the receiver wrote.
+    Pair(&'a str, &'a str),
+    /// Nothing: a record is given, and files of one way.
+    TooMany,
+}
+
+/// What is read where this is asked for.
+fn reading_of<'a>(order: ExplainOrder<'a>) -> Reading<'a>
+    ensures { (old : Desk) (answer : Result ℕ CommandFault) (new : Desk)
+        → ReadingGives result old answer new
+        → ExplainGives (option_map (λ f. f.now) order.entry.there)
+        (option_map (λ f. f.now) order.entry.back) (option_map (λ f. f.now) order.entry.both)
+        order.entry.turned old answer new }
+{
+    let capture = Form::Capture(order.turned);
+    match (order.both, order.there, order.back) {
+        (Some(path), None, None) => Reading::One(path, capture),
+        (Some(_), Some(_), None) => Reading::TooMany,
+        (Some(_), None, Some(_)) => Reading::TooMany,
+        (Some(_), Some(_), Some(_)) => Reading::TooMany,
+        (None, None, None) => Reading::One(STANDARD_INPUT, capture),
+        (None, Some(path), None) => Reading::One(path, Form::OneWay(Direction::There)),
+        (None, None, Some(path)) => Reading::One(path, Form::OneWay(Direction::Back)),
+        (None, Some(there), Some(back)) => Reading::Pair(there, back),
+    }
+}
+
 /// Tells what passed on a line, as these files have it: those of what the sender and the receiver
 /// wrote, or of one of them alone, or else a capture of both ways, which may be turned. A capture
 /// that is not named is read from standard input. No chart is drawn.
@@ -206,29 +239,10 @@ fn explain<R: Files<File = File>, I: Input, O: Output, E: Output>(
         (page (E.contents streams.new.outputs.err) (E.failures streams.new.outputs.err))) }
     ensures status { IfOk result (λ status. status ≤ 2) }
 {
-    match (order.both, order.there, order.back) {
-        (Some(path), None, None) => {
-            let form = Form::Capture(order.turned);
-            explain_file(rt, alloc, path, form, streams)
-        }
-        (Some(_), Some(_), None) => refuse(&mut streams.outputs.err, Untold::TooMany, REFUSED),
-        (Some(_), None, Some(_)) => refuse(&mut streams.outputs.err, Untold::TooMany, REFUSED),
-        (Some(_), Some(_), Some(_)) => refuse(&mut streams.outputs.err, Untold::TooMany, REFUSED),
-        (None, None, None) => {
-            let form = Form::Capture(order.turned);
-            explain_file(rt, alloc, STANDARD_INPUT, form, streams)
-        }
-        (None, Some(path), None) => {
-            let form = Form::OneWay(Direction::There);
-            explain_file(rt, alloc, path, form, streams)
-        }
-        (None, None, Some(path)) => {
-            let form = Form::OneWay(Direction::Back);
-            explain_file(rt, alloc, path, form, streams)
-        }
-        (None, Some(there), Some(back)) => {
-            explain_files(rt, alloc, there, back, &mut streams.outputs)
-        }
+    match reading_of(order) {
+        Reading::One(path, form) => explain_file(rt, alloc, path, form, streams),
+        Reading::Pair(there, back) => explain_files(rt, alloc, there, back, &mut streams.outputs),
+        Reading::TooMany => refuse(&mut streams.outputs.err, Untold::TooMany, REFUSED),
     }
 }
 
@@ -258,25 +272,23 @@ fn answer_chart<E: Output>(
 fn put_picture<R: Files<File = File>, E: Output>(
     rt: &R,
     path: &str,
-    status: u8,
-    picture: Option<String>,
+    told: Result<u8, CommandFault>,
+    picture: Option<&str>,
     err: &mut E,
 ) -> Result<u8, CommandFault>
-    ensures gives { ChartBehind path.now (Ok status)
+    ensures gives { ChartBehind path.now told
         (page (E.contents err.old) (E.failures err.old)) result
         (page (E.contents err.new) (E.failures err.new)) }
-    ensures status { IfOk result (λ it. (it ≡ status) ⊎ (it ≡ 1)) }
+    ensures status { IfOk told (λ it. it ≤ 2) → IfOk result (λ it. it ≤ 2) }
 {
-    // Where the words were refused, nothing was told.
-    if status == REFUSED {
-        return Ok(status);
-    }
-    match picture {
-        Some(text) => {
-            let written = write_chart(rt, path, text.as_str());
-            answer_chart(err, path, status, written)
-        }
-        None => Err(CommandFault::Memory),
+    match told {
+        Err(fault) => Err(fault),
+        // Where the words were refused, nothing was told.
+        Ok(REFUSED) => Ok(REFUSED),
+        Ok(status) => match picture {
+            Some(text) => answer_chart(err, path, status, write_chart(rt, path, text)),
+            None => Err(CommandFault::Memory),
+        },
     }
 }
 
@@ -305,8 +317,5 @@ pub fn explain_and_draw<R: Files<File = File>, I: Input, O: Draw, E: Output>(
     streams.outputs.out.begin_chart();
     let told = explain(rt, alloc, order, streams);
     let picture = streams.outputs.out.end_chart();
-    match told {
-        Ok(status) => put_picture(rt, path, status, picture, &mut streams.outputs.err),
-        Err(fault) => Err(fault),
-    }
+    put_picture(rt, path, told, picture.as_deref(), &mut streams.outputs.err)
 }

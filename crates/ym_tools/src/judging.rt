@@ -10,7 +10,7 @@ ghost use Rattle.ym_tools.specs.Judged.{LacksWay, ListsCases, PlaysCases, TriesC
 ghost use Rattle.ym_tools.specs.Judged.{avoid_lines, case_named, case_words, names_text};
 ghost use Rattle.ym_tools.specs.Judged.{peer_named, report_end, to_avoid};
 
-use crate::judge_message::JudgeMessage;
+use crate::judge_message::{FailedIn, JudgeMessage};
 use crate::judged_files::stores_all;
 use crate::judged_peer::{Access, access_of, play_case};
 use std::alloc::{AllocError, Global};
@@ -242,7 +242,7 @@ where
     let outcome = play_case(rt, alloc, &trial.access, peer, case)?;
     let outcome = looked_at(rt, alloc, order.stored, outcome)?;
     if outcome.has_failed {
-        err.put_line(JudgeMessage::Failed(case))?;
+        err.put_line(FailedIn(case))?;
     }
     Ok(outcome)
 }
