@@ -1,7 +1,7 @@
 -- The command line: `--version`, and eight optional subcommands, with `--port` (or `-p`) a required
 -- text, `--line`, `--record`, `--there`, `--back` and `--chart` ones that may be left out, DIR and
 -- RECORD one positional, FILE the last positional with one or more values, and all else flags.
-use Rattle.std.specs.Prelude.{◌≡◌, false, true, List, [], ◌∷◌, Some, codes}
+use Rattle.std.specs.Prelude.{◌≡◌, Bool, false, true, List, [], ◌∷◌, Some, codes}
 use Rattle.clap.specs.Words.{App, Rule, Text, app_of, new_app, new_rule, rule_of}
 use Rattle.clap.specs.Words.{with_rule, with_subcommand}
 use Rattle.clap.specs.Lexer.{usize_max}
@@ -9,7 +9,14 @@ use Rattle.clap.specs.declared.builder.ArgAction.TheVariants.{Set, SetTrue, Appe
 use Rattle.clap.specs.declared.builder.arg.Arg.{Arg}
 use Rattle.clap.specs.declared.builder.command.Command.{Command}
 use Rattle.clap.specs.declared.builder.command.Command.TheViews.{out-Command}
-use Rattle.ym_words.specs.declared.args.Flag.{Flag}
+use Rattle.ym_words.specs.declared.parts.Part.{Part}
+use Rattle.ym_words.specs.declared.parts.Part.TheVariants as part
+use Rattle.ym_words.specs.declared.words.Flag.{Flag}
+use Rattle.ym_words.specs.declared.words.Flag.TheVariants as flags
+use Rattle.ym_words.specs.declared.words.Value.{Value}
+use Rattle.ym_words.specs.declared.words.Value.TheVariants as value
+use Rattle.ym_words.specs.declared.words.Word.{Word}
+use Rattle.ym_words.specs.declared.words.Word.TheVariants as word
 
 -- what a parse reads of an argument that is not global
 pub record HasRule (a : Arg) (r : Rule) : Type 0 where
@@ -36,13 +43,20 @@ port_rule = record (value_rule (codes "port")) {
 abbrev pub flag : Text → Text → Rule
 flag id long = record (new_rule id) { long = Some long; action = Some SetTrue }
 
-abbrev pub flag_rule : Flag → Rule
-flag_rule f = flag f.id.now f.long.now
+abbrev pub port_rule_if : Bool → Rule
+port_rule_if needed = record (value_rule (codes "port")) {
+  short = Some 112;
+  long = Some (codes "port");
+  required = needed;
+}
 
--- the command with a flag more for each of these
-abbrev pub with_flags : App → List Flag → App
-with_flags app [] = app
-with_flags app (f ∷ rest) = with_flags (with_rule app (flag_rule f)) rest
+abbrev pub files_rule : Rule
+files_rule = record (new_rule (codes "files")) {
+  value_names = 1;
+  required = true;
+  action = Some Append;
+  range = Some (record { start_inclusive = 1; end_inclusive = usize_max });
+}
 
 abbrev pub short_rule : Rule
 short_rule = flag (codes "short") (codes "short")
@@ -67,14 +81,6 @@ verbose_rule = flag (codes "verbose") (codes "verbose")
 
 abbrev pub quiet_rule : Rule
 quiet_rule = flag (codes "quiet") (codes "quiet")
-
-abbrev pub files_rule : Rule
-files_rule = record (new_rule (codes "files")) {
-  value_names = 1;
-  required = true;
-  action = Some Append;
-  range = Some (record { start_inclusive = 1; end_inclusive = usize_max });
-}
 
 abbrev pub dir_rule : Rule
 dir_rule = record (value_rule (codes "dir")) { required = true }
@@ -172,6 +178,12 @@ only_rule = record (value_rule (codes "only")) { long = Some (codes "only") }
 abbrev pub stored_rule : Rule
 stored_rule = record (value_rule (codes "stored")) { long = Some (codes "stored") }
 
+abbrev pub list_rule : Rule
+list_rule = flag (codes "list") (codes "list")
+
+abbrev pub json_rule : Rule
+json_rule = flag (codes "json") (codes "json")
+
 abbrev pub judged_app : App
 judged_app =
     with_rule (with_rule (with_rule (with_rule (new_app (codes "judge")) peer_rule) any_port_rule)
@@ -179,8 +191,64 @@ judged_app =
 
 abbrev pub judge_app : App
 judge_app =
-    with_rule (with_rule (with_rule judged_app stored_rule) (flag (codes "list") (codes "list")))
-    (flag (codes "json") (codes "json"))
+    with_rule (with_rule (with_rule judged_app stored_rule) list_rule)
+    json_rule
+
+-- ---- The words of the commands, and the commands
+
+abbrev pub flag_rule : Flag → Rule
+flag_rule flags.Short = short_rule
+flag_rule flags.Single = single_rule
+flag_rule flags.NoSync = no_sync_rule
+flag_rule flags.DiscardParts = discard_parts_rule
+flag_rule flags.Eager = eager_rule
+flag_rule flags.Keep = keep_rule
+flag_rule flags.Verbose = verbose_rule
+flag_rule flags.Quiet = quiet_rule
+flag_rule flags.Turned = turned_rule
+flag_rule flags.List = list_rule
+flag_rule flags.Json = json_rule
+
+abbrev pub value_id : Value → Text
+value_id value.Line = codes "line"
+value_id value.JudgedLine = codes "line"
+value_id value.Folder = codes "dir"
+value_id value.Dir = codes "dir"
+value_id value.Recorded = codes "record"
+value_id value.Record = codes "record"
+value_id value.There = codes "there"
+value_id value.Back = codes "back"
+value_id value.Chart = codes "chart"
+value_id value.Peer = codes "peer"
+value_id value.Only = codes "only"
+value_id value.Stored = codes "stored"
+
+-- what is read of a word, and of the command with these words more
+abbrev pub word_rule : Word → Rule
+word_rule (word.Flag it) = flag_rule it
+word_rule (word.Named it) = record (value_rule (value_id it)) { long = Some (value_id it) }
+word_rule (word.Placed it needed) = record (value_rule (value_id it)) { required = needed }
+word_rule (word.Port needed) = port_rule_if needed
+word_rule word.Files = files_rule
+
+abbrev pub with_words : App → List Word → App
+with_words app [] = app
+with_words app (it ∷ rest) = with_words (with_rule app (word_rule it)) rest
+
+abbrev pub part_app : Part → App
+part_app part.Sb = sb_app
+part_app part.Rb = rb_app
+part_app part.Send = send_app
+part_app part.Receive = receive_app
+part_app part.Play = play_app
+part_app part.Loop = loop_app
+part_app part.Explain = explain_app
+part_app part.Judge = judge_app
+
+-- and of the command with these parts more
+abbrev pub with_parts : App → List Part → App
+with_parts app [] = app
+with_parts app (it ∷ rest) = with_parts (with_subcommand app (part_app it).top) rest
 
 -- the whole command, serial lines first
 unfoldable pub the_app : App

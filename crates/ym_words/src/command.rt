@@ -1,18 +1,12 @@
 //! The command line, as clap reads it.
 
 ghost use Rattle.std.specs.Prelude.{IfOk};
-ghost use Rattle.clap.specs.Words.{App, with_subcommand};
-ghost use Rattle.ym_words.specs.CommandLine.{HasApp, bare_app, loop_app, receive_app, send_app};
-ghost use Rattle.ym_words.specs.CommandLine.{the_app};
+ghost use Rattle.clap.specs.Words.{App, new_app};
+ghost use Rattle.ym_words.specs.CommandLine.{HasApp, bare_app, part_app, the_app, with_parts};
 
-use crate::args::{
-    DISCARD_PARTS, EAGER, KEEP, NO_SYNC, QUIET, SHORT, SINGLE, VERBOSE, dir_arg, files_arg,
-    port_arg, recorded_arg, with_more, with_words,
-};
-use crate::explain_command::explain_command;
-use crate::help::{bare_loop, bare_receive, bare_send, bare_top, play_command};
-use crate::judge_command::judge_command;
-use crate::line_commands::{rb_command, sb_command};
+use crate::args::grown_by;
+use crate::help;
+use crate::parts::Part;
 use clap::Command;
 use std::alloc::{AllocError, Global};
 
@@ -20,63 +14,63 @@ use std::alloc::{AllocError, Global};
 /// it here.
 const VERSION: &str = "0.2.0";
 
-fn loop_command<'a>(alloc: Global) -> Result<Command<'a>, AllocError>
-    ensures { IfOk result (λ c. HasApp c loop_app) }
+/// All commands of the program, those of serial lines first.
+static PARTS: [Part; 8] = [
+    Part::Sb,
+    Part::Rb,
+    Part::Send,
+    Part::Receive,
+    Part::Play,
+    Part::Loop,
+    Part::Explain,
+    Part::Judge,
+];
+
+/// A command of this name, with what its help says before and behind its words.
+fn new_command<'a>(alloc: Global, name: &'a str, about: &'a str, after_help: &'a str) -> Command<'a>
+    ensures { HasApp result (new_app name.entry.now) }
 {
-    let flags = [VERBOSE, QUIET];
-    with_words(alloc, bare_loop(alloc), port_arg(alloc), &flags)
+    Command::new(alloc, name)
+        .about(about)
+        .after_help(after_help)
 }
 
-fn send_command<'a>(alloc: Global) -> Result<Command<'a>, AllocError>
-    ensures { IfOk result (λ c. HasApp c send_app) }
+/// One of the commands.
+fn command_of<'a>(alloc: Global, part: Part) -> Result<Command<'a>, AllocError>
+    ensures { IfOk result (λ c. HasApp c (part_app part)) }
 {
-    let sending = [SHORT];
-    let telling = [VERBOSE, QUIET];
-    let with_port = with_words(alloc, bare_send(alloc), port_arg(alloc), &sending);
-    let with_record = with_more(alloc, with_port, recorded_arg(alloc), &[]);
-    with_more(alloc, with_record, files_arg(alloc), &telling)
+    let (name, words) = part.words();
+    let (about, after_help) = part.texts();
+    grown_by(alloc, new_command(alloc, name, about, after_help), words)
 }
 
-fn receive_command<'a>(alloc: Global) -> Result<Command<'a>, AllocError>
-    ensures { IfOk result (λ c. HasApp c receive_app) }
+/// The command, with these parts more.
+fn parted<'a>(
+    alloc: Global,
+    command: Command<'a>,
+    parts: &[Part],
+) -> Result<Command<'a>, AllocError>
+    ensures { (app : App) → HasApp command.entry app
+        → IfOk result (λ c. HasApp c (with_parts app parts.now)) }
 {
-    let storing = [SINGLE, EAGER, KEEP, NO_SYNC, DISCARD_PARTS];
-    let telling = [VERBOSE, QUIET];
-    let with_port = with_words(alloc, bare_receive(alloc), port_arg(alloc), &storing);
-    let with_record = with_more(alloc, with_port, recorded_arg(alloc), &[]);
-    with_more(alloc, with_record, dir_arg(alloc), &telling)
+    let mut grown = command;
+    for part in parts {
+        let made = command_of(alloc, *part)?;
+        grown = grown.subcommand(made)?;
+    }
+    Ok(grown)
 }
 
+/// The whole command, yet without its parts.
 fn bare_command<'a>(alloc: Global) -> Command<'a>
     ensures { HasApp result bare_app }
 {
-    bare_top(alloc).version(VERSION)
+    new_command(alloc, "ymodem", help::ABOUT, help::TOP_HELP).version(VERSION)
 }
 
-/// The command with one more, if both were made.
-fn with_command<'a>(
-    command: Result<Command<'a>, AllocError>,
-    made: Result<Command<'a>, AllocError>,
-) -> Result<Command<'a>, AllocError>
-    ensures { (app inner : App) → IfOk command.entry (λ c. HasApp c app)
-        → IfOk made.entry (λ m. HasApp m inner)
-        → IfOk result (λ c. HasApp c (with_subcommand app inner.top)) }
-{
-    let outer = command?;
-    let inner = made?;
-    outer.subcommand(inner)
-}
-
-/// The command line of the program, serial lines first.
+/// The command line of the program.
 pub(crate) fn the_command<'a>(alloc: Global) -> Result<Command<'a>, AllocError>
     ensures { IfOk result (λ c. HasApp c the_app) }
 {
-    let with_sb = with_command(Ok(bare_command(alloc)), sb_command(alloc));
-    let with_rb = with_command(with_sb, rb_command(alloc));
-    let with_send = with_command(with_rb, send_command(alloc));
-    let with_receive = with_command(with_send, receive_command(alloc));
-    let with_play = with_command(with_receive, Ok(play_command(alloc)));
-    let with_loop = with_command(with_play, loop_command(alloc));
-    let with_explain = with_command(with_loop, explain_command(alloc));
-    with_command(with_explain, judge_command(alloc))
+    parted(alloc, bare_command(alloc), &PARTS)
 }

@@ -1,16 +1,11 @@
 //! What the help of each command says. No line of it is wider than a terminal of 80 columns: the
 //! ends of lines stand in the texts, since clap breaks none.
 
-ghost use Rattle.std.specs.Prelude.{codes};
-ghost use Rattle.clap.specs.Words.{new_app};
-ghost use Rattle.ym_words.specs.CommandLine.{HasApp, play_app};
+pub(crate) static ABOUT: &str =
+    "Sends and receives files by YMODEM over serial lines and connections";
 
-use clap::Command;
-use std::alloc::Global;
-
-static ABOUT: &str = "Sends and receives files by YMODEM over serial lines and connections";
-
-static TOP_HELP: &str = "`ymodem-tty` sets a serial line, runs `sb` or `rb` on it, and sets it back.
+pub(crate) static TOP_HELP: &str =
+    "`ymodem-tty` sets a serial line, runs `sb` or `rb` on it, and sets it back.
 A file goes to a board with U-Boot by three commands. Type the first and the
 last at the prompt of the board, and the second here, while no other program
 has the line:
@@ -35,9 +30,10 @@ Exit status:
 Example of a session that is played:
   printf 'file a.txt 48656C6C6F\\nok 6\\n' | ymodem";
 
-static SB_ABOUT: &str = "Sends files over a serial line, in order";
+pub(crate) static SB_ABOUT: &str = "Sends files over a serial line, in order";
 
-static SB_HELP: &str = "The line is DEVICE, or else standard input and output. `ymodem-tty` sets the
+pub(crate) static SB_HELP: &str =
+    "The line is DEVICE, or else standard input and output. `ymodem-tty` sets the
 line and runs this; by hand, set it so before:
 
   stty -F /dev/ttyUSB0 115200 raw -echo clocal min 0 time 1
@@ -50,9 +46,10 @@ Examples:
   ymodem-tty --device /dev/ttyUSB0 --speed 115200 send firmware.bin
   ymodem sb --line /dev/ttyUSB0 firmware.bin";
 
-static RB_ABOUT: &str = "Receives files over a serial line into a folder";
+pub(crate) static RB_ABOUT: &str = "Receives files over a serial line into a folder";
 
-static RB_HELP: &str = "The line is DEVICE, or else standard input and output. `ymodem-tty` sets the
+pub(crate) static RB_HELP: &str =
+    "The line is DEVICE, or else standard input and output. `ymodem-tty` sets the
 line and runs this; by hand, set it so before:
 
   stty -F /dev/ttyUSB0 115200 raw -echo clocal min 0 time 1
@@ -67,9 +64,9 @@ Examples:
   ymodem-tty --device /dev/ttyUSB0 --speed 115200 receive
   ymodem rb --line /dev/ttyUSB0";
 
-static SEND_ABOUT: &str = "Connects to 127.0.0.1 and sends files, in order";
+pub(crate) static SEND_ABOUT: &str = "Connects to 127.0.0.1 and sends files, in order";
 
-static SEND_HELP: &str =
+pub(crate) static SEND_HELP: &str =
     "Each file is sent under the last part of its path, without time and mode, in
 blocks of 1024 bytes while as many remain and then of 128. Where nobody listens
 yet it tries again for 2 seconds. It waits 10 seconds for each reply, and gives
@@ -85,9 +82,10 @@ connection or want of memory.
 Example:
   ymodem send --port 4000 firmware.bin settings.txt";
 
-static RECEIVE_ABOUT: &str = "Waits for one connection on 127.0.0.1, and receives into a folder";
+pub(crate) static RECEIVE_ABOUT: &str =
+    "Waits for one connection on 127.0.0.1, and receives into a folder";
 
-static RECEIVE_HELP: &str =
+pub(crate) static RECEIVE_HELP: &str =
     "A file NAME is written as NAME.part and renamed when it is whole. Nothing that
 is there is overwritten. It acknowledges a file when the disk has it. A
 NAME.part that is there, as a receiver leaves it that is killed, refuses NAME.
@@ -104,9 +102,9 @@ words are refused, 3 at a device fault, a closed connection or want of memory.
 Example:
   ymodem receive --port 4000 .";
 
-static EXPLAIN_ABOUT: &str = "Tells what passed on a line, and what went wrong there";
+pub(crate) static EXPLAIN_ABOUT: &str = "Tells what passed on a line, and what went wrong there";
 
-static EXPLAIN_HELP: &str =
+pub(crate) static EXPLAIN_HELP: &str =
     "A record has a line for each piece that passed: the seconds, `>` for what the
 sender of the files wrote or `<` for what their receiver wrote, and the bytes as
 hexadecimal digits. Or give one file of bytes for each way, or for one alone.
@@ -130,9 +128,9 @@ Examples:
   ymodem explain session.pcap
   ymodem explain --there sent.bin --back answered.bin";
 
-static JUDGE_ABOUT: &str = "Tries a sender or a receiver of YMODEM by a list of cases";
+pub(crate) static JUDGE_ABOUT: &str = "Tries a sender or a receiver of YMODEM by a list of cases";
 
-static JUDGE_HELP: &str =
+pub(crate) static JUDGE_HELP: &str =
     "It plays each case to the peer and prints a line for it: what the reference
 does there, what the peer did, and `conforms`, `differs (harmless)` or `loses
 data`. The last lines say what to avoid with this peer.
@@ -154,9 +152,9 @@ Examples:
   ymodem judge sender --line /dev/ttyUSB0
   ymodem judge receiver --list";
 
-static PLAY_ABOUT: &str = "Plays the session of a script, and prints what was seen";
+pub(crate) static PLAY_ABOUT: &str = "Plays the session of a script, and prints what was seen";
 
-static PLAY_HELP: &str = "It reads the script from standard input. Lines of a script:
+pub(crate) static PLAY_HELP: &str = "It reads the script from standard input. Lines of a script:
   short                      short blocks alone
   single                     the receiver acknowledges the first EOT
   file NAME HEX|- [TIME [MODE]]   a file, with its time and mode in octal
@@ -169,77 +167,13 @@ refused, 3 at a device fault or want of memory.
 Example:
   printf 'file a.txt 48656C6C6F\\nok 6\\n' | ymodem play";
 
-static LOOP_ABOUT: &str = "Plays the session of a script over a connection to itself";
+pub(crate) static LOOP_ABOUT: &str = "Plays the session of a script over a connection to itself";
 
-static LOOP_HELP: &str = "It reads the script from standard input, and prints what `play` prints.
+pub(crate) static LOOP_HELP: &str =
+    "It reads the script from standard input, and prints what `play` prints.
 
 Exit status: 0 where both ends finished, 1 where not, 2 where the words or the
 script are refused, 3 at a device fault or want of memory.
 
 Example:
   printf 'file a.txt 48656C6C6F\\nok 6\\n' | ymodem loop --port 4000";
-
-/// A command of this name, with what its help says before and behind its words.
-fn new_command<'a>(alloc: Global, name: &'a str, about: &'a str, after_help: &'a str) -> Command<'a>
-    ensures { HasApp result (new_app name.entry.now) }
-{
-    Command::new(alloc, name)
-        .about(about)
-        .after_help(after_help)
-}
-
-/// The whole command, yet without its version and its commands.
-pub(crate) fn bare_top<'a>(alloc: Global) -> Command<'a>
-    ensures { HasApp result (new_app (codes "ymodem")) }
-{
-    new_command(alloc, "ymodem", ABOUT, TOP_HELP)
-}
-
-pub(crate) fn bare_sb<'a>(alloc: Global) -> Command<'a>
-    ensures { HasApp result (new_app (codes "sb")) }
-{
-    new_command(alloc, "sb", SB_ABOUT, SB_HELP)
-}
-
-pub(crate) fn bare_rb<'a>(alloc: Global) -> Command<'a>
-    ensures { HasApp result (new_app (codes "rb")) }
-{
-    new_command(alloc, "rb", RB_ABOUT, RB_HELP)
-}
-
-pub(crate) fn bare_send<'a>(alloc: Global) -> Command<'a>
-    ensures { HasApp result (new_app (codes "send")) }
-{
-    new_command(alloc, "send", SEND_ABOUT, SEND_HELP)
-}
-
-pub(crate) fn bare_receive<'a>(alloc: Global) -> Command<'a>
-    ensures { HasApp result (new_app (codes "receive")) }
-{
-    new_command(alloc, "receive", RECEIVE_ABOUT, RECEIVE_HELP)
-}
-
-pub(crate) fn bare_explain<'a>(alloc: Global) -> Command<'a>
-    ensures { HasApp result (new_app (codes "explain")) }
-{
-    new_command(alloc, "explain", EXPLAIN_ABOUT, EXPLAIN_HELP)
-}
-
-pub(crate) fn bare_judge<'a>(alloc: Global) -> Command<'a>
-    ensures { HasApp result (new_app (codes "judge")) }
-{
-    new_command(alloc, "judge", JUDGE_ABOUT, JUDGE_HELP)
-}
-
-/// `play`, which has no words of its own.
-pub(crate) fn play_command<'a>(alloc: Global) -> Command<'a>
-    ensures { HasApp result play_app }
-{
-    new_command(alloc, "play", PLAY_ABOUT, PLAY_HELP)
-}
-
-pub(crate) fn bare_loop<'a>(alloc: Global) -> Command<'a>
-    ensures { HasApp result (new_app (codes "loop")) }
-{
-    new_command(alloc, "loop", LOOP_ABOUT, LOOP_HELP)
-}

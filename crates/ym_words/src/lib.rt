@@ -3,12 +3,11 @@
 
 mod args;
 mod command;
-mod explain_command;
 mod help;
 mod job;
-mod judge_command;
-mod line_commands;
+mod parts;
 mod port;
+mod words;
 
 pub use job::{Job, JobFault, ReceiveFlags, StoreFlags, TellFlags, job_of};
 pub use port::port_number;

@@ -1,7 +1,0 @@
-use Rattle.ym_words.proofs.command.receive_command.Goals as goal
-
-pub returns : goal.returns
-returns c =
-    let with_port = c.with_words-with_port.ensures _ _ c.bare_receive.ensures c.port_arg.ensures in
-    let with_record = c.with_more-with_record.ensures _ _ with_port c.recorded_arg.ensures in
-    c.with_more.ensures _ _ with_record c.dir_arg.ensures
