@@ -95,9 +95,9 @@ def test_build():
             "is proved and built (",
         )
         assert (it.make("build")[0], it.called()) == (0, []), "a second build"
-        it.edit("ym_tools")
+        it.edit("ym_judged")
         assert it.make("build")[0] == 0, "a build behind an edit"
-        wants_libraries(it.called(), len({"ym_tools", "ym_command"}))
+        wants_libraries(it.called(), len({"ym_judged", "ym_command"}))
         it.edit("ym_check")
         it.mark("wrong")
         status, out, err = it.make("build")
@@ -378,7 +378,7 @@ def test_gate_that_keeps_nothing():
 def test_gate_beside_the_last_crates():
     """These do not need all processors."""
     transfers = {"ym_record", "ym_ends", "ym_sending", "ym_receiving"}
-    last = {"ym_inspect", "ym_tools", *transfers, "ym_command", "ymodem"}
+    last = {"ym_inspect", "ym_explained", "ym_judged", *transfers, "ym_command", "ymodem"}
     with tree_with_gate() as it:
         it.mark("below", " ".join(sorted(crates_below("ymodem") - last) + ["ym_line_c"]))
         it.mark("first")

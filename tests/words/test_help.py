@@ -17,8 +17,8 @@ SCRIPT = os.path.join("share", "ymodem-tty")
 SOURCES = ("crates/ym_text/src", "crates/ym_header/src/fault.rt", "crates/ym_play/src/fault.rt")
 SOURCES += ("crates/ym_record/src/message.rt",)
 REPORT = "crates/ym_judge/src/report.rt"
-FAULTS = ("crates/ym_answer/src/command_fault.rt", "crates/ym_tools/src")
-FAULTS += ("crates/ym_command/src", "crates/ymodem/src")
+FAULTS = ("crates/ym_answer/src/command_fault.rt", "crates/ym_explained/src")
+FAULTS += ("crates/ym_judged/src", "crates/ym_command/src", "crates/ymodem/src")
 NO_MESSAGES = ("progress.rt", "cells.rt", "shown.rt", "shown_out.rt")
 TEXT = r'"((?:[^"\\]|\\.)*)"'
 

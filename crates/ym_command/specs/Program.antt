@@ -24,8 +24,8 @@ use Rattle.ym_receiving.specs.Receiving.{ReceiveGives}
 use Rattle.ym_sending.specs.Sending.{SendGives}
 use Rattle.ym_answer.specs.declared.command_fault.CommandFault.{CommandFault}
 use Rattle.ym_answer.specs.declared.command_fault.CommandFault.TheVariants as fault
-use Rattle.ym_tools.specs.Explaining.{DrawsGives}
-use Rattle.ym_tools.specs.Judged.{Gives, JudgeGives}
+use Rattle.ym_explained.specs.Explaining.{DrawsGives}
+use Rattle.ym_judged.specs.Judged.{Gives, JudgeGives}
 
 -- the command line takes these words, and they ask for this job, or for none
 abbrev pub AsksFor : List Text → Option Asked → Type 0

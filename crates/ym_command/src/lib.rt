@@ -6,4 +6,4 @@ mod program;
 
 pub use program::command;
 pub use ym_streams::{Outputs, Streams};
-pub use ym_tools::{Charted, Draw};
+pub use ym_explained::{Charted, Draw};

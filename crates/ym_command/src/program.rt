@@ -17,6 +17,8 @@ use std::net::{Net, TcpListener, TcpStream};
 use std::time::Clock;
 use ym_answer::CommandFault;
 use ym_ends::{AtPort, OnLine};
+use ym_explained::{Draw, ExplainOrder, explain_and_draw};
+use ym_judged::{JudgeOrder, judge};
 use ym_line::Direct;
 use ym_looped::looped_session;
 use ym_play::laws::a_known_script_is_played;
@@ -25,7 +27,6 @@ use ym_receiving::{receive_as_asked, receive_line};
 use ym_sending::{send, send_line};
 use ym_streams::{Input, Output, Outputs, StreamFault, Streams};
 use ym_teller::Teller;
-use ym_tools::{Draw, ExplainOrder, JudgeOrder, explain_and_draw, judge};
 use ym_words::{Job, JobFault, TellFlags, job_of};
 
 /// The status after refused words.
