@@ -35,6 +35,19 @@ fn line_of(alloc: Global, head: &str) -> Direct {
     }
 }
 
+/// Puts behind the text what a carry answers, and what arrived.
+fn push_answer(
+    text: &mut String,
+    answer: Result<(), CarryFault>,
+    into: &[u8],
+) -> Result<(), Unread> {
+    match answer {
+        Ok(()) => writeln!(text, "  carried {into:?}")?,
+        Err(fault) => writeln!(text, "  {fault:?}")?,
+    }
+    Ok(())
+}
+
 /// Hands a delivery on, and puts behind the text what arrives.
 fn push_carry(
     text: &mut String,
@@ -44,21 +57,28 @@ fn push_carry(
 ) -> Result<(), Unread> {
     let (way, bytes) = word.split_once(':').ok_or(Unread)?;
     let way = if way == "back" { Way::Back } else { Way::There };
+    let bytes = bytes_of(alloc, bytes)?;
     let mut into = [9, 9, 9].to_vec(alloc)?;
-    match carries(line, way, bytes_of(alloc, bytes)?.as_slice(), &mut into) {
-        Ok(()) => writeln!(text, "  carried {:?}", into.as_slice())?,
-        Err(fault) => writeln!(text, "  {fault:?}")?,
+    let answer = carries(line, way, bytes.as_slice(), &mut into);
+    push_answer(text, answer, into.as_slice())
+}
+
+/// Hands on the deliveries of a part, and tells what arrives and what is kept of it.
+fn push_carries(
+    text: &mut String,
+    alloc: Global,
+    line: &mut Direct,
+    part: &str,
+) -> Result<(), Unread> {
+    for word in part.split_whitespace() {
+        push_carry(text, alloc, line, word)?;
     }
-    Ok(())
+    push_record(text, alloc, line)
 }
 
 /// Hands on the deliveries of a case, and tells what arrives and what is kept of it.
-pub fn told(alloc: Global, head: &str, parts: &[&str]) -> Result<String, Unread> {
-    let mut text = String::new(alloc);
+pub fn play(text: &mut String, alloc: Global, head: &str, parts: &[&str]) -> Result<(), Unread> {
+    let part = parts.first().ok_or(Unread)?;
     let mut line = line_of(alloc, head);
-    for word in parts.first().ok_or(Unread)?.split_whitespace() {
-        push_carry(&mut text, alloc, &mut line, word)?;
-    }
-    push_record(&mut text, alloc, &line)?;
-    Ok(text)
+    push_carries(text, alloc, &mut line, part)
 }

@@ -36,17 +36,30 @@ fn frames(alloc: Global, bytes: &[u8], shape: Shape) -> Result<(Vec<u8>, u64, u6
     Ok((all, long, short))
 }
 
+/// Cuts a file, and tells what its blocks are, and whether they are what was said.
+fn push_cut(
+    text: &mut String,
+    alloc: Global,
+    bytes: &[u8],
+    shape: Shape,
+    said: &[u8],
+) -> Result<(), Unread> {
+    let (frames, long, short) = frames(alloc, bytes, shape)?;
+    let as_said = frames.as_slice() == said;
+    writeln!(text, "  {long} long, {short} short, as said: {as_said}")?;
+    Ok(())
+}
+
 /// Cuts the file of a case, and tells what its blocks are.
-pub fn cut(alloc: Global, head: &str, parts: &[&str]) -> Result<String, Unread> {
-    let bytes = bytes_of(alloc, second(head)?)?;
-    let (frames, long, short) = frames(alloc, bytes.as_slice(), shape_of(head))?;
-    let said = bytes_of(alloc, parts.first().ok_or(Unread)?)?;
-    let as_said = frames.as_slice() == said.as_slice();
-    Ok(format!(in alloc; "  {long} long, {short} short, as said: {as_said}\n")?)
+pub fn cut(text: &mut String, alloc: Global, head: &str, parts: &[&str]) -> Result<(), Unread> {
+    let (spelled, said) = (second(head)?, parts.first().ok_or(Unread)?);
+    let said = bytes_of(alloc, said)?;
+    let bytes = bytes_of(alloc, spelled)?;
+    push_cut(text, alloc, bytes.as_slice(), shape_of(head), said.as_slice())
 }
 
 /// Tells how many blocks a file of this length has.
-pub fn blocks(alloc: Global, head: &str) -> Result<String, Unread> {
+pub fn count_blocks(text: &mut String, head: &str) -> Result<(), Unread> {
     let length = second(head)?.parse::<u64>().ok().ok_or(Unread)?;
     if length > MOST_LENGTH {
         return Err(Unread);
@@ -55,7 +68,14 @@ pub fn blocks(alloc: Global, head: &str) -> Result<String, Unread> {
         block_count(length, Shape::Mixed),
         block_count(length, Shape::Short),
     );
-    Ok(format!(in alloc; "  mixed {mixed}, short {short}\n")?)
+    writeln!(text, "  mixed {mixed}, short {short}")?;
+    Ok(())
+}
+
+/// A piece with a number.
+fn piece_of(alloc: Global, word: &str, number: usize) -> Result<Vec<u8>, Unread> {
+    let word = numbered(alloc, word, number)?;
+    bytes_of(alloc, word.as_str())
 }
 
 /// The pieces of a case.
@@ -64,8 +84,7 @@ fn pieces_of(alloc: Global, part: &str) -> Result<Vec<Vec<u8>>, Unread> {
     for word in part.split_whitespace() {
         let (count, word) = counted(word, 'x');
         for number in 0..count.unwrap_or(1) {
-            let text = numbered(alloc, word, number)?;
-            pieces.push(bytes_of(alloc, text.as_str())?)?;
+            pieces.push(piece_of(alloc, word, number)?)?;
         }
     }
     Ok(pieces)
@@ -112,17 +131,33 @@ fn added(collector: Collector, pieces: &[Vec<u8>]) -> Result<(Collector, usize, 
     Ok((collector, taken, before))
 }
 
+/// Collects pieces of a file of this length, and tells what was taken of them.
+fn push_collected(
+    text: &mut String,
+    alloc: Global,
+    length: u64,
+    pieces: &[Vec<u8>],
+) -> Result<(), Unread> {
+    let (collector, taken, before) = added(Collector::new(alloc, length), pieces)?;
+    let (bytes, is_covered) = ended(alloc, collector)?;
+    let as_came = are_first(alloc, bytes.as_slice(), pieces, length)?;
+    let count = bytes.len();
+    writeln!(
+        text,
+        "  took {taken}, open before {before}, covered: {is_covered}, \
+        {count} bytes as they came: {as_came}"
+    )?;
+    Ok(())
+}
+
 /// Collects the pieces of a case, and tells what was taken of them.
-pub fn collected(alloc: Global, head: &str, parts: &[&str]) -> Result<String, Unread> {
+pub fn collect(
+    text: &mut String,
+    alloc: Global,
+    head: &str,
+    parts: &[&str],
+) -> Result<(), Unread> {
     let length = second(head)?.parse::<u64>().ok().ok_or(Unread)?;
     let pieces = pieces_of(alloc, parts.first().ok_or(Unread)?)?;
-    let collector = Collector::new(alloc, length);
-    let (collector, taken, before) = added(collector, pieces.as_slice())?;
-    let (bytes, is_covered) = ended(alloc, collector)?;
-    let as_came = are_first(alloc, bytes.as_slice(), pieces.as_slice(), length)?;
-    let count = bytes.len();
-    Ok(format!(in alloc;
-        "  took {taken}, open before {before}, covered: {is_covered}, \
-        {count} bytes as they came: {as_came}\n"
-    )?)
+    push_collected(text, alloc, length, pieces.as_slice())
 }

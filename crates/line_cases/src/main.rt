@@ -30,60 +30,89 @@ use std::alloc::{AllocError, Global};
 use std::io;
 use words::{Unread, counted};
 
-/// Plays a case, and tells what comes of it.
-fn played(alloc: Global, line: &str) -> Result<String, Unread> {
-    let parts: Vec<&str> = line.split('|').collect(alloc)?;
-    let (head, parts) = parts.as_slice().split_first().ok_or(Unread)?;
+/// Plays a case, and puts behind the text what comes of it. The text is the caller's in all of
+/// these: what a function owns costs its proof something at each place where it may return.
+fn play(text: &mut String, alloc: Global, head: &str, parts: &[&str]) -> Result<(), Unread> {
     match head.split_whitespace().next().unwrap_or("#") {
-        "send" => ports::sent(alloc, head, parts),
-        "receive" => ports::received(alloc, head, parts),
-        "both" => ports::both_told(alloc, head, parts),
-        "rounds" => rounds::told(alloc, head, parts),
-        "needed" => rounds::needed(alloc, head),
-        "carry" => carries::told(alloc, head, parts),
-        "cut" => files::cut(alloc, head, parts),
-        "blocks" => files::blocks(alloc, head),
-        "collect" => files::collected(alloc, head, parts),
-        "forms" => traces::told(alloc),
-        "timing" => timing::told(alloc, head, parts),
-        "#" => Ok(String::new(alloc)),
+        "send" => ports::send(text, alloc, head, parts),
+        "receive" => ports::receive(text, alloc, head, parts),
+        "both" => ports::send_and_receive(text, alloc, head, parts),
+        "rounds" => rounds::play(text, alloc, head, parts),
+        "needed" => rounds::count_needed(text, alloc, head),
+        "carry" => carries::play(text, alloc, head, parts),
+        "cut" => files::cut(text, alloc, head, parts),
+        "blocks" => files::count_blocks(text, head),
+        "collect" => files::collect(text, alloc, head, parts),
+        "forms" => traces::push_all(text, alloc),
+        "timing" => timing::ask(text, head, parts),
+        "#" => Ok(()),
         _ => Err(Unread),
     }
 }
 
+/// Plays the case of a line.
+fn play_line(text: &mut String, alloc: Global, line: &str) -> Result<(), Unread> {
+    let parts: Vec<&str> = line.split('|').collect(alloc)?;
+    let (head, parts) = parts.as_slice().split_first().ok_or(Unread)?;
+    play(text, alloc, head, parts)
+}
+
+/// Plays a case with a number.
+fn play_numbered(
+    text: &mut String,
+    alloc: Global,
+    line: &str,
+    number: usize,
+) -> Result<(), Unread> {
+    let line = words::numbered(alloc, line, number)?;
+    play_line(text, alloc, line.as_str())
+}
+
+/// Whether a case with a number comes to this text.
+fn comes_to(alloc: Global, line: &str, number: usize, text: &str) -> Result<bool, Unread> {
+    let mut told = String::new(alloc);
+    play_numbered(&mut told, alloc, line, number)?;
+    Ok(told.as_str() == text)
+}
+
 /// Plays a case so many times, and tells what comes of the first, and of how many others the same.
-fn played_each(alloc: Global, count: usize, line: &str) -> Result<String, Unread> {
-    let mut first = played(alloc, words::numbered(alloc, line, 0)?.as_str())?;
+fn play_each(text: &mut String, alloc: Global, count: usize, line: &str) -> Result<(), Unread> {
+    play_numbered(text, alloc, line, 0)?;
     let mut alike = 0usize;
     for number in 0..count {
-        let told = played(alloc, words::numbered(alloc, line, number)?.as_str())?;
-        alike = alike.saturating_add(usize::from(told.as_str() == first.as_str()));
+        let is_alike = comes_to(alloc, line, number, text.as_str())?;
+        alike = alike.saturating_add(usize::from(is_alike));
     }
-    writeln!(first, "  {alike} alike")?;
-    Ok(first)
+    writeln!(text, "  {alike} alike")?;
+    Ok(())
+}
+
+/// Puts behind a text that is empty what comes of a line of the table.
+fn push_told(text: &mut String, alloc: Global, line: &str) -> Result<(), Unread> {
+    match line.strip_prefix("each ") {
+        Some(rest) => match counted(rest, ' ') {
+            (Some(count), rest) => play_each(text, alloc, count, rest),
+            (None, _) => Err(Unread),
+        },
+        None => play_line(text, alloc, line),
+    }
 }
 
 /// What comes of a line of the table.
 fn told(alloc: Global, line: &str) -> Result<String, AllocError> {
-    let played = match line.strip_prefix("each ") {
-        Some(rest) => match counted(rest, ' ') {
-            (Some(count), rest) => played_each(alloc, count, rest),
-            (None, _) => Err(Unread),
-        },
-        None => played(alloc, line),
-    };
-    match played {
-        Ok(text) => Ok(text),
-        Err(Unread) => format!(in alloc; "  cannot be read\n"),
+    let mut text = String::new(alloc);
+    if push_told(&mut text, alloc, line).is_err() {
+        text.clear();
+        text.push_str("  cannot be read\n")?;
     }
+    Ok(text)
 }
 
 fn main(rt: HostRuntime) -> io::Result<()> {
     for line in rt.lines(rt.alloc()) {
         let line = line?;
         let text = told(rt.alloc(), line.as_str())?;
-        println!(rt; "{line}")?;
-        print!(rt; "{text}")?;
+        print!(rt; "{line}\n{text}")?;
     }
     Ok(())
 }

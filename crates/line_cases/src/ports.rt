@@ -19,7 +19,7 @@ use ym_header::Stamp;
 use ym_link::{
     EndFault, Event, Receiver, ScriptPort, SendFile, Sender, SourceFile, receive_over, send_over,
 };
-use ym_pair::{receive_from_any_peer, send_and_receive, send_to_any_peer};
+use ym_pair::{receive_from_any_peer, send_to_any_peer};
 
 /// How an engine returned.
 type Answer = Result<(), EndFault>;
@@ -124,7 +124,41 @@ fn push_files(text: &mut String, alloc: Global, receiver: &Receiver) -> Result<(
     Ok(())
 }
 
-fn send(port: &mut ScriptPort, sender: &mut Sender, to_any_peer: bool) -> Answer {
+/// A sender, and the port that it has. A proof takes one value that is dropped where a function
+/// returns for less than two.
+#[derive(Drop)]
+struct Sending {
+    port: ScriptPort,
+    sender: Sender,
+}
+
+/// A receiver, and the port that it has.
+#[derive(Drop)]
+struct Receiving {
+    port: ScriptPort,
+    receiver: Receiver,
+}
+
+fn sending_of(alloc: Global, head: &str, coming: &str) -> Result<Sending, Unread> {
+    let port = port_of(alloc, head, coming)?;
+    Ok(Sending {
+        port,
+        sender: sender_of(alloc, head)?,
+    })
+}
+
+fn receiving_of(alloc: Global, head: &str, coming: &str) -> Result<Receiving, Unread> {
+    let port = port_of(alloc, head, coming)?;
+    let receiver = if has(head, "once") {
+        Receiver::single(alloc)
+    } else {
+        Receiver::new(alloc)
+    };
+    Ok(Receiving { port, receiver })
+}
+
+fn run_sender(end: &mut Sending, to_any_peer: bool) -> Answer {
+    let Sending { port, sender } = end;
     if to_any_peer {
         send_to_any_peer(port, sender)
     } else {
@@ -132,7 +166,8 @@ fn send(port: &mut ScriptPort, sender: &mut Sender, to_any_peer: bool) -> Answer
     }
 }
 
-fn receive(port: &mut ScriptPort, receiver: &mut Receiver, from_any_peer: bool) -> Answer {
+fn run_receiver(end: &mut Receiving, from_any_peer: bool) -> Answer {
+    let Receiving { port, receiver } = end;
     if from_any_peer {
         receive_from_any_peer(port, receiver)
     } else {
@@ -140,65 +175,65 @@ fn receive(port: &mut ScriptPort, receiver: &mut Receiver, from_any_peer: bool) 
     }
 }
 
-/// Sends what a case has, and tells how it ended.
-pub fn sent(alloc: Global, head: &str, parts: &[&str]) -> Result<String, Unread> {
-    let coming = parts.first().ok_or(Unread)?;
-    let mut port = port_of(alloc, head, coming)?;
-    let mut sender = sender_of(alloc, head)?;
-    let mut text = String::new(alloc);
-    let answer = send(&mut port, &mut sender, has(head, "peer"));
-    push_sender(&mut text, answer, &sender)?;
-    push_port(&mut text, alloc, &port, parts.get(1))?;
-    Ok(text)
+/// Sends and receives by a call for both. What it answers tells a proof nothing.
+fn run_both(near: &mut Sending, far: &mut Receiving) -> (Answer, Answer) {
+    ym_pair::send_and_receive(
+        &mut near.port,
+        &mut near.sender,
+        &mut far.port,
+        &mut far.receiver,
+    )
 }
 
-/// The receiver of a case.
-fn receiver_of(alloc: Global, head: &str) -> Receiver {
-    if has(head, "once") {
-        Receiver::single(alloc)
-    } else {
-        Receiver::new(alloc)
-    }
+/// Sends what a case has, and tells how it ended.
+pub fn send(text: &mut String, alloc: Global, head: &str, parts: &[&str]) -> Result<(), Unread> {
+    let coming = parts.first().ok_or(Unread)?;
+    let mut end = sending_of(alloc, head, coming)?;
+    let answer = run_sender(&mut end, has(head, "peer"));
+    push_sender(text, answer, &end.sender)?;
+    push_port(text, alloc, &end.port, parts.get(1))
+}
+
+/// Puts behind the text how a receiver ended, what its port has and what it keeps.
+fn push_received(
+    text: &mut String,
+    alloc: Global,
+    answer: Answer,
+    end: &Receiving,
+    said: Option<&&str>,
+) -> Result<(), Unread> {
+    push_receiver(text, answer, &end.receiver)?;
+    push_port(text, alloc, &end.port, said)?;
+    push_files(text, alloc, &end.receiver)
 }
 
 /// Receives what a case has, and tells how it ended.
-pub fn received(alloc: Global, head: &str, parts: &[&str]) -> Result<String, Unread> {
+pub fn receive(
+    text: &mut String,
+    alloc: Global,
+    head: &str,
+    parts: &[&str],
+) -> Result<(), Unread> {
     let coming = parts.first().ok_or(Unread)?;
-    let mut port = port_of(alloc, head, coming)?;
-    let mut receiver = receiver_of(alloc, head);
-    let mut text = String::new(alloc);
-    let answer = receive(&mut port, &mut receiver, has(head, "peer"));
-    push_receiver(&mut text, answer, &receiver)?;
-    push_port(&mut text, alloc, &port, parts.get(1))?;
-    push_files(&mut text, alloc, &receiver)?;
-    Ok(text)
-}
-
-/// Sends and receives by a call for both. What it answers tells a proof nothing.
-fn both(
-    near: &mut ScriptPort,
-    sender: &mut Sender,
-    far: &mut ScriptPort,
-    receiver: &mut Receiver,
-) -> (Answer, Answer) {
-    send_and_receive(near, sender, far, receiver)
+    let mut end = receiving_of(alloc, head, coming)?;
+    let answer = run_receiver(&mut end, has(head, "peer"));
+    push_received(text, alloc, answer, &end, parts.get(1))
 }
 
 /// Sends and receives what a case has, by a call for both, and tells how they ended.
-pub fn both_told(alloc: Global, head: &str, parts: &[&str]) -> Result<String, Unread> {
+pub fn send_and_receive(
+    text: &mut String,
+    alloc: Global,
+    head: &str,
+    parts: &[&str],
+) -> Result<(), Unread> {
     let [coming, said, far_coming, far_said] = parts else {
         return Err(Unread);
     };
-    let mut near = port_of(alloc, head, coming)?;
-    let mut far = port_of(alloc, head, far_coming)?;
-    let mut sender = sender_of(alloc, head)?;
-    let mut receiver = receiver_of(alloc, head);
-    let (sent, received) = both(&mut near, &mut sender, &mut far, &mut receiver);
-    let mut text = String::new(alloc);
-    push_sender(&mut text, sent, &sender)?;
-    push_port(&mut text, alloc, &near, Some(said))?;
-    push_receiver(&mut text, received, &receiver)?;
-    push_port(&mut text, alloc, &far, Some(far_said))?;
-    push_files(&mut text, alloc, &receiver)?;
-    Ok(text)
+    let mut near = sending_of(alloc, head, coming)?;
+    let mut far = receiving_of(alloc, head, far_coming)?;
+    let (sent, received) = run_both(&mut near, &mut far);
+    push_sender(text, sent, &near.sender)?;
+    push_port(text, alloc, &near.port, Some(said))?;
+    push_received(text, alloc, received, &far, Some(far_said))
 }

@@ -95,8 +95,8 @@ fn rounds_of(alloc: Global, part: &str) -> Result<Vec<Round>, Unread> {
     Ok(rounds)
 }
 
-/// Plays rounds. What it and the next one answer tells a proof nothing, and so costs it little.
-fn play(alloc: Global, ends: &mut Ends, rounds: &[Round]) -> Result<Trace, LineFault> {
+/// Plays rounds to these ends. What it and the next one answer tells a proof nothing, and so costs it little.
+fn run_all(alloc: Global, ends: &mut Ends, rounds: &[Round]) -> Result<Trace, LineFault> {
     let Ends {
         sender,
         receiver,
@@ -106,7 +106,7 @@ fn play(alloc: Global, ends: &mut Ends, rounds: &[Round]) -> Result<Trace, LineF
 }
 
 /// Plays one round.
-fn play_one(alloc: Global, ends: &mut Ends, one: &Round) -> Result<(), LineFault> {
+fn run_one(alloc: Global, ends: &mut Ends, one: &Round) -> Result<(), LineFault> {
     let Ends {
         sender,
         receiver,
@@ -123,7 +123,7 @@ fn push_run(
     ends: &mut Ends,
     rounds: &[Round],
 ) -> Result<(), Unread> {
-    match play(alloc, ends, rounds) {
+    match run_all(alloc, ends, rounds) {
         Ok(trace) => text.push_str(trace_text(alloc, &trace)?.as_str())?,
         Err(fault) => writeln!(text, "  {fault:?} behind {}", ends.line.handed().len())?,
     }
@@ -138,7 +138,7 @@ fn push_each(
     rounds: &[Round],
 ) -> Result<(), Unread> {
     for one in rounds {
-        let answer = play_one(alloc, ends, one);
+        let answer = run_one(alloc, ends, one);
         writeln!(text, "  {answer:?}")?;
     }
     Ok(())
@@ -166,28 +166,49 @@ fn push_ends(text: &mut String, alloc: Global, head: &str, ends: &Ends) -> Resul
     Ok(())
 }
 
-/// Plays the runs of a case, and tells what comes of them.
-pub fn told(alloc: Global, head: &str, parts: &[&str]) -> Result<String, Unread> {
-    let mut text = String::new(alloc);
-    let mut ends = ends_of(alloc, head)?;
-    for part in parts {
-        let rounds = rounds_of(alloc, part)?;
-        if has(head, "single") {
-            push_each(&mut text, alloc, &mut ends, rounds.as_slice())?;
-        } else {
-            push_run(&mut text, alloc, &mut ends, rounds.as_slice())?;
-        }
+/// Plays the rounds of a part, and tells what comes of them.
+fn push_part(
+    text: &mut String,
+    alloc: Global,
+    head: &str,
+    part: &str,
+    ends: &mut Ends,
+) -> Result<(), Unread> {
+    let rounds = rounds_of(alloc, part)?;
+    if has(head, "single") {
+        push_each(text, alloc, ends, rounds.as_slice())
+    } else {
+        push_run(text, alloc, ends, rounds.as_slice())
     }
-    push_ends(&mut text, alloc, head, &ends)?;
-    Ok(text)
+}
+
+/// Plays the runs of a case to these ends, and tells what comes of them.
+fn push_parts(
+    text: &mut String,
+    alloc: Global,
+    head: &str,
+    parts: &[&str],
+    ends: &mut Ends,
+) -> Result<(), Unread> {
+    for part in parts {
+        push_part(text, alloc, head, part, ends)?;
+    }
+    push_ends(text, alloc, head, ends)
+}
+
+/// Plays the runs of a case, and tells what comes of them.
+pub fn play(text: &mut String, alloc: Global, head: &str, parts: &[&str]) -> Result<(), Unread> {
+    let mut ends = ends_of(alloc, head)?;
+    push_parts(text, alloc, head, parts, &mut ends)
 }
 
 /// Tells how many whole rounds the files of a case need.
-pub fn needed(alloc: Global, head: &str) -> Result<String, Unread> {
+pub fn count_needed(text: &mut String, alloc: Global, head: &str) -> Result<(), Unread> {
     let batch = batch_of(alloc, head)?;
     if batch.len() > 65_535 {
         return Err(Unread);
     }
     let needed = whole_rounds_needed(batch.as_slice(), shape_of(head), confirm_of(head));
-    Ok(format!(in alloc; "  {needed} whole rounds\n")?)
+    writeln!(text, "  {needed} whole rounds")?;
+    Ok(())
 }

@@ -13,7 +13,6 @@
 //! - `cancel`: whether CAN CAN is to be heard.
 
 use super::words::Unread;
-use std::alloc::Global;
 use ym_timing::{Clearing, Expected, Owed, Role, Say, Timing, Vain};
 
 /// The frames that are written, and the replies.
@@ -73,7 +72,7 @@ fn learned(timing: &Timing) -> u64 {
 }
 
 /// A machine, the clearing before its next write, and which frame it wrote last.
-#[derive(Drop)]
+#[derive(Clone, Copy)]
 struct Run {
     timing: Timing,
     clearing: Clearing,
@@ -121,6 +120,12 @@ impl Run {
             _ => return None,
         })
     }
+
+    /// Whether what a word asks has the answer of the model.
+    fn is_answered(&mut self, word: &str) -> Option<bool> {
+        let (act, value, now, wanted) = act_of(word)?;
+        Some(self.answer(act, value, now)? == wanted)
+    }
 }
 
 /// An act, its value, its moment and the answer of the model.
@@ -133,7 +138,7 @@ fn act_of(word: &str) -> Option<(&str, u8, u64, u64)> {
 }
 
 /// Asks what a case asks, and tells how many answers are those of the model.
-pub fn told(alloc: Global, head: &str, parts: &[&str]) -> Result<String, Unread> {
+pub fn ask(text: &mut String, head: &str, parts: &[&str]) -> Result<(), Unread> {
     let role = match head.split_whitespace().nth(1) {
         Some("sender") => Role::Sender,
         Some("receiver") => Role::Receiver,
@@ -142,10 +147,10 @@ pub fn told(alloc: Global, head: &str, parts: &[&str]) -> Result<String, Unread>
     let mut run = Run::new(role);
     let (mut asked, mut alike) = (0usize, 0usize);
     for word in parts.first().ok_or(Unread)?.split_whitespace() {
-        let (act, value, now, wanted) = act_of(word).ok_or(Unread)?;
-        let answer = run.answer(act, value, now).ok_or(Unread)?;
+        let is_alike = run.is_answered(word).ok_or(Unread)?;
         asked = asked.saturating_add(1);
-        alike = alike.saturating_add(usize::from(answer == wanted));
+        alike = alike.saturating_add(usize::from(is_alike));
     }
-    Ok(format!(in alloc; "  {alike} answers of {asked} are the model's\n")?)
+    writeln!(text, "  {alike} answers of {asked} are the model's")?;
+    Ok(())
 }

@@ -92,14 +92,13 @@ const RECEIVERS: [RecvState; 13] = [
 ];
 
 /// The text of each form of a round, and of each end of either end.
-pub fn told(alloc: Global) -> Result<String, Unread> {
-    let mut text = String::new(alloc);
-    push_forms(&mut text, alloc)?;
+pub fn push_all(text: &mut String, alloc: Global) -> Result<(), Unread> {
+    push_forms(text, alloc)?;
     for state in SENDERS {
-        push_ends(&mut text, alloc, (1, state), (0, RecvState::Running))?;
+        push_ends(text, alloc, (1, state), (0, RecvState::Running))?;
     }
     for state in RECEIVERS {
-        push_ends(&mut text, alloc, (0, SendState::Running), (7, state))?;
+        push_ends(text, alloc, (0, SendState::Running), (7, state))?;
     }
-    Ok(text)
+    Ok(())
 }

@@ -4,7 +4,7 @@ use std::alloc::{AllocError, AllocFailed, Global};
 use ym_header::HeaderFault;
 
 /// A line is no case, or there is no memory for it.
-#[derive(Clone, Copy, Debug, PartialEq, Eq)]
+#[derive(Clone, Copy)]
 pub struct Unread;
 
 impl From<AllocError> for Unread {
