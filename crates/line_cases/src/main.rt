@@ -26,7 +26,7 @@ mod timing;
 mod traces;
 mod words;
 
-use std::alloc::{AllocError, Global};
+use std::alloc::Global;
 use std::io;
 use words::{Unread, counted};
 
@@ -98,21 +98,19 @@ fn push_told(text: &mut String, alloc: Global, line: &str) -> Result<(), Unread>
     }
 }
 
-/// What comes of a line of the table.
-fn told(alloc: Global, line: &str) -> Result<String, AllocError> {
-    let mut text = String::new(alloc);
-    if push_told(&mut text, alloc, line).is_err() {
+/// Writes a line of the table, and what comes of it.
+fn answer(rt: HostRuntime, line: &str) -> io::Result<()> {
+    let mut text = String::new(rt.alloc());
+    if push_told(&mut text, rt.alloc(), line).is_err() {
         text.clear();
         text.push_str("  cannot be read\n")?;
     }
-    Ok(text)
+    print!(rt; "{line}\n{text}")
 }
 
 fn main(rt: HostRuntime) -> io::Result<()> {
     for line in rt.lines(rt.alloc()) {
-        let line = line?;
-        let text = told(rt.alloc(), line.as_str())?;
-        print!(rt; "{line}\n{text}")?;
+        answer(rt, line?.as_str())?;
     }
     Ok(())
 }

@@ -157,6 +157,21 @@ fn receiving_of(alloc: Global, head: &str, coming: &str) -> Result<Receiving, Un
     Ok(Receiving { port, receiver })
 }
 
+/// A sender and a receiver that run together.
+#[derive(Drop)]
+struct Both {
+    near: Sending,
+    far: Receiving,
+}
+
+fn both_of(alloc: Global, head: &str, near: &str, far: &str) -> Result<Both, Unread> {
+    let near = sending_of(alloc, head, near)?;
+    Ok(Both {
+        near,
+        far: receiving_of(alloc, head, far)?,
+    })
+}
+
 fn run_sender(end: &mut Sending, to_any_peer: bool) -> Answer {
     let Sending { port, sender } = end;
     if to_any_peer {
@@ -176,7 +191,8 @@ fn run_receiver(end: &mut Receiving, from_any_peer: bool) -> Answer {
 }
 
 /// Sends and receives by a call for both. What it answers tells a proof nothing.
-fn run_both(near: &mut Sending, far: &mut Receiving) -> (Answer, Answer) {
+fn run_both(ends: &mut Both) -> (Answer, Answer) {
+    let Both { near, far } = ends;
     ym_pair::send_and_receive(
         &mut near.port,
         &mut near.sender,
@@ -220,6 +236,20 @@ pub fn receive(
     push_received(text, alloc, answer, &end, parts.get(1))
 }
 
+/// Lets these two ends run, and puts behind the text how they ended.
+fn push_both(
+    text: &mut String,
+    alloc: Global,
+    ends: &mut Both,
+    said: &&str,
+    far_said: &&str,
+) -> Result<(), Unread> {
+    let (sent, received) = run_both(ends);
+    push_sender(text, sent, &ends.near.sender)?;
+    push_port(text, alloc, &ends.near.port, Some(said))?;
+    push_received(text, alloc, received, &ends.far, Some(far_said))
+}
+
 /// Sends and receives what a case has, by a call for both, and tells how they ended.
 pub fn send_and_receive(
     text: &mut String,
@@ -230,10 +260,6 @@ pub fn send_and_receive(
     let [coming, said, far_coming, far_said] = parts else {
         return Err(Unread);
     };
-    let mut near = sending_of(alloc, head, coming)?;
-    let mut far = receiving_of(alloc, head, far_coming)?;
-    let (sent, received) = run_both(&mut near, &mut far);
-    push_sender(text, sent, &near.sender)?;
-    push_port(text, alloc, &near.port, Some(said))?;
-    push_received(text, alloc, received, &far, Some(far_said))
+    let mut ends = both_of(alloc, head, coming, far_coming)?;
+    push_both(text, alloc, &mut ends, said, far_said)
 }

@@ -55,23 +55,22 @@ fn ends_of(alloc: Global, head: &str) -> Result<Ends, Unread> {
     })
 }
 
-/// A delivery that is damaged to these bytes.
-fn damaged(alloc: Global, text: &str) -> Result<Delivery, Unread> {
-    Ok(Delivery::Damaged(Bytes::new(bytes_of(alloc, text)?)))
+/// A delivery that is whole, or that is damaged to these bytes.
+fn delivery_of(alloc: Global, is_whole: bool, bytes: &str) -> Result<Delivery, Unread> {
+    if is_whole {
+        return Ok(Delivery::Whole);
+    }
+    Ok(Delivery::Damaged(Bytes::new(bytes_of(alloc, bytes)?)))
 }
 
 /// A round whose deliveries are damaged.
 fn damaged_round(alloc: Global, word: &str) -> Result<Round, Unread> {
     let (ways, bytes) = word.split_once(':').ok_or(Unread)?;
-    let mut there = Delivery::Whole;
-    let mut back = Delivery::Whole;
-    if ways != "back" {
-        there = damaged(alloc, bytes)?;
-    }
-    if ways != "there" {
-        back = damaged(alloc, bytes)?;
-    }
-    Ok(Round { there, back })
+    let there = delivery_of(alloc, ways == "back", bytes)?;
+    Ok(Round {
+        there,
+        back: delivery_of(alloc, ways == "there", bytes)?,
+    })
 }
 
 fn round_of(alloc: Global, word: &str) -> Result<Round, Unread> {
