@@ -9,13 +9,18 @@
 mod told;
 
 use std::io;
-use told::told;
+use told::push_told;
+
+/// Prints a line, and what it asks for.
+fn tell(rt: &HostRuntime, line: &str) -> io::Result<()> {
+    let mut text = String::new(rt.alloc());
+    push_told(&mut text, rt.alloc(), line)?;
+    println!(rt; "{line}: {text}")
+}
 
 fn main(rt: HostRuntime) -> io::Result<()> {
     for line in rt.lines(rt.alloc()) {
-        let line = line?;
-        let text = told(rt.alloc(), line.as_str())?;
-        println!(rt; "{line}: {text}")?;
+        tell(&rt, line?.as_str())?;
     }
     Ok(())
 }

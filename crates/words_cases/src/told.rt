@@ -39,14 +39,92 @@ fn push_record(text: &mut String, path: Option<&str>) -> Result<(), AllocError> 
     }
 }
 
-/// A job, its values and the flags that are set.
-fn job_text(alloc: Global, job: &Job<'_>) -> Result<String, AllocError> {
+fn push_number(text: &mut String, job: &str, port: u16) -> Result<(), AllocError> {
+    write!(text, "{job} {port}")
+}
+
+fn push_line(text: &mut String, job: &str, line: Option<&str>) -> Result<(), AllocError> {
+    let line = line.unwrap_or("-");
+    write!(text, "{job} on {line}")
+}
+
+/// Puts behind a text what follows the port or the line of a job that sends.
+fn push_sending(
+    text: &mut String,
+    short: bool,
+    files: &[&str],
+    record_path: Option<&str>,
+    tell: TellFlags,
+) -> Result<(), AllocError> {
+    push_flag(text, short, "short")?;
+    push_tell(text, tell)?;
+    for file in files {
+        push_flag(text, true, file)?;
+    }
+    push_record(text, record_path)
+}
+
+/// Puts behind a text what follows the flags of a job that receives.
+fn push_receiving(
+    text: &mut String,
+    dir: &str,
+    record_path: Option<&str>,
+    tell: TellFlags,
+) -> Result<(), AllocError> {
+    push_tell(text, tell)?;
+    push_flag(text, true, dir)?;
+    push_record(text, record_path)
+}
+
+fn push_ways(
+    text: &mut String,
+    there: Option<&str>,
+    back: Option<&str>,
+    both: Option<&str>,
+) -> Result<(), AllocError> {
+    let there = there.unwrap_or("nothing");
+    let back = back.unwrap_or("nothing");
+    let both = both.unwrap_or("nothing");
+    write!(text, "explain {there} there, {back} back, {both} both ways")
+}
+
+fn push_chart(text: &mut String, chart: Option<&str>) -> Result<(), AllocError> {
+    match chart {
+        Some(chart) => write!(text, ", drawn in {chart}"),
+        None => Ok(()),
+    }
+}
+
+/// Puts behind a text whom a job judges, and where.
+fn push_judged(
+    text: &mut String,
+    peer: &str,
+    port: Option<&str>,
+    line: Option<&str>,
+) -> Result<(), AllocError> {
+    let port = port.unwrap_or("nothing");
+    let line = line.unwrap_or("nothing");
+    write!(text, "judge {peer} port {port} line {line}")
+}
+
+/// Puts behind a text which cases are chosen, and what is stored.
+fn push_chosen(
+    text: &mut String,
+    only: Option<&str>,
+    stored: Option<&str>,
+) -> Result<(), AllocError> {
+    let only = only.unwrap_or("nothing");
+    let stored = stored.unwrap_or("nothing");
+    write!(text, " only {only} stored {stored}")
+}
+
+/// Puts a job behind a text, with its values and the flags that are set.
+fn push_job(text: &mut String, job: &Job<'_>) -> Result<(), AllocError> {
     match job {
-        Job::Play => format!(in alloc; "play"),
+        Job::Play => text.push_str("play"),
         Job::Loop { port, tell } => {
-            let mut text = format!(in alloc; "loop {port}")?;
-            push_tell(&mut text, *tell)?;
-            Ok(text)
+            push_number(text, "loop", *port)?;
+            push_tell(text, *tell)
         }
         Job::Send {
             port,
@@ -55,28 +133,8 @@ fn job_text(alloc: Global, job: &Job<'_>) -> Result<String, AllocError> {
             record_path,
             tell,
         } => {
-            let mut text = format!(in alloc; "send {port}")?;
-            push_flag(&mut text, *short, "short")?;
-            push_tell(&mut text, *tell)?;
-            for file in files.as_slice() {
-                push_flag(&mut text, true, file)?;
-            }
-            push_record(&mut text, *record_path)?;
-            Ok(text)
-        }
-        Job::Receive {
-            port,
-            flags,
-            dir,
-            record_path,
-            tell,
-        } => {
-            let mut text = format!(in alloc; "receive {port}")?;
-            push_receive(&mut text, *flags)?;
-            push_tell(&mut text, *tell)?;
-            push_flag(&mut text, true, dir)?;
-            push_record(&mut text, *record_path)?;
-            Ok(text)
+            push_number(text, "send", *port)?;
+            push_sending(text, *short, files.as_slice(), *record_path, *tell)
         }
         Job::SendLine {
             line,
@@ -85,15 +143,19 @@ fn job_text(alloc: Global, job: &Job<'_>) -> Result<String, AllocError> {
             record_path,
             tell,
         } => {
-            let line = line.unwrap_or("-");
-            let mut text = format!(in alloc; "send on {line}")?;
-            push_flag(&mut text, *short, "short")?;
-            push_tell(&mut text, *tell)?;
-            for file in files.as_slice() {
-                push_flag(&mut text, true, file)?;
-            }
-            push_record(&mut text, *record_path)?;
-            Ok(text)
+            push_line(text, "send", *line)?;
+            push_sending(text, *short, files.as_slice(), *record_path, *tell)
+        }
+        Job::Receive {
+            port,
+            flags,
+            dir,
+            record_path,
+            tell,
+        } => {
+            push_number(text, "receive", *port)?;
+            push_receive(text, *flags)?;
+            push_receiving(text, dir, *record_path, *tell)
         }
         Job::ReceiveLine {
             line,
@@ -102,13 +164,9 @@ fn job_text(alloc: Global, job: &Job<'_>) -> Result<String, AllocError> {
             record_path,
             tell,
         } => {
-            let line = line.unwrap_or("-");
-            let mut text = format!(in alloc; "receive on {line}")?;
-            push_store(&mut text, *flags)?;
-            push_tell(&mut text, *tell)?;
-            push_flag(&mut text, true, dir)?;
-            push_record(&mut text, *record_path)?;
-            Ok(text)
+            push_line(text, "receive", *line)?;
+            push_store(text, *flags)?;
+            push_receiving(text, dir, *record_path, *tell)
         }
         Job::Explain {
             there,
@@ -117,17 +175,9 @@ fn job_text(alloc: Global, job: &Job<'_>) -> Result<String, AllocError> {
             turned,
             chart,
         } => {
-            let there = there.unwrap_or("nothing");
-            let back = back.unwrap_or("nothing");
-            let both = both.unwrap_or("nothing");
-            let mut text = format!(in alloc;
-                "explain {there} there, {back} back, {both} both ways"
-            )?;
-            push_flag(&mut text, *turned, "turned")?;
-            if let Some(chart) = chart {
-                text.push_str(format!(in alloc; ", drawn in {chart}")?.as_str())?;
-            }
-            Ok(text)
+            push_ways(text, *there, *back, *both)?;
+            push_flag(text, *turned, "turned")?;
+            push_chart(text, *chart)
         }
         Job::Judge {
             peer,
@@ -138,40 +188,40 @@ fn job_text(alloc: Global, job: &Job<'_>) -> Result<String, AllocError> {
             list,
             json,
         } => {
-            let port = port.unwrap_or("nothing");
-            let line = line.unwrap_or("nothing");
-            let only = only.unwrap_or("nothing");
-            let stored = stored.unwrap_or("nothing");
-            let mut text = format!(in alloc;
-                "judge {peer} port {port} line {line} only {only} stored {stored}"
-            )?;
-            push_flag(&mut text, *list, "list")?;
-            push_flag(&mut text, *json, "json")?;
-            Ok(text)
+            push_judged(text, peer, *port, *line)?;
+            push_chosen(text, *only, *stored)?;
+            push_flag(text, *list, "list")?;
+            push_flag(text, *json, "json")
         }
     }
 }
 
-/// Why words ask for nothing.
-fn fault_text(alloc: Global, fault: &JobFault) -> Result<String, AllocError> {
+/// Puts behind a text why words ask for nothing.
+fn push_fault(text: &mut String, fault: &JobFault) -> Result<(), AllocError> {
     match fault {
-        JobFault::Value => format!(in alloc; "value"),
-        JobFault::Memory => format!(in alloc; "memory"),
+        JobFault::Value => text.push_str("value"),
+        JobFault::Memory => text.push_str("memory"),
         JobFault::Words(error) => {
             let status = error.exit_code();
-            format!(in alloc; "words {status}")
+            write!(text, "words {status}")
         }
     }
 }
 
-/// What the words of a line ask for.
-pub fn told(alloc: Global, line: &str) -> Result<String, AllocError> {
+/// The words of a line.
+fn words_of(alloc: Global, line: &str) -> Result<Vec<String>, AllocError> {
     let mut words = Vec::new(alloc);
     for word in line.split(' ') {
         words.push(String::from_str(alloc, word)?)?;
     }
+    Ok(words)
+}
+
+/// Puts behind a text what the words of a line ask for.
+pub fn push_told(text: &mut String, alloc: Global, line: &str) -> Result<(), AllocError> {
+    let words = words_of(alloc, line)?;
     match job_of(alloc, words.as_slice()) {
-        Ok(job) => job_text(alloc, &job),
-        Err(fault) => fault_text(alloc, &fault),
+        Ok(job) => push_job(text, &job),
+        Err(fault) => push_fault(text, &fault),
     }
 }
