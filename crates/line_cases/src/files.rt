@@ -55,7 +55,13 @@ pub fn cut(text: &mut String, alloc: Global, head: &str, parts: &[&str]) -> Resu
     let (spelled, said) = (second(head)?, parts.first().ok_or(Unread)?);
     let said = bytes_of(alloc, said)?;
     let bytes = bytes_of(alloc, spelled)?;
-    push_cut(text, alloc, bytes.as_slice(), shape_of(head), said.as_slice())
+    push_cut(
+        text,
+        alloc,
+        bytes.as_slice(),
+        shape_of(head),
+        said.as_slice(),
+    )
 }
 
 /// Tells how many blocks a file of this length has.
@@ -151,12 +157,7 @@ fn push_collected(
 }
 
 /// Collects the pieces of a case, and tells what was taken of them.
-pub fn collect(
-    text: &mut String,
-    alloc: Global,
-    head: &str,
-    parts: &[&str],
-) -> Result<(), Unread> {
+pub fn collect(text: &mut String, alloc: Global, head: &str, parts: &[&str]) -> Result<(), Unread> {
     let length = second(head)?.parse::<u64>().ok().ok_or(Unread)?;
     let pieces = pieces_of(alloc, parts.first().ok_or(Unread)?)?;
     push_collected(text, alloc, length, pieces.as_slice())

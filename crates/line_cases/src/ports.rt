@@ -124,8 +124,8 @@ fn push_files(text: &mut String, alloc: Global, receiver: &Receiver) -> Result<(
     Ok(())
 }
 
-/// A sender, and the port that it has. A proof takes one value that is dropped where a function
-/// returns for less than two.
+/// A sender, and the port that it has. They are one value, since a proof takes long over each that
+/// a function drops where it returns.
 #[derive(Drop)]
 struct Sending {
     port: ScriptPort,
@@ -224,12 +224,7 @@ fn push_received(
 }
 
 /// Receives what a case has, and tells how it ended.
-pub fn receive(
-    text: &mut String,
-    alloc: Global,
-    head: &str,
-    parts: &[&str],
-) -> Result<(), Unread> {
+pub fn receive(text: &mut String, alloc: Global, head: &str, parts: &[&str]) -> Result<(), Unread> {
     let coming = parts.first().ok_or(Unread)?;
     let mut end = receiving_of(alloc, head, coming)?;
     let answer = run_receiver(&mut end, has(head, "peer"));

@@ -94,7 +94,8 @@ fn rounds_of(alloc: Global, part: &str) -> Result<Vec<Round>, Unread> {
     Ok(rounds)
 }
 
-/// Plays rounds to these ends. What it and the next one answer tells a proof nothing, and so costs it little.
+/// Plays rounds to these ends. What it and the next one answer tells a proof nothing, and so costs
+/// it little.
 fn run_all(alloc: Global, ends: &mut Ends, rounds: &[Round]) -> Result<Trace, LineFault> {
     let Ends {
         sender,
