@@ -5,5 +5,5 @@ mod orders;
 mod program;
 
 pub use program::command;
-pub use ym_streams::{Outputs, Streams};
 pub use ym_explained::{Charted, Draw};
+pub use ym_streams::{Outputs, Streams};
