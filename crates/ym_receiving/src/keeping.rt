@@ -118,6 +118,35 @@ where
     receive_through(rt, wire, order, &mut intake.records, out, teller)
 }
 
+/// Receives files from connections of which none was taken yet, and none has failed, as it is asked
+/// for.
+fn receive_from<R, C, O, F, E>(
+    rt: &R,
+    mut intake: Intake<'_, C>,
+    outputs: &mut Outputs<O, F>,
+    teller: &mut Teller<E>,
+) -> Result<u8, CommandFault>
+where
+    R: Files<File = File> + Clock + AllocGlobal,
+    C: Connections + Drop,
+    O: Output,
+    F: Output,
+    E: Write + Drop,
+    requires taken { C.taken intake.connections ≡ 0 }
+    requires failed { C.failures intake.connections ≡ 0 }
+    ensures { ReceivesSo intake.entry.order.keep intake.entry.order.confirm
+        (page (O.contents outputs.old.out) (O.failures outputs.old.out))
+        (page (F.contents outputs.old.err) (F.failures outputs.old.err)) result
+        (page (O.contents outputs.new.out) (O.failures outputs.new.out))
+        (page (F.contents outputs.new.err) (F.failures outputs.new.err)) }
+{
+    if intake.order.keep {
+        receive_each(rt, &mut intake, outputs, teller)
+    } else {
+        receive_first(rt, &mut intake, &mut outputs.out, teller)
+    }
+}
+
 /// Receives files into a folder at a port as it is asked for: from whoever connects first, or from
 /// one connection after another, as [`receive_each`] does.
 pub fn receive_as_asked<R, O, F, E>(
@@ -141,14 +170,10 @@ where
     look_at(rt, rt.alloc(), order.dir, teller)?;
     let records = Records::open(rt, rt.alloc(), order.record_path, &[], teller)?;
     let connections = listen(rt, port, teller)?;
-    let mut intake = Intake {
+    let intake = Intake {
         connections,
         records,
         order,
     };
-    if order.keep {
-        receive_each(rt, &mut intake, outputs, teller)
-    } else {
-        receive_first(rt, &mut intake, &mut outputs.out, teller)
-    }
+    receive_from(rt, intake, outputs, teller)
 }

@@ -15,7 +15,7 @@ ghost use Rattle.ym_receiving.specs.Receiving.{SessionGives, receive_gives};
 ghost use Rattle.ym_answer.specs.Status.{receive_answer};
 
 use crate::store::Store;
-use crate::telling::tell_not_stored;
+use crate::telling::{Explains, ReceiverFinish, tell_outcome};
 use crate::watched::Watched;
 use std::alloc::{AllocError, AllocGlobal, Global};
 use std::cell::RefCell;
@@ -25,9 +25,9 @@ use std::io::Write;
 use std::time::Clock;
 use ym_answer::{CommandFault, FileLine};
 use ym_eager::Eager;
-use ym_ends::{LineWords, ToldLine, ToldWire, tell_end};
+use ym_ends::{LineWords, ToldLine, ToldWire};
 use ym_file::SinkFault;
-use ym_folder::{DirSink, Durability, Leftover, StoreFault, check_folder};
+use ym_folder::{DirSink, Durability, Leftover, check_folder};
 use ym_header::Header;
 use ym_host::SystemFolder;
 use ym_line::ReceiverLine;
@@ -38,7 +38,7 @@ use ym_record::{RecordedWire, Records};
 use ym_show::{Meter, ReceiveWatch, Receiving, WatchedPort};
 use ym_streams::{Output, StreamFault};
 use ym_teller::Teller;
-use ym_text::{EndMessage, FileMessage, Lately, Reason};
+use ym_text::{FileMessage, Reason};
 
 /// After so many seconds without a byte it gives up: ten deliveries, each waited for so long.
 const QUIET_S: u64 = 30;
@@ -160,47 +160,6 @@ pub(crate) fn look_at<R: Files<File = File>, E: Write + Drop>(
         teller.tell(FileMessage::CannotStoreIn(dir, Reason::of(error)));
     }
     looked
-}
-
-/// How a receiver has ended.
-#[derive(Drop)]
-struct ReceiverFinish {
-    /// Its own end.
-    state: RecvState,
-    /// The file that its sink was last given, where that is known.
-    last: Option<String>,
-    /// Why the sink has failed, where it has.
-    why: Option<StoreFault>,
-    /// What came of late.
-    lately: Lately,
-    /// What faults of its port are told as.
-    words: LineWords,
-}
-
-/// Tells why a receiver has ended, and, where its sink failed, why the last file was not stored.
-fn tell_outcome<E: Write + Drop>(
-    teller: &mut Teller<E>,
-    alloc: Global,
-    answer: &Result<u8, CommandFault>,
-    outcome: ReceiverFinish,
-    leftover: Leftover,
-) {
-    let ReceiverFinish {
-        state,
-        last,
-        why,
-        lately,
-        words,
-    } = outcome;
-    let is_running = state == RecvState::Running;
-    let message = EndMessage::of_receiver(state, lately);
-    tell_end(teller, answer, is_running, words, message);
-    match last {
-        Some(name) if state == RecvState::SinkFailed => {
-            tell_not_stored(teller, alloc, name.as_str(), why, leftover);
-        }
-        _ => (),
-    }
 }
 
 /// Receives the files that come over a line, as [`receive_on`] does over a port of it.
@@ -344,27 +303,28 @@ where
     (sink, left, answer)
 }
 
-/// Receives the files that come over a port of the program's own, and prints them and how the
-/// receiver has ended. Where somebody looks, how far each file is is shown, and why one was not
-/// stored and why the receiver has ended told.
-pub(crate) fn receive_on<R, P, O, E>(
+/// Receives the files that come over a port of the program's own into a new sink, as
+/// [`receive_on`] does into a folder.
+fn receive_into<R, P, K, O, E>(
     rt: &R,
     port: P,
+    sink: K,
     order: Order<'_>,
     out: &mut O,
     teller: &mut Teller<E>,
 ) -> Result<u8, CommandFault>
 where
-    R: Files<File = File> + Clock + AllocGlobal,
+    R: Clock + AllocGlobal,
     P: ToldLine + Drop,
+    K: Store + Explains + Drop,
     O: Output,
     E: Write + Drop,
-    ensures { SessionGives order.entry.confirm
+    requires { IsNew (K.kept sink) }
+    ensures { ReceivesBatch order.entry.confirm
         (page (O.contents out.old) (O.failures out.old)) result
         (page (O.contents out.new) (O.failures out.new)) }
 {
     let alloc = rt.alloc();
-    let sink = open_sink(rt, alloc, order)?;
     let looked = Looked {
         alloc,
         confirm: order.confirm,
@@ -383,4 +343,27 @@ where
     };
     tell_outcome(teller, alloc, &answer, outcome, order.leftover);
     answer
+}
+
+/// Receives the files that come over a port of the program's own, and prints them and how the
+/// receiver has ended. Where somebody looks, how far each file is is shown, and why one was not
+/// stored and why the receiver has ended told.
+fn receive_on<R, P, O, E>(
+    rt: &R,
+    port: P,
+    order: Order<'_>,
+    out: &mut O,
+    teller: &mut Teller<E>,
+) -> Result<u8, CommandFault>
+where
+    R: Files<File = File> + Clock + AllocGlobal,
+    P: ToldLine + Drop,
+    O: Output,
+    E: Write + Drop,
+    ensures { SessionGives order.entry.confirm
+        (page (O.contents out.old) (O.failures out.old)) result
+        (page (O.contents out.new) (O.failures out.new)) }
+{
+    let sink = open_sink(rt, rt.alloc(), order)?;
+    receive_into(rt, port, sink, order, out, teller)
 }

@@ -1,14 +1,29 @@
-//! What a receiver tells of a file that it did not store.
+//! What a receiver tells: why it has ended, and why it did not store a file.
 
 use std::alloc::Global;
 use std::io::Write;
-use ym_folder::{Leftover, StoreFault, part_name};
+use ym_answer::CommandFault;
+use ym_ends::{LineWords, tell_end};
+use ym_folder::{DirSink, Folder, Leftover, StoreFault, part_name};
+use ym_link::RecvState;
 use ym_teller::Teller;
-use ym_text::{FileMessage, Reason};
+use ym_text::{EndMessage, FileMessage, Lately, Reason};
+
+/// A sink that knows why it has failed.
+pub(crate) trait Explains {
+    /// Why it failed for the first time, where it failed.
+    fn first_fault(&self) -> Option<StoreFault>;
+}
+
+impl<D: Folder + Drop> Explains for DirSink<D> {
+    fn first_fault(&self) -> Option<StoreFault> {
+        DirSink::first_fault(self)
+    }
+}
 
 /// Tells why the file of this name was not stored in a folder, as its sink says. Without memory for
 /// the part's name nothing is told.
-pub(crate) fn tell_not_stored<E: Write + Drop>(
+fn tell_not_stored<E: Write + Drop>(
     teller: &mut Teller<E>,
     alloc: Global,
     name: &str,
@@ -29,4 +44,45 @@ pub(crate) fn tell_not_stored<E: Write + Drop>(
         Some(StoreFault::System(error)) => FileMessage::CannotStore(name, Reason::of(&error)),
         None => FileMessage::CannotStore(name, Reason::Other),
     });
+}
+
+/// How a receiver has ended.
+#[derive(Drop)]
+pub(crate) struct ReceiverFinish {
+    /// Its own end.
+    pub(crate) state: RecvState,
+    /// The file that its sink was last given, where that is known.
+    pub(crate) last: Option<String>,
+    /// Why the sink has failed, where it has.
+    pub(crate) why: Option<StoreFault>,
+    /// What came of late.
+    pub(crate) lately: Lately,
+    /// What faults of its port are told as.
+    pub(crate) words: LineWords,
+}
+
+/// Tells why a receiver has ended, and, where its sink failed, why the last file was not stored.
+pub(crate) fn tell_outcome<E: Write + Drop>(
+    teller: &mut Teller<E>,
+    alloc: Global,
+    answer: &Result<u8, CommandFault>,
+    outcome: ReceiverFinish,
+    leftover: Leftover,
+) {
+    let ReceiverFinish {
+        state,
+        last,
+        why,
+        lately,
+        words,
+    } = outcome;
+    let is_running = state == RecvState::Running;
+    let message = EndMessage::of_receiver(state, lately);
+    tell_end(teller, answer, is_running, words, message);
+    match last {
+        Some(name) if state == RecvState::SinkFailed => {
+            tell_not_stored(teller, alloc, name.as_str(), why, leftover);
+        }
+        _ => (),
+    }
 }
