@@ -17,6 +17,39 @@ use ym_record::Records;
 use ym_streams::Output;
 use ym_teller::Teller;
 
+/// The same as [`receive_line`] into a folder that was looked at, with what is recorded.
+fn receive_over<R, O, E>(
+    rt: &R,
+    asked: OnLine<'_, Order<'_>>,
+    records: &mut Records<'_>,
+    out: &mut O,
+    teller: &mut Teller<E>,
+) -> Result<u8, CommandFault>
+where
+    R: Files<File = File> + Clock + io::Input + Print + AllocGlobal,
+    R::Reader: IsTerminal,
+    O: Output,
+    E: Write + Drop,
+    ensures { ReceiveGives asked.entry.order.confirm
+        (page (O.contents out.old) (O.failures out.old)) result
+        (page (O.contents out.new) (O.failures out.new)) }
+{
+    let OnLine { line, order } = asked;
+    match line {
+        Some(path) => {
+            let file = open_line(rt, path, teller)?;
+            let wire = TtyWire::new(rt, &file, &file, true, Role::Receiver);
+            receive_through(rt, wire, order, records, out, teller)
+        }
+        None => {
+            let reader = rt.reader();
+            let is_terminal = reader.is_terminal();
+            let wire = TtyWire::new(rt, reader, io::writer(rt), is_terminal, Role::Receiver);
+            receive_through(rt, wire, order, records, out, teller)
+        }
+    }
+}
+
 /// Receives files into a folder over a line, and prints them and how the receiver has ended.
 pub fn receive_line<R, O, E>(
     rt: &R,
@@ -33,20 +66,8 @@ where
         (page (O.contents out.old) (O.failures out.old)) result
         (page (O.contents out.new) (O.failures out.new)) }
 {
-    let OnLine { line, order } = asked;
+    let order = asked.order;
     look_at(rt, rt.alloc(), order.dir, teller)?;
     let mut records = Records::open(rt, rt.alloc(), order.record_path, &[], teller)?;
-    match line {
-        Some(path) => {
-            let file = open_line(rt, path, teller)?;
-            let wire = TtyWire::new(rt, &file, &file, true, Role::Receiver);
-            receive_through(rt, wire, order, &mut records, out, teller)
-        }
-        None => {
-            let reader = rt.reader();
-            let is_terminal = reader.is_terminal();
-            let wire = TtyWire::new(rt, reader, io::writer(rt), is_terminal, Role::Receiver);
-            receive_through(rt, wire, order, &mut records, out, teller)
-        }
-    }
+    receive_over(rt, asked, &mut records, out, teller)
 }
