@@ -3,11 +3,10 @@
 
 ghost use Rattle.std.specs.Prelude.{◌≤◌};
 
-use std::alloc::Global;
-use std::test::Fail;
+use std::alloc::{AllocError, Global};
 use ym_core::Place;
 use ym_frame::{Block, FrameBuf, Item, encode};
-use ym_header::{Header, Stamp, write, write_end};
+use ym_header::{Header, HeaderFault, Stamp, write, write_end};
 
 const CONTROLS: [u8; 4] = [0x06, 0x15, 0x43, 0x18];
 
@@ -15,7 +14,7 @@ const CONTROLS: [u8; 4] = [0x06, 0x15, 0x43, 0x18];
 pub const COUNTS: [u64; 2] = [3, 0];
 
 /// Three blocks of one letter each, the last one filled up.
-pub fn file_bytes(alloc: Global) -> Result<Vec<u8>, Fail> {
+pub fn file_bytes(alloc: Global) -> Result<Vec<u8>, AllocError> {
     let mut bytes = Vec::new(alloc);
     for (letter, count) in [(b'A', 128), (b'B', 128), (b'C', 44)] {
         for _ in 0..count {
@@ -37,13 +36,13 @@ pub fn data_block(number: u64) -> Block {
 }
 
 /// The header of a file of the batch.
-pub fn header_of(alloc: Global, file: usize) -> Result<Header, Fail> {
+pub fn header_of(alloc: Global, file: usize) -> Result<Header, HeaderFault> {
     let (name, length) = if file == 0 { ("a", 300) } else { ("b", 0) };
-    Ok(Header::new(alloc, name, length, Stamp::Nothing).map_err(|_| "header")?)
+    Header::new(alloc, name, length, Stamp::Nothing)
 }
 
 /// The frame of a place of the batch.
-pub fn frame_of(alloc: Global, place: Place) -> Result<FrameBuf, Fail> {
+pub fn frame_of(alloc: Global, place: Place) -> Result<FrameBuf, HeaderFault> {
     let item = match place {
         Place::Header { file } => Item::Block(write(&header_of(alloc, file)?)),
         Place::Block { number, .. } => Item::Block(data_block(number)),

@@ -19,7 +19,7 @@ fn header_frame(name: &str, length: u64) -> Result<FrameBuf, HeaderFault> {
 }
 
 /// What a test keeps of what a step asks.
-#[derive(Clone, Copy, Debug, PartialEq, Eq)]
+#[derive(Clone, Copy, PartialEq)]
 enum Asked {
     Nothing,
     /// The header's name begins with this byte, and it states this length.
@@ -52,6 +52,20 @@ fn told(core: ReceiverCore, bytes: &[u8]) -> (ReceiverCore, Reply, Asked) {
     (core, reply, demand_of(ask))
 }
 
+/// Whether a receiver whose host does what is asked answers each delivery so, and asks this, and
+/// has one file in the end.
+fn receives_one(deliveries: &[(&[u8], Reply, Asked)]) -> bool {
+    let mut core = ReceiverCore::new(Confirm::Twice);
+    for (bytes, reply, ask) in deliveries {
+        let (behind, replied, done) = told(core, bytes);
+        if replied != *reply || done != *ask {
+            return false;
+        }
+        core = behind;
+    }
+    core.state() == RecvState::Finished && core.files() == 1
+}
+
 /// A file of 130 bytes: its second block is cut at the length.
 #[test]
 fn receiver_of_one_file(rt: HostRuntime) -> Result<(), Fail> {
@@ -69,44 +83,45 @@ fn receiver_of_one_file(rt: HostRuntime) -> Result<(), Fail> {
         (b"\x04", Reply::AckStart, Asked::Commit),
         (end.as_bytes(), Reply::Ack, Asked::Nothing),
     ];
-    let mut core = ReceiverCore::new(Confirm::Twice);
-    for (bytes, reply, ask) in deliveries {
-        let (behind, replied, done) = told(core, bytes);
-        assert_eq!(rt; replied, reply);
-        assert_eq!(rt; done, ask);
-        core = behind;
-    }
-    assert_eq!(rt; core.state(), RecvState::Finished);
-    assert_eq!(rt; core.files(), 1);
+    assert!(rt; receives_one(&deliveries));
     Ok(())
+}
+
+/// Whether a receiver that took this header of a file of one byte asks its host to take that byte of
+/// a block, and ends where it fails.
+fn ends_at_a_failure(header: &[u8]) -> bool {
+    let heard = Heard::Item(Item::Block(Block::new(1, &[0; 128]).unwrap()));
+    let (behind, reply, _) = told(ReceiverCore::new(Confirm::Once), header);
+    let step = behind.hear(&HeardRef::of(&heard));
+    reply == Reply::AckStart
+        && demand_of(step.ask) == Asked::Add(0, 1)
+        && behind.failed().state() == RecvState::SinkFailed
 }
 
 /// A host that fails at what is asked ends the receiver.
 #[test]
 fn failed_host(rt: HostRuntime) -> Result<(), Fail> {
-    let core = ReceiverCore::new(Confirm::Once);
     let header = header_frame("a", 1)?;
-    let heard = Heard::Item(Item::Block(Block::new(1, &[0; 128]).unwrap()));
-    let (behind, reply, _) = told(core, header.as_bytes());
-    assert_eq!(rt; reply, Reply::AckStart);
-    let step = behind.hear(&HeardRef::of(&heard));
-    assert_eq!(rt; demand_of(step.ask), Asked::Add(0, 1));
-    assert_eq!(rt; behind.failed().state(), RecvState::SinkFailed);
+    assert!(rt; ends_at_a_failure(header.as_bytes()));
     Ok(())
+}
+
+/// Whether a receiver is made again from where this one stands.
+fn is_made_again(stand: Stand) -> bool {
+    match ReceiverCore::at(stand) {
+        Some(again) => again.stand() == stand,
+        None => false,
+    }
 }
 
 /// A receiver is made again from where it stands, and from nowhere else.
 #[test]
-fn stands(rt: HostRuntime) -> Result<(), Fail> {
-    let core = ReceiverCore::new(Confirm::Twice);
-    let stand = core.stand();
-    let again = ReceiverCore::at(stand).ok_or("a new receiver")?;
-    assert_eq!(rt; again.stand(), stand);
+fn stands(rt: HostRuntime) {
+    let stand = ReceiverCore::new(Confirm::Twice).stand();
     let past = Stand {
         retries: 10,
         ..stand
     };
-    assert!(rt; ReceiverCore::at(past).is_none());
     let file = OpenFile {
         length: 1,
         taken: 2,
@@ -117,8 +132,8 @@ fn stands(rt: HostRuntime) -> Result<(), Fail> {
         stage: Stage::InFile(file),
         ..stand
     };
-    assert!(rt; ReceiverCore::at(covered).is_none());
-    Ok(())
+    assert!(rt; is_made_again(stand));
+    assert!(rt; ReceiverCore::at(past).is_none() && ReceiverCore::at(covered).is_none());
 }
 
 /// Two files, the first one of two blocks and the second one empty.
@@ -136,29 +151,36 @@ impl BatchShape for TwoFiles {
     }
 }
 
-#[test]
-fn sender_of_two_files(rt: HostRuntime) {
-    let deliveries: [(&[u8], Option<Place>); 9] = [
-        (b"C", Some(Place::Header { file: 0 })),
-        (b"\x06C", Some(Place::Block { file: 0, number: 1 })),
-        (b"\x06", Some(Place::Block { file: 0, number: 2 })),
-        (b"\x15", None),
-        (b"\x06", Some(Place::Eot { file: 0 })),
-        (b"\x15", None),
-        (b"\x06C", Some(Place::Header { file: 1 })),
-        (b"\x06C", Some(Place::Eot { file: 1 })),
-        (b"\x06C", Some(Place::End)),
-    ];
-    let first = first_place(&TwoFiles);
-    let mut standing = Standing::new(first);
+/// Deliveries to a sender of both files, and the place that each of them has it fill.
+static BOTH_FILES: [(&[u8], Option<Place>); 9] = [
+    (b"C", Some(Place::Header { file: 0 })),
+    (b"\x06C", Some(Place::Block { file: 0, number: 1 })),
+    (b"\x06", Some(Place::Block { file: 0, number: 2 })),
+    (b"\x15", None),
+    (b"\x06", Some(Place::Eot { file: 0 })),
+    (b"\x15", None),
+    (b"\x06C", Some(Place::Header { file: 1 })),
+    (b"\x06C", Some(Place::Eot { file: 1 })),
+    (b"\x06C", Some(Place::End)),
+];
+
+/// Whether a sender of both files fills these places, and finishes at an ACK behind them.
+fn sends_both(deliveries: &[(&[u8], Option<Place>)]) -> bool {
+    let mut standing = Standing::new(first_place(&TwoFiles));
     for (bytes, fills) in deliveries {
         let step = standing.after(&TwoFiles, bytes);
-        assert_eq!(rt; step.fills, fills);
+        if step.fills != *fills {
+            return false;
+        }
         standing = step.standing;
     }
-    assert_eq!(rt; standing.place.done(2), 2);
-    assert!(rt; !standing.settled(&TwoFiles, b""));
-    assert!(rt; standing.settled(&TwoFiles, b"\x06"));
-    let step = standing.after(&TwoFiles, b"\x06");
-    assert_eq!(rt; step.standing.state, SendState::Finished);
+    standing.place.done(2) == 2
+        && !standing.settled(&TwoFiles, b"")
+        && standing.settled(&TwoFiles, b"\x06")
+        && standing.after(&TwoFiles, b"\x06").standing.state == SendState::Finished
+}
+
+#[test]
+fn sender_of_two_files(rt: HostRuntime) {
+    assert!(rt; sends_both(&BOTH_FILES));
 }

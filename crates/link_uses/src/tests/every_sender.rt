@@ -5,15 +5,14 @@
 ghost use Rattle.std.specs.Prelude.{◌≡◌, ◌<◌, ◌∷◌, []};
 
 use super::batch::{COUNTS, delivery, file_bytes, frame_of};
-use super::sender_table;
+use super::{has_frame, hear, sender_table, stands};
 use std::alloc::Global;
 use std::marker::Model;
-use std::test::Fail;
-use ym_core::{BatchShape, Mode, SendState, SendStep, Standing, first_place, next_place};
-use ym_file::Shape;
+use ym_core::{BatchShape, Mode, Place, SendState, SendStep, Standing, first_place, next_place};
+use ym_file::{Shape, Source};
 use ym_frame::control_of;
 use ym_header::Stamp;
-use ym_link::{SendFile, Sender};
+use ym_link::{SendFile, Sender, SenderFrom, SourceFile};
 
 const START: &[u8] = &[0x43];
 
@@ -120,103 +119,127 @@ fn every_place_to_stand(rt: HostRuntime) {
     for frame in 0..FRAMES {
         for mode in [Mode::Waiting, Mode::Sent] {
             for retries in [0, 9, 10, 11] {
-                let alike = compare_standing(frame, mode, retries);
-                assert!(rt; alike, "at frame {frame} after {retries}");
+                assert!(rt; compare_standing(frame, mode, retries));
             }
         }
     }
 }
 
+/// Puts a file of this name and these bytes behind those of a batch.
+fn add_file(alloc: Global, batch: &mut Vec<SendFile>, name: &str, bytes: Vec<u8>) -> Option<()> {
+    let file = SendFile::new(alloc, name, bytes, Stamp::Nothing).ok()?;
+    batch.push(file).ok()
+}
+
 /// A new sender of the batch.
-fn new_sender(alloc: Global) -> Result<Sender, Fail> {
+fn new_sender(alloc: Global) -> Option<Sender> {
     let mut batch = Vec::new(alloc);
-    let first = SendFile::new(alloc, "a", file_bytes(alloc)?, Stamp::Nothing);
-    batch.push(first.map_err(|_| "first file")?)?;
-    let second = SendFile::new(alloc, "b", Vec::new(alloc), Stamp::Nothing);
-    batch.push(second.map_err(|_| "second file")?)?;
-    Ok(Sender::new(batch, Shape::Short).map_err(|_| "batch")?)
+    add_file(alloc, &mut batch, "a", file_bytes(alloc).ok()?)?;
+    add_file(alloc, &mut batch, "b", Vec::new(alloc))?;
+    sender_from(batch)
+}
+
+/// A sender of a batch, in short blocks.
+fn sender_from<S: Source + Drop>(batch: Vec<SourceFile<S>>) -> Option<SenderFrom<S>> {
+    SenderFrom::new(batch, Shape::Short).ok()
 }
 
 /// A sender that deliveries have brought to a frame. It waits at none that stands behind a data
 /// block.
-fn sender_at(alloc: Global, frame: usize, mode: Mode) -> Result<Sender, Fail> {
+fn sender_at(alloc: Global, frame: usize, mode: Mode) -> Option<Sender> {
     let mut sender = new_sender(alloc)?;
     for before in 0..frame {
-        sender.hear(if before == 0 { START } else { ACK_START });
+        hear(&mut sender, if before == 0 { START } else { ACK_START });
     }
-    match (frame, mode) {
-        (0, Mode::Waiting) => {}
-        (0, Mode::Sent) => sender.hear(START),
-        (_, Mode::Waiting) => sender.hear(ACK),
-        (_, Mode::Sent) => sender.hear(ACK_START),
+    let last = match (frame, mode) {
+        (0, Mode::Waiting) => return Some(sender),
+        (0, Mode::Sent) => START,
+        (_, Mode::Waiting) => ACK,
+        (_, Mode::Sent) => ACK_START,
+    };
+    hear(&mut sender, last);
+    Some(sender)
+}
+
+/// Whether a sender has the frame of this place to be sent.
+fn sends(alloc: Global, sender: &Sender, place: Place) -> bool {
+    match frame_of(alloc, place) {
+        Ok(frame) => has_frame(sender, Some(frame.as_bytes())),
+        Err(_) => false,
     }
-    Ok(sender)
 }
 
 /// Whether a sender shows that it stands there.
-fn shows(alloc: Global, sender: &Sender, standing: Standing) -> Result<bool, Fail> {
-    let spoken = match (standing.state, standing.mode) {
-        (SendState::Running, Mode::Sent) => {
-            sender.frame() == Some(frame_of(alloc, standing.place)?.as_bytes())
-        }
-        _ if standing.cancel_pending => sender.frame() == Some(&[0x18, 0x18]),
-        _ => sender.frame().is_none(),
+fn shows(alloc: Global, sender: &Sender, standing: Standing) -> bool {
+    let has_spoken = match (standing.state, standing.mode) {
+        (SendState::Running, Mode::Sent) => sends(alloc, sender, standing.place),
+        _ if standing.cancel_pending => has_frame(sender, Some(&[0x18, 0x18])),
+        _ => has_frame(sender, None),
     };
-    Ok(
-        spoken
-            && sender.state() == standing.state
-            && sender.done() == standing.place.done(COUNTS.len()),
-    )
+    has_spoken && stands(sender, standing.state, standing.place.done(COUNTS.len()))
 }
 
 /// Whether a delivery of at most two control bytes does to a sender that stands there what the
 /// table says.
-fn hears_alike(
-    alloc: Global,
-    sender: &mut Sender,
-    standing: &mut Standing,
-    bytes: &[u8],
-) -> Result<bool, Fail> {
+fn hears_alike(alloc: Global, sender: &mut Sender, standing: &mut Standing, bytes: &[u8]) -> bool {
     if standing.state == SendState::Running && standing.retries >= 10 {
-        return Ok(false);
+        return false;
     }
     *standing = by_table(*standing, bytes).standing;
-    sender.hear(bytes);
+    hear(sender, bytes);
     shows(alloc, sender, *standing)
+}
+
+/// Whether so many empty deliveries, that of this number, and one more behind it, do to a sender
+/// that stands there what the table says.
+fn ends_alike(
+    alloc: Global,
+    sender: &mut Sender,
+    mut standing: Standing,
+    retries: usize,
+    index: usize,
+) -> bool {
+    if !shows(alloc, sender, standing) {
+        return false;
+    }
+    for _ in 0..retries {
+        if !hears_alike(alloc, sender, &mut standing, &[]) {
+            return false;
+        }
+    }
+    let (bytes, count) = delivery(index);
+    hears_alike(alloc, sender, &mut standing, &bytes[..count])
+        && hears_alike(alloc, sender, &mut standing, ACK_START)
 }
 
 /// Compares each delivery, and one more behind it, at one frame of the batch: waiting or not, after
 /// so many empty deliveries.
-fn compare_sender(alloc: Global, frame: usize, mode: Mode, retries: usize) -> Result<bool, Fail> {
+fn compare_sender(alloc: Global, frame: usize, mode: Mode, retries: usize) -> bool {
     let Stood { standing: waiting } = Stood::at(frame);
+    let standing = Standing { mode, ..waiting };
     for index in 0..272 {
-        let mut sender = sender_at(alloc, frame, mode)?;
-        let mut standing = Standing { mode, ..waiting };
-        let mut alike = shows(alloc, &sender, standing)?;
-        for _ in 0..retries {
-            alike = alike && hears_alike(alloc, &mut sender, &mut standing, &[])?;
-        }
-        let (bytes, count) = delivery(index);
-        alike = alike && hears_alike(alloc, &mut sender, &mut standing, &bytes[..count])?;
-        if !alike || !hears_alike(alloc, &mut sender, &mut standing, ACK_START)? {
-            return Ok(false);
+        let is_alike = match sender_at(alloc, frame, mode) {
+            Some(mut sender) => ends_alike(alloc, &mut sender, standing, retries, index),
+            None => false,
+        };
+        if !is_alike {
+            return false;
         }
     }
-    Ok(true)
+    true
 }
 
+/// A sender waits at no frame that stands behind a data block.
 #[test]
-fn every_state_of_a_sender(rt: HostRuntime) -> Result<(), Fail> {
+fn every_state_of_a_sender(rt: HostRuntime) {
     for frame in 0..FRAMES {
         for mode in [Mode::Waiting, Mode::Sent] {
             if mode == Mode::Waiting && (2..5).contains(&frame) {
                 continue;
             }
             for retries in [0, 9, 10, 11] {
-                let alike = compare_sender(rt.alloc(), frame, mode, retries)?;
-                assert!(rt; alike, "at frame {frame} after {retries}");
+                assert!(rt; compare_sender(rt.alloc(), frame, mode, retries));
             }
         }
     }
-    Ok(())
 }

@@ -1,12 +1,11 @@
 //! The receiver, delivery by delivery.
 
-use super::same;
-use std::alloc::{AllocError, Global};
-use std::test::Fail;
+use super::{is_left, replies};
+use std::alloc::Global;
 use ym_file::MemSink;
 use ym_frame::{Block, Item, Reply};
 use ym_header::{Header, HeaderFault, Stamp, write, write_end};
-use ym_link::{Confirm, Heard, Receiver, ReceiverInto, RecvState, laws};
+use ym_link::{Confirm, Heard, Received, Receiver, ReceiverInto, RecvState, laws};
 
 /// A delivery, as a table names it. What a table tells is proved once, in the loop over it, and so
 /// a long table costs a proof little.
@@ -67,39 +66,48 @@ fn new_receiver(alloc: Global) -> Receiver {
     Receiver::new(alloc)
 }
 
-/// The reply to a delivery.
-fn reply_to(receiver: &mut Receiver, heard: &Heard) -> Result<Reply, AllocError> {
-    receiver.hear(heard)
-}
-
-/// Whether a receiver is in this state, with so many files committed.
-fn stands(receiver: &Receiver, state: RecvState, committed: usize) -> bool {
-    receiver.state() == state
-        && receiver.committed() == committed
-        && receiver.files().len() == committed
+/// The files that a receiver has committed.
+fn files_of(receiver: &Receiver) -> &[Received] {
+    receiver.files()
 }
 
 /// Whether a delivery is answered by this reply, and leaves the receiver like this.
-fn answers(alloc: Global, receiver: &mut Receiver, turn: Turn) -> Result<bool, Fail> {
+fn follows(alloc: Global, receiver: &mut Receiver, turn: Turn) -> bool {
     let (told, reply, state, committed) = turn;
-    let answer = reply_to(receiver, &heard(alloc, told)?)?;
-    Ok(same(&answer, &reply) && stands(receiver, state, committed))
+    match heard(alloc, told) {
+        Ok(heard) => {
+            replies(receiver, &heard, reply)
+                && is_left(receiver, state, committed)
+                && files_of(receiver).len() == committed
+        }
+        Err(_) => false,
+    }
 }
 
 /// Whether each delivery of a table is answered as it says.
-fn answers_all(alloc: Global, receiver: &mut Receiver, turns: &[Turn]) -> Result<bool, Fail> {
+fn answers_all(alloc: Global, receiver: &mut Receiver, turns: &[Turn]) -> bool {
     for turn in turns {
-        if !answers(alloc, receiver, *turn)? {
-            return Ok(false);
+        if !follows(alloc, receiver, *turn) {
+            return false;
         }
     }
-    Ok(true)
+    true
 }
 
-/// Whether a new receiver answers each delivery of a table as it says.
-fn plays(alloc: Global, turns: &[Turn]) -> Result<bool, Fail> {
+/// The same, of tables one after another.
+fn answers_tables(alloc: Global, receiver: &mut Receiver, tables: &[&[Turn]]) -> bool {
+    for turns in tables {
+        if !answers_all(alloc, receiver, turns) {
+            return false;
+        }
+    }
+    true
+}
+
+/// The same, of a new receiver.
+fn plays(alloc: Global, tables: &[&[Turn]]) -> bool {
     let mut receiver = new_receiver(alloc);
-    answers_all(alloc, &mut receiver, turns)
+    answers_tables(alloc, &mut receiver, tables)
 }
 
 static STEPS_AND_REPEATS: [Turn; 10] = [
@@ -157,24 +165,28 @@ static PAST_THE_END: [Turn; 4] = [
 
 /// Whether the first of the committed files has this name, these bytes and no stamp.
 fn keeps(receiver: &Receiver, name: &str, bytes: &[u8]) -> bool {
-    match receiver.files().first() {
+    match files_of(receiver).first() {
         Some(file) => {
-            same(&file.name(), &name)
-                && same(&file.length(), &(bytes.len() as u64))
-                && same(&file.stamp(), &Stamp::Nothing)
-                && same(&file.bytes(), &bytes)
+            file.name() == name
+                && file.length() == bytes.len() as u64
+                && file.stamp() == Stamp::Nothing
+                && file.bytes() == bytes
         }
         None => false,
     }
 }
 
+/// Whether a receiver keeps none of the bytes past the length of its file, and goes on.
+fn drops_bytes_past(alloc: Global, receiver: &mut Receiver) -> bool {
+    answers_all(alloc, receiver, &PAST_THE_LENGTH)
+        && keeps(receiver, "a", &[b'A'; 100])
+        && answers_all(alloc, receiver, &PAST_THE_END)
+}
+
 #[test]
-fn bytes_past_the_length(rt: HostRuntime) -> Result<(), Fail> {
+fn bytes_past_the_length(rt: HostRuntime) {
     let mut receiver = new_receiver(rt.alloc());
-    assert!(rt; answers_all(rt.alloc(), &mut receiver, &PAST_THE_LENGTH)?);
-    assert!(rt; keeps(&receiver, "a", &[b'A'; 100]));
-    assert!(rt; answers_all(rt.alloc(), &mut receiver, &PAST_THE_END)?);
-    Ok(())
+    assert!(rt; drops_bytes_past(rt.alloc(), &mut receiver));
 }
 
 /// A bad delivery where a header is awaited.
@@ -183,35 +195,34 @@ const BAD: Turn = (Told::Bad, Reply::Start, RecvState::Running, 0);
 /// The tenth without progress.
 const TENTH: Turn = (Told::Bad, Reply::Cancel, RecvState::TooManyErrors, 0);
 
+/// A header that is refused.
+static REFUSED: [Turn; 1] = [(
+    Told::NoLength,
+    Reply::Cancel,
+    RecvState::BadHeader(HeaderFault::NoLength),
+    0,
+)];
+
 /// What happens to a new receiver: steps and repeats, a header that is refused, and ten deliveries
 /// without progress.
 #[test]
-fn a_new_receiver(rt: HostRuntime) -> Result<(), Fail> {
-    let refused = RecvState::BadHeader(HeaderFault::NoLength);
-    let tenth = [BAD, BAD, BAD, BAD, BAD, BAD, BAD, BAD, BAD, TENTH];
-    let played = [
-        plays(rt.alloc(), &STEPS_AND_REPEATS)?,
-        plays(rt.alloc(), &[(Told::NoLength, Reply::Cancel, refused, 0)])?,
-        plays(rt.alloc(), &tenth)?,
-    ];
-    assert_eq!(rt; played, [true; 3]);
-    Ok(())
+fn a_new_receiver(rt: HostRuntime) {
+    assert!(rt; plays(rt.alloc(), &[&STEPS_AND_REPEATS]));
+    assert!(rt; plays(rt.alloc(), &[&REFUSED]));
+    assert!(rt; plays(rt.alloc(), &[&[BAD; 9], &[TENTH]]));
 }
 
+/// A header where one is awaited.
+const OPENED: Turn = (
+    Told::Header("a", 100),
+    Reply::AckStart,
+    RecvState::Running,
+    0,
+);
+
 #[test]
-fn progress_sets_the_count_back(rt: HostRuntime) -> Result<(), Fail> {
-    let opened = (
-        Told::Header("a", 100),
-        Reply::AckStart,
-        RecvState::Running,
-        0,
-    );
-    let parts: [&[Turn]; 4] = [&[BAD; 9], &[opened], &[BAD; 9], &[TENTH]];
-    let mut receiver = new_receiver(rt.alloc());
-    for part in parts {
-        assert!(rt; answers_all(rt.alloc(), &mut receiver, part)?);
-    }
-    Ok(())
+fn progress_sets_the_count_back(rt: HostRuntime) {
+    assert!(rt; plays(rt.alloc(), &[&[BAD; 9], &[OPENED], &[BAD; 9], &[TENTH]]));
 }
 
 static SINGLE: [Turn; 3] = [
@@ -226,39 +237,47 @@ fn new_single(alloc: Global) -> Receiver {
 }
 
 #[test]
-fn single_receiver(rt: HostRuntime) -> Result<(), Fail> {
+fn single_receiver(rt: HostRuntime) {
     let mut receiver = new_single(rt.alloc());
-    assert!(rt; answers_all(rt.alloc(), &mut receiver, &SINGLE)?);
-    Ok(())
+    assert!(rt; answers_all(rt.alloc(), &mut receiver, &SINGLE));
+}
+
+/// Whether a receiver takes an empty file, of which this is the header.
+fn takes_empty(receiver: &mut Receiver, opening: &Heard) -> bool {
+    let eot = Heard::Item(Item::Eot);
+    replies(receiver, opening, Reply::AckStart)
+        && replies(receiver, &eot, Reply::Nak)
+        && replies(receiver, &eot, Reply::AckStart)
+}
+
+/// Whether a receiver takes so many empty files.
+fn takes_all_empty(alloc: Global, receiver: &mut Receiver, count: usize) -> bool {
+    let Ok(opening) = header(alloc, "a", 0) else {
+        return false;
+    };
+    for _ in 0..count {
+        if !takes_empty(receiver, &opening) {
+            return false;
+        }
+    }
+    true
 }
 
 /// Whether a receiver that has taken so many empty files answers one more header like this.
-fn after_empty_files(
-    alloc: Global,
-    count: usize,
-    reply: Reply,
-    state: RecvState,
-) -> Result<bool, Fail> {
-    let opening = header(alloc, "a", 0)?;
-    let eot = Heard::Item(Item::Eot);
+fn after_empty_files(alloc: Global, count: usize, reply: Reply, state: RecvState) -> bool {
     let mut receiver = new_receiver(alloc);
-    for _ in 0..count {
-        let _ = reply_to(&mut receiver, &opening)?;
-        let _ = reply_to(&mut receiver, &eot)?;
-        let _ = reply_to(&mut receiver, &eot)?;
-    }
-    answers(
-        alloc,
-        &mut receiver,
-        (Told::Header("a", 0), reply, state, count),
-    )
+    takes_all_empty(alloc, &mut receiver, count)
+        && follows(
+            alloc,
+            &mut receiver,
+            (Told::Header("a", 0), reply, state, count),
+        )
 }
 
 #[test]
-fn too_many_files(rt: HostRuntime) -> Result<(), Fail> {
-    assert!(rt; after_empty_files(rt.alloc(), 65_534, Reply::AckStart, RecvState::Running)?);
-    assert!(rt; after_empty_files(rt.alloc(), 65_535, Reply::Cancel, RecvState::TooManyFiles)?);
-    Ok(())
+fn too_many_files(rt: HostRuntime) {
+    assert!(rt; after_empty_files(rt.alloc(), 65_534, Reply::AckStart, RecvState::Running));
+    assert!(rt; after_empty_files(rt.alloc(), 65_535, Reply::Cancel, RecvState::TooManyFiles));
 }
 
 /// A receiver whose sink fails at this call.
@@ -274,9 +293,9 @@ fn has_no_file(receiver: Receiver) -> bool {
 
 /// Whether a receiver whose sink fails at this call answers as a table says, and has no file in the
 /// end.
-fn fails_with(alloc: Global, failing: u64, turns: &[Turn]) -> Result<bool, Fail> {
+fn fails_with(alloc: Global, failing: u64, turns: &[Turn]) -> bool {
     let mut receiver = failing_receiver(alloc, failing);
-    Ok(answers_all(alloc, &mut receiver, turns)? && has_no_file(receiver))
+    answers_all(alloc, &mut receiver, turns) && has_no_file(receiver)
 }
 
 /// A header, a block and an EOT, where each of the three calls of the sink fails.
@@ -314,11 +333,10 @@ static FAILURES: [[Turn; 3]; 3] = [
 ];
 
 #[test]
-fn failing_sink(rt: HostRuntime) -> Result<(), Fail> {
+fn failing_sink(rt: HostRuntime) {
     for (call, turns) in (1..).zip(FAILURES.iter()) {
-        assert!(rt; fails_with(rt.alloc(), call, turns)?);
+        assert!(rt; fails_with(rt.alloc(), call, turns));
     }
-    Ok(())
 }
 
 #[test]

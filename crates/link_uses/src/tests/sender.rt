@@ -1,6 +1,6 @@
 //! The sender's frames over a small batch, failing sources, and a batch that is too large.
 
-use super::same;
+use super::{hear, stands};
 use std::alloc::Global;
 use std::test::Fail;
 use ym_file::{MemSource, Shape, Source};
@@ -15,17 +15,22 @@ const NAK: u8 = 0x15;
 
 const CAN: u8 = 0x18;
 
-/// A sender of one file `a` of so many bytes 41, of which fill number `failing` fails.
-fn one_file(alloc: Global, length: usize, failing: Option<u64>) -> Result<Sender, Fail> {
-    let mut bytes = Vec::new(alloc);
-    for _ in 0..length {
-        bytes.push(0x41)?;
-    }
-    let source = MemSource::new(bytes, failing);
-    let file = SourceFile::from_source(alloc, "a", source, Stamp::Nothing).map_err(|_| "file")?;
+/// A sender of this file.
+fn sender_of<S: Source + Drop>(
+    alloc: Global,
+    file: SourceFile<S>,
+    shape: Shape,
+) -> Result<SenderFrom<S>, Fail> {
     let mut batch = Vec::new(alloc);
     batch.push(file)?;
-    Ok(SenderFrom::new(batch, Shape::Short).map_err(|_| "batch")?)
+    Ok(SenderFrom::new(batch, shape).map_err(|_| "batch")?)
+}
+
+/// A sender of one file `a` of so many bytes 41, of which fill number `failing` fails.
+fn one_file(alloc: Global, length: usize, failing: Option<u64>) -> Result<Sender, Fail> {
+    let source = MemSource::new(vec![in alloc; 0x41; length]?, failing);
+    let file = SourceFile::from_source(alloc, "a", source, Stamp::Nothing).map_err(|_| "file")?;
+    sender_of(alloc, file, Shape::Short)
 }
 
 /// A delivery, and then the sender's state, how many files are done, how long the frame to be sent
@@ -39,16 +44,6 @@ fn speaks<S: Source>(sender: &SenderFrom<S>, length: usize, start: &[u8]) -> boo
         Some(frame) => frame.len() == length && frame.starts_with(start),
         None => length == 0,
     }
-}
-
-/// Whether a sender is in this state, with so many files done.
-fn stands<S: Source>(sender: &SenderFrom<S>, state: SendState, done: usize) -> bool {
-    sender.state() == state && sender.done() == done
-}
-
-/// The sender hears a delivery. It tells a proof nothing of it, and so costs it little.
-fn hear<S: Source>(sender: &mut SenderFrom<S>, bytes: &[u8]) {
-    sender.hear(bytes);
 }
 
 /// Whether each delivery of a table does what it says.
@@ -75,7 +70,7 @@ fn one_file_follows(
 }
 
 /// Whether more bytes cannot change what these do.
-fn settles(sender: &Sender, bytes: &[u8]) -> bool {
+fn settles<S: Source>(sender: &SenderFrom<S>, bytes: &[u8]) -> bool {
     sender.settled(bytes)
 }
 
@@ -104,14 +99,20 @@ static BEHIND_THE_HEADER: [Turn; 8] = [
     (&[ACK], SendState::Finished, 1, 0, &[]),
 ];
 
+/// Whether a sender has all frames of a batch to be sent, one after another.
+fn sends_all(sender: &mut Sender) -> bool {
+    speaks(sender, 0, &[])
+        && follows(sender, &HEADER)
+        && !settles(sender, &[ACK])
+        && settles(sender, &[ACK, C])
+        && follows(sender, &BEHIND_THE_HEADER)
+        && settles(sender, &[])
+}
+
 #[test]
 fn all_frames_of_a_batch(rt: HostRuntime) -> Result<(), Fail> {
     let mut sender = one_file(rt.alloc(), 130, None)?;
-    assert!(rt; speaks(&sender, 0, &[]));
-    assert!(rt; follows(&mut sender, &HEADER));
-    assert!(rt; !settles(&sender, &[ACK]) && settles(&sender, &[ACK, C]));
-    assert!(rt; follows(&mut sender, &BEHIND_THE_HEADER));
-    assert!(rt; settles(&sender, &[]));
+    assert!(rt; sends_all(&mut sender));
     Ok(())
 }
 
@@ -164,13 +165,18 @@ static CANCELLED: [Turn; 5] = [
 /// cancel it.
 #[test]
 fn each_end(rt: HostRuntime) -> Result<(), Fail> {
-    let followed = [
-        one_file_follows(rt.alloc(), 300, Some(2), &FAILED_SOURCE)?,
-        one_file_follows(rt.alloc(), 0, None, &WITHOUT_PROGRESS)?,
-        one_file_follows(rt.alloc(), 0, None, &CANCELLED)?,
-    ];
-    assert_eq!(rt; followed, [true; 3]);
+    assert!(rt; one_file_follows(rt.alloc(), 300, Some(2), &FAILED_SOURCE)?);
+    assert!(rt; one_file_follows(rt.alloc(), 0, None, &WITHOUT_PROGRESS)?);
+    assert!(rt; one_file_follows(rt.alloc(), 0, None, &CANCELLED)?);
     Ok(())
+}
+
+/// Whether no sender is made of a batch, and so many files are handed back.
+fn are_handed_back<S: Source + Drop>(batch: Vec<SourceFile<S>>, count: usize) -> bool {
+    match SenderFrom::new(batch, Shape::Mixed) {
+        Ok(_) => false,
+        Err(BatchFault::TooMany(back)) => back.len() == count,
+    }
 }
 
 #[test]
@@ -181,20 +187,8 @@ fn too_many_files_are_handed_back(rt: HostRuntime) -> Result<(), Fail> {
         let file = SendFile::new(alloc, "a", Vec::new(alloc), Stamp::Nothing).map_err(|_| "file")?;
         batch.push(file)?;
     }
-    match Sender::new(batch, Shape::Mixed) {
-        Ok(_) => Err("a sender of 65,536 files".into()),
-        Err(BatchFault::TooMany(back)) => {
-            assert!(rt; same(&back.len(), &65_536));
-            Ok(())
-        }
-    }
-}
-
-/// A sender of this file.
-fn sender_of<S: Source + Drop>(alloc: Global, file: SourceFile<S>) -> Result<SenderFrom<S>, Fail> {
-    let mut batch = Vec::new(alloc);
-    batch.push(file)?;
-    Ok(SenderFrom::new(batch, Shape::Mixed).map_err(|_| "batch")?)
+    assert!(rt; are_handed_back(batch, 65_536));
+    Ok(())
 }
 
 static IN_MEMORY: [Turn; 2] = [
@@ -214,9 +208,11 @@ static IN_MEMORY: [Turn; 2] = [
     ),
 ];
 
-/// Whether a file that is in memory has these bytes.
-fn has_bytes(file: &SendFile, bytes: &[u8]) -> bool {
-    file.bytes() == bytes
+/// Whether a file that is in memory has its bytes, and a sender of it follows a table.
+fn file_follows(alloc: Global, file: SendFile, bytes: &[u8], turns: &[Turn]) -> Result<bool, Fail> {
+    let has_bytes = file.bytes() == bytes;
+    let mut sender = sender_of(alloc, file, Shape::Mixed)?;
+    Ok(has_bytes && follows(&mut sender, turns))
 }
 
 #[test]
@@ -224,8 +220,6 @@ fn a_file_in_memory(rt: HostRuntime) -> Result<(), Fail> {
     let alloc = rt.alloc();
     let bytes = b"one".as_slice().to_vec(alloc)?;
     let file = SendFile::new(alloc, "a.txt", bytes, Stamp::Time(0)).map_err(|_| "file")?;
-    assert!(rt; has_bytes(&file, b"one"));
-    let mut sender = sender_of(alloc, file)?;
-    assert!(rt; follows(&mut sender, &IN_MEMORY));
+    assert!(rt; file_follows(alloc, file, b"one", &IN_MEMORY)?);
     Ok(())
 }
