@@ -1,7 +1,7 @@
 //! What is done in a folder, and looked at there.
 
-use super::folders::holds;
-use super::steps::{other_refuses, other_stores};
+use super::folders::{holds, is_removed};
+use super::steps::comes_to_other;
 use std::os::unix::fs::symlink;
 use std::path::PathBuf;
 use std::{fs, io};
@@ -21,6 +21,10 @@ pub(super) enum Act<'a> {
     Replaces(&'a str, &'a str),
     /// A folder of this name is made.
     MakesFolder(&'a str),
+    /// The folder itself is removed, with all that is in it.
+    RemovesAll,
+    /// The folder itself is made again.
+    MakesAll,
     /// What has this name is a folder.
     IsFolder(&'a str),
     /// What has this name leads elsewhere.
@@ -50,27 +54,24 @@ fn replace(rt: &HostRuntime, dir: &PathBuf, name: &str, other: &str) -> io::Resu
     symlink(rt, other.as_str(), path.as_str())
 }
 
-/// Whether this text is written to the file of this name.
-pub(super) fn writes(rt: &HostRuntime, dir: &PathBuf, name: &str, text: &str) -> bool {
-    match path_of(rt, dir, name, "") {
-        Ok(path) => fs::write(rt, &path, text).is_ok(),
-        Err(_) => false,
-    }
+/// Something that is done with a path.
+#[derive(Clone, Copy)]
+enum Deed<'a> {
+    /// This text is written to a file there.
+    Write(&'a str),
+    /// The file there is removed.
+    Remove,
+    /// A folder is made there.
+    MakeFolder,
 }
 
-/// Whether the file of this name is removed.
-pub(super) fn removes(rt: &HostRuntime, dir: &PathBuf, name: &str) -> bool {
-    match path_of(rt, dir, name, "") {
-        Ok(path) => fs::remove_file(rt, &path).is_ok(),
-        Err(_) => false,
-    }
-}
-
-/// Whether a folder of this name is made.
-fn makes_folder(rt: &HostRuntime, dir: &PathBuf, name: &str) -> bool {
-    match path_of(rt, dir, name, "") {
-        Ok(path) => fs::create_dir(rt, &path).is_ok(),
-        Err(_) => false,
+/// Does this with the path of this name.
+fn do_at(rt: &HostRuntime, dir: &PathBuf, name: &str, deed: Deed<'_>) -> io::Result<()> {
+    let path = path_of(rt, dir, name, "")?;
+    match deed {
+        Deed::Write(text) => fs::write(rt, &path, text),
+        Deed::Remove => fs::remove_file(rt, &path),
+        Deed::MakeFolder => fs::create_dir(rt, &path),
     }
 }
 
@@ -80,14 +81,12 @@ fn kind_of(rt: &HostRuntime, dir: &PathBuf, name: &str) -> io::Result<(bool, boo
     Ok((metadata.is_dir(), metadata.is_symlink()))
 }
 
-/// Whether what has this name is a folder.
-fn is_folder(rt: &HostRuntime, dir: &PathBuf, name: &str) -> bool {
-    matches!(kind_of(rt, dir, name), Ok((true, _)))
-}
-
-/// Whether what has this name is a link.
-fn is_link(rt: &HostRuntime, dir: &PathBuf, name: &str) -> bool {
-    matches!(kind_of(rt, dir, name), Ok((_, true)))
+/// Whether what has this name is a folder, or no folder, and a link, or none.
+fn has_kind(rt: &HostRuntime, dir: &PathBuf, name: &str, want: (bool, bool)) -> bool {
+    match kind_of(rt, dir, name) {
+        Ok(kind) => kind == want,
+        Err(_) => false,
+    }
 }
 
 /// Does this, and tells whether it holds.
@@ -95,14 +94,16 @@ fn acts(rt: &HostRuntime, dir: &PathBuf, act: &Act<'_>) -> bool {
     match *act {
         Act::Holds(name, bytes) => holds(rt, dir, name, Some(bytes)),
         Act::Lacks(name) => holds(rt, dir, name, None),
-        Act::IsFolder(name) => is_folder(rt, dir, name),
-        Act::IsLink(name) => is_link(rt, dir, name),
-        Act::OtherRefuses(name) => other_refuses(rt, dir, name),
-        Act::OtherStores(name, bytes) => other_stores(rt, dir, name, bytes),
-        Act::Writes(name, text) => writes(rt, dir, name, text),
-        Act::Removes(name) => removes(rt, dir, name),
+        Act::IsFolder(name) => has_kind(rt, dir, name, (true, false)),
+        Act::IsLink(name) => has_kind(rt, dir, name, (false, true)),
+        Act::OtherRefuses(name) => comes_to_other(rt, dir, name, None),
+        Act::OtherStores(name, bytes) => comes_to_other(rt, dir, name, Some(bytes)),
+        Act::Writes(name, text) => do_at(rt, dir, name, Deed::Write(text)).is_ok(),
+        Act::Removes(name) => do_at(rt, dir, name, Deed::Remove).is_ok(),
         Act::Replaces(name, other) => replace(rt, dir, name, other).is_ok(),
-        Act::MakesFolder(name) => makes_folder(rt, dir, name),
+        Act::MakesFolder(name) => do_at(rt, dir, name, Deed::MakeFolder).is_ok(),
+        Act::RemovesAll => is_removed(rt, dir),
+        Act::MakesAll => fs::create_dir(rt, dir).is_ok(),
     }
 }
 

@@ -1,16 +1,19 @@
 //! A receiver over a folder.
 
-use super::acts::writes;
-use super::folders::{folder, holds, is_removed};
+ghost use Rattle.ym_file.specs.Kept.{IsNew};
+
+use super::acts::{Act, all_hold};
+use super::folders::{folder, is_removed};
 use super::steps::new_sink;
 use std::alloc::{AllocError, Global};
 use std::path::PathBuf;
 use std::test::Fail;
-use ym_folder::{DirSink, Leftover};
+use ym_file::Sink;
+use ym_folder::{Folder, Leftover};
 use ym_frame::{Bytes, Item, encode};
 use ym_header::{Header, Stamp, write};
 use ym_host::SystemFolder;
-use ym_link::{Confirm, EndFault, Event, ReceiverInto, RecvState, ScriptPort, receive_over};
+use ym_link::{Confirm, Event, ReceiverInto, RecvState, ScriptPort, receive_over};
 
 /// A port to which these bytes come.
 fn port_with(alloc: Global, bytes: &[u8]) -> Result<ScriptPort, AllocError> {
@@ -28,46 +31,40 @@ fn port_of(alloc: Global) -> Result<ScriptPort, AllocError> {
     }
 }
 
-/// A receiver into this folder.
-type Receiver<'r> = ReceiverInto<DirSink<SystemFolder<&'r HostRuntime>>>;
-
-/// A new receiver into this folder.
-fn new_receiver<'r>(rt: &'r HostRuntime, dir: &PathBuf) -> Result<Receiver<'r>, AllocError> {
-    let sink = new_sink(rt, dir, Leftover::Refused)?;
-    Ok(ReceiverInto::with_sink(rt.alloc(), sink, Confirm::Twice))
-}
-
-/// What the engine answers over a port. It tells a proof nothing, and so costs it little.
-fn receive(port: &mut ScriptPort, receiver: &mut Receiver<'_>) -> Result<(), EndFault> {
-    receive_over(port, receiver)
-}
-
-/// Whether a receiver has stored nothing, since its sink failed.
-fn has_failed(receiver: &Receiver<'_>) -> bool {
-    receiver.state() == RecvState::SinkFailed && receiver.committed() == 0
-}
-
-/// Whether a receiver of a file cancels over this port.
-fn cancels_over(port: &mut ScriptPort, receiver: &mut Receiver<'_>) -> bool {
-    receive(port, receiver).is_ok()
-        && has_failed(receiver)
-        && port.written() == [0x18, 0x18].as_slice()
-}
-
-/// Whether a receiver of the file `a` cancels in this folder.
-fn cancels(rt: &HostRuntime, dir: &PathBuf) -> bool {
-    match (port_of(rt.alloc()), new_receiver(rt, dir)) {
-        (Ok(mut port), Ok(mut receiver)) => cancels_over(&mut port, &mut receiver),
-        _ => false,
+/// Whether a receiver of the file `a` into this new sink cancels, and stores nothing.
+fn cancels<K: Sink + Drop>(alloc: Global, sink: K) -> bool
+    requires { IsNew (K.kept sink) }
+{
+    let mut receiver = ReceiverInto::with_sink(alloc, sink, Confirm::Twice);
+    match port_of(alloc) {
+        Ok(mut port) => {
+            receive_over(&mut port, &mut receiver).is_ok()
+                && receiver.state() == RecvState::SinkFailed
+                && receiver.committed() == 0
+                && port.written() == [0x18, 0x18].as_slice()
+        }
+        Err(_) => false,
     }
 }
 
+/// The same, of a sink over this folder.
+fn cancels_over<D: Folder + Drop>(folder: D, alloc: Global, dir: &PathBuf) -> bool {
+    match new_sink(folder, alloc, dir, Leftover::Refused) {
+        Ok(sink) => cancels(alloc, sink),
+        Err(_) => false,
+    }
+}
+
+/// What is there before, and stays as it is while a receiver cancels.
+static BEFORE: [Act; 1] = [Act::Writes("a", "old")];
+
+static STAYS: [Act; 2] = [Act::Holds("a", b"old"), Act::Lacks("a.part")];
+
 /// Whether a file that is there stays as it is while a receiver cancels.
 fn leaves_it(rt: &HostRuntime, dir: &PathBuf) -> bool {
-    writes(rt, dir, "a", "old")
-        && cancels(rt, dir)
-        && holds(rt, dir, "a", Some(b"old"))
-        && holds(rt, dir, "a.part", None)
+    all_hold(rt, dir, &BEFORE)
+        && cancels_over(SystemFolder::new(rt), rt.alloc(), dir)
+        && all_hold(rt, dir, &STAYS)
 }
 
 /// Where the folder has the name already, the receiver cancels, and what is there stays.

@@ -1,10 +1,9 @@
 //! Files that are stored in a folder.
 
-use super::acts::{Act, removes};
-use super::folders::{counted, folder, holds, is_removed};
-use super::steps::{Step, Why, all_come, goes, new_sink, other_stores, stores_in_three};
+use super::acts::Act;
+use super::folders::counted;
+use super::steps::{Step, Why, goes};
 use std::io::ErrorKind;
-use std::path::PathBuf;
 use std::test::Fail;
 use ym_folder::Leftover;
 
@@ -67,63 +66,57 @@ const WIDE: &str = "\
     nnnnnnnnnnnnnnnnnnnnnnnnnnnnnnnnnnnnnnnnnnnnnnnnnnnnnnnnnnnnnnnnnnnnnnnnnnnnnnnnnnn\
     \u{e9}1234";
 
-/// Whether a file of one byte is stored in this folder under a name of so many bytes. It is removed
-/// again.
-fn is_stored(rt: &HostRuntime, dir: &PathBuf, name: &str, length: usize) -> bool {
-    name.len() == length
-        && other_stores(rt, dir, name, b"1")
-        && holds(rt, dir, name, Some(b"1"))
-        && removes(rt, dir, name)
-}
-
-/// Whether a file is stored in this folder under each of these names, with their lengths.
-fn are_stored(rt: &HostRuntime, dir: &PathBuf) -> bool {
-    for (name, length) in [("n", 1), (LONG, 255), (WIDE, 255)] {
-        if !is_stored(rt, dir, name, length) {
-            return false;
-        }
-    }
-    true
-}
+/// A file of one byte is stored under each name by a sink of its own, and removed again.
+static NAMES: [Step; 3] = [
+    Step::Acts(&[
+        Act::OtherStores("n", b"1"),
+        Act::Holds("n", b"1"),
+        Act::Removes("n"),
+    ]),
+    Step::Acts(&[
+        Act::OtherStores(LONG, b"1"),
+        Act::Holds(LONG, b"1"),
+        Act::Removes(LONG),
+    ]),
+    Step::Acts(&[
+        Act::OtherStores(WIDE, b"1"),
+        Act::Holds(WIDE, b"1"),
+        Act::Removes(WIDE),
+    ]),
+];
 
 #[test]
-fn every_name_of_a_file_is_stored(rt: HostRuntime) -> Result<(), Fail> {
-    let dir = folder(&rt, "names")?;
-    assert!(rt; are_stored(&rt, &dir) && is_removed(&rt, &dir));
-    Ok(())
+fn every_name_of_a_file_is_stored(rt: HostRuntime) {
+    assert!(rt; LONG.len() == 255 && WIDE.len() == 255);
+    assert!(rt; goes(&rt, "names", Leftover::Discarded, &NAMES));
 }
 
 /// What is told where the folder is missing.
-static MISSED: [Step; 2] = [
+static MISSED: [Step; 4] = [
+    Step::Acts(&[Act::RemovesAll]),
     Step::Refuses("a"),
     Step::First(Why::System(ErrorKind::NotFound)),
+    Step::Acts(&[Act::MakesAll]),
 ];
 
-/// Whether a new sink in this folder tells that it is missing, once it is removed.
-fn misses(rt: &HostRuntime, dir: &PathBuf) -> bool {
-    match new_sink(rt, dir, Leftover::Discarded) {
-        Ok(mut sink) => is_removed(rt, dir) && all_come(rt, dir, &mut sink, &MISSED),
-        Err(_) => false,
-    }
-}
-
 #[test]
-fn a_folder_that_is_missing_is_told(rt: HostRuntime) -> Result<(), Fail> {
-    let dir = folder(&rt, "missing")?;
-    assert!(rt; misses(&rt, &dir));
-    Ok(())
+fn a_folder_that_is_missing_is_told(rt: HostRuntime) {
+    assert!(rt; goes(&rt, "missing", Leftover::Discarded, &MISSED));
 }
 
-/// Whether these 200,000 bytes are stored in this folder, in order.
-fn stores_all(rt: &HostRuntime, dir: &PathBuf, all: &[u8]) -> bool {
-    stores_in_three(rt, dir, all) && holds(rt, dir, "a", Some(all)) && is_removed(rt, dir)
+/// Whether these 200,000 bytes are stored in order.
+fn stores_all(rt: &HostRuntime, all: &[u8]) -> bool {
+    let steps = [
+        Step::StoresInThree(all),
+        Step::Acts(&[Act::Holds("a", all)]),
+    ];
+    goes(rt, "large", Leftover::Refused, &steps)
 }
 
 /// More bytes than wait at a time are there at the end, in order.
 #[test]
 fn a_large_file_is_stored(rt: HostRuntime) -> Result<(), Fail> {
     let all = counted(rt.alloc(), 200_000)?;
-    let dir = folder(&rt, "large")?;
-    assert!(rt; stores_all(&rt, &dir, all.as_slice()));
+    assert!(rt; stores_all(&rt, all.as_slice()));
     Ok(())
 }

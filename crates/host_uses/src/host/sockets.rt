@@ -30,7 +30,7 @@ fn wire<'r>(rt: &'r HostRuntime) -> Result<(TcpStream, SocketWire<&'r HostRuntim
 }
 
 /// Whether a read of a line, which waits so many milliseconds, gets this.
-fn gets(wire: &mut SocketWire<&HostRuntime>, millis: u64, buf: &mut [u8], want: Got) -> bool {
+fn gets<W: Wire>(wire: &mut W, millis: u64, buf: &mut [u8], want: Got) -> bool {
     if buf.is_empty() {
         return false;
     }
@@ -38,7 +38,7 @@ fn gets(wire: &mut SocketWire<&HostRuntime>, millis: u64, buf: &mut [u8], want: 
 }
 
 /// Whether a line takes these bytes.
-fn takes(wire: &mut SocketWire<&HostRuntime>, bytes: &[u8]) -> bool {
+fn takes<W: Wire>(wire: &mut W, bytes: &[u8]) -> bool {
     wire.write(bytes).is_ok()
 }
 
@@ -48,7 +48,7 @@ fn write(stream: &mut TcpStream, bytes: &[u8]) -> io::Result<()> {
 }
 
 /// Whether a read of so many milliseconds finds the line quiet, and not before nor much later.
-fn is_quiet(rt: &HostRuntime, wire: &mut SocketWire<&HostRuntime>, millis: u64) -> bool {
+fn is_quiet<W: Wire>(rt: &HostRuntime, wire: &mut W, millis: u64) -> bool {
     let mut buf = [0; 8];
     let Ok(start) = Instant::now(rt) else {
         return false;
@@ -62,11 +62,7 @@ fn is_quiet(rt: &HostRuntime, wire: &mut SocketWire<&HostRuntime>, millis: u64) 
 }
 
 /// Whether a line reads what was written to it, and then is quiet.
-fn reads_what_is_there(
-    rt: &HostRuntime,
-    near: &mut TcpStream,
-    wire: &mut SocketWire<&HostRuntime>,
-) -> bool {
+fn reads_what_is_there<W: Wire>(rt: &HostRuntime, near: &mut TcpStream, wire: &mut W) -> bool {
     let mut buf = [0; 8];
     write(near, b"abcdefghij").is_ok()
         && gets(wire, 100, &mut buf, Got::Bytes(8))
@@ -80,22 +76,27 @@ fn reads_what_is_there(
 }
 
 /// Whether a line is closed, and stays so.
-fn is_closed(wire: &mut SocketWire<&HostRuntime>) -> bool {
+fn is_closed<W: Wire>(wire: &mut W) -> bool {
     let mut buf = [0; 8];
     gets(wire, 100, &mut buf, Got::Closed) && gets(wire, 3000, &mut buf, Got::Closed)
 }
 
+/// Whether a line reads what was written to it, and is closed with its connection.
+fn reads_to_the_end<W: Wire>(rt: &HostRuntime, mut near: TcpStream, wire: &mut W) -> bool {
+    let reads = reads_what_is_there(rt, &mut near, wire);
+    drop(near);
+    reads && is_closed(wire)
+}
+
 #[test]
 fn a_line_reads_what_is_there(rt: HostRuntime) -> Result<(), Fail> {
-    let (mut near, mut wire) = wire(&rt)?;
-    assert!(rt; reads_what_is_there(&rt, &mut near, &mut wire));
-    drop(near);
-    assert!(rt; is_closed(&mut wire));
+    let (near, mut wire) = wire(&rt)?;
+    assert!(rt; reads_to_the_end(&rt, near, &mut wire));
     Ok(())
 }
 
 /// Whether the clock of a line goes on with the host's.
-fn goes_on(rt: &HostRuntime, wire: &mut SocketWire<&HostRuntime>) -> bool {
+fn goes_on<W: Wire>(rt: &HostRuntime, wire: &mut W) -> bool {
     let before = wire.moment();
     thread::sleep(rt, Duration::from_millis(50));
     let after = wire.moment();
@@ -117,7 +118,7 @@ fn comes(stream: &mut TcpStream, want: &[u8; 5]) -> bool {
 }
 
 /// Whether what a line takes comes to its peer.
-fn hands_on(near: &mut TcpStream, wire: &mut SocketWire<&HostRuntime>) -> bool {
+fn hands_on<W: Wire>(near: &mut TcpStream, wire: &mut W) -> bool {
     takes(wire, b"abc")
         && takes(wire, b"")
         && takes(wire, b"de")
@@ -126,17 +127,22 @@ fn hands_on(near: &mut TcpStream, wire: &mut SocketWire<&HostRuntime>) -> bool {
         && takes(wire, b"unread")
 }
 
+/// The same, and then it is closed with its connection.
+fn hands_on_to_the_end<W: Wire>(mut near: TcpStream, wire: &mut W) -> bool {
+    let hands_on = hands_on(&mut near, wire);
+    drop(near);
+    hands_on && gets(wire, 3000, &mut [0; 5], Got::Closed)
+}
+
 #[test]
 fn a_line_writes(rt: HostRuntime) -> Result<(), Fail> {
-    let (mut near, mut wire) = wire(&rt)?;
-    assert!(rt; hands_on(&mut near, &mut wire));
-    drop(near);
-    assert!(rt; gets(&mut wire, 3000, &mut [0; 5], Got::Closed));
+    let (near, mut wire) = wire(&rt)?;
+    assert!(rt; hands_on_to_the_end(near, &mut wire));
     Ok(())
 }
 
 /// Whether a line refuses in the end to take what nobody reads, before it took 65 MB.
-fn refuses(wire: &mut SocketWire<&HostRuntime>) -> bool {
+fn refuses<W: Wire>(wire: &mut W) -> bool {
     let bytes = [0; 65536];
     for _ in 0..1000 {
         if !takes(wire, &bytes) {
@@ -155,8 +161,8 @@ fn a_write_without_headway_fails(rt: HostRuntime) -> Result<(), Fail> {
 }
 
 /// What carrying these bytes gives.
-fn carry(
-    carrier: &mut SocketCarrier,
+fn carry<C: Carrier>(
+    carrier: &mut C,
     alloc: Global,
     way: Way,
     bytes: &[u8],
@@ -168,12 +174,12 @@ fn carry(
 }
 
 /// Whether a carrier has handed on these bytes, and no others.
-fn carries(carrier: &mut SocketCarrier, alloc: Global, way: Way, bytes: &[u8]) -> bool {
+fn carries<C: Carrier>(carrier: &mut C, alloc: Global, way: Way, bytes: &[u8]) -> bool {
     carry(carrier, alloc, way, bytes) == Ok(true)
 }
 
 /// Whether a carrier has failed to hand these bytes on.
-fn fails(carrier: &mut SocketCarrier, alloc: Global, way: Way, bytes: &[u8]) -> bool {
+fn fails<C: Carrier>(carrier: &mut C, alloc: Global, way: Way, bytes: &[u8]) -> bool {
     carry(carrier, alloc, way, bytes) == Err(CarryFault::Device)
 }
 
@@ -184,7 +190,7 @@ fn carrier(rt: &HostRuntime) -> io::Result<SocketCarrier> {
 }
 
 /// Whether a carrier hands on what it is given, either way.
-fn passes(carrier: &mut SocketCarrier, alloc: Global) -> bool {
+fn passes<C: Carrier>(carrier: &mut C, alloc: Global) -> bool {
     let long = [0x5A; 2048];
     carries(carrier, alloc, Way::There, b"abc")
         && carries(carrier, alloc, Way::Back, b"\x06C")
@@ -221,7 +227,7 @@ fn strayed(rt: &HostRuntime, way: Way) -> io::Result<SocketCarrier> {
 }
 
 /// Whether a carrier fails at the byte that is under way this way.
-fn compares(carrier: &mut SocketCarrier, alloc: Global, way: Way) -> bool {
+fn compares<C: Carrier>(carrier: &mut C, alloc: Global, way: Way) -> bool {
     carries(carrier, alloc, other(way), b"abc")
         && fails(carrier, alloc, way, b"abc")
         // and every later one fails, also of no bytes
@@ -247,7 +253,7 @@ fn a_carrier_compares_what_came(rt: HostRuntime) {
 }
 
 /// Whether a carrier refuses more than a delivery, and all that comes behind it.
-fn is_full(carrier: &mut SocketCarrier, alloc: Global) -> bool {
+fn is_full<C: Carrier>(carrier: &mut C, alloc: Global) -> bool {
     fails(carrier, alloc, Way::There, &[0; 2049]) && fails(carrier, alloc, Way::There, &[0; 2048])
 }
 
@@ -297,7 +303,7 @@ fn filled(rt: &HostRuntime, way: Way) -> Option<SocketCarrier> {
 }
 
 /// Whether a carrier fails to hand on a delivery this way, once it has waited for 9 seconds.
-fn waits(rt: &HostRuntime, carrier: &mut SocketCarrier, way: Way) -> bool {
+fn waits<C: Carrier>(rt: &HostRuntime, carrier: &mut C, way: Way) -> bool {
     let Ok(start) = Instant::now(rt) else {
         return false;
     };

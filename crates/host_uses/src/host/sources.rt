@@ -9,17 +9,24 @@ use std::{fs, io};
 use ym_file::{Source, SourceFault};
 use ym_host::FileSource;
 
+/// What filling a buffer comes to.
+#[derive(Clone, Copy)]
+enum Want<'a> {
+    /// These bytes.
+    All(&'a [u8]),
+    /// Bytes of which these are the first and the last.
+    Ends(u8, u8),
+    /// A fault.
+    Fault,
+}
+
 /// What is asked of a source, or done to its file, and has to come out so.
 #[derive(Clone, Copy)]
 enum Ask<'a> {
     /// The source has this length.
     HasLength(u64),
-    /// It fills a buffer with these bytes from this place on.
-    Gives(u64, &'a [u8]),
-    /// It fills a buffer of so many bytes from this place on, and these are the first and the last.
-    Spans(u64, usize, u8, u8),
-    /// It fails to fill a buffer of so many bytes from this place on, which its file had.
-    Fails(u64, usize),
+    /// It is to fill a buffer of so many bytes from this place on, which its file has or had.
+    Fills(u64, usize, Want<'a>),
     /// The file gets this length.
     Sets(u64),
     /// Another file of 100 bytes is put in its place.
@@ -65,87 +72,50 @@ fn replace(rt: &HostRuntime, place: &Place) -> io::Result<()> {
 
 /// What filling a buffer gives, with bytes from this place on, or `None` where these are past the
 /// end.
-fn filled(
-    source: &mut FileSource<'_, &HostRuntime>,
-    at: u64,
-    into: &mut [u8],
-) -> Option<Result<(), SourceFault>> {
+fn filled<S: Source>(source: &mut S, at: u64, into: &mut [u8]) -> Option<Result<(), SourceFault>> {
     match at.checked_add(into.len() as u64) {
         Some(end) if end <= source.length() => Some(source.fill(at, into)),
         _ => None,
     }
 }
 
-/// What filling a buffer of so many bytes gives, and the buffer.
-fn filled_new(
+/// Whether filling a buffer of so many bytes from this place on comes to this.
+fn fills<S: Source>(
     rt: &HostRuntime,
-    source: &mut FileSource<'_, &HostRuntime>,
+    source: &mut S,
     at: u64,
     count: usize,
-) -> Option<(Result<(), SourceFault>, Vec<u8>)> {
-    let mut into = vec![in rt.alloc(); 0; count].ok()?;
-    let answer = filled(source, at, into.as_mut_slice())?;
-    Some((answer, into))
-}
-
-/// Whether a source fills a buffer with these bytes from this place on.
-fn gives(
-    rt: &HostRuntime,
-    source: &mut FileSource<'_, &HostRuntime>,
-    at: u64,
-    want: &[u8],
+    want: Want<'_>,
 ) -> bool {
-    match filled_new(rt, source, at, want.len()) {
-        Some((Ok(()), bytes)) => bytes.as_slice() == want,
-        _ => false,
+    let Ok(mut into) = vec![in rt.alloc(); 0; count] else {
+        return false;
+    };
+    let answer = filled(source, at, into.as_mut_slice());
+    let bytes = into.as_slice();
+    match want {
+        Want::All(all) => answer == Some(Ok(())) && bytes == all,
+        Want::Ends(first, last) => {
+            answer == Some(Ok(())) && bytes.starts_with(&[first]) && bytes.ends_with(&[last])
+        }
+        Want::Fault => matches!(answer, Some(Err(_))),
     }
-}
-
-/// Whether a source fills a buffer with bytes of which these are the first and the last.
-fn spans(
-    rt: &HostRuntime,
-    source: &mut FileSource<'_, &HostRuntime>,
-    (at, count): (u64, usize),
-    (first, last): (u8, u8),
-) -> bool {
-    match filled_new(rt, source, at, count) {
-        Some((Ok(()), bytes)) => bytes.first() == Some(&first) && bytes.last() == Some(&last),
-        _ => false,
-    }
-}
-
-/// Whether a source fails to fill a buffer with bytes that its file had.
-fn fails(
-    rt: &HostRuntime,
-    source: &mut FileSource<'_, &HostRuntime>,
-    at: u64,
-    count: usize,
-) -> bool {
-    matches!(filled_new(rt, source, at, count), Some((Err(_), _)))
 }
 
 /// Whether this comes out so.
-fn comes_out(
-    rt: &HostRuntime,
-    place: &Place,
-    source: &mut FileSource<'_, &HostRuntime>,
-    ask: &Ask<'_>,
-) -> bool {
+fn comes_out<S: Source>(rt: &HostRuntime, place: &Place, source: &mut S, ask: &Ask<'_>) -> bool {
     match *ask {
         Ask::HasLength(length) => source.length() == length,
-        Ask::Gives(at, bytes) => gives(rt, source, at, bytes),
-        Ask::Spans(at, count, first, last) => spans(rt, source, (at, count), (first, last)),
-        Ask::Fails(at, count) => fails(rt, source, at, count),
+        Ask::Fills(at, count, want) => fills(rt, source, at, count, want),
         Ask::Sets(length) => set_length(rt, &place.path, length).is_ok(),
         Ask::Replaces => replace(rt, place).is_ok(),
     }
 }
 
 /// Whether all of this comes out so, in turn.
-fn all_come_out(
+fn all_come_out<S: Source>(
     rt: &HostRuntime,
     place: &Place,
-    source: &mut FileSource<'_, &HostRuntime>,
+    source: &mut S,
     asks: &[Ask<'_>],
 ) -> bool {
     for ask in asks {
@@ -156,17 +126,14 @@ fn all_come_out(
     true
 }
 
-/// A source of the file.
-fn opened<'p>(
-    rt: &'p HostRuntime,
-    place: &'p Place,
-) -> io::Result<FileSource<'p, &'p HostRuntime>> {
-    FileSource::new(rt, rt.alloc(), place.path.as_str())
+/// A source of what stands at this path.
+fn opened<'p>(rt: &'p HostRuntime, path: &'p str) -> io::Result<FileSource<'p, &'p HostRuntime>> {
+    FileSource::new(rt, rt.alloc(), path)
 }
 
 /// Whether all of this comes out so with a new source of the file, whose folder is removed.
 fn reads(rt: &HostRuntime, place: &Place, asks: &[Ask<'_>]) -> bool {
-    match opened(rt, place) {
+    match opened(rt, place.path.as_str()) {
         Ok(mut source) => {
             all_come_out(rt, place, &mut source, asks) && is_removed(rt, &place.dir)
         }
@@ -185,8 +152,8 @@ fn goes(rt: &HostRuntime, name: &str, count: u32, asks: &[Ask<'_>]) -> bool {
 /// The tail of a file, and then its front.
 static TAIL_AND_FRONT: [Ask; 3] = [
     Ask::HasLength(200),
-    Ask::Spans(128, 72, 128, 199),
-    Ask::Gives(0, &[0, 1, 2]),
+    Ask::Fills(128, 72, Want::Ends(128, 199)),
+    Ask::Fills(0, 3, Want::All(&[0, 1, 2])),
 ];
 
 #[test]
@@ -197,10 +164,10 @@ fn a_source_reads_from_any_place(rt: HostRuntime) {
 /// A source reads ahead: what it has read it still has, and what it has not is missing where the
 /// file has shrunk.
 static READ_AHEAD: [Ask; 5] = [
-    Ask::Spans(1024, 1024, 20, 39),
+    Ask::Fills(1024, 1024, Want::Ends(20, 39)),
     Ask::Sets(70_000),
-    Ask::Spans(65_536, 1024, 25, 44),
-    Ask::Fails(66_560, 1024),
+    Ask::Fills(65_536, 1024, Want::Ends(25, 44)),
+    Ask::Fills(66_560, 1024, Want::Fault),
     Ask::HasLength(130_000),
 ];
 
@@ -213,54 +180,44 @@ fn a_source_reads_many_blocks_at_a_time(rt: HostRuntime) {
 #[test]
 fn a_source_fills_a_large_buffer(rt: HostRuntime) -> io::Result<()> {
     let all = counted(rt.alloc(), 70_000)?;
-    assert!(rt; goes(&rt, "piece", 70_000, &[Ask::Gives(0, all.as_slice())]));
+    let asks = [Ask::Fills(0, 70_000, Want::All(all.as_slice()))];
+    assert!(rt; goes(&rt, "piece", 70_000, &asks));
     Ok(())
 }
 
 /// What stands behind places at which a number of 21, 31 or 32 bits turns over.
-static MARKS: [(u64, [u8; 3]); 3] = [
-    (0x0020_0005, [1, 2, 3]),
-    (0x8000_0005, [4, 5, 6]),
-    (0x1_0000_0005, [7, 8, 9]),
+static MARKS: [Ask; 3] = [
+    Ask::Fills(0x0020_0005, 3, Want::All(&[1, 2, 3])),
+    Ask::Fills(0x8000_0005, 3, Want::All(&[4, 5, 6])),
+    Ask::Fills(0x1_0000_0005, 3, Want::All(&[7, 8, 9])),
 ];
 
 /// Puts each mark into the file at this path, with holes between them.
 fn put_marks(rt: &HostRuntime, path: &PathBuf) -> io::Result<()> {
     let file = writable(rt, path)?;
     file.set_len(0x1_0002_0000)?;
-    for (at, bytes) in &MARKS {
-        file.write_all_at(bytes, *at)?;
-    }
-    Ok(())
-}
-
-/// Whether a source of the file has each mark.
-fn has_marks(rt: &HostRuntime, place: &Place) -> bool {
-    let Ok(mut source) = opened(rt, place) else {
-        return false;
-    };
-    for (at, bytes) in &MARKS {
-        if !gives(rt, &mut source, *at, bytes) {
-            return false;
+    for mark in &MARKS {
+        if let Ask::Fills(at, _, Want::All(bytes)) = mark {
+            file.write_all_at(bytes, *at)?;
         }
     }
-    true
+    Ok(())
 }
 
 #[test]
 fn a_source_reads_far_into_a_file(rt: HostRuntime) -> io::Result<()> {
     let place = new_place(&rt, "far", 0)?;
     put_marks(&rt, &place.path)?;
-    assert!(rt; has_marks(&rt, &place) && is_removed(&rt, &place.dir));
+    assert!(rt; reads(&rt, &place, &MARKS));
     Ok(())
 }
 
 /// A source fails where its file has another length, and not where it has its own again.
 static OWN_LENGTH: [Ask; 4] = [
     Ask::Sets(101),
-    Ask::Fails(0, 50),
+    Ask::Fills(0, 50, Want::Fault),
     Ask::Sets(100),
-    Ask::Spans(0, 50, 0, 49),
+    Ask::Fills(0, 50, Want::Ends(0, 49)),
 ];
 
 #[test]
@@ -268,39 +225,55 @@ fn a_source_has_the_length_that_it_was_made_with(rt: HostRuntime) {
     assert!(rt; goes(&rt, "same", 100, &OWN_LENGTH));
 }
 
+/// A source opens its file where it first reads it.
+static OPENS: [Ask; 1] = [Ask::Fills(0, 50, Want::Ends(0, 49))];
+
 /// A source that is not open yet fails once another file has the name of its file.
-static REPLACED: [Ask; 2] = [Ask::Replaces, Ask::Fails(0, 50)];
+static REPLACED: [Ask; 2] = [Ask::Replaces, Ask::Fills(0, 50, Want::Fault)];
 
 /// A source that is open goes on with its own. Behind its last byte it is closed.
-static GOES_ON: [Ask; 2] = [Ask::Spans(50, 50, 50, 99), Ask::Fails(50, 50)];
+static GOES_ON: [Ask; 2] = [
+    Ask::Fills(50, 50, Want::Ends(50, 99)),
+    Ask::Fills(50, 50, Want::Fault),
+];
 
 /// Whether a source goes on with its file where a later one fails.
-fn keeps_file(rt: &HostRuntime, place: &Place) -> bool {
-    let (Ok(mut source), Ok(mut late)) = (opened(rt, place), opened(rt, place)) else {
-        return false;
-    };
-    spans(rt, &mut source, (0, 50), (0, 49))
-        && all_come_out(rt, place, &mut late, &REPLACED)
-        && all_come_out(rt, place, &mut source, &GOES_ON)
+fn keeps_file(rt: &HostRuntime, place: &Place) -> io::Result<bool> {
+    let mut source = opened(rt, place.path.as_str())?;
+    let mut late = opened(rt, place.path.as_str())?;
+    Ok(
+        all_come_out(rt, place, &mut source, &OPENS)
+            && all_come_out(rt, place, &mut late, &REPLACED)
+            && all_come_out(rt, place, &mut source, &GOES_ON),
+    )
 }
 
 #[test]
 fn a_source_is_the_file_that_it_was_made_of(rt: HostRuntime) -> io::Result<()> {
     let place = new_place(&rt, "other", 100)?;
-    assert!(rt; keeps_file(&rt, &place) && is_removed(&rt, &place.dir));
+    assert!(rt; keeps_file(&rt, &place)? && is_removed(&rt, &place.dir));
     Ok(())
 }
 
 /// Whether no source is made of what stands at this path.
 fn is_refused(rt: &HostRuntime, path: &str) -> bool {
-    FileSource::new(rt, rt.alloc(), path).is_err()
+    opened(rt, path).is_err()
+}
+
+/// Whether no source is made of this folder, of what is missing in it, of a device, or of no path.
+fn others_are_refused(rt: &HostRuntime, dir: &PathBuf) -> io::Result<bool> {
+    let missing = dir.join(rt.alloc(), "missing")?;
+    Ok(
+        is_refused(rt, dir.as_str())
+            && is_refused(rt, missing.as_str())
+            && is_refused(rt, "/dev/zero")
+            && is_refused(rt, ""),
+    )
 }
 
 #[test]
 fn a_source_is_a_regular_file(rt: HostRuntime) -> io::Result<()> {
     let dir = folder(&rt, "regular")?;
-    let missing = dir.join(rt.alloc(), "missing")?;
-    assert!(rt; is_refused(&rt, dir.as_str()) && is_refused(&rt, missing.as_str()));
-    assert!(rt; is_refused(&rt, "/dev/zero") && is_refused(&rt, "") && is_removed(&rt, &dir));
+    assert!(rt; others_are_refused(&rt, &dir)? && is_removed(&rt, &dir));
     Ok(())
 }

@@ -8,13 +8,13 @@ ghost use Rattle.ym_folder.specs.DirSink.{kept_of};
 
 use super::acts::{Act, all_hold, path_of};
 use super::folders::{folder, is_removed};
-use std::alloc::AllocError;
+use std::alloc::{AllocError, Global};
 use std::fs::File;
 use std::io;
 use std::io::ErrorKind;
 use std::path::PathBuf;
 use ym_file::{Sink, SinkFault};
-use ym_folder::{DirSink, Durability, Leftover, StoreFault};
+use ym_folder::{DirSink, Durability, Folder, Leftover, StoreFault};
 use ym_header::{Header, Stamp};
 use ym_host::SystemFolder;
 
@@ -39,6 +39,8 @@ pub(super) enum Step<'a> {
     LetsGo(&'a str, &'a [Act<'a>]),
     /// The same, but its part cannot be removed.
     Leaves(&'a str, &'a [Act<'a>]),
+    /// The file `a` takes these 200,000 bytes in three pieces, and then it is stored.
+    StoresInThree(&'a [u8]),
     /// A file of this name is begun, and for it this part was removed, or none.
     Replaces(&'a str, Option<&'a str>),
     /// What is open is let go, without a fault or with one.
@@ -55,16 +57,17 @@ pub(super) enum Step<'a> {
     First(Why),
 }
 
-/// A sink that stores files in this folder.
-pub(super) fn new_sink<'r>(
-    rt: &'r HostRuntime,
+/// A sink that stores files in the folder at this path. What is asked of a sink is asked of one
+/// over a folder of any kind: a call is dear to prove where it is made of one kind.
+pub(super) fn new_sink<D: Folder + Drop>(
+    folder: D,
+    alloc: Global,
     dir: &PathBuf,
     leftover: Leftover,
-) -> Result<DirSink<SystemFolder<&'r HostRuntime>>, AllocError>
+) -> Result<DirSink<D>, AllocError>
     ensures { IfOk result (λ sink. IsNew (kept_of sink)) }
 {
-    let folder = SystemFolder::new(rt);
-    DirSink::new(folder, rt.alloc(), dir.as_str(), Durability::Disk, leftover)
+    DirSink::new(folder, alloc, dir.as_str(), Durability::Disk, leftover)
 }
 
 /// The header of a file of this name and length.
@@ -78,7 +81,7 @@ fn header(rt: &HostRuntime, name: &str, length: u64) -> Result<Header, SinkFault
 }
 
 /// Lets go of what is open: of nothing, before a file is begun.
-fn clear(sink: &mut DirSink<SystemFolder<&HostRuntime>>) -> Result<(), SinkFault>
+fn clear<D: Folder + Drop>(sink: &mut DirSink<D>) -> Result<(), SinkFault>
     ensures { sink.new.opened ≡ None }
 {
     sink.close()
@@ -131,9 +134,9 @@ fn take_two<S: Sink>(sink: &mut S, header: Header) -> Result<(), SinkFault>
 }
 
 /// Takes a file, and what was open before is let go.
-fn take_file(
+fn take_file<D: Folder + Drop>(
     rt: &HostRuntime,
-    sink: &mut DirSink<SystemFolder<&HostRuntime>>,
+    sink: &mut DirSink<D>,
     name: &str,
     bytes: &[u8],
 ) -> Result<(), SinkFault>
@@ -144,17 +147,17 @@ fn take_file(
 }
 
 /// Whether the file that was taken is stored.
-fn commits(sink: &mut DirSink<SystemFolder<&HostRuntime>>) -> bool
+fn commits<D: Folder + Drop>(sink: &mut DirSink<D>) -> bool
     requires { IsCoveredFile (kept_of sink.old) }
 {
     sink.commit().is_ok()
 }
 
 /// Whether this could be done while a file was open, and whether the file was stored then.
-fn stores(
+fn stores<D: Folder + Drop>(
     rt: &HostRuntime,
     dir: &PathBuf,
-    sink: &mut DirSink<SystemFolder<&HostRuntime>>,
+    sink: &mut DirSink<D>,
     name: &str,
     bytes: &[u8],
     acts: &[Act<'_>],
@@ -164,10 +167,10 @@ fn stores(
 }
 
 /// Whether a file that lacks a byte is let go of without a fault, or with one, after this was done.
-fn lets_go(
+fn lets_go<D: Folder + Drop>(
     rt: &HostRuntime,
     dir: &PathBuf,
-    sink: &mut DirSink<SystemFolder<&HostRuntime>>,
+    sink: &mut DirSink<D>,
     name: &str,
     acts: &[Act<'_>],
 ) -> Result<bool, SinkFault> {
@@ -180,14 +183,14 @@ fn lets_go(
 }
 
 /// Whether a sink removed this part, or none.
-fn has_replaced(sink: &DirSink<SystemFolder<&HostRuntime>>, part: Option<&str>) -> bool {
+fn has_replaced<D: Folder + Drop>(sink: &DirSink<D>, part: Option<&str>) -> bool {
     sink.replaced() == part
 }
 
 /// Whether this part was removed, or none, for a file of this name that is begun.
-fn replaces(
+fn replaces<D: Folder + Drop>(
     rt: &HostRuntime,
-    sink: &mut DirSink<SystemFolder<&HostRuntime>>,
+    sink: &mut DirSink<D>,
     name: &str,
     part: Option<&str>,
 ) -> Result<bool, SinkFault> {
@@ -197,9 +200,9 @@ fn replaces(
 }
 
 /// Whether no file of this name is begun.
-fn refuses(
+fn refuses<D: Folder + Drop>(
     rt: &HostRuntime,
-    sink: &mut DirSink<SystemFolder<&HostRuntime>>,
+    sink: &mut DirSink<D>,
     name: &str,
 ) -> Result<bool, SinkFault> {
     clear(sink)?;
@@ -214,10 +217,10 @@ fn locked(rt: &HostRuntime, dir: &PathBuf, name: &str) -> io::Result<File> {
 }
 
 /// Whether no file of this name is begun while its part is locked.
-fn refuses_locked(
+fn refuses_locked<D: Folder + Drop>(
     rt: &HostRuntime,
     dir: &PathBuf,
-    sink: &mut DirSink<SystemFolder<&HostRuntime>>,
+    sink: &mut DirSink<D>,
     name: &str,
 ) -> bool {
     match locked(rt, dir, name) {
@@ -228,9 +231,9 @@ fn refuses_locked(
 
 /// Stores the 200,000 bytes of the file `a`. The first bytes wait, the second have no room beside
 /// them, and the third are more than ever wait.
-fn stores_so(
+fn stores_in_three<D: Folder + Drop>(
     rt: &HostRuntime,
-    sink: &mut DirSink<SystemFolder<&HostRuntime>>,
+    sink: &mut DirSink<D>,
     all: &[u8],
 ) -> Result<bool, SinkFault> {
     if all.len() != 200_000 {
@@ -241,43 +244,49 @@ fn stores_so(
     Ok(sink.commit().is_ok())
 }
 
-/// Whether a new sink stores these bytes in three pieces.
-pub(super) fn stores_in_three(rt: &HostRuntime, dir: &PathBuf, all: &[u8]) -> bool {
-    match new_sink(rt, dir, Leftover::Refused) {
-        Ok(mut sink) => stores_so(rt, &mut sink, all) == Ok(true),
-        Err(_) => false,
-    }
-}
-
-/// Whether another sink in the folder begins no file of this name.
-pub(super) fn other_refuses(rt: &HostRuntime, dir: &PathBuf, name: &str) -> bool {
-    match new_sink(rt, dir, Leftover::Discarded) {
-        Ok(mut other) => refuses(rt, &mut other, name) == Ok(true),
-        Err(_) => false,
-    }
-}
-
-/// Whether a file is stored, or is not, with nothing done meanwhile.
-fn stores_at_once(
+/// Whether a file of this name and these bytes is stored, with nothing done meanwhile, or none of
+/// the name is begun where there are no bytes.
+fn comes<D: Folder + Drop>(
     rt: &HostRuntime,
-    sink: &mut DirSink<SystemFolder<&HostRuntime>>,
+    sink: &mut DirSink<D>,
     name: &str,
-    bytes: &[u8],
+    bytes: Option<&[u8]>,
 ) -> Result<bool, SinkFault> {
-    take_file(rt, sink, name, bytes)?;
-    Ok(commits(sink))
+    match bytes {
+        Some(bytes) => {
+            take_file(rt, sink, name, bytes)?;
+            Ok(commits(sink))
+        }
+        None => refuses(rt, sink, name),
+    }
 }
 
-/// Whether another sink in the folder stores this file.
-pub(super) fn other_stores(rt: &HostRuntime, dir: &PathBuf, name: &str, bytes: &[u8]) -> bool {
-    match new_sink(rt, dir, Leftover::Discarded) {
-        Ok(mut other) => stores_at_once(rt, &mut other, name, bytes) == Ok(true),
+/// The same, of a new sink over this folder.
+fn comes_over<D: Folder + Drop>(
+    folder: D,
+    rt: &HostRuntime,
+    dir: &PathBuf,
+    name: &str,
+    bytes: Option<&[u8]>,
+) -> bool {
+    match new_sink(folder, rt.alloc(), dir, Leftover::Discarded) {
+        Ok(mut sink) => comes(rt, &mut sink, name, bytes) == Ok(true),
         Err(_) => false,
     }
+}
+
+/// The same, of another sink in the folder.
+pub(super) fn comes_to_other(
+    rt: &HostRuntime,
+    dir: &PathBuf,
+    name: &str,
+    bytes: Option<&[u8]>,
+) -> bool {
+    comes_over(SystemFolder::new(rt), rt, dir, name, bytes)
 }
 
 /// Whether the files of these names are told as stored, in this order.
-fn tells(sink: &DirSink<SystemFolder<&HostRuntime>>, names: &[&str]) -> bool {
+fn tells<D: Folder + Drop>(sink: &DirSink<D>, names: &[&str]) -> bool {
     let headers = sink.headers();
     headers.len() == names.len()
         && headers
@@ -287,7 +296,7 @@ fn tells(sink: &DirSink<SystemFolder<&HostRuntime>>, names: &[&str]) -> bool {
 }
 
 /// Whether this is why a sink failed first.
-fn failed_by(sink: &DirSink<SystemFolder<&HostRuntime>>, why: Why) -> bool {
+fn failed_by<D: Folder + Drop>(sink: &DirSink<D>, why: Why) -> bool {
     match (sink.first_fault(), why) {
         (Some(StoreFault::IsThere), Why::IsThere)
         | (Some(StoreFault::PartIsThere), Why::PartIsThere)
@@ -298,10 +307,10 @@ fn failed_by(sink: &DirSink<SystemFolder<&HostRuntime>>, why: Why) -> bool {
 }
 
 /// Whether a step comes to what it says.
-fn holds(
+fn holds<D: Folder + Drop>(
     rt: &HostRuntime,
     dir: &PathBuf,
-    sink: &mut DirSink<SystemFolder<&HostRuntime>>,
+    sink: &mut DirSink<D>,
     step: &Step<'_>,
 ) -> bool {
     match *step {
@@ -312,6 +321,7 @@ fn holds(
         Step::LetsGo(name, acts) => lets_go(rt, dir, sink, name, acts) == Ok(true),
         Step::Leaves(name, acts) => lets_go(rt, dir, sink, name, acts) == Ok(false),
         Step::Replaces(name, part) => replaces(rt, sink, name, part) == Ok(true),
+        Step::StoresInThree(all) => stores_in_three(rt, sink, all) == Ok(true),
         Step::Closes(is_well) => sink.close().is_ok() == is_well,
         Step::Refuses(name) => refuses(rt, sink, name) == Ok(true),
         Step::RefusesLocked(name) => refuses_locked(rt, dir, sink, name),
@@ -322,10 +332,10 @@ fn holds(
 }
 
 /// Whether these steps come to what they say, one after another.
-pub(super) fn all_come(
+fn all_come<D: Folder + Drop>(
     rt: &HostRuntime,
     dir: &PathBuf,
-    sink: &mut DirSink<SystemFolder<&HostRuntime>>,
+    sink: &mut DirSink<D>,
     steps: &[Step<'_>],
 ) -> bool {
     for step in steps {
@@ -336,9 +346,15 @@ pub(super) fn all_come(
     true
 }
 
-/// The same, of a new sink in this folder.
-fn all_come_in(rt: &HostRuntime, dir: &PathBuf, leftover: Leftover, steps: &[Step<'_>]) -> bool {
-    match new_sink(rt, dir, leftover) {
+/// The same, of a new sink over this folder.
+fn all_come_over<D: Folder + Drop>(
+    folder: D,
+    rt: &HostRuntime,
+    dir: &PathBuf,
+    leftover: Leftover,
+    steps: &[Step<'_>],
+) -> bool {
+    match new_sink(folder, rt.alloc(), dir, leftover) {
         Ok(mut sink) => all_come(rt, dir, &mut sink, steps),
         Err(_) => false,
     }
@@ -347,7 +363,9 @@ fn all_come_in(rt: &HostRuntime, dir: &PathBuf, leftover: Leftover, steps: &[Ste
 /// The same, in a new folder of this name, which is removed.
 pub(super) fn goes(rt: &HostRuntime, name: &str, leftover: Leftover, steps: &[Step<'_>]) -> bool {
     match folder(rt, name) {
-        Ok(dir) => all_come_in(rt, &dir, leftover, steps) && is_removed(rt, &dir),
+        Ok(dir) => {
+            all_come_over(SystemFolder::new(rt), rt, &dir, leftover, steps) && is_removed(rt, &dir)
+        }
         Err(_) => false,
     }
 }

@@ -1,6 +1,6 @@
 //! How far a file is.
 
-use super::all_show;
+use crate::texts::all_show;
 use std::io;
 use std::io::Write;
 use ym_teller::{Look, Teller};

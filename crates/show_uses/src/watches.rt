@@ -93,6 +93,16 @@ fn send_all<W: PortWatch>(rt: &HostRuntime, watch: &mut W, all: &[Sends<'_>], ti
     }
 }
 
+/// What a sender does one after another, and how many times each.
+type Course<'a> = &'a [(&'a [Sends<'a>], u32)];
+
+/// A sender does each of these.
+fn send_course<W: PortWatch>(rt: &HostRuntime, watch: &mut W, course: Course<'_>) {
+    for (all, times) in course {
+        send_all(rt, watch, all, *times);
+    }
+}
+
 /// What is shown of a sender.
 type SenderShown<'t> = RefCell<Sending<'t, Vec<u8>, &'t HostRuntime>>;
 
@@ -107,6 +117,12 @@ fn sender_watch<'s, 't>(shown: &'s SenderShown<'t>) -> SendWatch<'s, 't, Vec<u8>
         shown,
         is_looked_at: true,
     }
+}
+
+/// Watches a sender that does all of this.
+fn watch_sender(rt: &HostRuntime, teller: &mut Teller<Vec<u8>>, course: Course<'_>) {
+    let shown = shown_of_sender(rt, teller);
+    send_course(rt, &mut sender_watch(&shown), course);
 }
 
 /// A file whose second block is written twice. Then a prompt comes.
@@ -154,10 +170,10 @@ enum Receives<'a> {
 }
 
 /// A port and its sink do this, with a file of this header.
-fn receive<P: PortWatch, S: SinkWatch>(
+fn receive<W: PortWatch + SinkWatch>(
     header: &Header,
-    port: &mut P,
-    sink: &mut S,
+    port: &mut W,
+    sink: &mut W,
     does: Receives<'_>,
 ) {
     match does {
@@ -261,27 +277,20 @@ static SENT_FRONT: [Sends; 2] = [Sends::Header, Sends::Block(1)];
 
 static SENT_BACK: [Sends; 2] = [Sends::Block(2), Sends::Eot];
 
-/// A sender writes a file, its second block so many times more.
-fn send_repeats<W: PortWatch>(rt: &HostRuntime, watch: &mut W, repeats: u32) {
-    send_all(rt, watch, &SENT_FRONT, 1);
-    send_all(rt, watch, &[Sends::Block(2)], repeats);
-    send_all(rt, watch, &SENT_BACK, 1);
-}
-
-/// Watches a sender of two files, of which it writes the second block so many times more: of the
-/// first file once.
-fn watch_sender(rt: &HostRuntime, teller: &mut Teller<Vec<u8>>, repeats: u32) {
-    let shown = shown_of_sender(rt, teller);
-    let mut watch = sender_watch(&shown);
-    send_repeats(rt, &mut watch, 1);
-    send_repeats(rt, &mut watch, repeats);
-    send_all(rt, &mut watch, &[Sends::Last], 1);
-}
-
-/// Whether what is told of a sender of two files ends so.
+/// Whether what is told of a sender of two files, of which it writes the second block so many times
+/// more, ends so: of the first file once.
 fn sender_ends(rt: &HostRuntime, repeats: u32, want: &[u8]) -> bool {
     let mut teller = teller_of_lines(rt);
-    watch_sender(rt, &mut teller, repeats);
+    let course: [(&[Sends], u32); 7] = [
+        (&SENT_FRONT, 1),
+        (&[Sends::Block(2)], 1),
+        (&SENT_BACK, 1),
+        (&SENT_FRONT, 1),
+        (&[Sends::Block(2)], repeats),
+        (&SENT_BACK, 1),
+        (&[Sends::Last], 1),
+    ];
+    watch_sender(rt, &mut teller, &course);
     teller.err.ends_with(want)
 }
 
@@ -353,16 +362,10 @@ fn repeats(rt: HostRuntime) {
 
 static WAITS: [Sends; 2] = [Sends::Waits(Wait::Reply), Sends::Waits(Wait::Within)];
 
-/// Watches a sender that waits.
-fn watch_wait(rt: &HostRuntime, teller: &mut Teller<Vec<u8>>) {
-    let shown = shown_of_sender(rt, teller);
-    send_all(rt, &mut sender_watch(&shown), &WAITS, 1);
-}
-
 /// Whether a wait is told at once where a terminal is.
 fn tells_a_wait(rt: &HostRuntime) -> bool {
     let mut teller = teller(rt, true, 40);
-    watch_wait(rt, &mut teller);
+    watch_sender(rt, &mut teller, &[(&WAITS, 1)]);
     told(&teller, b"\rwaiting for C, 0 s of 100", b"of 100")
 }
 

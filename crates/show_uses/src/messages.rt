@@ -1,6 +1,6 @@
 //! What is told, in words.
 
-use super::{all_show, shows};
+use crate::texts::{all_show, shows};
 use std::io;
 use std::io::ErrorKind;
 use ym_header::{Header, HeaderFault, Stamp};

@@ -1,6 +1,6 @@
 //! How ends and lines are told, and whom an end waits for.
 
-use super::{all_show, shows, told};
+use crate::texts::{all_show, shows, told};
 use std::alloc::AllocError;
 use ym_header::HeaderFault;
 use ym_link::{RecvState, SendState};
