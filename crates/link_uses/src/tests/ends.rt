@@ -87,8 +87,8 @@ fn receiver_of_one_file(rt: HostRuntime) -> Result<(), Fail> {
     Ok(())
 }
 
-/// Whether a receiver that took this header of a file of one byte asks its host to take that byte of
-/// a block, and ends where it fails.
+/// Whether a receiver that took this header of a file of one byte asks its host to take that byte,
+/// and ends where the host fails.
 fn ends_at_a_failure(header: &[u8]) -> bool {
     let heard = Heard::Item(Item::Block(Block::new(1, &[0; 128]).unwrap()));
     let (behind, reply, _) = told(ReceiverCore::new(Confirm::Once), header);
