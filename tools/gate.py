@@ -59,16 +59,16 @@ ROWS = (
     ("peers", "explain", "serial", "package"),
     ("sessions",),
     ("judge",),
-    ("library",),
+    ("library", "portable"),
     ("web",),
     ("uboot", "boards"),
 )
 # These need the library or the page, which are made meanwhile, and these the programs of cases.
-TESTS_OF_LIBRARY = {"library", "web", "uboot", "boards"}
+TESTS_OF_LIBRARY = {"library", "portable", "web", "uboot", "boards"}
 TESTS_OF_CASES = {"line", "library"}
 # Of these folders a row makes the tests that are marked so. The others begin before the program is
-# there, as do those of folders that need none.
-MARKED = {"web": "program"}
+# there.
+MARKED = {"portable": "program", "web": "program"}
 # The crate of the library for C.
 LIBRARY = "ym_c"
 # What the library as files for every processor is made of, and by.
@@ -288,7 +288,7 @@ def beside_library(name, library, gate):
     """Makes those tests of a folder that need the library or the page, and no program."""
     if not library.has_ended_well() or not has_proved_below_library(gate):
         return 0
-    return made(name, marked="not " + MARKED[name] if name in MARKED else "")
+    return made(name, marked="not " + MARKED[name])
 
 
 def library_and_page(installed, gate):

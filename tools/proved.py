@@ -9,6 +9,8 @@ import shutil
 import subprocess
 import sys
 
+from rt_once import summed_once
+
 ROOT = os.path.dirname(os.path.dirname(os.path.abspath(__file__)))
 CRATES = os.path.join(ROOT, "crates")
 PROGRAM = os.path.join(CRATES, "ymodem", "out", "ymodem")
@@ -96,6 +98,7 @@ def stamp(top, names, say=print):
     sys.path.append(os.path.dirname(os.path.realpath(rt)))
     try:
         crate_at, known = importlib.import_module("rtlib").Crate, {}
+        crate_at.stamp = summed_once(crate_at.stamp)
         for name in names:
             folder = os.path.join(top, "crates", name)
             with open(os.path.join(folder, "out", "rlib", "stamp"), "w", encoding="utf-8") as it:

@@ -290,11 +290,11 @@ ROWS = (
     ("peers", "explain", "serial", "package"),
     ("sessions",),
     ("judge",),
-    ("library",),
+    ("library", "portable"),
     ("web",),
     ("uboot", "boards"),
 )
-# Those that are made beside the proofs: of the page the tests that need no program.
+# Those that are made beside the proofs: of the last two the tests that need no program.
 BESIDE = ("memory", "house", "portable", "web")
 TESTS = [name for row in ROWS for name in row]
 # The page is made of one of the archives once more.

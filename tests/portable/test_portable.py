@@ -116,6 +116,7 @@ ym_error moves(const ym_io *io, const ym_sink *sink, const ym_source *source) {
 """
 
 
+@pytest.mark.program
 @sentence("what make dist has of it is enough for a host")
 def test_has_all_for_a_host():
     """What stands in the tar file of `make dist` is what stands here, and a host of both calls that
