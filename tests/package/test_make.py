@@ -378,7 +378,7 @@ def test_gate_that_keeps_nothing():
 def test_gate_beside_the_last_crates():
     """These do not need all processors."""
     transfers = {"ym_record", "ym_ends", "ym_sending", "ym_receiving"}
-    last = {"ym_inspect", "ym_explained", "ym_judged", *transfers, "ym_command", "ymodem"}
+    last = {"ym_inspect", "ym_explained", *transfers, "ym_command", "ymodem"}
     with tree_with_gate() as it:
         it.mark("below", " ".join(sorted(crates_below("ymodem") - last) + ["ym_line_c"]))
         it.mark("first")
