@@ -17,41 +17,30 @@ pub(crate) enum JudgeMessage<'a> {
     NoLine(&'a str),
 }
 
-/// What stands before and behind the word that names no case of such a peer.
-fn around_case(peer: Peer) -> (&'static str, &'static str) {
+/// The word that names such a peer.
+fn word_of(peer: Peer) -> &'static str {
     match peer {
-        Peer::Sender => (
-            "no case of a sender is called '",
-            "'; judge sender --list names them",
-        ),
-        Peer::Receiver => (
-            "no case of a receiver is called '",
-            "'; judge receiver --list names them",
-        ),
-    }
-}
-
-impl<'a> JudgeMessage<'a> {
-    /// The word that the line quotes, and what stands before and behind it.
-    fn parts(self) -> (&'static str, &'a str, &'static str) {
-        match self {
-            JudgeMessage::NoPeer(word) => {
-                ("judge takes `sender` or `receiver`, and not '", word, "'")
-            }
-            JudgeMessage::NoCase(peer, word) => {
-                let (before, behind) = around_case(peer);
-                (before, word, behind)
-            }
-            JudgeMessage::NoPlace => ("judge takes --port or --line, and one of them", "", ""),
-            JudgeMessage::NoLine(path) => ("the line '", path, "' cannot be opened"),
-        }
+        Peer::Sender => "sender",
+        Peer::Receiver => "receiver",
     }
 }
 
 impl fmt::Display for JudgeMessage<'_> {
     fn fmt<W: fmt::Write>(&self, f: &mut fmt::Formatter<W>) -> fmt::Result {
-        let (before, word, behind) = self.parts();
-        write!(f, "{before}{word}{behind}")
+        match *self {
+            JudgeMessage::NoPeer(word) => {
+                write!(f, "judge takes `sender` or `receiver`, and not '{word}'")
+            }
+            JudgeMessage::NoCase(peer, word) => {
+                let peer = word_of(peer);
+                write!(
+                    f,
+                    "no case of a {peer} is called '{word}'; judge {peer} --list names them"
+                )
+            }
+            JudgeMessage::NoPlace => f.write_str("judge takes --port or --line, and one of them"),
+            JudgeMessage::NoLine(path) => write!(f, "the line '{path}' cannot be opened"),
+        }
     }
 }
 
