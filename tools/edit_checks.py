@@ -7,6 +7,7 @@ import re
 import shutil
 import subprocess
 import tempfile
+import threading
 
 from proved import RT
 
@@ -101,16 +102,22 @@ def copy(folder, to):
     shutil.copytree(folder, to, symlinks=True, copy_function=link)
 
 
+# Of several crates that begin at once each takes the libraries below it, most of them the same.
+TAKING = threading.Lock()
+
+
 def take(crate, part, to):
     """Takes what `rt check` kept in the folder of a crate, unless an rt is at work there. Gives
     whether it could."""
-    made, held = os.path.join(to, "out", part), os.open(crate, os.O_RDONLY)
-    try:
-        fcntl.flock(held, fcntl.LOCK_EX | fcntl.LOCK_NB)
-        copy(os.path.join(crate, "out", part), made)
-        return True
-    except (OSError, shutil.Error):
-        shutil.rmtree(made, ignore_errors=True)
-        return False
-    finally:
-        os.close(held)
+    made = os.path.join(to, "out", part)
+    with TAKING:
+        held = os.open(crate, os.O_RDONLY)
+        try:
+            fcntl.flock(held, fcntl.LOCK_EX | fcntl.LOCK_NB)
+            copy(os.path.join(crate, "out", part), made)
+            return True
+        except (OSError, shutil.Error):
+            shutil.rmtree(made, ignore_errors=True)
+            return False
+        finally:
+            os.close(held)
