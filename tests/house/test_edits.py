@@ -6,7 +6,9 @@ import shutil
 import subprocess
 import tempfile
 import threading
+from concurrent.futures import ThreadPoolExecutor
 
+from edit_checks import take
 from support.cases import sentence
 from support.program import ROOT
 from support.skipping import needs
@@ -153,3 +155,19 @@ def test_settled():
     assert Tried.once().refused == (0, told), "the second run"
     status, lines = Tried.once().words
     assert (status, lines[0].split()) == (0, ["tools/edits.py", "--anew", "sums"]), "its words"
+
+
+@sentence("crates whose edits begin at once take the same library")
+def test_taken_at_once():
+    """None of them takes another one for an rt that is at work there."""
+    with tempfile.TemporaryDirectory(prefix="ymodem-") as top:
+        crate = os.path.join(top, "low")
+        made = os.path.join(crate, "out", "rlib")
+        os.makedirs(made)
+        for at in range(500):
+            with open(os.path.join(made, "%d.oantt" % at), "w", encoding="utf-8"):
+                pass
+        places = [os.path.join(top, "above", str(at)) for at in range(8)]
+        with ThreadPoolExecutor(len(places)) as pool:
+            taken = list(pool.map(lambda it: take(crate, "rlib", it), places))
+        assert all(taken), "which ones took it: %s" % taken
