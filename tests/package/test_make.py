@@ -9,6 +9,7 @@ from support.cases import sentence
 from support.program import ROOT
 from support.terminal import UnderTerminal
 from support.tree import session, tree
+from support.waits import wait_until
 
 
 # What `make build` calls of a toolchain that keeps what `rt ci` proves: the long row is proved
@@ -149,22 +150,28 @@ def test_build_over_what_stands_here():
         assert "proved\n" not in err, "it shows what went well: %r" % err
 
 
+def interrupt_behind(it, told):
+    """Builds under a terminal, and interrupts that once this was told and what is slow has begun."""
+    shown = UnderTerminal([*it.words, "build"], cwd=it.top, env=it.environment)
+    begun = os.path.join(it.calls, "process")
+    try:
+        shown.sees(told)
+        wait_until(lambda: os.path.exists(begun) and os.path.getsize(begun), "the slow one begins")
+        shown.type(b"\x03")
+        shown.sees(b"interrupted: the next build goes on where this one was")
+        shown.ended()
+    finally:
+        shown.stop()
+    it.wants_ended()
+
+
 @sentence("make build under a terminal, and interrupted")
 def test_build_under_terminal():
     """One line, rewritten; an interrupt ends rt too, and it says how to go on."""
     with tree(keeps=True) as it:
         it.mark("slow")
-        shown = UnderTerminal([*it.words, "build"], cwd=it.top, env=it.environment)
-        try:
-            shown.sees(
-                b"\r\x1b[Kproved 1 of %d crates, the last one ymodem, 0:" % crates_of_program()
-            )
-            shown.type(b"\x03")
-            shown.sees(b"interrupted: the next build goes on where this one was")
-            shown.ended()
-        finally:
-            shown.stop()
-        it.wants_ended()
+        told = b"\r\x1b[Kproved 1 of %d crates, the last one ymodem, 0:" % crates_of_program()
+        interrupt_behind(it, told)
 
 
 @sentence("make build interrupted while it proves side by side")
@@ -172,16 +179,8 @@ def test_build_interrupted():
     """What was kept of a proof that did not end is there for the next build."""
     with tree() as it:
         it.mark("slow")
-        shown = UnderTerminal([*it.words, "build"], cwd=it.top, env=it.environment)
-        try:
-            # of those that stand on no other crate
-            shown.sees(b"\r\x1b[Kproved 3 of %d crates" % (crates_of_program() - 1))
-            shown.type(b"\x03")
-            shown.sees(b"interrupted: the next build goes on where this one was")
-            shown.ended()
-        finally:
-            shown.stop()
-        it.wants_ended()
+        # three are those that stand on no other crate
+        interrupt_behind(it, b"\r\x1b[Kproved 3 of %d crates" % (crates_of_program() - 1))
         kept = os.path.join(it.top, "crates", "ym_check", "out")
         assert os.listdir(kept) == ["incremental"], "what was kept of it"
         assert not os.path.exists(os.path.join(it.top, "out", "rooms")), "its rooms"
