@@ -9,7 +9,7 @@
 # make edits             tries every edit of the crates, many in a check; the gate tries a few of them.
 #                        CRATES="A B" takes those of these crates, ANEW=1 also what was settled
 # make plants            plants wrong bodies that no contract refuses, and tells for each by which test it is caught (docs/plants.md).
-#                        CRATES="A B" takes those of these crates, or of share, include or web; TESTS=1 asks the tests alone
+#                        CRATES="A B" takes those of these crates, or of share or include; TESTS=1 asks the tests alone
 # make interop           the program against lrzsz, which has to be installed
 # make install           puts the program, ymodem-tty, the manual pages and the completion below $(DESTDIR)$(PREFIX)
 # make portable          the library for C as files for every processor, 32 bits too: out/portable

@@ -16,6 +16,12 @@
 #ifndef YM_DELIVERY
 #define YM_DELIVERY 2048
 #endif
+#if YM_PIECE < 1
+#error "YM_PIECE is at least 1"
+#endif
+#if YM_DELIVERY < 2
+#error "YM_DELIVERY is at least 2"
+#endif
 
 /* Reads that one wait makes at most, and one line that is let clear. */
 #ifndef YM_MOST_READS
@@ -27,8 +33,8 @@ typedef enum ym_error {
     YM_DONE,               /* the batch is through */
     YM_ERROR_LINE,         /* the line could not be read or written */
     YM_ERROR_FILES,        /* the host could not do what was asked with a file */
-    YM_ERROR_NO_REPLY,     /* the peer said nothing for long */
-    YM_ERROR_TOO_MANY,     /* too many errors in a row */
+    YM_ERROR_NO_REPLY,     /* ten deliveries in a row led a sender nowhere */
+    YM_ERROR_TOO_MANY,     /* the same for a receiver, also where nothing came */
     YM_ERROR_CANCELLED,    /* the peer cancelled */
     YM_ERROR_OUT_OF_STEP,  /* a block came that is neither the next nor the last one */
     YM_ERROR_MOST_FILES,   /* one file more than a batch may have */
@@ -41,16 +47,17 @@ typedef enum ym_error {
 /* The line. Each answers below 0 where the line is closed, or fails. */
 typedef struct ym_io {
     void *user;
-    /* Reads what is there, at most len bytes, or waits for it, so many milliseconds at most.
-       Answers how many bytes came, 0 where none did. */
+    /* Reads what is there, at most len bytes; where nothing is, waits for it, so many milliseconds.
+       Answers how many bytes came, without waiting for more; 0 only once that time is over. */
     int (*read)(void *user, uint8_t *bytes, size_t len, uint32_t milliseconds);
     /* Writes all of it. */
     int (*write)(void *user, const uint8_t *bytes, size_t len);
-    /* Milliseconds of any clock. One that stands still or jumps back delays, and does no harm. */
+    /* Milliseconds of any clock, below 2^63. One that stands still or jumps back delays, and does
+       no harm. */
     uint64_t (*clock)(void *user);
 } ym_io;
 
-/* What is told of a file. */
+/* What is told of a file. What `begin` is given, its name too, is there until `begin` returns. */
 typedef struct ym_file {
     const uint8_t *name;   /* UTF-8, without a closing 00 */
     size_t name_len;       /* 1 to 255 */
@@ -60,7 +67,7 @@ typedef struct ym_file {
     uint64_t time;         /* seconds since 1970 */
 } ym_file;
 
-/* Where files go. Each answers 0 where it cannot, and then the transfer ends. */
+/* Where files go. Each answers above 0; else it cannot, and then the transfer ends. */
 typedef struct ym_sink {
     void *user;
     int (*begin)(void *user, const ym_file *file);
@@ -68,12 +75,14 @@ typedef struct ym_sink {
     int (*commit)(void *user);
 } ym_sink;
 
-/* Where files come from. Each answers 0 where it cannot, and then the transfer ends. */
+/* Where files come from. Each answers above 0; else it cannot, and then the transfer ends. */
 typedef struct ym_source {
     void *user;
     size_t files;          /* at most 65,535 */
     uint64_t *blocks;      /* room for a number a file, which ym_send writes */
-    /* Tells of a file, counted from 0: at first of each, and again before a part of it is sent. */
+    /* Tells of a file, counted from 0: at first of each, and again before a part of it is sent, and
+       tells the same each time. Where its length is another, it cannot be sent. The name has to
+       stay until `about` is called again. */
     int (*about)(void *user, size_t file, ym_file *about);
     /* Reads len bytes of a file from a place on. */
     int (*fill)(void *user, size_t file, uint64_t start, uint8_t *bytes, size_t len);
@@ -97,26 +106,27 @@ static inline ym_error ym_refused(uint32_t fault) {
 
 /* ---- The line */
 
-/* An end of the line, and what it wrote last, which its caller has room for. */
+/* An end of the line, and what it wrote last, which its caller has room for. A sender has room for
+   a copy of its line, too; a receiver has none. */
 typedef struct ym_end {
     const ym_io *io;
-    ym_line line;
+    ym_line line, *copy;
     uint64_t now;
     uint8_t *written;
     size_t written_len;
     uint8_t piece[YM_PIECE], heard[2 * YM_PIECE];
-    int sends, closed;
+    int closed;
 } ym_end;
 
 static const uint8_t ym_can_can[2] = { 0x18, 0x18 };
 
-static inline void ym_end_begin(ym_end *end, const ym_io *io, int sends, uint8_t *written) {
+static inline void ym_end_begin(ym_end *end, const ym_io *io, ym_line *copy, uint8_t *written) {
     end->io = io;
     end->now = end->written_len = 0;
-    end->sends = sends;
+    end->copy = copy;
     end->closed = 0;
     end->written = written;
-    ym_line_init(&end->line, !sends);
+    ym_line_init(&end->line, !copy);
 }
 
 static inline void ym_copy(uint8_t *to, const uint8_t *from, size_t len) {
@@ -152,13 +162,25 @@ static inline int ym_end_hears(ym_end *end, const uint8_t *bytes, size_t len) {
 static inline int ym_end_takes(ym_end *end, size_t came) {
     size_t len = ym_line_hear(&end->line, end->piece, came, end->written, end->written_len,
         end->now, end->heard, sizeof end->heard);
-    if (end->sends && ym_line_cancels(end->heard, len)) return ym_end_hears(end, ym_can_can, 2);
+    if (end->copy && ym_line_cancels(end->heard, len)) return ym_end_hears(end, ym_can_can, 2);
     return (int)len;
 }
 
+/* Until when a wait goes on where bytes come of which none is heard: more of a delivery is waited
+   for as long then as for a reply. A sender's wait for one has two parts, and may end with an ACK
+   that is held: of a copy of its line both are over. */
+static inline uint64_t ym_end_last(const ym_end *end, uint32_t wait, uint64_t start) {
+    if (!end->copy || wait == YM_WAIT_FIRST) return ym_line_until(&end->line, YM_WAIT_FIRST, start);
+    *end->copy = end->line;
+    ym_line_expired(end->copy, YM_WAIT_FIRST, end->now);
+    ym_line_expired(end->copy, YM_WAIT_FIRST, end->now);
+    return ym_line_until(end->copy, YM_WAIT_FIRST, start);
+}
+
 /* Reads what is to be heard, at most so many bytes: how many came into `heard`; 0 where the line
-   was quiet, and below 0 where it is closed. A wait is over by the clock too, where bytes come of
-   which none is heard; and who answers the end block may close the line behind its ACK. */
+   was quiet, and below 0 where it is closed. More of a delivery is waited for since anything came.
+   A wait is over by the clock too, where bytes come of which none is heard; and who answers the end
+   block may close the line behind its ACK. */
 static inline int ym_end_read(ym_end *end, uint32_t wait, size_t most) {
     static const uint8_t ack[1] = { 0x06 };
     uint64_t start;
@@ -168,10 +190,11 @@ static inline int ym_end_read(ym_end *end, uint32_t wait, size_t most) {
     if (wait == YM_WAIT_FIRST) ym_end_look(end);
     start = end->now;
     for (reads = 0; reads < YM_MOST_READS; reads++) {
-        size_t came = ym_end_get(end, ym_line_until(&end->line, wait, start), most);
+        uint64_t since = wait == YM_WAIT_FIRST ? start : end->now;
+        size_t came = ym_end_get(end, ym_line_until(&end->line, wait, since), most);
         int heard = ym_end_takes(end, came);
         if (heard) return heard;
-        if (!end->closed && end->now < ym_line_until(&end->line, wait, start)) continue;
+        if (came && end->now < ym_end_last(end, wait, start)) continue;
         vain = ym_line_expired(&end->line, wait, end->now);
         if (vain == YM_VAIN_ACK) return ym_end_hears(end, ack, 1);
         if (end->closed) return -1;
@@ -234,9 +257,9 @@ static inline int ym_receive_does(const ym_sink *sink, const ym_receiver *receiv
         file.stamp = ask->stamp;
         file.mode = ask->mode;
         file.time = ask->time;
-        return sink->begin(sink->user, &file);
-    case YM_ADD: return sink->add(sink->user, bytes, (size_t)ask->count);
-    case YM_COMMIT: return sink->commit(sink->user);
+        return sink->begin(sink->user, &file) > 0;
+    case YM_ADD: return sink->add(sink->user, bytes, (size_t)ask->count) > 0;
+    case YM_COMMIT: return sink->commit(sink->user) > 0;
     default: return 1;
     }
 }
@@ -281,7 +304,7 @@ static inline ym_error ym_receive(const ym_io *io, const ym_sink *sink) {
     ym_ask ask;
     ym_opening opening = { 0, { 0, 0 } };
     uint8_t reply[2], written[2];
-    ym_end_begin(&end, io, 0, written);
+    ym_end_begin(&end, io, NULL, written);
     ym_receiver_init(&receiver, 0);
     while (receiver.stand.state == YM_RUNNING) {
         if (!ym_receive_one(&end, &receiver, &ask)) return YM_ERROR_LINE;
@@ -305,34 +328,43 @@ static inline size_t ym_block_at(uint64_t length, uint64_t number, uint64_t *sta
     return number <= longs ? 1024 : 128;
 }
 
-static inline int ym_send_block(const ym_source *source, ym_sender *sender, const ym_fill *fill) {
+static inline uint64_t ym_blocks_of(uint64_t length) {
+    return length / 1024 + (length % 1024 + 127) / 128;
+}
+
+/* `stated` is the length that block 0 told. */
+static inline int ym_send_block(const ym_source *source, ym_sender *sender, const ym_fill *fill,
+    uint64_t stated) {
     uint8_t body[1024];
     uint64_t start;
     ym_file file;
     size_t size, len, i;
-    if (!source->about(source->user, fill->file, &file)) return 0;
-    size = ym_block_at(file.length, fill->number, &start);
-    if (start >= file.length) return 0;
-    len = file.length - start < size ? (size_t)(file.length - start) : size;
+    if (source->about(source->user, fill->file, &file) <= 0 || file.length != stated) return 0;
+    size = ym_block_at(stated, fill->number, &start);
+    if (start >= stated) return 0;
+    len = stated - start < size ? (size_t)(stated - start) : size;
     for (i = len; i < size; i++) body[i] = 0x1A;
-    if (!source->fill(source->user, fill->file, start, body, len)) return 0;
+    if (source->fill(source->user, fill->file, start, body, len) <= 0) return 0;
     return ym_sender_block(sender, body, size) == 0;
 }
 
-static inline ym_error ym_send_header(const ym_source *source, ym_sender *sender, uint32_t which) {
+static inline ym_error ym_send_header(const ym_source *source, ym_sender *sender, uint32_t which,
+    uint64_t *stated) {
     ym_file file;
     uint32_t fault;
-    if (!source->about(source->user, which, &file)) return YM_ERROR_FILES;
+    if (source->about(source->user, which, &file) <= 0) return YM_ERROR_FILES;
+    if (ym_blocks_of(file.length) != source->blocks[which]) return YM_ERROR_FILES;
+    *stated = file.length;
     fault = ym_sender_header(sender, file.name, file.name_len, file.length, file.stamp, file.time,
         file.mode);
     return fault ? ym_refused(fault) : YM_DONE;
 }
 
 static inline ym_error ym_send_fills(const ym_source *source, ym_sender *sender,
-    const ym_fill *fill) {
-    if (fill->kind == YM_FILL_HEADER) return ym_send_header(source, sender, fill->file);
-    if (fill->kind != YM_FILL_BLOCK || ym_send_block(source, sender, fill)) return YM_DONE;
-    return YM_ERROR_FILES;
+    const ym_fill *fill, uint64_t *stated) {
+    if (fill->kind == YM_FILL_HEADER) return ym_send_header(source, sender, fill->file, stated);
+    if (fill->kind != YM_FILL_BLOCK) return YM_DONE;
+    return ym_send_block(source, sender, fill, *stated) ? YM_DONE : YM_ERROR_FILES;
 }
 
 /* Reads one delivery: how many bytes; below 0 where the line is closed. One byte may make two. */
@@ -371,25 +403,27 @@ static inline ym_error ym_sent(uint32_t state) {
 /* Sends a batch. */
 static inline ym_error ym_send(const ym_io *io, const ym_source *source) {
     ym_end end;
+    ym_line copy;
     ym_sender sender;
     ym_fill fill;
     ym_file file;
     uint8_t bytes[YM_DELIVERY], written[1029];
+    uint64_t stated = 0;
     ym_error error = YM_DONE;
     size_t i;
     int len;
     if (source->files > 65535) return YM_ERROR_MOST_FILES;
     for (i = 0; i < source->files; i++) {
-        if (!source->about(source->user, i, &file)) return YM_ERROR_FILES;
-        source->blocks[i] = file.length / 1024 + (file.length % 1024 + 127) / 128;
+        if (source->about(source->user, i, &file) <= 0) return YM_ERROR_FILES;
+        source->blocks[i] = ym_blocks_of(file.length);
     }
-    ym_end_begin(&end, io, 1, written);
+    ym_end_begin(&end, io, &copy, written);
     ym_sender_init(&sender, source->blocks, source->files);
     while (sender.state == YM_SENDING) {
         len = ym_send_hears(&end, source, &sender, bytes);
         if (len < 0) return YM_ERROR_LINE;
         ym_sender_hear(&sender, source->blocks, source->files, bytes, (size_t)len, &fill);
-        error = ym_send_fills(source, &sender, &fill);
+        error = ym_send_fills(source, &sender, &fill, &stated);
         if (error != YM_DONE) ym_sender_failed(&sender, source->blocks, source->files);
         if (!ym_send_says(&end, source, &sender)) return YM_ERROR_LINE;
     }

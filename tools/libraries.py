@@ -5,8 +5,11 @@ each crate is proved in a room: the text of the crates that it needs, with their
 links. What `rt` made there is brought here when it has ended, however it ended. So a build that was
 interrupted goes on where it was, and a later one takes what was proved.
 
-A crate waits for those below it. Of those that wait for none the one is begun first that has most
-lines behind it. Where fewer can begin than there are processors, each gets more of them.
+A crate waits for those below it. Of those that wait for none the one is begun first that begins the
+longest row of crates which stand one on another: a build takes at least as long as that. Such a
+crate leads: it gets half of the processors. In a build on four the crates that led on all of them
+took about a third more processor time than in another by `rt ci`. Where fewer crates can begin than
+there are processors, each gets more of them.
 
 Where nothing but the program is wanted, a library holds its statements alone, as those of `rt ci`
 do. Then there is less to read for the proofs above, and nothing is kept for the next check.
@@ -30,8 +33,13 @@ ROOMS = os.path.join(ROOT, "out", "rooms")
 NOTE = os.path.join(ROOT, "out", "libraries.json")
 # What `rt lib` makes: the library, and what it kept of its proof.
 MADE = ("rlib", "incremental")
-# A proof takes at most so much memory, in bytes, but for a few.
+# A proof takes at most so much memory, in bytes, but for a few. One by several processors takes as
+# much for each.
 NEEDS = 2_000_000_000
+# The processor seconds that the proof of each crate took once, as bench/gate.py counted them. Only
+# the order goes by them. Of another crate they are guessed by its lines.
+SECONDS = os.path.join(ROOT, "tools", "seconds.json")
+LINES_A_SECOND = 8
 
 
 def linked(one, other):
@@ -59,6 +67,13 @@ def lines_of(name):
     return count
 
 
+def seconds_of(names):
+    """How long the proofs of these crates take, about."""
+    with open(SECONDS, encoding="utf-8") as it:
+        took = json.load(it)
+    return {it: took.get(it) or 1 + lines_of(it) // LINES_A_SECOND for it in names}
+
+
 def lanes():
     """How many proofs at a time the processors and the memory hold."""
     found = len(os.sched_getaffinity(0))
@@ -84,7 +99,7 @@ class Libraries:
             below = [self.sums[it] for it in self.used[name] if it in self.sums]
             made_from = [version, self.lines[name], sum_of([name], PROOF_PARTS), below]
             self.sums[name] = hashlib.sha256(repr(made_from).encode()).hexdigest()
-        self.noted = noted()
+        self.noted, self.rows = noted(), self.rows_of()
         self.lock, self.running, self.is_over = threading.Lock(), set(), False
 
     def lacking(self):
@@ -96,19 +111,19 @@ class Libraries:
                 left.append(name)
         return left
 
-    def behind(self):
-        """For each, the lines of the longest row of crates that begins with it."""
-        found = {}
+    def rows_of(self):
+        """For each, the seconds of the longest row of crates that begins with it."""
+        found, took = {}, seconds_of(self.names)
         for name in reversed(self.names):
             above = [found[it] for it in found if name in self.used[it]]
-            found[name] = lines_of(name) + max(above, default=0)
+            found[name] = took[name] + max(above, default=0)
         return found
 
     def prove(self, hear):
         """Proves what is lacking. Each is heard of when it has ended: its name, its status, and all
         that was said. Gives whether all went well. It ends behind the first that did not."""
-        behind, running, most = self.behind(), {}, lanes()
-        left = sorted(self.lacking(), key=lambda it: -behind[it])
+        running, most = {}, lanes()
+        left = sorted(self.lacking(), key=lambda it: -self.rows[it])
         pool = ThreadPoolExecutor(most)
         try:
             while left or running:
@@ -128,12 +143,22 @@ class Libraries:
         return True
 
     def next(self, left, running, most):
-        """The crates to begin now, with the processors that each gets."""
-        waits = {*left, *(name for name, _ in running)}
+        """The crates to begin now, of those that are left, the longest row first, with the
+        processors that each gets."""
+        going = [name for name, _ in running]
+        waits = {*left, *going}
         ready = [name for name in left if waits.isdisjoint(self.used[name])]
-        idle = max(0, most - sum(jobs for _, jobs in running))
+        idle, begun = max(0, most - sum(jobs for _, jobs in running)), []
+        if idle and ready and self.leads(ready[0], [*left, *going]):
+            jobs = max(idle // len(ready), min(idle, most // 2), 1)
+            begun.append((ready.pop(0), jobs))
+            idle -= jobs
         count = min(idle, len(ready))
-        return [(name, (idle + at) // count) for at, name in enumerate(ready[:count])]
+        return begun + [(name, (idle + at) // count) for at, name in enumerate(ready[:count])]
+
+    def leads(self, name, others):
+        """Whether none of these begins a longer row."""
+        return all(self.rows[name] >= self.rows[it] for it in others)
 
     def make(self, name, jobs):
         """Proves a crate in a room of its own. Gives the status, and what was said."""

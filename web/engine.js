@@ -27,8 +27,10 @@ export function load(source) {
     return Promise.reject(fault);
   }
   if (source !== undefined || compiled === null) {
-    compiled = compile(source ?? new URL("ymodem.wasm", import.meta.url));
-    compiled.catch(() => (compiled = null));
+    compiled = compile(source ?? new URL("ymodem.wasm", import.meta.url)).catch((cause) => {
+      compiled = null;
+      throw new YmodemError("no-module", `ymodem.wasm: ${cause.message}`, { cause });
+    });
   }
   return compiled;
 }
@@ -37,7 +39,7 @@ async function compile(source) {
   if (source instanceof WebAssembly.Module) return source;
   if (ArrayBuffer.isView(source) || source instanceof ArrayBuffer) return WebAssembly.compile(source);
   const answer = source instanceof Response ? source : await fetch(source);
-  if (!answer.ok) throw new YmodemError("no-module", `ymodem.wasm: ${answer.status} ${answer.statusText}`);
+  if (!answer.ok) throw new Error(`${answer.status} ${answer.statusText}`);
   return WebAssembly.compile(await answer.arrayBuffer());
 }
 

@@ -69,17 +69,30 @@ export class Line {
   };
 
   /** With what was heard before, and belongs to the transfer. */
-  constructor(port, { signal, heard }) {
+  constructor(port, options) {
+    const { signal, heard } = options;
     if (heard?.length) this.#came.push(heard);
+    /** That a function of the page threw: the transfer is stopped then. */
+    this.thrown = null;
+    const guarded = (name) => options[name] && ((it) => {
+      try {
+        options[name](it);
+      } catch (cause) {
+        this.thrown ??= new YmodemError("page-failed", `${name} threw`, { cause });
+        this.#onAbort();
+      }
+    });
+    this.onFrame = guarded("onFrame");
+    this.onProgress = guarded("onProgress");
     this.isStopped = false;
     /** Why nothing comes any more, once a read found that it is so. */
     this.closed = null;
-    this.#reader = port.readable.getReader();
     try {
+      this.#reader = port.readable.getReader();
       this.#writer = port.writable.getWriter();
-    } catch (fault) {
-      this.#reader.releaseLock();
-      throw fault;
+    } catch (cause) {
+      this.#reader?.releaseLock();
+      throw failed("opened", cause);
     }
     this.signal = signal;
     signal?.addEventListener("abort", this.#onAbort);

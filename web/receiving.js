@@ -78,7 +78,7 @@ export class Receiving {
     this.#receiver = engine.take(LAYOUT.ym_receiver.size);
     this.#ask = engine.take(LAYOUT.ym_ask.size);
     this.#reply = engine.take(2);
-    this.#log = new Log(engine, options.onFrame);
+    this.#log = new Log(engine, line.onFrame);
     this.#calls = engine.calls;
     this.#calls.ym_receiver_init(this.#receiver, 0);
   }
@@ -154,7 +154,7 @@ export class Receiving {
   /** Does what a delivery asks, and answers it: a promise of that, where it takes its time. */
   replies() {
     this.#came = 0;
-    if (this.#options.onFrame) this.#tell();
+    if (this.#line.onFrame) this.#tell();
     this.#open();
     const done = this.#isOtherFile ? false : this.#act();
     return isLater(done) ? done.then(this.#onDone) : this.#onDone(done);
@@ -230,7 +230,9 @@ export class Receiving {
 
   async #begin(name) {
     const stamp = this.#asked("stamp");
-    this.#about = { name: new TextDecoder().decode(name), length: this.#askedLong("length") };
+    // a mark at its front is part of a name: without it another one would be left than was checked
+    const text = new TextDecoder("utf-8", { ignoreBOM: true }).decode(name);
+    this.#about = { name: text, length: this.#askedLong("length") };
     if (stamp > 0) this.#about.time = this.#askedLong("time");
     if (stamp > 1) this.#about.mode = this.#asked("mode");
     this.#sink = (await this.#options.onFile?.(this.#about)) ?? new Collected(this.#about);
@@ -248,12 +250,12 @@ export class Receiving {
     const length = this.#calls.ym_receiver_answer(this.#receiver, done ? 1 : 0, this.#reply, 2);
     if (this.#of("in_file")) this.#progress(this.#engine.long(this.#receiver + LAYOUT.ym_receiver.taken));
     if (length === 0) return null;
-    if (this.#options.onFrame) this.#log.reply(true, this.#engine.copy(this.#reply, length));
+    if (this.#line.onFrame) this.#log.reply(true, this.#engine.copy(this.#reply, length));
     return this.#port.write(this.#reply, length);
   }
 
   #progress(bytes) {
-    this.#options.onProgress?.({ file: this.#about, files: this.files.length, bytes, length: this.#about.length });
+    this.#line.onProgress?.({ file: this.#about, files: this.files.length, bytes, length: this.#about.length });
   }
 
   #failed() {

@@ -23,6 +23,10 @@ export class Source {
   constructor(item) {
     const isOwn = item instanceof Blob;
     const data = isOwn ? item : item.data;
+    const time = item.time ?? 0;
+    if (data == null || !(time >= 0 && time < 2 ** 53)) {
+      throw new YmodemError("source-failed", `${item.name}: its data or time cannot be used`);
+    }
     // Bytes in memory are one window, and copied: who has them may change them.
     const isHere = data instanceof Uint8Array;
     this.#window = new Uint8Array(isHere ? data : 0);
@@ -75,7 +79,6 @@ export class Sending {
   #line;
   #port;
   #sources;
-  #options;
   #log;
   // Where in the engine's memory stand the sender and its batch, and what goes in and out of it.
   #sender;
@@ -94,12 +97,11 @@ export class Sending {
     this.#fail();
   };
 
-  constructor(engine, line, sources, options) {
+  constructor(engine, line, sources) {
     this.#engine = engine;
     this.#line = line;
     this.#port = new TimedLine(engine, line, false);
     this.#sources = sources;
-    this.#options = options;
     this.#sender = engine.take(LAYOUT.ym_sender.size);
     this.#filling = engine.take(LAYOUT.ym_fill.size);
     this.#heard = engine.take(DELIVERY);
@@ -109,7 +111,7 @@ export class Sending {
     sources.forEach(({ blocks }, at) => {
       engine.view.setBigUint64(this.#batch + 8 * at, BigInt(blocks), true);
     });
-    this.#log = new Log(engine, options.onFrame);
+    this.#log = new Log(engine, line.onFrame);
     this.#calls = engine.calls;
     this.#calls.ym_sender_init(this.#sender, this.#batch, this.#total);
   }
@@ -176,7 +178,7 @@ export class Sending {
 
   #tell(held) {
     if (held > 0) this.#answered = true;
-    if (!this.#options.onFrame) return;
+    if (!this.#line.onFrame) return;
     if (held === 0) this.#log.quiet();
     else this.#log.reply(false, this.#engine.copy(this.#heard, held));
   }
@@ -235,7 +237,7 @@ export class Sending {
       room.length,
       BigInt(source.length),
       stamp,
-      BigInt(source.time ?? 0),
+      BigInt(Math.floor(source.time ?? 0)),
       source.mode ?? 0,
     );
     if (fault) throw new YmodemError("bad-header", `${source.name}: ${FAULTS[fault]}`, { fault: FAULTS[fault] });
@@ -265,7 +267,7 @@ export class Sending {
   }
 
   #progress(bytes) {
-    this.#options.onProgress?.({ file: this.#about, files: this.files.length, bytes, length: this.#about.length });
+    this.#line.onProgress?.({ file: this.#about, files: this.files.length, bytes, length: this.#about.length });
   }
 
   #failed() {

@@ -102,7 +102,7 @@ export class TimedLine {
     const count = piece === QUIET ? 0 : this.#hear(piece);
     if (count > 0 || this.#line.isStopped) return count;
     // where nothing of it is heard, a wait goes on, for as long as one for a reply
-    if (piece === QUIET || this.#end(WAIT.first) <= this.#now) {
+    if (piece === QUIET || this.#last() <= this.#now) {
       const vain = this.#calls.ym_line_expired(this.#state, this.#wait, this.#now);
       if (vain === VAIN.ack) return this.#hears(ACK);
       if (this.#line.closed) throw this.#line.closed;
@@ -112,9 +112,20 @@ export class TimedLine {
   }
 
   /** When the wait is over, as one for a reply, or as one for more, which begins now. */
-  #end(wait) {
+  #end(wait, line = this.#state) {
     const since = wait === WAIT.first ? this.#start : this.#now;
-    return this.#calls.ym_line_until(this.#state, wait, since);
+    return this.#calls.ym_line_until(line, wait, since);
+  }
+
+  /** When it is over at the latest, whatever comes that is not heard. For more that is as long as a
+   *  reply may take. Of a sender that time has two parts: a copy of the line, whose wait for a
+   *  reply has run out, tells of both. It stands where nothing is heard. */
+  #last() {
+    if (this.#wait === WAIT.first) return this.#end(WAIT.first);
+    const copy = this.heard;
+    this.#engine.bytes.copyWithin(copy, this.#state, this.#state + LAYOUT.ym_line.size);
+    while (this.#calls.ym_line_expired(copy, WAIT.first, this.#now) !== VAIN.quiet);
+    return this.#end(WAIT.first, copy);
   }
 
   // It may have come while the line cleared, and at no other time.

@@ -51,6 +51,7 @@ export interface Frame {
   length: number;
 }
 
+/** A function here that throws stops the transfer, too: "page-failed". */
 export interface Options {
   onProgress?(progress: Progress): void;
   onFrame?(frame: Frame): void;
@@ -72,7 +73,7 @@ export interface Done {
   rest: Uint8Array;
 }
 
-/** A file to send: of an input or a drop, or a name and its bytes. */
+/** A file to send: of an input or a drop, or a name and its bytes. Of a time whole seconds are sent, a mode only beside a time, and of a File neither. */
 export type Item = File | { name: string; data: Blob | BufferSource | string; time?: number; mode?: number };
 
 export type Code =
@@ -86,6 +87,7 @@ export type Code =
   | "no-reply"
   | "no-webassembly"
   | "out-of-step"
+  | "page-failed"
   | "source-failed"
   | "too-many-errors"
   | "too-many-files";

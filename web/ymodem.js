@@ -27,7 +27,7 @@ async function send(port, files, options = {}) {
   if (sources.length > MOST_FILES) throw new YmodemError("too-many-files", MESSAGES["too-many-files"]);
   const engine = await Engine.start();
   const line = new Line(port, options);
-  const sending = new Sending(engine, line, sources, options);
+  const sending = new Sending(engine, line, sources);
   return finish(engine, line, sending);
 }
 
@@ -38,8 +38,9 @@ async function finish(engine, line, transfer) {
     await transfer.run();
   } catch (what) {
     fault = what instanceof YmodemError ? what : new YmodemError("device", String(what?.message ?? what), { cause: what });
-    await transfer.abandon(fault);
   }
+  if (line.thrown) fault = Object.assign(line.thrown, { answered: fault?.answered ?? true });
+  if (fault) await transfer.abandon(fault);
   const rest = await line.release(transfer.rest);
   if (fault === null) {
     engine.end();

@@ -13,30 +13,40 @@ struct part {
     unsigned stored;
 };
 
-/* A name has no '/', and is neither "." nor "..": the library has seen to that. */
+/* Tells why what was tried with a name failed. */
+static int failed(const char *name) {
+    fprintf(stderr, "receive: %s: %s\n", name, strerror(errno));
+    return 0;
+}
+
+/* A name has no '/', and is neither "." nor "..": the library has seen to that. One of more than
+   250 bytes has no room for ".part" in most file systems. */
 static int begin(void *user, const ym_file *file) {
     struct part *part = user;
     memcpy(part->name, file->name, file->name_len);
     memcpy(part->name + file->name_len, ".part", 6);
     part->file = open(part->name, O_WRONLY | O_CREAT | O_EXCL, 0644);
-    return part->file >= 0;
+    return part->file >= 0 || failed(part->name);
 }
 
 static int add(void *user, const uint8_t *bytes, size_t len) {
     struct part *part = user;
-    return put(part->file, bytes, len);
+    return put(part->file, bytes, len) || failed(part->name);
 }
 
+/* A file that is there already stays as it is. */
 static int commit(void *user) {
     struct part *part = user;
     char name[256];
     size_t len = strlen(part->name) - 5;
-    int closed = close(part->file) == 0;
+    int is_kept = close(part->file) == 0;
     part->file = -1;
     memcpy(name, part->name, len);
     name[len] = 0;
-    part->stored++;
-    return closed && link(part->name, name) == 0 && unlink(part->name) == 0;
+    is_kept = (is_kept && link(part->name, name) == 0) || failed(name);
+    if (unlink(part->name) != 0) return failed(part->name);
+    part->stored += (unsigned)is_kept;
+    return is_kept;
 }
 
 int main(int count, char **words) {

@@ -39,10 +39,14 @@ static int fill(void *user, size_t file, uint64_t start, uint8_t *bytes, size_t 
 }
 
 int main(int words, char **word) {
+    if (words < 2) {
+        fprintf(stderr, "usage: send FILE..\n");
+        return 2;
+    }
     size_t count = (size_t)(words - 1);
-    struct file *files = calloc(count + 1, sizeof *files);
-    uint64_t *blocks = calloc(count + 1, sizeof *blocks);
-    if (words < 1 || !files || !blocks) return 2;
+    struct file *files = calloc(count, sizeof *files);
+    uint64_t *blocks = calloc(count, sizeof *blocks);
+    if (!files || !blocks) return 2;
     for (size_t i = 0; i < count; i++) {
         if (!open_file(&files[i], word[i + 1])) {
             perror(word[i + 1]);

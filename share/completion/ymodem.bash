@@ -2,10 +2,14 @@
 
 _ymodem() {
     local cur=${COMP_WORDS[COMP_CWORD]} prev=${COMP_WORDS[COMP_CWORD - 1]} command= words
+    COMPREPLY=()
+    # bash splits at =, as in --record=FILE
+    [ "$prev" != = ] || prev=${COMP_WORDS[COMP_CWORD - 2]}
+    # bash itself completes names of files: it knows how they are quoted
     case $prev in
-    -p | --port | --only) COMPREPLY=(); return ;;
-    --stored) compopt -o filenames; COMPREPLY=($(compgen -d -- "$cur")); return ;;
-    --line | --record | --there | --back | --chart) compopt -o filenames; COMPREPLY=($(compgen -f -- "$cur")); return ;;
+    -p | --port | --only) return ;;
+    --stored) compopt -o dirnames; return ;;
+    --line | --record | --there | --back | --chart) compopt -o default; return ;;
     esac
     [ "$COMP_CWORD" -gt 1 ] && command=${COMP_WORDS[1]}
     case $command in
@@ -21,12 +25,10 @@ _ymodem() {
     help) words='sb rb send receive play loop explain judge help' ;;
     *) words= ;;
     esac
-    local IFS=$'\n'
     case $command:$cur in
-    :* | *:-* | help:* | judge:*) COMPREPLY=($(compgen -W "${words// /$'\n'}" -- "$cur")) ;;
-    send:* | sb:* | explain:*) compopt -o filenames; COMPREPLY=($(compgen -f -- "$cur")) ;;
-    receive:* | rb:*) compopt -o filenames; COMPREPLY=($(compgen -d -- "$cur")) ;;
-    *) COMPREPLY=() ;;
+    :* | *:-* | help:* | judge:*) COMPREPLY=($(compgen -W "$words" -- "$cur")) ;;
+    send:* | sb:* | explain:*) compopt -o default ;;
+    receive:* | rb:*) compopt -o dirnames ;;
     esac
 }
 

@@ -29,6 +29,7 @@ WHOLE = "the session is whole: nothing went wrong"
 FILES = [("a.txt", b"0123456789\n" * 300), ("b.bin", bytes(range(256)) * 9)]
 # What is told of a record that cannot be made, behind the path of its file.
 REASON = "; name a file that can be written\n"
+IS_THERE = "cannot record in '%s', which is there already: this connection has no record\n"
 
 
 @contextlib.contextmanager
@@ -195,11 +196,11 @@ def has_ended(top, name):
 
 @sentence("a record: one for each connection of --keep")
 def test_each_of_many():
-    """With `--keep` each connection has a record of its own. Where the file of one cannot be
-    written that is told, and its transfer goes on."""
+    """With `--keep` each connection has a record of its own. Where something is in place of a later
+    one, as a file that was received, that stays, which is told, and the transfer goes on."""
     with place() as top:
         port, to, path = free_port(), os.path.join(top, "to"), os.path.join(top, "kept")
-        os.mkdir(path + ".2")
+        write_files(top, [("kept.2", b"received")])
         words = ["receive", "--eager", "--keep", "--port", port, "--record", path, to]
         with running(*words) as receive:
             for number in range(1, 4):
@@ -213,8 +214,10 @@ def test_each_of_many():
                     wait_until(lambda: has_ended(top, name), "the record is whole", receive)
             receive.child.send_signal(signal.SIGTERM)
             err = receive.ended().err
-        wanted = "cannot record in '%s.2': not a regular file%s" % (path, REASON)
+        wanted = IS_THERE % (path + ".2")
         assert err == wanted, "it told %r, wanted %r" % (err, wanted)
+        with open(path + ".2", "rb") as it:
+            assert it.read() == b"received", "what was there"
         for name in ("kept", "kept.3"):
             whole(top, name)
 

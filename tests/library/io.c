@@ -15,12 +15,13 @@ static void wants(int holds, const char *what) {
 }
 
 /* What comes, each piece at one read, an empty one for a quiet line; behind it the line is quiet,
-   or drips one byte each so many milliseconds, or is closed. What was written. */
+   or drips one byte each so many milliseconds, for ever or for so long, or is closed. What was
+   written, and when the second time. */
 struct played {
     const char *const *comes;
     const size_t *sizes;
     size_t count, at, written, closed_behind;
-    uint64_t now, drips;
+    uint64_t now, drips, drips_for, second;
     int stands_still;
     uint8_t last[1029];
 };
@@ -48,7 +49,8 @@ static int plays(void *user, uint8_t *bytes, size_t len, uint32_t milliseconds) 
     size_t at = it->at++, size = at < it->count ? it->sizes[at] : 0;
     wants(size <= len && milliseconds <= 60000, "a read asks for a piece, a minute at most");
     if (it->closed_behind && at >= it->closed_behind) return -1;
-    if (at >= it->count && it->drips && it->drips <= milliseconds) {
+    int is_dry = it->drips_for && it->now >= it->drips_for;
+    if (at >= it->count && it->drips && !is_dry && it->drips <= milliseconds) {
         passes(it, it->drips);
         bytes[0] = 'y';
         return 1;
@@ -62,25 +64,32 @@ static int writes(void *user, const uint8_t *bytes, size_t len) {
     struct played *it = user;
     if (!len || len > sizeof it->last) return -1;
     memcpy(it->last, bytes, len);
-    it->written++;
+    if (++it->written == 2) it->second = it->now;
     return 0;
 }
 
 static uint64_t tells(void *user) { return ((struct played *)user)->now; }
 
+/* The call of the host that fails, and what it answers then. */
+enum call { NONE, BEGIN, ADD, COMMIT, ABOUT, FILL };
+static enum call failing;
+static int cannot;
+
+static int does(enum call it, int holds) { return it != failing && holds ? 1 : cannot; }
+
 static int begins(void *user, const ym_file *file) {
     *(uint64_t *)user = file->length;
-    return file->length != 7;
+    return does(BEGIN, file->length != 7);
 }
 
 static int adds(void *user, const uint8_t *bytes, size_t len) {
     (void)user;
-    return bytes[0] == 'x' && len > 0;
+    return does(ADD, bytes[0] == 'x' && len > 0);
 }
 
 static int commits(void *user) {
     (void)user;
-    return 1;
+    return does(COMMIT, 1);
 }
 
 static ym_error receives(struct played *it, int stands_still) {
@@ -91,19 +100,23 @@ static ym_error receives(struct played *it, int stands_still) {
     return ym_receive(&io, &sink);
 }
 
+/* A file of 3 bytes, which has another length once this was told so often, if ever. */
+static struct { unsigned told, once; uint64_t length; } changed;
+
 static int about(void *user, size_t file, ym_file *about) {
     const char *name = user;
+    int is_other = changed.once && changed.told++ >= changed.once;
     memset(about, 0, sizeof *about);
     about->name = (const uint8_t *)name;
     about->name_len = strlen(name);
-    about->length = 3;
-    return file == 0;
+    about->length = is_other ? changed.length : 3;
+    return does(ABOUT, file == 0);
 }
 
 static int fills(void *user, size_t file, uint64_t start, uint8_t *bytes, size_t len) {
     (void)user;
     memset(bytes, 'x', len);
-    return file == 0 && start == 0 && len == 3;
+    return does(FILL, file == 0 && start == 0 && len == 3);
 }
 
 static ym_error sends(struct played *it, char *name, size_t files) {
@@ -135,6 +148,22 @@ static void drips(int stands_still) {
     wants(sends(&it, "name", 1) == YM_ERROR_NO_REPLY, "a sender on a line that drips");
     wants(it.written == 1 && it.last[0] == 0x18, "it cancels");
     wants(stands_still || (it.now > 90000 && it.now < 130000), "its waits are over by the clock");
+}
+
+/* The same behind a byte of a reply: the delivery is over once nothing came for a second, or where
+   a wait for a reply would be. */
+static void drips_behind_noise(void) {
+    static const char *const comes[] = { "C", "y", "\x01x\x87" };
+    static const size_t sizes[] = { 1, 1, 3 };
+    struct played it = played_of(comes, sizes, COUNT(sizes));
+    it.drips = 300;
+    it.drips_for = 6000;
+    wants(sends(&it, "name", 1) == YM_ERROR_NO_REPLY, "a sender whose reply drips");
+    wants(it.second == 7000, "it writes again into a line that is quiet");
+    again(&it);
+    it.drips_for = 0;
+    wants(sends(&it, "name", 1) == YM_ERROR_NO_REPLY, "a sender whose reply drips for ever");
+    wants(it.second >= 10000 && it.second <= 10300, "it waits no longer than for a reply");
 }
 
 static void cancelled(void) {
@@ -242,6 +271,50 @@ static void repeated(void) {
     wants(it.written == 2 && it.last[0] == 0x18, "it is cancelled");
 }
 
+/* A file whose length changes under way is not sent on. */
+static void changes(void) {
+    static const struct { unsigned once; uint64_t length; size_t written; } those[] = {
+        { 1, 200, 1 }, { 2, 2, 2 }, { 2, 4, 2 }, { 2, 0, 2 }
+    };
+    struct played it = played_of(replies, reply_sizes, COUNT(reply_sizes));
+    for (size_t i = 0; i < COUNT(those); i++) {
+        again(&it);
+        changed.told = 0;
+        changed.once = those[i].once;
+        changed.length = those[i].length;
+        wants(sends(&it, "name", 1) == YM_ERROR_FILES, "a file whose length changes");
+        wants(it.written == those[i].written && it.last[0] == 0x18, "it is cancelled");
+    }
+    changed.once = 0;
+}
+
+/* A call of the host that answers 0, or below, has failed. */
+static void fails(void) {
+    uint8_t zero[133], one[133], end[133];
+    const char *comes[] = { (char *)zero, (char *)one, "\x04", "\x04", (char *)end };
+    size_t sizes[] = { 133, 133, 1, 1, 133 };
+    struct played in = played_of(comes, sizes, COUNT(sizes));
+    struct played out = played_of(replies, reply_sizes, COUNT(reply_sizes));
+    frame_of(0, "f\0" "3", 3, zero);
+    frame_of(1, "xyz", 3, one);
+    frame_of(0, "", 0, end);
+    for (cannot = 0; cannot >= -2; cannot--) {
+        for (failing = BEGIN; failing <= COMMIT; failing = (enum call)(failing + 1)) {
+            again(&in);
+            wants(receives(&in, 0) == YM_ERROR_FILES, "a call of a sink that fails");
+            wants(in.last[0] == 0x18, "its sender is told");
+        }
+        for (failing = ABOUT; failing <= FILL; failing = (enum call)(failing + 1)) {
+            again(&out);
+            wants(sends(&out, "name", 1) == YM_ERROR_FILES, "a call of a source that fails");
+        }
+    }
+    failing = NONE;
+    cannot = 0;
+    again(&in);
+    wants(receives(&in, 0) == YM_DONE, "a batch of which no call fails");
+}
+
 /* Each error has a name of its own. */
 static void texts(void) {
     wants(!strcmp(ym_text(YM_DONE), "done"), "the text of a batch that is through");
@@ -260,12 +333,15 @@ int main(void) {
     nobody(1);
     drips(0);
     drips(1);
+    drips_behind_noise();
     cancelled();
     line_fails();
     sent();
     closed();
     received();
     repeated();
+    changes();
+    fails();
     texts();
     return broken;
 }

@@ -87,6 +87,36 @@ def test_is_same_twice():
                 assert read(path) == read(made), "%s differs" % path
 
 
+HOST = """#include "ymodem_io.h"
+ym_error moves(const ym_io *io, const ym_sink *sink, const ym_source *source);
+ym_error moves(const ym_io *io, const ym_sink *sink, const ym_source *source) {
+    return sink ? ym_receive(io, sink) : ym_send(io, source);
+}
+"""
+
+# Compilers by themselves: of no C library the headers are there.
+FREESTANDING = (
+    "riscv64-unknown-elf-gcc",
+    "clang --target=thumbv6m-none-eabi",
+    "clang --target=riscv32-unknown-elf",
+)
+
+
+@cases(*(case("without a C library: " + words, words) for words in FREESTANDING))
+def test_without_a_c_library(words):
+    """The file and a host of ym_receive and ym_send compile where only the compiler's own headers
+    are."""
+    needs(words.split()[0])
+    for standard, level in FEW:
+        how = words + " -ffreestanding -c " + level
+        compiled(how, standard, os.devnull, SOURCE)
+        with tempfile.TemporaryDirectory(prefix="ymodem-") as top:
+            host = os.path.join(top, "host.c")
+            with open(host, "w", encoding="utf-8") as it:
+                it.write(HOST)
+            compiled(how, standard, os.devnull, host)
+
+
 def names(words):
     """What an object of the file defines, and what it lacks, with the kind of each."""
     needs("nm")
@@ -106,14 +136,6 @@ def test_has_each_call():
     assert defined == wanted, "it defines %s" % found
     assert needed <= {"memcpy", "memmove", "memset"}, "it needs %s" % needed
     assert not {it for it, kind in found.items() if kind in "bBdDcC"}, "it keeps %s" % found
-
-
-HOST = """#include "ymodem_io.h"
-ym_error moves(const ym_io *io, const ym_sink *sink, const ym_source *source);
-ym_error moves(const ym_io *io, const ym_sink *sink, const ym_source *source) {
-    return sink ? ym_receive(io, sink) : ym_send(io, source);
-}
-"""
 
 
 @pytest.mark.program

@@ -20,8 +20,8 @@ sys.path.insert(0, os.path.dirname(os.path.dirname(os.path.abspath(__file__))))
 
 from support.faulty_peers import say, seen
 from support.program import PROGRAM
+from support.qemu_words import words_of
 
-NOTHING_ELSE = ("-display", "none", "-monitor", "none", "-nic", "none", "-serial", "stdio")
 READY, AGAIN = b"send files by YMODEM\r\n", b"now receive them by YMODEM\r\n"
 # With this begins what the board tells behind a session. No answer has these bytes, and the file
 # that is sent has none of them in a row.
@@ -97,8 +97,8 @@ def carried(board, told):
 
 
 def main(kind, program, *machine):
-    words = [*machine, *NOTHING_ELSE, "-kernel", program]
     how = {"stdin": subprocess.PIPE, "stdout": subprocess.PIPE, "stderr": subprocess.DEVNULL}
+    words = words_of((*machine, "-kernel", program), "stdio")
     board = subprocess.Popen(words, **how)
     seen(board, READY)
     if kind == "sender":

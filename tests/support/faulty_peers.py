@@ -32,6 +32,7 @@ from support.frames import (
     header,
     mixed,
 )
+from support.qemu_words import words_of
 
 U_BOOT = os.environ.get("U_BOOT", "/usr/lib/u-boot/qemu_arm64/u-boot.bin")
 
@@ -448,8 +449,8 @@ def seen(board, text):
 
 def u_boot():
     """`loady` of U-Boot on a board in QEMU, whose serial port is standard input and output."""
-    words = ["qemu-system-aarch64", "-M", "virt", "-cpu", "cortex-a57", "-bios", U_BOOT, "-m", "128"]
-    words += ["-display", "none", "-monitor", "none", "-nic", "none", "-serial", "stdio"]
+    machine = "qemu-system-aarch64", "-M", "virt", "-cpu", "cortex-a57", "-m", "128"
+    words = words_of((*machine, "-bios", U_BOOT), "stdio")
     board = subprocess.Popen(words, stdin=subprocess.PIPE, stdout=subprocess.PIPE, stderr=subprocess.DEVNULL)
     for text, typed in ((b"Hit any key", b"\r"), (b"=> ", b"loady\r"), (b"Ready for binary", b"")):
         seen(board, text)

@@ -8,12 +8,12 @@ import threading
 
 from support.one_end import sending
 from support.program import LIMIT
+from support.qemu_words import words_of
 from support.relay import at_once
 from support.skipping import needs
 
 
 QEMU = "qemu-system-aarch64"
-NOTHING_ELSE = ("-display", "none", "-monitor", "none", "-nic", "none")
 
 
 class Port(threading.Thread):
@@ -77,9 +77,8 @@ def turned_on(*machine):
         listener.settimeout(LIMIT)
         # A serial port keeps no byte back until those before it were taken.
         line = "tcp:127.0.0.1:%d,nodelay=on" % listener.getsockname()[1]
-        words = [*machine, "-display", "none", "-monitor", "none", "-nic", "none", "-serial", line]
         how = {"stdin": subprocess.DEVNULL, "stdout": subprocess.DEVNULL, "stderr": subprocess.PIPE}
-        child = subprocess.Popen(words, **how)
+        child = subprocess.Popen(words_of(machine, line), **how)
         try:
             end, _ = listener.accept()
             at_once(end)

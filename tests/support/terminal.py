@@ -64,9 +64,9 @@ class UnderTerminal:
     def type(self, data):
         os.write(self.end, data)
 
-    def sees(self, text):
-        """Waits until this text is shown, and gives what is shown behind it; the next call looks
-        there."""
+    def until(self, text):
+        """Waits until this text is shown, and gives what is shown before it; the next call looks
+        behind it."""
         until = time.monotonic() + LIMIT
         while text not in self.shown:
             assert is_ready(
@@ -79,7 +79,12 @@ class UnderTerminal:
                     "the terminal never showed %r, but %r, and the program has ended"
                     % (text, self.shown)
                 ) from None
-        self.shown = self.shown.partition(text)[2]
+        before, _, self.shown = self.shown.partition(text)
+        return before
+
+    def sees(self, text):
+        """The same, but it gives what is shown behind it."""
+        self.until(text)
         return self.shown
 
     def shows(self, text, seconds=0.5):

@@ -170,6 +170,33 @@ async function played(row, seed) {
   return { wrong, isWhole, told, seconds: (clock.now - began) / 1000, writes: there.writes };
 }
 
+/** How long a sender waits before it writes again, where its peer's reply is noise: a byte that is
+ *  heard, and then, every 300 milliseconds for so long, one that is not. */
+globalThis.waitedInNoise = async (long) => {
+  await y.load("/ymodem.wasm");
+  clock ??= new Clock();
+  const [wrote, stop] = [[], new AbortController()];
+  let to;
+  const says = (at, ...bytes) => setTimeout(() => to.enqueue(Uint8Array.from(bytes)), at);
+  const readable = new ReadableStream({ start: (it) => (to = it) });
+  const writable = new WritableStream({
+    write() {
+      if (wrote.push(clock.now) > 1) return;
+      says(0, 0x79);
+      // as a frame begins, which no reply does
+      says(50, 0x01, 0x78, 0x87);
+      for (let at = 300; at <= long; at += 300) says(at, 0x79);
+    },
+  });
+  const options = { heard: Uint8Array.of(0x43), signal: stop.signal };
+  let end = null;
+  ended(y.send({ readable, writable }, batch([5]), options)).then((it) => (end = it));
+  await clock.until(() => wrote.length > 1);
+  stop.abort();
+  await clock.until(() => end !== null);
+  return wrote[1] - wrote[0];
+};
+
 /** Plays the sessions of these rows, and answers how each came out. */
 globalThis.playedRows = async (rows) => {
   await y.load("/ymodem.wasm");

@@ -120,3 +120,16 @@ def test_played(room, kind, rows):
     counts = (room.browser.name, kind, len(outcomes), len(whole), statistics.median(whole))
     room.note("%s, lines with %s: %d sessions, %d whole, in %.1f s (median)" % counts)
     assert not wrong, "%d sessions: %s" % (len(wrong), "; ".join(wrong[:5]))
+
+
+@cases_in(
+    BROWSERS,
+    case("a sender writes again once noise was quiet for a second", 6000, 7000),
+    case("a sender writes again in noise without end once a reply was due", 15000, 10200),
+)
+def test_noisy_reply(room, long, wanted):
+    """Of a delivery that has begun more is waited for since the last byte, also where that is not
+    heard, and at most for as long as a reply may take: 10,000 milliseconds."""
+    with Empty(room, harness()) as page:
+        waited = page.run("waitedInNoise(%d)" % long)
+    assert wanted <= waited <= wanted + 1, "it wrote again behind %s" % waited

@@ -270,6 +270,23 @@ def test_exact(room):
     assert not got["locked"], "the streams are locked"
 
 
+@cases_in(BROWSERS, case("names and times as they arrive"))
+def test_names_and_times(room):
+    """A mark at the front of a name is part of it. Of a time whole seconds arrive."""
+    names = ["\ufeff..", "\ufeff.", "\ufeff", "\ufeff\ufeffa", "a\ufeff"]
+    with Empty(room) as page:
+        got = page.run(
+            """(async () => {
+      const [here, there] = tools.pair();
+      const files = %s.map((name) => ({ name, data: "x", time: 1234567890.75 }));
+      const [, { files: got }] = await Promise.all([y.send(here, files), y.receive(there)]);
+      return JSON.stringify(got.map(({ name, time, file }) => [name, time, file.name]));
+    })()"""
+            % json.dumps(names)
+        )
+    assert json.loads(got) == [[name, 1234567890, name] for name in names], "they are %s" % got
+
+
 # A clock by which ten seconds pass in one: for ends that only wait.
 FASTER = """
 (() => {
@@ -285,8 +302,12 @@ BOTH = (
     " JSON.stringify(ends.map((it) => [it.code, it.files.length]));"
 )
 
+SENDS, RECEIVES = "y.send(here, [{ name: 'a', data }])", "y.receive(there)"
+
 
 STOP = "const stop = new AbortController();"
+# A function of the page that throws when it is called the third time.
+THROWS = "let calls = 0; const act = () => { if (++calls === 3) throw new Error('mine'); };"
 STUCK = (
     "const stuck = { readable: here.readable, writable: new WritableStream({ write: () => new"
     " Promise(() => {}) }) };"
@@ -369,6 +390,80 @@ STUCK = (
             ),
         ),
         [["cancelled", 0], ["aborted", 0]],
+    ),
+    case(
+        "a sender's onProgress throws",
+        THROWS + BOTH % ("y.send(here, [{ name: 'a', data }], { onProgress: act })", RECEIVES),
+        [["page-failed", 0], ["cancelled", 0]],
+    ),
+    case(
+        "a sender's onFrame throws",
+        THROWS + BOTH % ("y.send(here, [{ name: 'a', data }], { onFrame: act })", RECEIVES),
+        [["page-failed", 0], ["cancelled", 0]],
+    ),
+    case(
+        "a receiver's onProgress throws",
+        THROWS + BOTH % (SENDS, "y.receive(there, { onProgress: act })"),
+        [["cancelled", 0], ["page-failed", 0]],
+    ),
+    case(
+        "a receiver's onFrame throws",
+        THROWS + BOTH % (SENDS, "y.receive(there, { onFrame: act })"),
+        [["cancelled", 0], ["page-failed", 0]],
+    ),
+    case(
+        "a receiver's onProgress throws once a file is kept",
+        BOTH % (SENDS, "y.receive(there, { onProgress: ({ files }) => files && nothing.there })"),
+        [["cancelled", 1], ["page-failed", 1]],
+    ),
+    case(
+        "a sender's onFrame throws at the last reply",
+        (
+            "const onFrame = ({ isOurs, text }) => { if (!isOurs && text === 'ACK') throw new"
+            " Error('mine'); };"
+        )
+        + BOTH % ("y.send(here, [], { onFrame })", RECEIVES),
+        [["page-failed", 0], ["", 0]],
+    ),
+    case(
+        "what a function threw is the cause",
+        (
+            "const onFrame = () => { throw new Error('mine'); }; const it = await"
+            " y.receive(there, { onFrame }).catch((it) => it); return JSON.stringify([it.code,"
+            " it.message, it.cause.message, it instanceof y.YmodemError]);"
+        ),
+        ["page-failed", "onFrame threw", "mine", True],
+    ),
+    case(
+        "items that cannot be sent",
+        (
+            "const items = [{ name: 'a' }, 'a', { name: 'a', data: null }, { name: 'a', data, time:"
+            " -5 }, { name: 'a', data, time: NaN }, { name: 'a', data, time: 2 ** 53 }]; const"
+            " ends = []; for (const it of items) ends.push((await tools.ended(y.send(here,"
+            " [it]))).code); return JSON.stringify(ends);"
+        ),
+        ["source-failed"] * 6,
+    ),
+    case(
+        "a port that is not open, and one that is locked",
+        (
+            "const ends = []; const tries = async (port) => ends.push((await"
+            " tools.ended(y.send(port, []))).code); await tries({ readable: null, writable: null"
+            " }); const writer = here.writable.getWriter(); await tries(here); await"
+            " tries(here); ends.push(here.readable.locked); here.readable.getReader(); await"
+            " tries(here); return JSON.stringify(ends);"
+        ),
+        ["device", "device", "device", False, "device"],
+    ),
+    case(
+        "no module",
+        (
+            "const page = new Response('<!doctype html>'); const ends = []; for (const it of"
+            " [Uint8Array.of(1, 2, 3), page, '/nothing.wasm', 'http://127.0.0.1:9/y.wasm'])"
+            " ends.push((await tools.ended(y.load(it))).code); ends.push((await y.load())"
+            " instanceof WebAssembly.Module); return JSON.stringify(ends);"
+        ),
+        ["no-module"] * 4 + [True],
     ),
     case(
         "stopped before it begins",

@@ -11,6 +11,7 @@ from support.program import ROOT
 from support.skipping import needs
 
 COMPLETION = os.path.join(ROOT, "share", "completion")
+SCRIPTS = ("ymodem-tty", "ymodem-judge")
 
 
 def plain(text):
@@ -104,12 +105,21 @@ def test_page_of_script():
     assert not lacking, "ymodem-tty.1 lacks what the script says: %r" % lacking
 
 
+@cases(*(case("%s.1 tells of the variable YMODEM" % it, it) for it in SCRIPTS))
+def test_variable_of_script(script):
+    """Each script that runs the program takes it from there."""
+    with open(os.path.join(ROOT, "share", script), encoding="utf-8") as it:
+        assert "YMODEM" in it.read(), "%s does not heed it" % script
+    told = page(script + ".1").partition(".Sh ENVIRONMENT\n")[2].partition(".Sh ")[0]
+    assert ".It Ev YMODEM\n" in told, "the page has %r" % told
+
+
 @sentence("mandoc finds no fault in the manual pages")
 def test_lint():
     """mandoc finds nothing; which other pages a machine has does not count."""
     needs("mandoc")
     said = subprocess.run(
-        ["mandoc", "-T", "lint", "ymodem.1", "ymodem-tty.1"],
+        ["mandoc", "-T", "lint", "ymodem.1", *("%s.1" % it for it in SCRIPTS)],
         cwd=MAN,
         capture_output=True,
         text=True,
@@ -122,8 +132,8 @@ def test_lint():
 def by_bash(name, words):
     file = os.path.join(COMPLETION, name + ".bash")
     script = (
-        'source "$1"; shift; COMP_WORDS=("$@"); COMP_CWORD=$(($# - 1)); _%s; printf "%%s\\n"'
-        ' "${COMPREPLY[@]}"'
+        'source "$1"; shift; COMP_WORDS=("$@"); COMP_CWORD=$(($# - 1)); COMP_LINE=$*;'
+        ' _%s; printf "%%s\\n" "${COMPREPLY[@]}"'
         % name.replace("-", "_")
     )
     said = subprocess.run(
@@ -148,7 +158,7 @@ def by_zsh(name, words):
         text=True,
         check=True,
     )
-    options = re.findall(r"^(?:\(.*?\))?(-[\w-]+)\[(.*?)\](?::.*)?$", said.stdout, re.M)
+    options = re.findall(r"^(?:\(.*?\))?(-[\w-]+)=?\[(.*?)\](?::.*)?$", said.stdout, re.M)
     return dict(options + re.findall(r"^([a-z]+):(.+)$", said.stdout, re.M))
 
 

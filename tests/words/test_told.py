@@ -36,6 +36,11 @@ UNSAFE = "the sender gave an unsafe name: a path, not UTF-8, or with control cha
         lambda here: here,
         "cannot open '%s': not a regular file\n",
     ),
+    case(
+        "tells why a file is not sent: it hides its bytes",
+        lambda _: "/proc/version",
+        "cannot open '%s': not a regular file\n",
+    ),
 )
 def test_unsent(path, told):
     """A file that cannot be sent: the fault line alone, and with --verbose why."""

@@ -6,7 +6,7 @@ use crate::file_id::{FileId, check_regular};
 use crate::read_source::{Opens, ReadSource};
 use std::alloc::Global;
 use std::fs::{File, Files};
-use std::io::ErrorKind;
+use std::io::{ErrorKind, Read};
 use std::{fs, io};
 
 /// The regular file that stood at a path when it was looked at, with the length that it had then.
@@ -21,15 +21,27 @@ pub struct RegularFile<'p, R: Files<File = File> + Drop> {
 /// A source that reads a file of the system. Of that nobody knows the bytes.
 pub type FileSource<'p, R> = ReadSource<RegularFile<'p, R>>;
 
+/// Refuses a file that is said to have no bytes and gives one, as files of `/proc` do: nobody knows
+/// how long it is.
+fn check_empty<F: Read>(file: &mut F, size: u64) -> io::Result<()> {
+    let is_as_told = size > 0 || file.read(&mut [0])? == 0;
+    if is_as_told {
+        Ok(())
+    } else {
+        Err(io::Error::from(ErrorKind::InvalidInput))
+    }
+}
+
 /// The regular file at this path, opened to be read, with what tells it from others and its length.
 fn open_regular<R: Files<File = File>>(rt: &R, path: &str) -> io::Result<(File, FileId, u64)> {
     // Before it is opened: to open a pipe waits for a writer.
     check_regular(&fs::metadata(rt, path)?)?;
-    let file = File::open(rt, path)?;
+    let mut file = File::open(rt, path)?;
     let metadata = file.metadata()?;
     check_regular(&metadata)?;
-    let id = FileId::of(&metadata);
-    Ok((file, id, metadata.len()))
+    let size = metadata.len();
+    check_empty(&mut file, size)?;
+    Ok((file, FileId::of(&metadata), size))
 }
 
 impl<'p, R: Files<File = File> + Drop> Opens for RegularFile<'p, R> {
@@ -56,7 +68,7 @@ impl<'p, R: Files<File = File> + Drop> Opens for RegularFile<'p, R> {
 impl<'p, R: Files<File = File> + Drop> ReadSource<RegularFile<'p, R>> {
     /// The file at this path. It is opened to see that it can be read, and closed again; at its
     /// first block it is opened anew, and has to be the same file with the same length. What is no
-    /// regular file, as a folder or a pipe, is refused.
+    /// regular file, as a folder or a pipe, is refused, and what has bytes that its length hides.
     pub fn new(rt: R, alloc: Global, path: &'p str) -> io::Result<ReadSource<RegularFile<'p, R>>>
         ensures { IfOk result (λ source. source.failures ≡ 0) }
     {

@@ -11,6 +11,8 @@ pub(crate) enum RecordMessage<'a> {
     Dash,
     /// At this path is one of the files that are sent.
     IsSent(&'a str),
+    /// At this path is a file that stays.
+    IsThere(&'a str),
     /// Another program holds the file at this path.
     InUse(&'a str),
     /// The system refuses the file at this path.
@@ -33,6 +35,14 @@ impl fmt::Display for RecordMessage<'_> {
                 write!(
                     f,
                     "cannot record in '{path}', which is to be sent: name another file"
+                )
+            }
+            RecordMessage::IsThere(path) => {
+                let path = Shown(path);
+                write!(
+                    f,
+                    "cannot record in '{path}', which is there already: this connection has \
+                     no record"
                 )
             }
             RecordMessage::InUse(path) => {

@@ -3,11 +3,21 @@
 ghost use Rattle.std.specs.Prelude.{◌≡◌, Err, codes};
 
 use std::fs::{File, Files, Metadata, TryLockError};
+use std::io::ErrorKind;
 use std::os::unix::fs::MetadataExt;
 use std::{fs, io};
 
 /// What is no name of a record.
 const DASH: &str = "-";
+
+/// What becomes of a file that is at the path of a record.
+#[derive(Clone, Copy)]
+pub enum WhatIsThere<'a> {
+    /// It becomes the record, unless it is at one of these paths, of the files that are sent.
+    Goes(&'a [&'a str]),
+    /// It stays, and there is no record: it may have been received meanwhile.
+    Stays,
+}
 
 /// Why no record is made.
 #[derive(Clone, Copy)]
@@ -16,6 +26,8 @@ pub enum RecordRefusal {
     Dash,
     /// At its path is one of the files that are sent.
     IsSent,
+    /// At its path is a file that stays.
+    IsThere,
     /// Another program holds the file there, as one that records does.
     InUse,
     /// The system refused a call.
@@ -59,38 +71,51 @@ fn hold(file: &File) -> Result<(), RecordRefusal> {
     }
 }
 
-/// Opens what is at this path, or a new file, unless it is among those that are sent or in use.
-/// What is there is left as it is.
-fn open_apart<R: Files<File = File>>(
+/// Opens what is at this path, or a new file, and holds it, unless it is among those that are sent
+/// or in use. What it had is gone.
+fn open_over<R: Files<File = File>>(
     rt: &R,
     path: &str,
     sent: &[&str],
-) -> Result<(File, Metadata), RecordRefusal> {
+) -> Result<File, RecordRefusal> {
     let file = File::options().write(true).create(true).open(rt, path)?;
     let metadata = file.metadata()?;
     if is_among(rt, &metadata, sent) {
         return Err(RecordRefusal::IsSent);
     }
     hold(&file)?;
-    Ok((file, metadata))
+    // A device, as a terminal or `/dev/null`, has nothing to be cut.
+    if metadata.is_file() {
+        file.set_len(0)?;
+    }
+    Ok(file)
 }
 
-/// Opens the file at this path for a record, and holds it. What it had is gone. It is none of those
-/// that are sent, and `-` names no file.
+/// Makes the file at this path, where there is none, and holds it.
+fn open_new<R: Files<File = File>>(rt: &R, path: &str) -> Result<File, RecordRefusal> {
+    match File::create_new(rt, path) {
+        Ok(file) => {
+            hold(&file)?;
+            Ok(file)
+        }
+        Err(error) if error.kind() == ErrorKind::AlreadyExists => Err(RecordRefusal::IsThere),
+        Err(error) => Err(RecordRefusal::System(error)),
+    }
+}
+
+/// Opens the file at this path for a record, and holds it. `-` names no file.
 pub fn open_record<R: Files<File = File>>(
     rt: &R,
     path: &str,
-    sent: &[&str],
+    there: WhatIsThere<'_>,
 ) -> Result<File, RecordRefusal>
     ensures { path.now ≡ codes "-" → result ≡ Err RecordRefusal.Dash }
 {
     if path == DASH {
         return Err(RecordRefusal::Dash);
     }
-    let (file, metadata) = open_apart(rt, path, sent)?;
-    // A device, as a terminal or `/dev/null`, has nothing to be cut.
-    if metadata.is_file() {
-        file.set_len(0)?;
+    match there {
+        WhatIsThere::Goes(sent) => open_over(rt, path, sent),
+        WhatIsThere::Stays => open_new(rt, path),
     }
-    Ok(file)
 }

@@ -4,7 +4,7 @@ ghost use Rattle.std.specs.Prelude.{◌≡◌, [], true, false, None, IfOk, is_s
 ghost use Rattle.ym_record.specs.RecordNames.{name_of};
 
 use crate::message::RecordMessage;
-use crate::opening::{RecordRefusal, open_record};
+use crate::opening::{RecordRefusal, WhatIsThere, open_record};
 use crate::recorder::Recorder;
 use std::alloc::{AllocError, Global};
 use std::fmt::Display;
@@ -45,6 +45,7 @@ fn message_of<'a>(path: &'a str, refusal: &RecordRefusal) -> RecordMessage<'a> {
     match refusal {
         RecordRefusal::Dash => RecordMessage::Dash,
         RecordRefusal::IsSent => RecordMessage::IsSent(path),
+        RecordRefusal::IsThere => RecordMessage::IsThere(path),
         RecordRefusal::InUse => RecordMessage::InUse(path),
         RecordRefusal::System(error) => RecordMessage::CannotOpen(path, Reason::of(error)),
     }
@@ -54,6 +55,7 @@ fn message_of<'a>(path: &'a str, refusal: &RecordRefusal) -> RecordMessage<'a> {
 fn error_of(refusal: RecordRefusal) -> io::Error {
     match refusal {
         RecordRefusal::Dash | RecordRefusal::IsSent => io::Error::from(ErrorKind::InvalidInput),
+        RecordRefusal::IsThere => io::Error::from(ErrorKind::AlreadyExists),
         RecordRefusal::InUse => io::Error::from(ErrorKind::ResourceBusy),
         RecordRefusal::System(error) => error,
     }
@@ -74,13 +76,13 @@ fn recorder_at<R: Files<File = File>, E: Write + Drop>(
     rt: &R,
     alloc: Global,
     path: &str,
-    sent: &[&str],
+    there: WhatIsThere<'_>,
     teller: &mut Teller<E>,
 ) -> io::Result<Recorder<File>>
     ensures made { IfOk result (λ it. is_some it.to ≡ true) }
     ensures none_waits { IfOk result (λ it. it.lines ≡ []) }
 {
-    match open_record(rt, path, sent) {
+    match open_record(rt, path, there) {
         Ok(file) => Ok(Recorder::new(alloc, file)?),
         Err(refusal) => {
             warn(teller, message_of(path, &refusal));
@@ -123,7 +125,8 @@ impl<'a> Records<'a> {
             return Ok(Records::none(alloc));
         };
         let name = name_of(alloc, asked, 1)?;
-        let recorder = recorder_at(rt, alloc, name.as_str(), sent, teller)?;
+        let there = WhatIsThere::Goes(sent);
+        let recorder = recorder_at(rt, alloc, name.as_str(), there, teller)?;
         Ok(Records {
             path,
             begun: 0,
@@ -133,7 +136,7 @@ impl<'a> Records<'a> {
     }
 
     /// The file of the connection of this number takes the place of the one before it, or none
-    /// where it cannot be written.
+    /// where it cannot be written, or something is there: the one before may have stored that.
     fn turn_to<R: Files<File = File>, E: Write + Drop>(
         &mut self,
         rt: &R,
@@ -143,7 +146,7 @@ impl<'a> Records<'a> {
     )
         ensures path { self.new.path ≡ self.old.path }
     {
-        self.recorder = match recorder_at(rt, alloc, name.as_str(), &[], teller) {
+        self.recorder = match recorder_at(rt, alloc, name.as_str(), WhatIsThere::Stays, teller) {
             Ok(recorder) => recorder,
             Err(_) => Recorder::none(alloc),
         };

@@ -2,9 +2,10 @@
 //! connection to itself, and sends and receives files over a connection or a serial line.
 #![tactic(auto)]
 
+use std::fs::{File, Files};
 use std::io::{ErrorKind, IsTerminal, Write};
 use std::process::ExitCode;
-use std::{env, io};
+use std::{env, fs, io};
 use ym_command::{Charted, Draw, Outputs, Streams, command};
 use ym_streams::{Input, Output};
 use ym_teller::{Look, Teller};
@@ -96,6 +97,27 @@ fn run(rt: &HostRuntime) -> u8 {
     answer(rt, &mut streams, &mut teller)
 }
 
+/// What keeps the descriptor of a standard stream from being another's, where that is closed.
+///
+/// The system gives a file that is opened the lowest number that is free. So a line, or a file that
+/// is stored, would be that stream, and what is told would be written there. The stand-in is open
+/// for the other way alone: so the stream fails, as a closed one does.
+fn stand_in<R: Files<File = File>>(rt: &R, stream: &str, is_output: bool) -> Option<File> {
+    match fs::metadata(rt, stream) {
+        Ok(_) => None,
+        Err(_) => File::options()
+            .read(is_output)
+            .write(!is_output)
+            .open(rt, "/dev/null")
+            .ok(),
+    }
+}
+
+/// Does what the words ask for. The standard streams are looked at before anything is opened, in
+/// their order.
 fn main(rt: HostRuntime) -> ExitCode {
+    let _input = stand_in(&rt, "/proc/self/fd/0", false);
+    let _out = stand_in(&rt, "/proc/self/fd/1", true);
+    let _err = stand_in(&rt, "/proc/self/fd/2", true);
     ExitCode::from(run(&rt))
 }

@@ -1,0 +1,85 @@
+"""What `ymodem-judge` says where its peer cannot be started, or what it finds cannot be written."""
+
+import os
+import subprocess
+
+from support.cases import case, cases
+from support.judged import PEER, SCRIPT
+from support.program import LIMIT, PROGRAM, wants_same
+from support.skipping import Skipped
+
+ONE_CASE = ["--only", "plain"]
+
+
+def judge(*words, out=subprocess.PIPE):
+    """How `ymodem-judge` ended with these words."""
+    return subprocess.run(
+        [SCRIPT, *words],
+        stdin=subprocess.DEVNULL,
+        stdout=out,
+        stderr=subprocess.PIPE,
+        env={**os.environ, "YMODEM": PROGRAM},
+        text=True,
+        timeout=LIMIT,
+        check=False,
+    )
+
+
+@cases(
+    case("judge: a receiver that is not there", ["receiver", "no-such"], "no-such"),
+    case("judge: a sender that is not there", ["sender", "no-such"], "no-such"),
+    case("judge: a receiver at a port, not there", ["receiver", "no-such $PORT"], "no-such"),
+    case("judge: a sender at a port, not there", ["sender", "no-such $PORT"], "no-such"),
+    case("judge: a receiver that may not be run", ["receiver", "/dev/null"], "/dev/null"),
+    case("judge: a receiver that is not there, by JSON", ["--json", "receiver", "no-such"], "such"),
+    case("judge: a shell that says nothing", ["receiver", "exit 127"], "its status is 127"),
+    case("judge: what a terminal heeds is not shown", ["receiver", "$(printf 'a\\033c')"], "a?c"),
+)
+def test_is_not_started(words, said):
+    """It is told once, with what the shell says, and nothing is found of such a peer."""
+    done = judge(*words)
+    wants_same({"ended": (done.returncode, done.stdout)}, {"ended": (2, "")})
+    begin = "ymodem-judge: the peer cannot be started: "
+    assert done.stderr.startswith(begin) and said in done.stderr, repr(done.stderr)
+    assert done.stderr.count("\n") == 1 and "\x1b" not in done.stderr, repr(done.stderr)
+
+
+@cases(
+    case("judge: a peer that answers ends as it likes", PEER + " receiver; exit 127", 0),
+    case("judge: a peer that ends well and says nothing", "true", 1),
+)
+def test_was_started(command, status):
+    """Who answers was started, and so was who ends otherwise."""
+    done = judge(*ONE_CASE, "receiver", command)
+    wants_same({"ended": (done.returncode, done.stderr)}, {"ended": (status, "")})
+
+
+def full():
+    """A device that is full."""
+    if not os.path.exists("/dev/full"):
+        raise Skipped("/dev/full: not there")
+    return os.open("/dev/full", os.O_WRONLY)
+
+
+def nobody_reads():
+    """A pipe that nobody reads any more."""
+    read, write = os.pipe()
+    os.close(read)
+    return write
+
+
+@cases(
+    case("judge: a report to a full disk", full, ONE_CASE, "No space left on device"),
+    case("judge: a report of JSON to a full disk", full, ["--json"], "No space left on device"),
+    case("judge: a report that nobody reads", nobody_reads, ONE_CASE, "Broken pipe"),
+    case("judge: a report of all cases that nobody reads", nobody_reads, [], "Broken pipe"),
+)
+def test_cannot_write(opened, words, why):
+    """It is told in one line, and the status is none of a peer."""
+    out = opened()
+    try:
+        done = judge(*words, "receiver", PEER + " receiver", out=out)
+    finally:
+        os.close(out)
+    wanted = (3, "ymodem-judge: cannot write: %s\n" % why)
+    wants_same({"ended": (done.returncode, done.stderr)}, {"ended": wanted})

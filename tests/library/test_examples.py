@@ -1,0 +1,96 @@
+"""The example programs of the library for C alone: what they compile as, what they are called with,
+and files that they cannot store."""
+
+import os
+import re
+import socket
+import subprocess
+import tempfile
+
+from support.cases import case, cases, sentence
+from support.commands import command
+from support.example_ends import c_send, on_line
+from support.library import FLAGS, INCLUDE, STRICT, built, example
+from support.program import LIMIT, ROOT, folders, write_files
+
+
+@cases(
+    *(
+        case("examples/c/%s.c by -std=%s" % (name, standard), name, standard)
+        for name in ("send", "receive")
+        for standard in ("c99", "c11", "gnu99")
+    )
+)
+def test_standard(name, standard):
+    path = os.path.join(ROOT, "examples", "c", name + ".c")
+    how = ["-std=" + standard, *STRICT, *FLAGS, "-I", INCLUDE]
+    command("cc", *how, "-c", path, "-o", os.devnull)
+
+
+@cases(
+    case("send is called without files", "send"),
+    case("receive is called without a folder", "receive"),
+    case("receive is called with a folder that is not there", "receive", ("none",)),
+)
+def test_called_wrong(name, words=()):
+    """It says how it is called, and writes nothing to the line."""
+    with tempfile.TemporaryDirectory(prefix="ymodem-") as here:
+        how = {"stdin": subprocess.DEVNULL, "capture_output": True, "text": True, "check": False}
+        ran = subprocess.run([example(name), *words], cwd=here, timeout=LIMIT, **how)
+    assert ran.returncode == 2 and not ran.stdout, "status %d: %r" % (ran.returncode, ran.stdout)
+    assert re.fullmatch("usage: %s [A-Z.]+\n" % name, ran.stderr), "it says %r" % ran.stderr
+
+
+@sentence("a read of the examples' line beside signals")
+def test_interrupted():
+    command(built("tests/library/interrupted.c", "interrupted"))
+
+
+def refused(names, there):
+    """What receive says of files that send has, of which it cannot store one."""
+    with tempfile.TemporaryDirectory(prefix="ymodem-") as here:
+        write_files(here, [(name, b"new") for name in names])
+        one, other = socket.socketpair()
+        with on_line([example("receive"), there], one) as receiver:
+            with on_line(c_send(names), other, cwd=here) as sender:
+                _, said = receiver.communicate(timeout=LIMIT)
+                _, also = sender.communicate(timeout=LIMIT)
+    assert (receiver.returncode, sender.returncode) == (1, 1), "it says %r, and %r" % (said, also)
+    assert also == b"send: cancelled by the peer\n", "send says %r" % also
+    return said.decode()
+
+
+@sentence("receive leaves a file that is there, and no part of another one")
+def test_is_there_already():
+    """It is so each time: a part that was left would be refused the next time."""
+    with folders() as (there, _):
+        write_files(there, [("b", b"old")])
+        for names, stored in ((["a", "b"], 1), (["b"], 0), (["b"], 0)):
+            said = refused(names, there)
+            wanted = "receive: b: File exists\nreceive: a file failed, files %d\n" % stored
+            assert said == wanted, "it says %r" % said
+            assert sorted(os.listdir(there)) == ["a", "b"], os.listdir(there)
+        with open(os.path.join(there, "b"), "rb") as it:
+            assert it.read() == b"old"
+
+
+@sentence("receive says why a name of 251 bytes is not stored")
+def test_long_name():
+    """It has no room for the ending of a part."""
+    with folders() as (there, _):
+        name = "n" * 251
+        said = refused([name], there)
+        assert said.startswith("receive: %s.part: File name too long\n" % name), said
+        assert not os.listdir(there), os.listdir(there)
+
+
+@cases(
+    case("YM_DELIVERY is 1", "-DYM_DELIVERY=1", "YM_DELIVERY is at least 2"),
+    case("YM_PIECE is 0", "-DYM_PIECE=0", "YM_PIECE is at least 1"),
+)
+def test_room(given, told):
+    """ymodem_io.h says that it wants more room."""
+    how = ["-x", "c", "-std=c99", given, "-I", INCLUDE, "-fsyntax-only", "-include"]
+    words = ["cc", *how, "ymodem_io.h", os.devnull]
+    ran = subprocess.run(words, capture_output=True, text=True, check=False)
+    assert ran.returncode and told in ran.stderr, ran.stderr

@@ -1,0 +1,124 @@
+"""How `ymodem-tty` may be started: with streams that are closed, and with a limit of its files."""
+
+import os
+import random
+
+from support.cable import cable, set_for_ticks
+from support.cases import case, cases, sentence
+from support.on_line import ends_with, started
+from support.program import (
+    LIMIT,
+    PROGRAM,
+    file_lines,
+    folders,
+    wants_same,
+    wants_stored,
+    write_files,
+)
+from support.tty_script import CANCEL, ENVIRONMENT, SCRIPT
+
+CHANCE = random.Random(37)
+FILES = [("one.bin", CHANCE.randbytes(40_000)), ("none", b""), ("two", CHANCE.randbytes(700))]
+FINISHED = file_lines(FILES) + "receiver files 3 finished\n"
+# What a receiver writes to the line where all goes well.
+ASKS = b"C\x06\x15"
+# So many blocks are less than the first file, whether a shell takes 512 or 1024 bytes for one.
+BLOCKS = 16
+
+
+def received(shell, folders_of_both, status, status_of_sender):
+    """A line of the shell starts `ymodem-tty receive`, whose words are behind it, and `ymodem sb`
+    sends. What is told when both have ended so, and what the receiver wrote to the line."""
+    here, there = folders_of_both
+    with cable() as it:
+        set_for_ticks(it.near.path)
+        words = [SCRIPT, "--device", it.far.path, "receive", "--verbose"]
+        paths = write_files(here, FILES)
+        with (
+            started(["sh", "-c", shell, "sh", *words], there, env=ENVIRONMENT) as script,
+            started([PROGRAM, "sb", "--line", it.near.path, *paths], here) as sender,
+        ):
+            said = ends_with(script, status)
+            ends_with(sender, status_of_sender)
+        return *said, bytes(it.back)
+
+
+@cases(
+    case("ymodem-tty receive, without standard input", "<&-", FINISHED),
+    case("ymodem-tty receive, without standard output", ">&-", ""),
+    case("ymodem-tty receive, without standard error", "2>&-", FINISHED),
+    case("ymodem-tty receive, without standard input and error", "<&- 2>&-", FINISHED),
+    case("ymodem-tty receive, without standard output and error", ">&- 2>&-", ""),
+    case("ymodem-tty receive, without any standard stream", "<&- >&- 2>&-", ""),
+)
+def test_closed_streams(closed, told):
+    """The line and the files have other numbers than what is closed: what is told there goes
+    neither to the line nor into a file."""
+    with folders() as both:
+        out, err, written = received('exec "$@" ' + closed, both, 0, 0)
+        wants_same({"told": out, "written": written.strip(ASKS)}, {"told": told, "written": b""})
+        assert ("receiving one.bin" in err) == ("2>" not in closed), "it said %r" % err
+        wants_stored(both[1], FILES)
+
+
+@sentence("ymodem-tty receive, of a file that is larger than files may be")
+def test_too_large():
+    """The program is not killed by it: it tells it, cancels, and leaves no part."""
+    with folders() as both:
+        limited = 'ulimit -f %d; exec "$@"' % BLOCKS
+        out, err, written = received(limited, both, 3, 1)
+        wants_same({"told": out}, {"told": "receiver files 0 sink-failed\n"})
+        assert "cannot store 'one.bin'" in err, "it said %r" % err
+        assert CANCEL[:2] in written, "the other end was not told"
+        wants_stored(both[1], [])
+
+
+THIS_TERMINAL = b"ymodem-tty: the line is this terminal: ^X ^X ends it\n"
+
+
+@sentence("ymodem-tty receive, at the terminal that is the line")
+def test_same_terminal():
+    """As after a login over the line: while files go the line has what the ends write, and no
+    more."""
+    with folders() as (here, there), cable() as it:
+        set_for_ticks(it.near.path)
+        far = os.open(it.far.path, os.O_RDWR | os.O_NOCTTY)
+        how = {"stdin": far, "stdout": far, "stderr": far, "env": ENVIRONMENT}
+        sent = [PROGRAM, "sb", "--line", it.near.path, *write_files(here, FILES)]
+        with started([SCRIPT, "receive"], there, **how) as script, started(sent, here) as sender:
+            os.close(far)
+            assert script.wait(LIMIT) == 0, "its status"
+            ends_with(sender, 0)
+        written, told = bytes(it.back), FINISHED.encode()
+        assert written.startswith(THIS_TERMINAL), "it begins with %r" % written[:100]
+        between = written.removeprefix(THIS_TERMINAL).removesuffix(told)
+        wants_same({"written": between.strip(ASKS)}, {"written": b""})
+        wants_stored(there, FILES)
+
+
+@cases(
+    case("a device without a name is refused", ["--device="], "no DEVICE behind --device"),
+    case("a speed is a number", ["--speed", "sane"], "'sane' is no speed: bits a second"),
+)
+def test_refused_words(words, told):
+    with folders() as (here, _):
+        with started([SCRIPT, *words, "receive"], here, env=ENVIRONMENT) as script:
+            _, err = ends_with(script, 2)
+    assert err.startswith("ymodem-tty: %s\n" % told), "it said %r" % err
+
+
+@sentence("a line is set to eight bits without parity")
+def test_eight_bits():
+    """A pseudo terminal has no others. So what `stty` is asked for is looked at."""
+    with folders() as (here, there), cable() as it:
+        asked = os.path.join(here, "asked")
+        stand_in = os.path.join(here, "stty")
+        with open(stand_in, "w", encoding="utf-8") as file:
+            file.write('#!/bin/sh\necho "$*" >> %s\nexec /usr/bin/stty "$@"\n' % asked)
+        os.chmod(stand_in, 0o755)
+        environment = {**ENVIRONMENT, "PATH": here + ":" + os.environ["PATH"], "YMODEM": "true"}
+        words = [SCRIPT, "--device", it.far.path, "receive"]
+        with started(words, there, env=environment) as script:
+            ends_with(script, 0)
+        with open(asked, encoding="utf-8") as file:
+            assert any(" cs8 -parenb " in line for line in file), "it was not asked for"
