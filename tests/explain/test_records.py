@@ -350,7 +350,7 @@ def test_names_what_explains():
             done = send.ended()
         assert done.status == 1, "status %d" % done.status
         last = done.err.splitlines()[-1]
-        assert last == "to see what passed: ymodem explain " + path, "the last line is %r" % last
+        assert last == "to see what passed: ymodem explain '%s'" % path, "the last line is %r" % last
         said = told(path)
         assert said[-1].startswith("the receiver cancelled"), "it is told as %r" % said[-1]
 

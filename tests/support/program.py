@@ -151,12 +151,20 @@ def write_files(folder, files):
 
 
 def stored(folder):
-    """What stands in a folder."""
-    found = {}
-    for name in os.listdir(folder):
-        with open(os.path.join(folder, name), "rb") as it:
-            found[name] = it.read()
-    return found
+    """What stands in a folder. Where a file was renamed meanwhile, as one is that is committed, it
+    is looked at once more."""
+    while True:
+        names = os.listdir(folder)
+        try:
+            return {name: bytes_at(os.path.join(folder, name)) for name in names}
+        except FileNotFoundError as gone:
+            if os.path.lexists(gone.filename):
+                raise
+
+
+def bytes_at(path):
+    with open(path, "rb") as it:
+        return it.read()
 
 
 def wants_stored(folder, files):

@@ -144,16 +144,18 @@ def test_over_connection():
     ),
 )
 def test_by_socat(first, second, peer_words, sends):
-    """Two lines that stand together: a device as a port of this machine, and what calls it."""
+    """Two lines that stand together: a device as a port of this machine, and what calls it. The
+    first one stays in the background, and the second is typed once it listens."""
     needs("socat", peer_words[0])
-    both = "\n".join(map(command, (first, second)))
-    port, here_files = str(free_port()), SENT if sends else {}
-    both = re.sub(r"\b700[12]\b", port, both)
+    port, here_files = free_port(), SENT if sends else {}
+    listens, calls = (re.sub(r"\b700[12]\b", str(port), command(it)) for it in (first, second))
     with folder_of(here_files) as here, folder_of({} if sends else SENT) as there:
         with plug() as it, at_hand() as around:
             transfer = Transfer("", peer_words, sends)
-            with shell(both, here, around, device=it.path), peer(transfer, there, it):
-                wait_until(lambda: stored(there) == stored(here) == SENT, "both have the file")
+            with shell(listens, here, around, device=it.path):
+                wait_until(lambda: listeners(port), "it listens")
+                with shell(calls, here, around, device=it.path), peer(transfer, there, it):
+                    wait_until(lambda: stored(there) == stored(here) == SENT, "both have the file")
 
 
 @sentence("as pasted: a rehearsal without hardware")

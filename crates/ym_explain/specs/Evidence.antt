@@ -1,16 +1,21 @@
 -- What has to be seen of a session for each verdict, and which verdict comes first.
-use Rattle.std.specs.Prelude.{Bool, true, not, ◌&&◌, ◌||◌, if◌then◌else◌, List, [], ◌∷◌}
+use Rattle.std.specs.Prelude.{Bool, true, not, nat_lt, ◌&&◌, ◌||◌, if◌then◌else◌, List, [], ◌∷◌}
 use Rattle.ym_explain.specs.declared.verdict.TheConstants.{ORDER, ORDER_THERE, ORDER_BACK}
 use Rattle.ym_explain.specs.declared.signs.Signs.{Signs}
 use Rattle.ym_explain.specs.declared.verdict.Verdict.{Verdict}
-use Rattle.ym_explain.specs.declared.verdict.Verdict.TheVariants.{Whole, Mended, SenderDone, Zmodem, Echo, SevenBits, Noise, Xmodem, XmodemReceiver, NobodyAsked, NobodyAnswered, FlowControl, SubEaten, EatenBytes, NoRoom, CutLength, TooManyErrors, Damage, SenderCancelled, ReceiverCancelled, ReplyAhead, Stopped, Unheard}
+use Rattle.ym_explain.specs.declared.verdict.Verdict.TheVariants.{Whole, Mended, Repeated, SenderDone, Zmodem, Echo, SevenBits, Noise, Xmodem, XmodemReceiver, NobodyAsked, NobodySent, NobodyAnswered, FlowControl, SubEaten, EatenBytes, NoRoom, CutLength, TooManyErrors, Damage, FellSilent, SenderCancelled, ReceiverCancelled, ReplyAhead, Stopped, Unheard}
 use Rattle.ym_explain.specs.declared.verdict.Ways.{Ways}
 use Rattle.ym_explain.specs.declared.verdict.Ways.TheVariants.{Both, There, Back}
 
+-- the end of the batch was acknowledged, and no file is cut
+abbrev pub is_finished : Signs → Bool
+is_finished seen = seen.finished && not seen.cut_length && not seen.no_room
+
 -- what was seen bears this verdict out
 abbrev pub shows : Verdict → Signs → Bool
-shows Whole seen = seen.finished && not seen.cut_length && not seen.no_room && not seen.damaged
-shows Mended seen = seen.finished && not seen.cut_length && not seen.no_room && seen.damaged
+shows Whole seen = is_finished seen && not seen.damaged && not seen.repeated
+shows Mended seen = is_finished seen && seen.damaged
+shows Repeated seen = is_finished seen && seen.repeated
 shows SenderDone seen = seen.over && not seen.unmended
 shows Zmodem seen = seen.zmodem
 shows Echo seen = seen.echoed
@@ -21,6 +26,7 @@ shows Noise seen =
 shows Xmodem seen = seen.unnamed
 shows XmodemReceiver seen = seen.nak_first && not seen.asked
 shows NobodyAsked seen = not seen.asked
+shows NobodySent seen = not seen.framed && not seen.damaged
 shows NobodyAnswered seen = not seen.framed && not seen.damaged && not seen.ahead
 shows FlowControl seen = seen.short && not seen.flow && seen.sub
 shows SubEaten seen = seen.short && seen.flow && not seen.sub
@@ -29,6 +35,7 @@ shows NoRoom seen = seen.no_room
 shows CutLength seen = seen.cut_length
 shows TooManyErrors seen = seen.gave_up
 shows Damage seen = seen.unmended
+shows FellSilent seen = nat_lt 2 seen.unanswered && not seen.receiver_cancelled
 shows SenderCancelled seen = seen.sender_cancelled
 shows ReceiverCancelled seen = seen.receiver_cancelled
 shows ReplyAhead seen = seen.ahead

@@ -1,4 +1,4 @@
--- A session of one file with one data block, and four that went wrong, computed.
+-- A session of one file with one data block, and six that went wrong, computed.
 use Rattle.std.specs.Prelude.{◌≡◌, ℕ, List, [], ◌∷◌, false, refl}
 use Rattle.ym_frame.specs.declared.control.Control.TheVariants.{Ack, Nak, Start}
 use Rattle.ym_frame.specs.declared.frame.Item.{Item}
@@ -67,3 +67,18 @@ ahead :
     verdict_on (sign.Answer Start ∷ sign.Block place.Before kind.Name ∷ sign.Answer Ack ∷
     sign.Answer Ack ∷ []) ≡ verdict.ReplyAhead
 ahead = refl
+
+-- the block was refused, and came once more
+repeated :
+    verdict_on (sign.Answer Start ∷ sign.Block place.Before kind.Name ∷ sign.Answer Ack ∷
+    sign.Answer Start ∷ sign.Block place.Named kind.Data ∷ sign.Answer Nak ∷
+    sign.Block (place.Data 1) kind.Copy ∷ sign.Answer Ack ∷ sign.Eot ∷ sign.Answer Ack ∷
+    sign.Answer Start ∷ sign.Block place.Ended kind.End ∷ sign.Answer Ack ∷ []) ≡ verdict.Repeated
+repeated = refl
+
+-- the name was written three times, and nothing was answered
+silent :
+    verdict_on (sign.Answer Start ∷ sign.Block place.Before kind.Name ∷
+    sign.Block place.Named kind.Copy ∷ sign.Block place.Named kind.Copy ∷ sign.SenderCancel ∷ [])
+    ≡ verdict.FellSilent
+silent = refl

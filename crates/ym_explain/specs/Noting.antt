@@ -30,6 +30,8 @@ nothing_seen = record {
   back_high = false;
   nak_first = false;
   out = 0;
+  repeated = false;
+  unanswered = 0;
   over = false;
   finished = false;
   ahead = false;
@@ -42,6 +44,10 @@ nothing_seen = record {
 -- one frame more has no answer; eight bits count them
 abbrev pub one_more : ℕ → ℕ
 one_more out = min (out + 1) 255
+
+-- any frame has no answer yet
+abbrev pub with_frame : Signs → Signs
+with_frame seen = record seen { out = one_more seen.out; unanswered = one_more seen.unanswered }
 
 -- what tells seven bits, flow control and a line that takes SUB: the bytes themselves
 abbrev pub with_byte : Signs → ℕ → Signs
@@ -56,12 +62,11 @@ with_bytes seen [] = seen
 with_bytes seen (byte ∷ more) = with_bytes (with_byte seen byte) more
 
 abbrev pub with_damage : Signs → Bool → Bool → Signs
-with_damage seen short headed = record seen {
+with_damage seen short headed = record (with_frame seen) {
   damaged = true;
   headed = seen.headed || headed;
   short = seen.short || short;
   unmended = true;
-  out = one_more seen.out;
 }
 
 -- the first block has no block 0 before it
@@ -73,21 +78,30 @@ abbrev pub is_end : FrameKind → Bool
 is_end kind.End = true
 is_end kind = false
 
+abbrev pub is_copy : FrameKind → Bool
+is_copy kind.Copy = true
+is_copy kind = false
+
 abbrev pub with_block : Signs → SendPlace → FrameKind → Signs
-with_block seen at kind = record seen {
+with_block seen at kind = record (with_frame seen) {
   framed = true;
   unmended = false;
-  out = one_more seen.out;
   unnamed = is_unnamed at kind || seen.unnamed;
   over = is_end kind || seen.over;
+  repeated = is_copy kind || seen.repeated;
 }
 
 -- An ACK is for a frame that is out. The last is for the block that ends the batch.
 abbrev pub with_ack : Signs → Signs
 with_ack seen =
     if nat_lt 0 seen.out
-    then record seen { refusals = 0; out = seen.out - 1; finished = seen.finished || seen.over }
-    else record seen { refusals = 0; ahead = true }
+    then record seen {
+      refusals = 0;
+      unanswered = 0;
+      out = seen.out - 1;
+      finished = seen.finished || seen.over;
+    }
+    else record seen { refusals = 0; unanswered = 0; ahead = true }
 
 -- the tenth refusal in a row, and all behind it, are too many
 abbrev pub with_nak : Signs → Signs
@@ -95,18 +109,20 @@ with_nak seen =
     if nat_lt seen.refusals 9
     then record seen {
       out = seen.out - 1;
+      unanswered = 0;
       nak_first = seen.nak_first || not (seen.asked || seen.framed || seen.damaged);
       refusals = seen.refusals + 1;
     }
     else record seen {
       out = seen.out - 1;
+      unanswered = 0;
       nak_first = seen.nak_first || not (seen.asked || seen.framed || seen.damaged);
       refusals = 10;
       gave_up = true;
     }
 
 abbrev pub with_answer : Signs → Control → Signs
-with_answer seen Start = record seen { asked = true }
+with_answer seen Start = record seen { asked = true; unanswered = 0 }
 with_answer seen Ack = with_ack seen
 with_answer seen Nak = with_nak seen
 with_answer seen Can = seen
@@ -114,7 +130,7 @@ with_answer seen Can = seen
 abbrev pub noted : Signs → Sign → Signs
 noted seen (sign.Byte byte) = with_byte seen byte
 noted seen (sign.Block at kind) = with_block seen at kind
-noted seen sign.Eot = record seen { out = one_more seen.out }
+noted seen sign.Eot = with_frame seen
 noted seen sign.SenderCancel =
     record seen { sender_cancelled = seen.sender_cancelled || not seen.receiver_cancelled }
 noted seen (sign.Damage short headed) = with_damage seen short headed

@@ -1,11 +1,13 @@
 -- The sentence of each verdict: what went wrong, and what to try.
 use Rattle.std.specs.Prelude.{ℕ, List, ◌++◌, codes}
 use Rattle.ym_explain.specs.declared.verdict.Verdict.{Verdict}
-use Rattle.ym_explain.specs.declared.verdict.Verdict.TheVariants.{Whole, Mended, SenderDone, Zmodem, Echo, SevenBits, Noise, Xmodem, XmodemReceiver, NobodyAsked, NobodyAnswered, FlowControl, SubEaten, EatenBytes, NoRoom, CutLength, TooManyErrors, Damage, SenderCancelled, ReceiverCancelled, ReplyAhead, Stopped, Unheard}
+use Rattle.ym_explain.specs.declared.verdict.Verdict.TheVariants.{Whole, Mended, Repeated, SenderDone, Zmodem, Echo, SevenBits, Noise, Xmodem, XmodemReceiver, NobodyAsked, NobodySent, NobodyAnswered, FlowControl, SubEaten, EatenBytes, NoRoom, CutLength, TooManyErrors, Damage, FellSilent, SenderCancelled, ReceiverCancelled, ReplyAhead, Stopped, Unheard}
 
 abbrev pub verdict_text : Verdict → List ℕ
 verdict_text Whole = codes "the session is whole: nothing went wrong"
 verdict_text Mended = codes "the session is whole: what came damaged was sent again"
+verdict_text Repeated =
+    codes "the session is whole: what was refused or unanswered was sent again"
 verdict_text SenderDone =
     codes "the sender wrote its whole batch: what the receiver answered is not in the file"
 verdict_text Zmodem = codes "an end speaks ZMODEM: start it with sb or rb in place of sz or rz"
@@ -20,6 +22,8 @@ verdict_text XmodemReceiver =
     codes "the receiver asks by NAK, as XMODEM does: start it as a receiver of YMODEM"
 verdict_text NobodyAsked =
     codes "no receiver asked for a file: start one, and see that its line is connected"
+verdict_text NobodySent =
+    codes "no frame is in the file: see which way it has, and whether a sender was started"
 verdict_text NobodyAnswered = codes "the receiver asked and no frame came: start the sender"
 verdict_text FlowControl =
     codes "frames came short, and no 11 or 13 in them: "
@@ -37,6 +41,8 @@ verdict_text TooManyErrors =
     codes "ten frames in a row were refused: try a lower speed or a better line"
 verdict_text Damage =
     codes "a frame came damaged and never whole: try a lower speed or a better line"
+verdict_text FellSilent =
+    codes "the receiver fell silent: see whether it still runs, and whether the line was cut"
 verdict_text SenderCancelled = codes "the sender cancelled: see what it says"
 verdict_text ReceiverCancelled =
     codes "the receiver cancelled: see what it says, and whether it can write the file"

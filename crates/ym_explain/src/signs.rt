@@ -1,7 +1,7 @@
 //! What was seen of a session so far.
 
 ghost use Rattle.std.specs.Prelude.{◌≡◌};
-ghost use Rattle.ym_explain.specs.Noting.{noted, nothing_seen, with_byte, with_bytes, with_answer_junk, with_damage, with_block, with_answer, with_ack, with_nak};
+ghost use Rattle.ym_explain.specs.Noting.{noted, nothing_seen, with_byte, with_bytes, with_answer_junk, with_frame, with_damage, with_block, with_answer, with_ack, with_nak};
 
 use crate::told::{FrameKind, SendPlace};
 use ym_frame::Control;
@@ -89,6 +89,10 @@ pub struct Signs {
     pub nak_first: bool,
     /// So many frames have no answer yet, copies among them: 255 at most.
     pub out: u8,
+    /// A whole block came once more.
+    pub repeated: bool,
+    /// So many frames came last without any answer between them: 255 at most.
+    pub unanswered: u8,
     /// The block that ends the batch came.
     pub over: bool,
     /// That block was acknowledged.
@@ -129,6 +133,8 @@ impl Signs {
             back_high: false,
             nak_first: false,
             out: 0,
+            repeated: false,
+            unanswered: 0,
             over: false,
             finished: false,
             ahead: false,
@@ -148,7 +154,7 @@ impl Signs {
             Sign::Byte(byte) => return self.note_byte(byte),
             Sign::Block { place, kind } => return self.note_block(place, kind),
             Sign::Answer(control) => return self.note_answer(control),
-            Sign::Eot => seen.out = self.out.saturating_add(1),
+            Sign::Eot => return self.note_frame(),
             Sign::SenderCancel => {
                 seen.sender_cancelled = self.sender_cancelled || !self.receiver_cancelled;
             }
@@ -199,16 +205,25 @@ impl Signs {
         seen
     }
 
+    /// The same behind any frame, which has no answer yet.
+    fn note_frame(self) -> Signs
+        ensures { result ≡ with_frame self }
+    {
+        let mut seen = self;
+        seen.out = self.out.saturating_add(1);
+        seen.unanswered = self.unanswered.saturating_add(1);
+        seen
+    }
+
     /// The same behind a damaged frame.
     fn note_damage(self, short: bool, headed: bool) -> Signs
         ensures { result ≡ with_damage self short headed }
     {
-        let mut seen = self;
+        let mut seen = self.note_frame();
         seen.damaged = true;
         seen.headed = self.headed || headed;
         seen.short = self.short || short;
         seen.unmended = true;
-        seen.out = self.out.saturating_add(1);
         seen
     }
 
@@ -216,13 +231,13 @@ impl Signs {
     fn note_block(self, place: SendPlace, kind: FrameKind) -> Signs
         ensures { result ≡ with_block self place kind }
     {
-        let mut seen = self;
+        let mut seen = self.note_frame();
         seen.framed = true;
         seen.unmended = false;
-        seen.out = self.out.saturating_add(1);
         match (place, kind) {
             (SendPlace::Before, FrameKind::OutOfTurn) => seen.unnamed = true,
             (_, FrameKind::End) => seen.over = true,
+            (_, FrameKind::Copy) => seen.repeated = true,
             _ => {}
         }
         seen
@@ -234,7 +249,10 @@ impl Signs {
     {
         let mut seen = self;
         match control {
-            Control::Start => seen.asked = true,
+            Control::Start => {
+                seen.asked = true;
+                seen.unanswered = 0;
+            }
             Control::Ack => return self.note_ack(),
             Control::Nak => return self.note_nak(),
             Control::Can => {}
@@ -248,6 +266,7 @@ impl Signs {
     {
         let mut seen = self;
         seen.refusals = 0;
+        seen.unanswered = 0;
         if self.out > 0 {
             seen.out = self.out - 1;
             seen.finished = self.finished || self.over;
@@ -262,6 +281,7 @@ impl Signs {
         ensures { result ≡ with_nak self }
     {
         let mut seen = self;
+        seen.unanswered = 0;
         seen.out = self.out.saturating_sub(1);
         seen.nak_first = self.nak_first || !(self.asked || self.framed || self.damaged);
         if self.refusals < REFUSALS - 1 {

@@ -1,7 +1,7 @@
 //! What went wrong in a session, by what was seen of it.
 
 ghost use Rattle.std.specs.Prelude.{◌≡◌};
-ghost use Rattle.ym_explain.specs.Evidence.{shows, first_shown, order_of};
+ghost use Rattle.ym_explain.specs.Evidence.{is_finished, shows, first_shown, order_of};
 
 use crate::signs::Signs;
 use std::fmt;
@@ -9,10 +9,12 @@ use std::fmt;
 /// What went wrong, or that nothing did.
 #[derive(Clone, Copy)]
 pub enum Verdict {
-    /// The end of the batch was acknowledged, and no frame came damaged.
+    /// The end of the batch was acknowledged, and each block came once and whole.
     Whole,
     /// The end of the batch was acknowledged, and what came damaged was sent again.
     Mended,
+    /// The end of the batch was acknowledged, and blocks came whole more than once.
+    Repeated,
     /// The sender wrote the end of the batch, and what was answered is not known.
     SenderDone,
     /// An end speaks ZMODEM.
@@ -29,6 +31,8 @@ pub enum Verdict {
     XmodemReceiver,
     /// No receiver asked for a file.
     NobodyAsked,
+    /// No frame came.
+    NobodySent,
     /// The receiver asked, and no sender wrote.
     NobodyAnswered,
     /// The line takes 11 and 13 for itself.
@@ -45,6 +49,8 @@ pub enum Verdict {
     TooManyErrors,
     /// The last frame came damaged, and never whole.
     Damage,
+    /// The frames that came last have no answer: three of them or more.
+    FellSilent,
     /// The sender cancelled.
     SenderCancelled,
     /// The receiver cancelled.
@@ -59,9 +65,10 @@ pub enum Verdict {
 
 /// The verdicts in the order in which they are looked for, where both ways are known: what keeps a
 /// session from beginning comes before what stops it.
-pub const ORDER: [Verdict; 21] = [
+pub const ORDER: [Verdict; 23] = [
     Verdict::Whole,
     Verdict::Mended,
+    Verdict::Repeated,
     Verdict::Zmodem,
     Verdict::Echo,
     Verdict::SevenBits,
@@ -78,13 +85,14 @@ pub const ORDER: [Verdict; 21] = [
     Verdict::TooManyErrors,
     Verdict::Damage,
     Verdict::ReplyAhead,
+    Verdict::FellSilent,
     Verdict::SenderCancelled,
     Verdict::ReceiverCancelled,
     Verdict::Stopped,
 ];
 
 /// The same where only the way from the sender is known.
-pub const ORDER_THERE: [Verdict; 13] = [
+pub const ORDER_THERE: [Verdict; 14] = [
     Verdict::Zmodem,
     Verdict::SevenBits,
     Verdict::Noise,
@@ -97,6 +105,7 @@ pub const ORDER_THERE: [Verdict; 13] = [
     Verdict::EatenBytes,
     Verdict::Damage,
     Verdict::SenderCancelled,
+    Verdict::NobodySent,
     Verdict::Unheard,
 ];
 
@@ -147,14 +156,22 @@ fn first_of(seen: Signs, order: &[Verdict]) -> Verdict
     Verdict::Stopped
 }
 
+/// Whether the end of the batch was acknowledged, and no file is cut.
+fn is_whole(seen: Signs) -> bool
+    ensures { result ≡ is_finished seen }
+{
+    seen.finished && !seen.cut_length && !seen.no_room
+}
+
 impl Verdict {
     /// Whether what was seen bears this verdict out.
     fn is_shown(self, seen: Signs) -> bool
         ensures { result ≡ shows self seen }
     {
         match self {
-            Verdict::Whole => seen.finished && !seen.cut_length && !seen.no_room && !seen.damaged,
-            Verdict::Mended => seen.finished && !seen.cut_length && !seen.no_room && seen.damaged,
+            Verdict::Whole => is_whole(seen) && !seen.damaged && !seen.repeated,
+            Verdict::Mended => is_whole(seen) && seen.damaged,
+            Verdict::Repeated => is_whole(seen) && seen.repeated,
             Verdict::SenderDone => seen.over && !seen.unmended,
             Verdict::Zmodem => seen.zmodem,
             Verdict::Echo => seen.echoed,
@@ -165,6 +182,7 @@ impl Verdict {
             Verdict::Xmodem => seen.unnamed,
             Verdict::XmodemReceiver => seen.nak_first && !seen.asked,
             Verdict::NobodyAsked => !seen.asked,
+            Verdict::NobodySent => !seen.framed && !seen.damaged,
             Verdict::NobodyAnswered => !seen.framed && !seen.damaged && !seen.ahead,
             Verdict::FlowControl => seen.short && !seen.flow && seen.sub,
             Verdict::SubEaten => seen.short && seen.flow && !seen.sub,
@@ -173,6 +191,7 @@ impl Verdict {
             Verdict::CutLength => seen.cut_length,
             Verdict::TooManyErrors => seen.gave_up,
             Verdict::Damage => seen.unmended,
+            Verdict::FellSilent => seen.unanswered > 2 && !seen.receiver_cancelled,
             Verdict::SenderCancelled => seen.sender_cancelled,
             Verdict::ReceiverCancelled => seen.receiver_cancelled,
             Verdict::ReplyAhead => seen.ahead,
@@ -191,6 +210,9 @@ impl Verdict {
         match self {
             Verdict::Whole => "the session is whole: nothing went wrong",
             Verdict::Mended => "the session is whole: what came damaged was sent again",
+            Verdict::Repeated => {
+                "the session is whole: what was refused or unanswered was sent again"
+            }
             Verdict::SenderDone => {
                 "the sender wrote its whole batch: what the receiver answered is not in the file"
             }
@@ -210,6 +232,9 @@ impl Verdict {
             }
             Verdict::NobodyAsked => {
                 "no receiver asked for a file: start one, and see that its line is connected"
+            }
+            Verdict::NobodySent => {
+                "no frame is in the file: see which way it has, and whether a sender was started"
             }
             Verdict::NobodyAnswered => "the receiver asked and no frame came: start the sender",
             Verdict::FlowControl => {
@@ -235,6 +260,9 @@ impl Verdict {
             }
             Verdict::Damage => {
                 "a frame came damaged and never whole: try a lower speed or a better line"
+            }
+            Verdict::FellSilent => {
+                "the receiver fell silent: see whether it still runs, and whether the line was cut"
             }
             Verdict::SenderCancelled => "the sender cancelled: see what it says",
             Verdict::ReceiverCancelled => {

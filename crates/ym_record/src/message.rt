@@ -65,7 +65,7 @@ impl fmt::Display for RecordMessage<'_> {
             }
             RecordMessage::Explain(path) => {
                 let path = Shown(path);
-                write!(f, "to see what passed: ymodem explain {path}")
+                write!(f, "to see what passed: ymodem explain '{path}'")
             }
         }
     }

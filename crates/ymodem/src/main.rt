@@ -3,7 +3,7 @@
 #![tactic(auto)]
 
 use std::fs::{File, Files};
-use std::io::{ErrorKind, IsTerminal, Write};
+use std::io::{BufWriter, ErrorKind, IsTerminal, Write};
 use std::process::ExitCode;
 use std::{env, fs, io};
 use ym_command::{Charted, Draw, Outputs, Streams, command};
@@ -23,10 +23,11 @@ fn words(rt: &HostRuntime) -> io::Result<Vec<String>> {
     Ok(words)
 }
 
-/// How many cells a line of the terminal has, where the variable COLUMNS says it.
+/// How many cells a line of the terminal has, where the variable COLUMNS says it. No terminal has
+/// none: some programs set it to 0 where they do not know.
 fn columns(rt: &HostRuntime) -> Option<usize> {
     match env::var(rt, "COLUMNS") {
-        Ok(text) => text.as_str().parse::<usize>().ok(),
+        Ok(text) => text.as_str().parse::<usize>().ok().filter(|cells| *cells > 0),
         Err(_) => None,
     }
 }
@@ -75,18 +76,25 @@ fn answer<I: Input, O: Output + Draw, E: Output, T: Write + Drop>(
             let _ = rt.eprintln("error: a word is not UTF-8");
             REFUSED
         }
-        Err(_) => {
-            let _ = rt.eprintln("fault: memory");
-            FAILED
-        }
+        Err(_) => tell_want_of_memory(rt),
     }
 }
 
-/// Does what the words ask for, over the program's own streams.
+/// Tells that there is no memory to begin with. The answer is the status.
+fn tell_want_of_memory(rt: &HostRuntime) -> u8 {
+    let _ = rt.eprintln("fault: memory");
+    FAILED
+}
+
+/// Does what the words ask for, over the program's own streams. Each line of the output is one
+/// write, so that several programs can write into one log.
 fn run(rt: &HostRuntime) -> u8 {
     let look = look(rt);
     let mut teller = Teller::new(rt.stderr(), look);
-    let shown = ShownOut::new(rt.alloc(), rt.stdout(), rt.stdout().is_terminal());
+    let Ok(out) = BufWriter::new(rt.alloc(), rt.stdout()) else {
+        return tell_want_of_memory(rt);
+    };
+    let shown = ShownOut::new(rt.alloc(), out, rt.stdout().is_terminal());
     let mut streams = Streams {
         input: rt.stdin(),
         outputs: Outputs {
