@@ -6,7 +6,7 @@ import os
 import socket
 
 from support.cases import case, cases, sentence
-from support.program import folders, free_port, run, write_files
+from support.program import folders, free_port, run, running, write_files
 
 ONE_FILE = """1 > - whole < C whole
 2 > block 0 128 whole < ACK C whole
@@ -67,6 +67,20 @@ def test_scripts(words):
     for script, *wanted in PLAYED:
         port = (free_port(),) if "loop" in words else ()
         run(*words, *port, given=script.encode()).wants(*wanted)
+
+
+@sentence("each line that is printed is one write")
+def test_lines_are_writes():
+    """What several receivers write into one log stays lines. The socket keeps writes apart."""
+    ours, its = socket.socketpair(socket.AF_UNIX, socket.SOCK_SEQPACKET)
+    with folders() as (here, there), ours, its:
+        paths, port = write_files(here, [("a", b"a")]), free_port()
+        with running("receive", "-p", port, there, out=its) as receive:
+            run("send", "-p", port, *paths)
+            receive.ended()
+        its.close()
+        written = list(iter(lambda: ours.recv(65536).decode(), ""))
+    assert written == ["file a 1 - -\n", "receiver files 1 finished\n"], "it wrote %r" % written
 
 
 @cases(

@@ -187,14 +187,17 @@ def test_progress_of_receive():
         wants_stored(there, FILE)
 
 
-@sentence("shows no line as wide as the terminal")
-def test_width_of_a_terminal():
+@cases(
+    case("shows no line as wide as the terminal", "60", 59),
+    case("shows lines where COLUMNS is 0, as where it is not set", "0", 79),
+)
+def test_width_of_a_terminal(columns, most):
     """No line that is shown in place is as wide as the terminal."""
     name = "a name that is as long as names seldom are.bin"
     with folders() as (here, _), socket.create_server(("127.0.0.1", 0)) as listener:
         (path,) = write_files(here, [(name, DATA)])
         words = ["send", "-p", listener.getsockname()[1], path]
-        send = UnderTerminal([PROGRAM, *map(str, words)], env={**os.environ, "COLUMNS": "60"})
+        send = UnderTerminal([PROGRAM, *map(str, words)], env={**os.environ, "COLUMNS": columns})
         try:
             with called(listener) as end:
                 peer = threading.Thread(target=paced(), args=(end,), daemon=True)
@@ -206,9 +209,10 @@ def test_width_of_a_terminal():
                 peer.join(LIMIT)
         finally:
             send.stop()
-        shown = shown.partition(b"\r\n")[0]
+        # without what asks the terminal to cut a line
+        shown = re.sub(rb"\x1b\[[?0-9]*[A-Za-z]", b"", shown.partition(b"\r\n")[0])
         found = [it for it in re.split(b"[\r]", shown) if b"%" in it]
-        assert found and max(len(it) for it in found) <= 59, "the lines are %r" % found
+        assert found and max(len(it) for it in found) <= most, "the lines are %r" % found
 
 
 @sentence("tells a line for each whole file with --verbose")
