@@ -129,6 +129,26 @@ def test_without_links(error):
 
 
 @cases(
+    case("refused: to force the folder out, by EINVAL", 0),
+    case("refused: to force the folder out, by EINVAL, --no-sync", 3, ["--no-sync"]),
+)
+def test_folder_is_not_forced(count, flags=()):
+    """A file system that cannot force a folder out: that is found out before the first file is
+    taken, and nothing is left."""
+    with folders() as (log, there):
+        words = strace(
+            os.path.join(log, "log"), "-P", there, "-e", "inject=fsync,fdatasync:error=EINVAL"
+        )
+        ended, sender = received(FEW_FILES, there, flags, words)
+        if count:
+            ended.wants(0, told(FEW_FILES))
+        else:
+            ended.wants(3, refused(0, FEW_FILES), FAULT)
+        assert sender.done == count, "it acknowledged %d files" % sender.done
+        wants_stored(there, FEW_FILES[:count])
+
+
+@cases(
     *(
         case("refused: each call of send on files, by %s" % error, "error=" + error)
         for error in ("EIO", "EPERM", "EINTR", "EMFILE")

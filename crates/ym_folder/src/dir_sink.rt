@@ -14,6 +14,7 @@ use crate::folder::Folder;
 use crate::open_part::{self, OpenPart, Standing};
 use crate::part::{make_part, places, remove_part, replace_part};
 use crate::place::FilePlace;
+use crate::probe::check_forced;
 use crate::write_behind::WriteBehind;
 use std::alloc::{AllocError, Global};
 use std::io;
@@ -279,6 +280,17 @@ impl<D: Folder + Drop> DirSink<D> {
         }
     }
 
+    /// Sees before the first file that the folder can be forced out to the disk, where that is
+    /// wanted: each commit will need it.
+    fn check_durable(&self) -> io::Result<()> {
+        match self.durability {
+            Durability::Disk if self.committed.is_empty() => {
+                check_forced(&self.folder, self.dir.as_str())
+            }
+            Durability::Disk | Durability::System => Ok(()),
+        }
+    }
+
     /// Counts a failure, and keeps why the first one was.
     fn fail(&mut self, why: StoreFault) -> SinkFault
         ensures fault { result ≡ SinkFault.Failed }
@@ -319,6 +331,9 @@ impl<D: Folder + Drop> Sink for DirSink<D> {
         };
         if let Err(why) = check_free(&self.folder, &target) {
             return Err(self.fail(why));
+        }
+        if let Err(error) = self.check_durable() {
+            return Err(self.fail(StoreFault::System(error)));
         }
         let stored = self.committed.as_slice();
         match open_part(&mut self.folder, &part, self.leftover, stored) {

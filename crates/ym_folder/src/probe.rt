@@ -1,4 +1,4 @@
-//! The look at a folder before files are stored there.
+//! The looks at a folder before files are stored there.
 
 ghost use Rattle.std.specs.Prelude.{OnOk, codes};
 ghost use Rattle.ym_folder.specs.Folder.{AllStay};
@@ -25,4 +25,10 @@ pub fn check_folder<D: Folder>(folder: &mut D, alloc: Global, dir: &str) -> io::
         Err(error) if error.kind() == ErrorKind::AlreadyExists => Ok(()),
         Err(error) => Err(error),
     }
+}
+
+/// Sees that the folder at this path can be forced out to the disk.
+pub(crate) fn check_forced<D: Folder>(folder: &D, dir: &str) -> io::Result<()> {
+    let itself = folder.open_itself(dir)?;
+    folder.sync(&itself)
 }
