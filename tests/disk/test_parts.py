@@ -1,11 +1,13 @@
 """Parts and names in the folder of `receive`, and files that change before `send` has read them."""
 
+import contextlib
 import fcntl
 import os
 import random
 
 import pytest
 from support.cases import case, cases, sentence
+from support.other_user import handed_over
 from support.peers import PlainReceiver, receive_plainly, send_to
 from support.program import folders, wants_same, wants_stored, write_files
 from support.storing import PART, Meanwhile, part_of, received, refused, told
@@ -18,6 +20,7 @@ DATA = random.Random(4).randbytes(5000)
 FILE = [("first", DATA)]
 # As long as a name may be: the front that its part's name has, and the ending of that.
 OWN_PART = (250 * "n" + ".part", DATA)
+PART_OF_FILE = (part_of("first"), b"left")
 DISCARD = ["--discard-parts"]
 FAULT = "fault: device\n"
 
@@ -82,6 +85,30 @@ def test_locked_part():
             wants_stored(there, [(part_of("first"), b"in use")])
         received(FILE, there, DISCARD)[0].wants(0, told(FILE))
         wants_stored(there, FILE)
+
+
+@cases(
+    case("parts: one that may only be read is discarded", 0o444, []),
+    case("parts: one that may only be read, and is locked, stays", 0o444, [PART_OF_FILE], True),
+    case("parts: one that may not be opened stays", 0o000, [PART_OF_FILE]),
+)
+def test_closed_part(mode, stays, is_locked=False):
+    """Of a part that may not be written it is told whether it is locked where it may be read."""
+    with folders() as (_, there):
+        (path,) = write_files(there, [PART_OF_FILE])
+        os.chmod(path, mode)
+        words = handed_over(there, path)
+        with contextlib.ExitStack() as until:
+            if is_locked:
+                part = until.enter_context(open(path, "rb"))
+                fcntl.flock(part, fcntl.LOCK_EX)
+            ended, _ = received(FILE, there, DISCARD, words)
+        if stays:
+            os.chmod(path, 0o600)
+            ended.wants(3, refused(0, FILE), FAULT)
+        else:
+            ended.wants(0, told(FILE))
+        wants_stored(there, stays or FILE)
 
 
 @cases(

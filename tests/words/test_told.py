@@ -5,14 +5,13 @@ import contextlib
 import fcntl
 import os
 import socket
-import subprocess
 import time
 
 from support.cases import case, cases, sentence
 from support.frames import ACK, ACK_START, CANCEL, END, EOT, NAK, START, header
+from support.other_user import not_by_root
 from support.peers import PlainReceiver, frames_at, receive_from, send_to
-from support.program import PROGRAM, folders, free_port, run, running, wants_stored, write_files
-from support.skipping import Skipped, needs
+from support.program import folders, free_port, run, running, wants_stored, write_files
 from support.telling import DATA, FAULT, FILE, coming, connecting, listening, missing
 
 
@@ -125,17 +124,6 @@ def read_only(here):
     os.mkdir(closed)
     os.chmod(closed, 0o555)
     return closed
-
-
-def not_by_root():
-    """The words by which somebody else runs a program, since root may write everywhere."""
-    if os.geteuid():
-        return ()
-    needs("setpriv")
-    words = ("setpriv", "--reuid=65534", "--regid=65534", "--clear-groups")
-    if subprocess.run([*words, "test", "-x", PROGRAM], check=False).returncode:
-        raise Skipped("the program is where only root can reach it")
-    return words
 
 
 @cases(

@@ -24,7 +24,7 @@ pub trait Folder {
     /// Whether what stands at this place is a regular file. A link there is none.
     fn is_regular(&self, at: &FilePlace) -> io::Result<bool>;
 
-    /// Opens what stands at this place, to be written.
+    /// Opens what stands at this place, to be locked.
     fn open(&self, at: &FilePlace) -> io::Result<Self::File>
         ensures { IfOk result (λ file. is_of file (name_of at.now)) };
 

@@ -4,7 +4,7 @@ ghost use Rattle.std.specs.Prelude.{None};
 
 use crate::file_id::stands_at;
 use std::fs::{File, Files};
-use std::io::Write;
+use std::io::{ErrorKind, Write};
 use std::{fs, io};
 use ym_folder::{FilePlace, Folder};
 
@@ -33,10 +33,17 @@ impl<R: Files<File = File> + Drop> Folder for SystemFolder<R> {
     }
 
     fn open(&self, at: &FilePlace) -> io::Result<File> {
-        File::options()
+        let opened = File::options()
             .read(true)
             .write(true)
-            .open(&self.rt, at.path())
+            .open(&self.rt, at.path());
+        match opened {
+            // Most file systems lock what can only be read as well.
+            Err(error) if error.kind() == ErrorKind::PermissionDenied => {
+                File::open(&self.rt, at.path())
+            }
+            _ => opened,
+        }
     }
 
     fn open_itself(&self, dir: &str) -> io::Result<File> {
