@@ -23,6 +23,6 @@ pub use read_source::{Opens, ReadSource};
 pub use socket_carrier::SocketCarrier;
 pub use socket_wire::SocketWire;
 pub use system_folder::SystemFolder;
-pub use ticks::{EARLY_MS, ENDLESS_MS, HUNG_UP_READS, TICK_MS, Tick, Ticks};
+pub use ticks::{EARLY_MS, HUNG_UP_READS, LATE_MS, TICK_MS, Tick, Ticks};
 pub use tty::{OpenFault, open_tty};
 pub use tty_wire::{TtyFault, TtyWire};

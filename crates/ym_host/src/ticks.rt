@@ -1,6 +1,6 @@
 //! What reads that end by themselves say of a line.
 
-ghost use Rattle.std.specs.Prelude.{◌≡◌, ◌<◌, ◌==◌, not};
+ghost use Rattle.std.specs.Prelude.{◌≡◌, ◌<◌, ◌==◌, false, not};
 ghost use Rattle.ym_host.specs.Ticks.{after, said};
 
 /// How many milliseconds a read waits where nothing comes, as `stty min 0 time 1` sets it.
@@ -12,9 +12,8 @@ pub const EARLY_MS: u64 = 50;
 /// So many reads in a row that did not wait have met the end of the line.
 pub const HUNG_UP_READS: u32 = 5;
 
-/// A read that got bytes after more milliseconds would have waited for ever, unless one before it
-/// has ended by itself.
-pub const ENDLESS_MS: u64 = 1000;
+/// A read that took more milliseconds was late.
+pub const LATE_MS: u64 = 1000;
 
 /// What a read says of its line.
 #[derive(Clone, Copy)]
@@ -36,6 +35,8 @@ pub struct Ticks {
     pub early: u32,
     /// Whether one has ended by itself.
     pub has_ended: bool,
+    /// Whether the last one was in time.
+    pub was_in_time: bool,
 }
 
 impl Ticks {
@@ -44,19 +45,26 @@ impl Ticks {
     pub fn new(is_terminal: bool) -> Ticks
         ensures early { result.early ≡ 0 }
         ensures ended { result.has_ended ≡ not is_terminal }
+        ensures time { result.was_in_time ≡ false }
     {
         Ticks {
             early: 0,
             has_ended: !is_terminal,
+            was_in_time: false,
         }
     }
 
     /// Takes that a read got so many bytes after so many milliseconds, and answers what that says.
+    /// One that got bytes late would have waited for ever, unless one before it has ended by
+    /// itself, or the last one was in time: the process, or its machine, may have stood still
+    /// since.
     pub fn take(&mut self, count: usize, millis: u64) -> Tick
         ensures says { result ≡ said self.old count millis }
         ensures some { result ≡ Tick.Bytes → 0 < count }
         ensures kept { self.new ≡ after self.old count millis }
     {
+        let may_be_endless = !self.has_ended && !self.was_in_time;
+        self.was_in_time = millis <= LATE_MS;
         if count == 0 {
             self.early = if millis < EARLY_MS {
                 self.early.saturating_add(1).min(HUNG_UP_READS)
@@ -71,7 +79,7 @@ impl Ticks {
             };
         }
         self.early = 0;
-        if !self.has_ended && millis > ENDLESS_MS {
+        if may_be_endless && !self.was_in_time {
             return Tick::Endless;
         }
         Tick::Bytes

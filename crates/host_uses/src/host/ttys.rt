@@ -131,6 +131,16 @@ fn tell_endless() -> bool {
         && comes_to(&reads, Ok(Got::Bytes(1)), 3100, "none")
 }
 
+/// Whether one late byte behind those in time is heard, and two in a row tell that reads wait for
+/// ever.
+fn tell_stalls() -> bool {
+    let (soon, late) = (Comes::Byte(20), Comes::Byte(3000));
+    let reads = [soon, late, soon, late, late];
+    let moment = Cell::new(0);
+    let mut wire = wire(&reads, &moment);
+    dripped(&mut wire, &mut [0; 8]) == 4 && word(wire.fault()) == "endless"
+}
+
 /// Whether reads that get nothing, a byte, or an error come to what they should.
 fn tell_others() -> bool {
     let quiet = Comes::Nothing(100);
@@ -146,6 +156,7 @@ fn tell_others() -> bool {
 fn what_a_wait_comes_to(rt: HostRuntime) {
     assert!(rt; tell_hung_up());
     assert!(rt; tell_endless());
+    assert!(rt; tell_stalls());
     assert!(rt; tell_others());
 }
 
