@@ -8,6 +8,7 @@ mod manner;
 mod outcome;
 mod payload;
 mod receiver_trial;
+mod said;
 mod sender_trial;
 mod sent_frame;
 mod turn;

@@ -1,18 +1,18 @@
 //! A receiver that is tried: files are sent to it.
 
-ghost use Rattle.std.specs.Prelude.{◌≡◌, ◌++◌, ◌+◌, ℕ, List, IfOk, OnOk, Some};
+ghost use Rattle.std.specs.Prelude.{◌≡◌, ◌+◌, ℕ, List, IfOk, OnOk, Some};
 ghost use Rattle.ym_judge.specs.Acts.{answer_in};
 ghost use Rattle.ym_judge.specs.Noted.{no_notes};
 ghost use Rattle.ym_judging.specs.Listening.{said_by};
 ghost use Rattle.ym_judging.specs.Manners.{twisted_as};
-ghost use Rattle.ym_judging.specs.JudgedSteps.{GoesOn, GrowsBy, IsNoted, has_acknowledged};
-ghost use Rattle.ym_judging.specs.JudgedSteps.{has_cancelled};
+ghost use Rattle.ym_judging.specs.JudgedSteps.{GoesOn, GrowsBy, IsNoted};
 ghost use Rattle.ym_judging.specs.declared.receiver_trial.TheConstants.{MOST_TURNS};
 
 use crate::line::{ANSWER_MS, Ear, FIRST_MS, Line, STILL_MS};
 use crate::manner::{Manner, manner_of};
 use crate::outcome::Outcome;
 use crate::payload::{Payload, files_of, parcel_of};
+use crate::said::{has_cancelled, is_acknowledged, joined, said_by};
 use crate::sent_frame::{counts_of, sent_frame};
 use crate::turn::{Heard, Replies, Turn};
 use crate::twisted::{frame_twist, is_everywhere, rest_ms, twisted};
@@ -58,53 +58,9 @@ struct ReceiverTrial<'a> {
     notes: Notes,
 }
 
-/// Whether a receiver that did this has acknowledged.
-fn is_acknowledged(did: Act) -> bool
-    ensures { result ≡ has_acknowledged did }
-{
-    match did {
-        Act::Answer(Reply::Ack | Reply::AckStart) => true,
-        Act::Answers(Reply::Ack | Reply::AckStart, _) => true,
-        Act::Answers(_, Reply::Ack | Reply::AckStart) => true,
-        _ => false,
-    }
-}
-
-/// Whether a receiver that did this has cancelled.
-fn has_cancelled(did: Act) -> bool
-    ensures { result ≡ has_cancelled did }
-{
-    match did {
-        Act::Answer(Reply::Cancel) => true,
-        Act::Answers(Reply::Cancel, _) => true,
-        Act::Answers(_, Reply::Cancel) => true,
-        _ => false,
-    }
-}
-
 /// Whether a frame stands whole in what goes out, behind other bytes.
 fn is_behind_others(twist: Option<Twist>) -> bool {
     matches!(twist, Some(Twist::Junk | Twist::LoneCan))
-}
-
-/// These bytes, and those behind them.
-fn joined(alloc: Global, front: &[u8], rest: &[u8]) -> Result<Vec<u8>, AllocError>
-    ensures { IfOk result (λ bytes. bytes.items ≡ front.now ++ rest.now) }
-{
-    let mut bytes = Vec::from_slice(alloc, front)?;
-    bytes.extend_from_slice(rest)?;
-    Ok(bytes)
-}
-
-/// What counts as the answer of a turn.
-fn said_by(alloc: Global, turn: &Turn, heard: &Heard) -> Result<Vec<u8>, AllocError>
-    ensures { IfOk result (λ said. said.items ≡ said_by turn.now.twist heard.now) }
-{
-    let mut said = joined(alloc, heard.before.as_slice(), heard.bytes.as_slice())?;
-    if turn.twist != Some(Twist::Prompt) {
-        said.extend_from_slice(heard.late.as_slice())?;
-    }
-    Ok(said)
 }
 
 impl<'a> ReceiverTrial<'a> {
