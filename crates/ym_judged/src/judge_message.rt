@@ -2,9 +2,10 @@
 
 use std::fmt;
 use ym_judge::{Case, Peer};
+use ym_text::{Reason, Shown};
 
-/// What `judge` tells on standard error where it plays nothing. Its `Display` is the line, without
-/// its end.
+/// What `judge` tells on standard error where it plays nothing, or no more. Its `Display` is the
+/// line, without its end.
 #[derive(Clone, Copy)]
 pub(crate) enum JudgeMessage<'a> {
     /// This word names no kind of peer.
@@ -15,6 +16,8 @@ pub(crate) enum JudgeMessage<'a> {
     NoPlace,
     /// The line at this path cannot be opened.
     NoLine(&'a str),
+    /// The folder or the file at this path cannot be looked at.
+    Unseen(&'a str, Reason),
 }
 
 /// The word that names such a peer.
@@ -40,6 +43,10 @@ impl fmt::Display for JudgeMessage<'_> {
             }
             JudgeMessage::NoPlace => f.write_str("judge takes --port or --line, and one of them"),
             JudgeMessage::NoLine(path) => write!(f, "the line '{path}' cannot be opened"),
+            JudgeMessage::Unseen(path, why) => {
+                let path = Shown(path);
+                write!(f, "cannot look at '{path}': {why}")
+            }
         }
     }
 }

@@ -9,7 +9,7 @@ use std::net::{Ipv4Addr, Net, SocketAddr, TcpListener, TcpStream};
 use std::thread;
 use std::time::{Clock, Duration};
 use ym_answer::CommandFault;
-use ym_host::{SocketWire, TtyWire, open_tty};
+use ym_host::{SocketWire, TtyFault, TtyWire, open_tty};
 use ym_judge::{Case, Peer};
 use ym_judging::{Outcome, try_receiver, try_sender};
 use ym_port::{Role, Wire};
@@ -132,23 +132,38 @@ fn play_through<R: Clock>(
     }
 }
 
-/// Plays a case to the peer, when it is there.
+/// Plays a case over this terminal, if its reads end by themselves.
+fn play_serial<R: Clock>(
+    rt: &R,
+    alloc: Global,
+    terminal: &File,
+    peer: Peer,
+    case: Case,
+) -> Result<Option<Outcome>, AllocError> {
+    let mut wire = TtyWire::new(rt, terminal, terminal, true, role_beside(peer));
+    let outcome = play_over(alloc, &mut wire, peer, case)?;
+    match wire.fault() {
+        Some(TtyFault::Endless) => Ok(None),
+        _ => Ok(Some(outcome)),
+    }
+}
+
+/// Plays a case to the peer, when it is there. Nothing comes of it where reads of its line do not
+/// end by themselves.
 pub(crate) fn play_case<R>(
     rt: &R,
     alloc: Global,
     access: &Access,
     peer: Peer,
     case: Case,
-) -> Result<Outcome, AllocError>
+) -> Result<Option<Outcome>, AllocError>
 where
     R: Net<Listener = TcpListener, Stream = TcpStream> + Clock,
 {
-    match access {
-        Access::Calling(port) => play_through(rt, alloc, call(rt, *port), peer, case),
-        Access::Listening(listener) => play_through(rt, alloc, take(rt, listener), peer, case),
-        Access::Serial(file) => {
-            let mut wire = TtyWire::new(rt, file, file, true, role_beside(peer));
-            play_over(alloc, &mut wire, peer, case)
-        }
-    }
+    let stream = match access {
+        Access::Calling(port) => call(rt, *port),
+        Access::Listening(listener) => take(rt, listener),
+        Access::Serial(terminal) => return play_serial(rt, alloc, terminal, peer, case),
+    };
+    Ok(Some(play_through(rt, alloc, stream, peer, case)?))
 }

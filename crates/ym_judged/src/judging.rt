@@ -11,16 +11,17 @@ ghost use Rattle.ym_judged.specs.Judged.{avoid_lines, case_named, case_words, na
 ghost use Rattle.ym_judged.specs.Judged.{peer_named, report_end, to_avoid};
 
 use crate::judge_message::{FailedIn, JudgeMessage};
-use crate::judged_files::stores_all;
 use crate::judged_peer::{Access, access_of, play_case};
+use crate::looking::{looked_at, see_folder};
 use std::alloc::{AllocError, Global};
 use std::fs::{File, Files};
 use std::net::{Net, TcpListener, TcpStream};
 use std::time::Clock;
 use ym_answer::CommandFault;
 use ym_judge::{Avoided, Case, CaseJson, CaseLine, Peer, StartLine, Sums, Tried, cases_of};
-use ym_judging::{Outcome, files_of};
+use ym_judging::Outcome;
 use ym_streams::{Output, Outputs, StreamFault};
+use ym_text::EndMessage;
 
 /// The status where something has to be avoided.
 const TO_AVOID: u8 = 1;
@@ -107,23 +108,6 @@ fn refuse<E: Output>(err: &mut E, why: JudgeMessage<'_>) -> Result<u8, CommandFa
 {
     err.put_line(why)?;
     Ok(REFUSED)
-}
-
-/// The outcome of a case, with what a look at the stored files says.
-fn looked_at<R: Files<File = File>>(
-    rt: &R,
-    alloc: Global,
-    stored: Option<&str>,
-    outcome: Outcome,
-) -> Result<Outcome, AllocError> {
-    let is_exact = match (stored, outcome.sent) {
-        (Some(dir), Some(parcel)) => { stores_all(rt, alloc, dir, files_of(parcel), outcome.told)? }
-        _ => true,
-    };
-    Ok(Outcome {
-        is_exact: outcome.is_exact && is_exact,
-        ..outcome
-    })
 }
 
 /// Prints what a case has shown.
@@ -224,7 +208,8 @@ struct Trial<'a> {
     asked: PeerOrder<'a>,
 }
 
-/// Plays a case, and tells before it that it begins, and behind it whether the line failed.
+/// Plays a case, and tells before it that it begins, and behind it whether the line failed. No case
+/// counts whose stored files cannot be looked at, or where reads of the line do not end.
 fn play_telling<R, E>(
     rt: &R,
     alloc: Global,
@@ -237,10 +222,14 @@ where
     E: Output,
     ensures { IfErr result (λ why. IsMidway why) }
 {
-    err.put_line(StartLine(case))?;
     let PeerOrder { peer, order } = trial.asked;
-    let outcome = play_case(rt, alloc, &trial.access, peer, case)?;
-    let outcome = looked_at(rt, alloc, order.stored, outcome)?;
+    see_folder(rt, alloc, order.stored, err)?;
+    err.put_line(StartLine(case))?;
+    let Some(outcome) = play_case(rt, alloc, &trial.access, peer, case)? else {
+        err.put_line(EndMessage::LineEndless)?;
+        return Err(CommandFault::Device);
+    };
+    let outcome = looked_at(rt, alloc, order.stored, outcome, err)?;
     if outcome.has_failed {
         err.put_line(FailedIn(case))?;
     }

@@ -6,5 +6,6 @@ mod judge_message;
 mod judged_files;
 mod judged_peer;
 mod judging;
+mod looking;
 
 pub use judging::{JudgeOrder, judge};
