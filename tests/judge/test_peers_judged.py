@@ -14,6 +14,7 @@ from support.program import PROGRAM
 OURS = shlex.quote(PROGRAM)
 
 
+@pytest.mark.slow
 @cases(
     case(
         "judge: receive conforms in every case",
@@ -34,6 +35,7 @@ def test_conforms(kind, command):
     assert status == 0, "status %d" % status
 
 
+@pytest.mark.slow
 @cases(
     case("judge: rb of lrzsz", "receiver", "rb", marks=pytest.mark.needs("rb")),
     case("judge: sb of lrzsz", "sender", "sb $FILE", marks=pytest.mark.needs("sb")),

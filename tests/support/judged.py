@@ -12,7 +12,7 @@ from support.program import LIMIT, PROGRAM, ROOT
 SCRIPT = os.path.join(ROOT, "share", "ymodem-judge")
 # A peer of which faults are planted, by their names behind its kind.
 PEER = shlex.join([sys.executable, os.path.join(ROOT, "tests", "support", "faulty_peers.py")])
-AT_ONCE = "16"
+AT_ONCE = "12"
 # How many cases each kind of peer is tried by.
 COUNTS = {"receiver": 69, "sender": 70}
 
