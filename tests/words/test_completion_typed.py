@@ -29,11 +29,19 @@ BOTH = (
     ("ymodem-tty send --record my", "\\ file"),
     ("ymodem-tty receive --record=my", "\\ file"),
     ("ymodem sb --record my", "\\ file"),
+    ("ymodem sb --line=fir", "st.bin"),
+    ("ymodem rb --line=/dev/nul", "l"),
+    ("ymodem receive --record=my", "\\ file"),
+    ("ymodem explain --there=my", "\\ file"),
+    ("ymodem judge receiver --line=fir", "st.bin"),
+    ("ymodem send --port=4000 fir", "st.bin"),
     ("ymodem sb my\\ fi", "le"),
     ("ymodem explain --there my", "\\ file"),
     ("ymodem explain --back x", "\\*y"),
     ("ymodem re", "ceive"),
     ("ymodem-judge receiver --j", "obs --json"),
+    ("ymodem-judge --jobs=s", ""),
+    ("ymodem-judge --jobs=4 rec", "eiver"),
 )
 BASH = (
     ("ymodem-tty --device ", "first.bin in\\ coming my\\ file x\\*y"),
@@ -41,15 +49,18 @@ BASH = (
     ("ymodem-tty --flow=", "hard none soft"),
     ("ymodem-tty --speed 9600 --dev", "ice"),
     ("ymodem-tty receive in", "\\ coming"),
-    ("ymodem rb --line=fir", "st.bin"),
+    ("ymodem rb --li", "ne"),
     ("ymodem judge receiver --stored in", "\\ coming"),
+    ("ymodem judge receiver --stored=in", "\\ coming"),
 )
 # This one types an option with its =, and a folder with its slash.
 ZSH = (
     ("ymodem-tty --flow=", "hard --flow=none --flow=soft"),
     ("ymodem-tty --speed 9600 --dev", "ice="),
     ("ymodem-tty receive in", "\\ coming/"),
+    ("ymodem rb --li", "ne="),
     ("ymodem judge receiver --stored in", "\\ coming/"),
+    ("ymodem judge receiver --stored=in", "\\ coming/"),
 )
 
 

@@ -158,7 +158,7 @@ def by_zsh(name, words):
         text=True,
         check=True,
     )
-    options = re.findall(r"^(?:\(.*?\))?(-[\w-]+)=?\[(.*?)\](?::.*)?$", said.stdout, re.M)
+    options = re.findall(r"^(?:\(.*?\))?(-[\w-]+)[=+]?\[(.*?)\](?::.*)?$", said.stdout, re.M)
     return dict(options + re.findall(r"^([a-z]+):(.+)$", said.stdout, re.M))
 
 
