@@ -1,6 +1,6 @@
 #!/usr/bin/env python3
 """Makes a Debian package or a tar file of the program, ymodem-tty, the manual pages, the completion and the documents, or a Debian package of the
-library for C: the archive, the header, the file for pkg-config, the examples and their documents.
+library for C: the archive, the header, the file for pkg-config and the documents. The documents are the pages and the examples that they name.
 
 The tar file and the package of the library also have the library as files in C, where PORTABLE, the folder that they are in, is given.
 
@@ -28,6 +28,9 @@ ROOT = os.path.dirname(os.path.dirname(os.path.abspath(__file__)))
 MAINTAINER = "Nishkubo maintainers <maintainers@users.noreply.nishkubo.example>"
 # What the program may be linked to: the C library and its loader.
 ALLOWED = {"libc.so.6", "ld-linux-x86-64.so.2"}
+# What pages link to or name, as it stands here; and what of it makes these files, or was made of them.
+DOCUMENTS = ("README.md", "CONTRIBUTING.md", "docs", "examples")
+NO_DOCUMENTS = shutil.ignore_patterns("*.py", "*.script", "__pycache__", "out")
 
 CONTROL = """Package: ymodem
 Version: {version}
@@ -118,17 +121,12 @@ class Build:
         subprocess.run(["strip", "--strip-all", "--remove-section=.comment", "--remove-section=.note", "-o", stripped, self.subject], check=True)
         subprocess.run([os.path.join(ROOT, "tools", "install.sh"), stripped, prefix], check=True)
         os.remove(stripped)
-        documents = os.path.join(prefix, "share", "doc", "ymodem")
-        shutil.copytree(os.path.join(ROOT, "docs"), os.path.join(documents, "docs"), ignore=shutil.ignore_patterns("*.py", "*.script", "__pycache__"))
-        for page in ("README.md", "CONTRIBUTING.md"):
-            shutil.copy(os.path.join(ROOT, page), documents)
-        return documents
+        return documented(prefix, "ymodem")
 
     def install_library(self, prefix):
         """The same for the library, which comes without what only a debugger reads."""
         libraries = os.path.join(prefix, "lib", "x86_64-linux-gnu")
-        documents = os.path.join(prefix, "share", "doc", "libymodem-dev")
-        for folder in (os.path.join(libraries, "pkgconfig"), os.path.join(prefix, "include"), documents):
+        for folder in (os.path.join(libraries, "pkgconfig"), os.path.join(prefix, "include")):
             os.makedirs(folder)
         words = ["strip", "--strip-debug", "--enable-deterministic-archives", "--remove-section=.comment", "--remove-section=.note"]
         subprocess.run([*words, "-o", os.path.join(libraries, "libymodem.a"), self.subject], check=True)
@@ -138,11 +136,7 @@ class Build:
             text = it.read().replace("@PREFIX@", "/usr").replace("@LIBDIR@", "${prefix}/lib/x86_64-linux-gnu")
             text = text.replace("@VERSION@", number())
         write(os.path.join(libraries, "pkgconfig", "ymodem.pc"), text)
-        for name in ("library.md", "portable.md"):
-            shutil.copy(os.path.join(ROOT, "docs", name), documents)
-        shutil.copytree(os.path.join(ROOT, "examples"), os.path.join(documents, "examples"), ignore=shutil.ignore_patterns("out"))
-        return documents
-
+        return documented(prefix, "libymodem-dev")
 
     def install_portable(self, prefix):
         """The same for the library as files in C, for processors that the archive is not for."""
@@ -151,6 +145,16 @@ class Build:
             os.makedirs(to)
             for name in ("ymodem.c", "ymodem.h", "ymodem_io.h"):
                 shutil.copy(os.path.join(self.portable, name), to)
+
+
+def documented(prefix, package):
+    """Puts the documents of a package below a folder, each where the others link to it, and answers where they are."""
+    documents = os.path.join(prefix, "share", "doc", package)
+    os.makedirs(documents)
+    for name in DOCUMENTS:
+        it, to = os.path.join(ROOT, name), os.path.join(documents, name)
+        shutil.copytree(it, to, ignore=NO_DOCUMENTS) if os.path.isdir(it) else shutil.copy(it, to)
+    return documents
 
 
 def linked_to(program):

@@ -8,7 +8,7 @@ from support.cases import case, cases, sentence
 from support.commands import command
 from support.example_ends import pair
 from support.library import LIBRARY, STRICT
-from support.packages import FIXED, sum_of
+from support.packages import FIXED, lacking, sum_of
 from support.program import ROOT, wants_same
 from support.skipping import needs
 
@@ -18,8 +18,8 @@ FILES = (
     "include/ymodem_io.h",
     "lib/x86_64-linux-gnu/libymodem.a",
     "lib/x86_64-linux-gnu/pkgconfig/ymodem.pc",
-    "share/doc/libymodem-dev/library.md",
-    "share/doc/libymodem-dev/portable.md",
+    "share/doc/libymodem-dev/docs/library.md",
+    "share/doc/libymodem-dev/docs/portable.md",
     "share/doc/libymodem-dev/examples/c/line.h",
     "share/doc/libymodem-dev/examples/c/receive.c",
     "share/doc/libymodem-dev/examples/c/send.c",
@@ -33,7 +33,10 @@ PORTABLE_FILES = tuple(
     "share/ymodem/portable/" + it for it in ("ymodem.c", "ymodem.h", "ymodem_io.h")
 )
 # What a package is made of. The version stands in a source of the program.
-PARTS = ("packaging", "include", "examples", "docs", "tools", "crates/ym_words/src/command.rt")
+PARTS = (
+    *("packaging", "include", "examples", "docs", "README.md", "CONTRIBUTING.md", "tools"),
+    "crates/ym_words/src/command.rt",
+)
 
 
 def copied(to, umask):
@@ -103,6 +106,15 @@ def unpacked(top, library):
     ) as other:
         wants_same({"ymodem.h": other.read()}, {"ymodem.h": one.read()})
     return top + "/root/usr"
+
+
+@sentence("the pages of the library's package lead somewhere")
+def test_pages_lead_somewhere():
+    """What a page links to, and what it names of docs and examples, is in the package."""
+    with tempfile.TemporaryDirectory(prefix="ymodem-") as top:
+        documents = os.path.join(unpacked(top, LIBRARY), "share", "doc", "libymodem-dev")
+        missing = lacking(documents)
+        assert not missing, "it lacks %s" % missing
 
 
 def flags(usr):

@@ -8,7 +8,7 @@ import tempfile
 
 from support.cases import case, cases, sentence
 from support.locales import turkish_if_it_can_be_had
-from support.packages import FIXED, linked_program, sum_of
+from support.packages import FIXED, lacking, linked_program, sum_of
 from support.program import PROGRAM, ROOT, wants_same
 from support.skipping import Skipped, needs
 
@@ -31,6 +31,9 @@ INSTALLED = {
     "share/fish/vendor_completions.d/ymodem-tty.fish": 0o644,
     "share/fish/vendor_completions.d/ymodem-judge.fish": 0o644,
 }
+
+# What packages are made of.
+PARTS = ("packaging", "tools", "share", "docs", "examples", "README.md", "CONTRIBUTING.md")
 
 
 def played(program):
@@ -70,7 +73,7 @@ def test_is_installed():
 def copied(to, umask):
     """A copy of what packages are made of, as a user with this umask has it."""
     os.mkdir(to)
-    for name in ("packaging", "tools", "share", "docs", "README.md", "CONTRIBUTING.md"):
+    for name in PARTS:
         subprocess.run(
             [
                 "sh",
@@ -157,6 +160,21 @@ def test_deb_is_well():
         missing = {it for it in wanted if not os.path.isfile(top + "/root/usr/" + it)}
         assert not missing, "it lacks %s" % sorted(missing)
         wants_same({"played": played(top + "/root/usr/bin/ymodem")}, {"played": played(PROGRAM)})
+
+
+@cases(
+    case("the pages of the Debian package lead somewhere", "deb", "dpkg-deb --extract {0} {1}"),
+    case("the pages of the tar file lead somewhere", "dist", "tar --extract --file {0} -C {1}"),
+)
+def test_pages_lead_somewhere(kind, unpacks):
+    """What a page links to, and what it names of docs and examples, is in the package."""
+    needs("strip", "readelf", unpacks.split()[0])
+    with tempfile.TemporaryDirectory(prefix="ymodem-") as top:
+        file = packed(kind, copied(top + "/one", "022"), "022")
+        subprocess.run(unpacks.format(file, top).split(), check=True)
+        [documents] = glob.glob(top + "/*/share/doc/ymodem")
+        missing = lacking(documents)
+        assert not missing, "it lacks %s" % missing
 
 
 @sentence("lintian finds no error and no warning")
