@@ -1,6 +1,7 @@
 """What `ymodem-judge` says where its peer cannot be started, or what it finds cannot be written."""
 
 import os
+import shutil
 import subprocess
 
 from support.cases import case, cases
@@ -11,14 +12,14 @@ from support.skipping import Skipped
 ONE_CASE = ["--only", "plain"]
 
 
-def judge(*words, out=subprocess.PIPE):
+def judge(*words, out=subprocess.PIPE, program=PROGRAM):
     """How `ymodem-judge` ended with these words."""
     return subprocess.run(
         [SCRIPT, *words],
         stdin=subprocess.DEVNULL,
         stdout=out,
         stderr=subprocess.PIPE,
-        env={**os.environ, "YMODEM": PROGRAM},
+        env={**os.environ, "YMODEM": program},
         text=True,
         timeout=LIMIT,
         check=False,
@@ -52,6 +53,20 @@ def test_was_started(command, status):
     """Who answers was started, and so was who ends otherwise."""
     done = judge(*ONE_CASE, "receiver", command)
     wants_same({"ended": (done.returncode, done.stderr)}, {"ended": (status, "")})
+
+
+@cases(
+    case("judge: a ymodem that is not there", "/none", 127, "is missing, which YMODEM names"),
+    case("judge: a ymodem not on the path", "no-such", 127, "is missing, which YMODEM names"),
+    case("judge: a ymodem that may not be run", "/dev/null", 126, "cannot be run"),
+    case("judge: a ymodem that is a folder", "/", 126, "cannot be run"),
+    case("judge: a ymodem that does not know it", shutil.which("false"), 126, "cannot be run"),
+)
+def test_without_ymodem(program, status, told):
+    """It is named, with the status of a shell."""
+    done = judge("receiver", "true", program=program)
+    wanted = (status, "", "ymodem-judge: '%s' %s\n" % (program, told))
+    wants_same({"ended": (done.returncode, done.stdout, done.stderr)}, {"ended": wanted})
 
 
 def full():

@@ -24,6 +24,8 @@ FINISHED = file_lines(FILES) + "receiver files 3 finished\n"
 ASKS = b"C\x06\x15"
 # So many blocks are less than the first file, whether a shell takes 512 or 1024 bytes for one.
 BLOCKS = 16
+# What is told of a program that is named, and not there.
+MISSING = "is missing, which YMODEM names"
 
 
 def received(shell, folders_of_both, status, status_of_sender):
@@ -107,18 +109,44 @@ def test_refused_words(words, told):
     assert err.startswith("ymodem-tty: %s\n" % told), "it said %r" % err
 
 
+def asked_of_stty(here, there, program, status):
+    """What `ymodem-tty` with this program asks `stty` for, of a line, and what it tells."""
+    asked, stand_in = os.path.join(here, "asked"), os.path.join(here, "stty")
+    for path, text in (
+        (asked, ""),
+        (stand_in, '#!/bin/sh\necho "$*" >> %s\nexec /usr/bin/stty "$@"\n' % asked),
+    ):
+        with open(path, "w", encoding="utf-8") as file:
+            file.write(text)
+    os.chmod(stand_in, 0o755)
+    environment = {**ENVIRONMENT, "PATH": here + ":" + os.environ["PATH"], "YMODEM": program}
+    with cable() as it:
+        words = [SCRIPT, "--device", it.far.path, "receive"]
+        with started(words, there, env=environment) as script:
+            _, err = ends_with(script, status)
+    with open(asked, encoding="utf-8") as file:
+        return file.read().splitlines(), err
+
+
 @sentence("a line is set to eight bits without parity")
 def test_eight_bits():
     """A pseudo terminal has no others. So what `stty` is asked for is looked at."""
-    with folders() as (here, there), cable() as it:
-        asked = os.path.join(here, "asked")
-        stand_in = os.path.join(here, "stty")
-        with open(stand_in, "w", encoding="utf-8") as file:
-            file.write('#!/bin/sh\necho "$*" >> %s\nexec /usr/bin/stty "$@"\n' % asked)
-        os.chmod(stand_in, 0o755)
-        environment = {**ENVIRONMENT, "PATH": here + ":" + os.environ["PATH"], "YMODEM": "true"}
-        words = [SCRIPT, "--device", it.far.path, "receive"]
-        with started(words, there, env=environment) as script:
-            ends_with(script, 0)
-        with open(asked, encoding="utf-8") as file:
-            assert any(" cs8 -parenb " in line for line in file), "it was not asked for"
+    with folders() as (here, there):
+        asked, _ = asked_of_stty(here, there, "true", 0)
+    assert any(" cs8 -parenb " in line for line in asked), "it was not asked for"
+
+
+@cases(
+    case("ymodem-tty, of a ymodem that is not there", "./none", 127, MISSING),
+    case("ymodem-tty, of a ymodem not on the path", "none", 127, MISSING),
+    case("ymodem-tty, of a ymodem that may not be run", "./plain", 126, "cannot be run"),
+    case("ymodem-tty, of a ymodem that is a folder", "./folder", 126, "cannot be run"),
+)
+def test_cannot_start(program, status, told):
+    """It is named, with the status of a shell. The line is not asked for, and stays as it is."""
+    with folders() as (here, there):
+        write_files(there, [("plain", b"#!/bin/sh\n")])
+        os.mkdir(os.path.join(there, "folder"))
+        asked, err = asked_of_stty(here, there, program, status)
+    assert err == "ymodem-tty: '%s' %s\n" % (program, told), "it said %r" % err
+    assert not any("raw" in line or "-g" in line for line in asked), asked

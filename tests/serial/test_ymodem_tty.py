@@ -88,7 +88,7 @@ def test_without_ymodem():
         with piped(
             ["/bin/sh", shutil.copy(SCRIPT, here), "send", "a"], here, environment
         ) as script:
-            said = wants_status("ymodem-tty", script, 3)
+            said = wants_status("ymodem-tty", script, 127)
         assert "ymodem is missing" in said, "it said %r" % said
 
 
