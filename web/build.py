@@ -36,8 +36,9 @@ EDGES = re.compile(r"\n\s*")
 KEPT = r"""(`(?:\\.|[^`\\])*`|"(?:\\.|[^"\\])*"|'(?:\\.|[^'\\])*'|/(?![/*\s])(?:\\.|\[(?:\\.|[^\]\\])*\]|[^/\\\n\[])+/)"""
 KEPT_OR_SPACE = re.compile(KEPT + "| +", re.S)
 KEPT_OR_PRIVATE = re.compile(KEPT + r"|#([A-Za-z]\w*)", re.S)
-# The end of a line behind a sign that does not end there what it stands in.
-KEPT_OR_END = re.compile(KEPT + r"|(?<=[{;,(])\n", re.S)
+# What ends the last statement of a block, and the end of a line behind a sign that does not end
+# there what it stands in.
+KEPT_OR_END = re.compile(KEPT + r"|;\n?(?=\})|(?<=[{};,(])\n", re.S)
 
 
 def read(name):
@@ -88,7 +89,8 @@ def letters(number):
 def styled(names):
     """The same of styles: the last one has the last word."""
     text = COMMENT.sub("", "".join(read(name + ".css") for name in names))
-    return re.sub(r"\s*([{};:,])\s+", r"\1", EDGES.sub("\n", text)).strip() + "\n"
+    text = re.sub(r"\s*([{};:,])\s+", r"\1", EDGES.sub("\n", text))
+    return text.replace(";}", "}").strip() + "\n"
 
 
 def called():

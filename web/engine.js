@@ -35,9 +35,12 @@ export function load(source) {
   return compiled;
 }
 
+/** Whether this has bytes in memory. */
+export const isBytes = (it) => ArrayBuffer.isView(it) || it instanceof ArrayBuffer;
+
 async function compile(source) {
   if (source instanceof WebAssembly.Module) return source;
-  if (ArrayBuffer.isView(source) || source instanceof ArrayBuffer) return WebAssembly.compile(source);
+  if (isBytes(source)) return WebAssembly.compile(source);
   const answer = source instanceof Response ? source : await fetch(source);
   if (!answer.ok) throw new Error(`${answer.status} ${answer.statusText}`);
   return WebAssembly.compile(await answer.arrayBuffer());

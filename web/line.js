@@ -71,7 +71,9 @@ export class Line {
   /** With what was heard before, and belongs to the transfer. */
   constructor(port, options) {
     const { signal, heard } = options;
-    if (heard?.length) this.#came.push(heard);
+    // what is of another kind fails here, while the streams are free
+    if (heard?.length) this.#came.push(heard.subarray());
+    signal?.addEventListener("abort", this.#onAbort);
     /** That a function of the page threw: the transfer is stopped then. */
     this.thrown = null;
     const guarded = (name) => options[name] && ((it) => {
@@ -95,7 +97,6 @@ export class Line {
       throw failed("opened", cause);
     }
     this.signal = signal;
-    signal?.addEventListener("abort", this.#onAbort);
     if (signal?.aborted) this.#onAbort();
   }
 

@@ -2,6 +2,7 @@
 
 import { CANCEL, FAULTS, FILL, LAYOUT, OUT, PLACE_END, SENT, WAIT } from "./codes.js";
 import { drive } from "./driving.js";
+import { isBytes } from "./engine.js";
 import { MESSAGES, YmodemError } from "./errors.js";
 import { DELIVERY } from "./line.js";
 import { Log } from "./log.js";
@@ -11,6 +12,8 @@ import { TimedLine } from "./timed.js";
 const WINDOW = 1 << 18;
 // Bytes of the line that are: replies are short.
 const PIECE = 64;
+// C, by which a receiver asks for a file.
+const ASKS = 0x43;
 
 /** A file of the batch: its bytes, by windows, of which the next is under way while one is sent. */
 export class Source {
@@ -22,19 +25,17 @@ export class Source {
 
   constructor(item) {
     const isOwn = item instanceof Blob;
-    const data = isOwn ? item : item.data;
-    const time = item.time ?? 0;
-    if (data == null || !(time >= 0 && time < 2 ** 53)) {
-      throw new YmodemError("source-failed", `${item.name}: its data or time cannot be used`);
+    const { name, data, time, mode } = isOwn ? { name: item.name, data: item } : Object(item);
+    const isData = typeof data === "string" || data instanceof Blob || isBytes(data);
+    if (!isData || !((time ?? 0) >= 0 && (time ?? 0) < 2 ** 53)) {
+      throw new YmodemError("source-failed", `${name}: its data or time cannot be used`);
     }
     // Bytes in memory are one window, and copied: who has them may change them.
     const isHere = data instanceof Uint8Array;
     this.#window = new Uint8Array(isHere ? data : 0);
     this.#blob = isHere ? null : data instanceof Blob ? data : new Blob([data]);
-    this.name = item.name;
+    Object.assign(this, { name, time, mode });
     this.length = this.#blob?.size ?? data.length;
-    this.time = isOwn ? undefined : item.time;
-    this.mode = isOwn ? undefined : item.mode;
     // A long block while at least 1024 bytes remain, and then short ones.
     this.#longs = Math.floor(this.length / 1024);
     this.blocks = this.#longs + Math.ceil((this.length % 1024) / 128);
@@ -113,7 +114,7 @@ export class Sending {
     });
     this.#log = new Log(engine, line.onFrame);
     this.#calls = engine.calls;
-    this.#calls.ym_sender_init(this.#sender, this.#batch, this.#total);
+    this.#begin();
   }
 
   get #state() {
@@ -167,6 +168,7 @@ export class Sending {
   };
 
   async run() {
+    this.#check();
     await drive(this, this.#port);
     if (this.#state !== "finished") throw this.#failed();
   }
@@ -174,6 +176,21 @@ export class Sending {
   /** What came behind the transfer. */
   get rest() {
     return this.#port.behind(this.#state === "finished");
+  }
+
+  /** Refuses a name that no header takes, before anything is written: each file is asked for once
+   *  as the first one, and then the sender begins anew. */
+  #check() {
+    for (const source of this.#sources) {
+      this.#engine.bytes[this.#heard] = ASKS;
+      this.#hear(1);
+      this.#put(source);
+      this.#begin();
+    }
+  }
+
+  #begin() {
+    this.#calls.ym_sender_init(this.#sender, this.#batch, this.#total);
   }
 
   #tell(held) {
@@ -226,8 +243,14 @@ export class Sending {
   }
 
   #header(source) {
-    const name = new TextEncoder().encode(source.name);
     this.#about = { name: source.name, length: source.length };
+    this.#put(source);
+    this.#progress(0);
+  }
+
+  /** Fills the header that is asked for. */
+  #put(source) {
+    const name = new TextEncoder().encode(source.name);
     const room = name.subarray(0, DELIVERY);
     this.#engine.bytes.set(room, this.#heard);
     const stamp = source.time === undefined ? 0 : source.mode === undefined ? 1 : 2;
@@ -241,7 +264,6 @@ export class Sending {
       source.mode ?? 0,
     );
     if (fault) throw new YmodemError("bad-header", `${source.name}: ${FAULTS[fault]}`, { fault: FAULTS[fault] });
-    this.#progress(0);
   }
 
   #block(source, place) {
@@ -272,8 +294,8 @@ export class Sending {
 
   #failed() {
     const isOurs = this.#line.isStopped && this.#state === "source-failed";
-    const state = isOurs ? "aborted" : this.#cause?.code === "bad-header" ? "bad-header" : this.#state;
-    return new YmodemError(state, MESSAGES[state] ?? state, { cause: this.#cause, fault: this.#cause?.fault, answered: this.#answered });
+    const state = isOurs ? "aborted" : this.#state;
+    return new YmodemError(state, MESSAGES[state] ?? state, { cause: this.#cause, answered: this.#answered });
   }
 
   abandon() {}

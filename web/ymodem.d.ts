@@ -97,7 +97,7 @@ export class YmodemError extends Error {
   readonly code: Code;
   /** The files that were done before. */
   readonly files: About[];
-  /** At "bad-header". */
+  /** At "bad-header": of a file to send it comes before anything is written. */
   readonly fault: "" | "name-empty" | "name-long" | "name-unsafe" | "no-length" | "length-large";
   /** Whether the other end ever said anything that counts. */
   readonly answered: boolean;
@@ -107,7 +107,7 @@ export class YmodemError extends Error {
 /** Takes files until the other end says that there are no more. */
 export function receive(port: Port, options?: ReceiveOptions): Promise<Done>;
 
-/** Sends files, in order. */
+/** Sends files, in order. One is `[file]`: what is no list is a TypeError. */
 export function send(port: Port, files: Iterable<Item>, options?: Options): Promise<Done>;
 
 /** Whether this browser runs the module. */

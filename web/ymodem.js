@@ -23,6 +23,7 @@ async function receive(port, options = {}) {
 
 /** Sends files, in order. A file is a File, or a name and its data. */
 async function send(port, files, options = {}) {
+  if (!files?.[Symbol.iterator]) throw new TypeError("files has to be a list, as [file]");
   const sources = Array.from(files, (file) => new Source(file));
   if (sources.length > MOST_FILES) throw new YmodemError("too-many-files", MESSAGES["too-many-files"]);
   const engine = await Engine.start();
