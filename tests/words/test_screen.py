@@ -121,7 +121,7 @@ def test_stands_alone(columns):
         end = told(columns, *printed, *CANCELLED[1:])
         assert lines[-len(end) :] == end, "the end"
         whole = lines[-len(end) - 1]
-        assert re.fullmatch(r"first\.bin: 5120 bytes in \d+\.\d s, \d+ k?B/s", whole), (
+        assert re.fullmatch(r"first\.bin: 5120 bytes in \d+\.\d s(, \d+ k?B/s)?", whole), (
             "the line before it is %r" % whole
         )
 

@@ -106,7 +106,7 @@ def test_transfers(columns, sends):
         wants_stored(there, FILE)
     first = packed("the line is '%s'" % it.path)
     assert packed("".join(lines)).startswith(first) == True, "the first lines"
-    end = r"first\.bin: 5120 bytes in \d+\.\d s, \d+ k?B/s"
+    end = r"first\.bin: 5120 bytes in \d+\.\d s(, \d+ k?B/s)?"
     end += r"sender done 1 finished" if sends else r"file first\.bin 5120 [0-7]+ 100[0-7]+"
     end += "" if sends else "receiver files 1 finished"
     end += re.escape("[ended 0]")

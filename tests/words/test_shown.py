@@ -84,8 +84,8 @@ def test_names_on_a_terminal():
 # How long a peer takes for each answer: longer than a terminal waits between two showings.
 PACE = 0.15
 
-# The whole file, in as many seconds and at such a rate.
-WHOLE = rb"first\.bin: 5120 bytes in \d+\.\d s, \d+ k?B/s"
+# The whole file, in as many seconds and, where they were enough to tell, at such a rate.
+WHOLE = rb"first\.bin: 5120 bytes in \d+\.\d s(, \d+ k?B/s)?"
 
 
 def paced(damaged=None):
@@ -151,7 +151,7 @@ def refusing(count):
 def shows_progress(child):
     """What a terminal shows of the file, of which one block was repeated: its lines in place, and
     the one that stays."""
-    child.sees(b"\rfirst.bin: 20%, 1024 of 5120 bytes, ")
+    child.sees(b"\rfirst.bin: 20%, 1024 of 5120 bytes")
     child.sees(b"\rfirst.bin: 60%, 3072 of 5120 bytes, ")
     child.sees(b" left, 1 repeated")
     child.sees(b"\r\x1b[?7hfirst.bin: 5120 bytes in ")

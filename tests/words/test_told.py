@@ -18,10 +18,12 @@ from support.telling import DATA, FAULT, FILE, coming, connecting, listening, mi
 LOUD = ("--verbose",)
 ECHOES = "the line echoes what is sent: is a %s running there?\n"
 NOT_SAFE = header(b"../first", b"0")
+NOT_UTF_8 = header(b"first\xff", b"0")
 THERE = "cannot store '%s': it is there already; move it away first\n"
 CANCELLED = "the other end cancelled (CAN CAN)\n"
 CLOSED = "the other end closed the connection\n"
-UNSAFE = "the sender gave an unsafe name: a path, not UTF-8, or with control characters\n"
+UNSAFE = "the sender gave the unsafe name '../first': a path, or with control characters\n"
+NO_TEXT = "the sender gave an unsafe name: a path, not UTF-8, or with control characters\n"
 
 
 @cases(
@@ -358,6 +360,7 @@ def goes_on(end):
         coming("a", 0) + "a block came out of turn: the two ends are out of step, send again\n",
     ),
     case("tells that a name is not safe", sends(NOT_SAFE), 1, "bad-header name-unsafe", UNSAFE),
+    case("tells that a name is no text", sends(NOT_UTF_8), 1, "bad-header name-unsafe", NO_TEXT),
 )
 def test_received_from(peer, status, state, told, fault=""):
     """The same of `receive`."""

@@ -4,11 +4,13 @@ use crate::texts::{all_show, shows, told};
 use std::alloc::AllocError;
 use ym_header::HeaderFault;
 use ym_link::{RecvState, SendState};
-use ym_text::{Awaited, Came, EchoMessage, EndMessage, Lately, Waiting, waiting_line};
+use ym_text::{Awaited, Came, EchoMessage, EndMessage, Lately, Sight, Waiting, waiting_line};
 
 const SILENT: Lately = Lately {
     came: Came::Nothing,
     seconds: 30,
+    is_silent: true,
+    seen: Sight::Nothing,
     slow: None,
 };
 
@@ -92,7 +94,11 @@ fn begins(told: Result<String, AllocError>, want: &str) -> bool {
 /// Whether what is told of a sender that got no reply begins so, where this came, and the slowest
 /// answer took so many milliseconds.
 fn begins_slow(rt: &HostRuntime, came: Came, slowest: Option<u64>, want: &str) -> bool {
-    let lately = Lately { came, ..SILENT };
+    let lately = Lately {
+        came,
+        is_silent: false,
+        ..SILENT
+    };
     match EndMessage::of_sender(SendState::NoReply, lately.on_line(slowest)) {
         Some(message) => begins(told(rt, &message), want),
         None => false,
@@ -132,7 +138,8 @@ fn begins_with(rt: &HostRuntime, pieces: &[&[u8]], want: &str) -> bool {
     let lately = Lately {
         came: came_of(pieces),
         seconds: 3,
-        slow: None,
+        is_silent: false,
+        ..SILENT
     };
     match EndMessage::of_receiver(RecvState::TooManyErrors, lately) {
         Some(message) => begins(told(rt, &message), want),
@@ -141,9 +148,10 @@ fn begins_with(rt: &HostRuntime, pieces: &[&[u8]], want: &str) -> bool {
 }
 
 /// The deliveries that came, and how what is told begins.
-static DELIVERIES: [(&[&[u8]], &str); 5] = [
+static DELIVERIES: [(&[&[u8]], &str); 6] = [
     (&[b""], "nothing came for 3 s"),
-    (&[b"C", b"CC"], "nothing came but C"),
+    (&[b"C", b"CC"], "nothing came but what receivers send"),
+    (&[b"C", b"\x15"], "nothing came but what receivers send"),
     (
         &[b"C", b"\r\n", b"Unknown command 'C' - try 'help'\r\n=> "],
         "what comes is no YMODEM",
@@ -157,6 +165,154 @@ fn of_what_came(rt: HostRuntime) {
     for (pieces, want) in &DELIVERIES {
         assert!(rt; begins_with(&rt, *pieces, want));
     }
+}
+
+/// What an end heard of late in three seconds, or fell silent behind 27 seconds ago.
+fn heard(pieces: &[&[u8]], seen: Sight, is_silent: bool) -> Lately {
+    Lately {
+        came: came_of(pieces),
+        seconds: if is_silent { 27 } else { 3 },
+        is_silent,
+        seen,
+        slow: None,
+    }
+}
+
+/// What came, what was seen before, whether nothing came any more behind it, and how what is told
+/// begins.
+type Heard<'a> = (&'a [&'a [u8]], Sight, bool, &'a str);
+
+/// Whether a sender tells so why it got no reply.
+fn sender_tells(rt: &HostRuntime, told_of: &Heard<'_>) -> bool {
+    let (pieces, seen, is_silent, want) = told_of;
+    let lately = heard(*pieces, *seen, *is_silent);
+    match EndMessage::of_sender(SendState::NoReply, lately) {
+        Some(message) => begins(told(rt, &message), want),
+        None => false,
+    }
+}
+
+/// Whether a receiver tells so why it got no block.
+fn receiver_tells(rt: &HostRuntime, told_of: &Heard<'_>) -> bool {
+    let (pieces, seen, is_silent, want) = told_of;
+    let lately = heard(*pieces, *seen, *is_silent);
+    match EndMessage::of_receiver(RecvState::TooManyErrors, lately) {
+        Some(message) => begins(told(rt, &message), want),
+        None => false,
+    }
+}
+
+/// To a sender.
+static TO_SENDERS: [Heard; 11] = [
+    (
+        &[b"\x15"],
+        Sight::Peer,
+        true,
+        "nothing came any more for 27 s: has the receiver stopped, or was the line cut?",
+    ),
+    (
+        &[b"\x15"],
+        Sight::Nothing,
+        true,
+        "nothing came any more for",
+    ),
+    (&[], Sight::Peer, true, "nothing came any more for 27 s"),
+    (&[b"\xfe"], Sight::Peer, true, "nothing came any more for"),
+    (
+        &[b"\xfe"],
+        Sight::Nothing,
+        true,
+        "nothing came for 27 s: is the receiver running",
+    ),
+    (&[b"=> "], Sight::Nothing, true, "what comes is no YMODEM"),
+    (
+        &[b"\x15", b"\x15"],
+        Sight::Nothing,
+        false,
+        "the receiver asks by NAK, as XMODEM does: start it as a receiver of YMODEM",
+    ),
+    (
+        &[b"C", b"\x15"],
+        Sight::Peer,
+        false,
+        "nothing came but NAK, ten times: does the receiver get every byte that is sent?",
+    ),
+    (
+        &[b"G", b"G"],
+        Sight::Nothing,
+        false,
+        "the receiver asks by G, as YMODEM-g does: start it as a receiver of YMODEM",
+    ),
+    (
+        &[b"\xfe"],
+        Sight::Nothing,
+        false,
+        "nothing whole came, ten times in a row: do both ends have the same speed?",
+    ),
+    (
+        &[b"\x15", b"\xfe"],
+        Sight::Peer,
+        false,
+        "nothing whole came, ten times in a row: use a better line, or a lower speed",
+    ),
+];
+
+/// To a receiver.
+static TO_RECEIVERS: [Heard; 4] = [
+    (
+        &[b"\x01\x00"],
+        Sight::Peer,
+        true,
+        "nothing came any more for 27 s: has the sender stopped, or was the line cut?",
+    ),
+    (
+        &[b"G"],
+        Sight::Nothing,
+        false,
+        "nothing came but what receivers send: is a sender at the other end?",
+    ),
+    (
+        &[b"\x01\x00"],
+        Sight::Peer,
+        false,
+        "nothing whole came, ten times in a row: use a better line",
+    ),
+    (
+        &[b"\x00"],
+        Sight::Nothing,
+        false,
+        "nothing whole came, ten times in a row: do both ends have the same speed?",
+    ),
+];
+
+/// What is asked of a person follows from what was seen.
+#[test]
+fn of_what_was_seen(rt: HostRuntime) {
+    for told_of in &TO_SENDERS {
+        assert!(rt; sender_tells(&rt, told_of));
+    }
+    for told_of in &TO_RECEIVERS {
+        assert!(rt; receiver_tells(&rt, told_of));
+    }
+}
+
+/// Whether a block out of turn is told so, to a receiver that saw this of the sender.
+fn out_of_turn(rt: &HostRuntime, seen: Sight, want: &str) -> bool {
+    let lately = heard(&[], seen, false);
+    ends(
+        rt,
+        EndMessage::of_receiver(RecvState::OutOfStep, lately),
+        Some(want),
+    )
+}
+
+#[test]
+fn of_senders_of_xmodem(rt: HostRuntime) {
+    let nameless = "the sender names no file, as XMODEM does: start it as a sender of YMODEM";
+    assert!(rt; out_of_turn(&rt, Sight::Nameless, nameless));
+    let again = "a block came out of turn: the two ends are out of step, send again";
+    assert!(rt; out_of_turn(&rt, Sight::Peer, again));
+    assert!(rt; out_of_turn(&rt, Sight::Nothing, again));
 }
 
 /// Whether this is the line of a wait of 12 seconds of 100, on so many columns.

@@ -41,10 +41,18 @@ fn of_connections(rt: HostRuntime) {
 }
 
 /// The messages of files.
-static FILES: [(FileMessage, &str); 9] = [
+static FILES: [(FileMessage, &str); 11] = [
     (
         FileMessage::CannotOpen("firmware.bin", Reason::Absent),
         "cannot open 'firmware.bin': no such file or directory",
+    ),
+    (
+        FileMessage::CannotRead("a"),
+        "'a' could not be read, or has changed since it was looked at",
+    ),
+    (
+        FileMessage::NameIsUnsafe("../a"),
+        "the sender gave the unsafe name '../a': a path, or with control characters",
     ),
     (
         FileMessage::IsThere("a"),
@@ -82,16 +90,30 @@ static FILES: [(FileMessage, &str); 9] = [
     ),
 ];
 
+/// What is told where something is not supported.
+const UNSUPPORTED: &str = "the file system or the device does not support it";
+
 /// Whether the reason of an error of the system is that a file is absent.
 fn is_reason_of_error() -> bool {
     let error = io::Error::from(ErrorKind::NotFound);
     matches!(Reason::of(&error), Reason::Absent)
 }
 
+/// Whether what the system calls invalid is not supported, and what the program does no regular
+/// file.
+fn are_reasons_of_what_is_invalid() -> bool {
+    let refused = io::Error::from_raw_os_error(22);
+    let own = io::Error::from(ErrorKind::InvalidInput);
+    matches!(Reason::of(&refused), Reason::Unsupported)
+        && matches!(Reason::of(&own), Reason::NoRegularFile)
+}
+
 #[test]
 fn of_files(rt: HostRuntime) {
     assert!(rt; all_show(&rt, &FILES));
     assert!(rt; is_reason_of_error());
+    assert!(rt; are_reasons_of_what_is_invalid());
+    assert!(rt; shows(&rt, &Reason::Unsupported, UNSUPPORTED));
 }
 
 /// Whether a file of 12,345 bytes with this stamp is told so.
@@ -186,7 +208,7 @@ fn of_terminals(rt: HostRuntime) {
 const ODD: &str = "a\u{1b}[2J\u{202e}b";
 
 /// An odd name in the messages of files.
-static ODD_FILES: [(FileMessage, &str); 7] = [
+static ODD_FILES: [(FileMessage, &str); 9] = [
     (
         FileMessage::CannotOpen(ODD, Reason::Absent),
         "cannot open 'a\\u{1b}[2J\\u{202e}b': no such file or directory",
@@ -198,6 +220,15 @@ static ODD_FILES: [(FileMessage, &str); 7] = [
     (
         FileMessage::CannotStoreIn(ODD, Reason::Denied),
         "cannot store in 'a\\u{1b}[2J\\u{202e}b': permission denied",
+    ),
+    (
+        FileMessage::CannotRead(ODD),
+        "'a\\u{1b}[2J\\u{202e}b' could not be read, or has changed since it was looked at",
+    ),
+    (
+        FileMessage::NameIsUnsafe(ODD),
+        "the sender gave the unsafe name 'a\\u{1b}[2J\\u{202e}b': \
+                a path, or with control characters",
     ),
     (
         FileMessage::IsThere(ODD),

@@ -9,7 +9,7 @@ use ym_text::{Progress, ShownOut, Took, WholeFile, progress_line};
 const HALF: Progress = Progress {
     done: 14500,
     length: 29000,
-    rate: 1100,
+    rate: Some(1100),
     repeats: 0,
 };
 
@@ -20,7 +20,7 @@ const AGAIN: Progress = Progress { repeats: 3, ..HALF };
 const NOTHING: Progress = Progress {
     done: 0,
     length: 0,
-    rate: 0,
+    rate: Some(0),
     repeats: 0,
 };
 
@@ -46,7 +46,7 @@ fn has_lines(rt: &HostRuntime, lines: &[Line<'_>]) -> bool {
 }
 
 /// Lines on a wide screen.
-static LINES: [Line; 5] = [
+static LINES: [Line; 6] = [
     (
         "a",
         HALF,
@@ -61,18 +61,30 @@ static LINES: [Line; 5] = [
     ),
     (
         "a",
-        Progress { rate: 0, ..HALF },
+        Progress {
+            rate: Some(0),
+            ..HALF
+        },
         80,
         "a: 50%, 14500 of 29000 bytes, 0 B/s",
     ),
     (
         "a",
         Progress {
-            rate: 123456,
+            rate: Some(123456),
             ..HALF
         },
         80,
         "a: 50%, 14500 of 29000 bytes, 123 kB/s, 0:00 left",
+    ),
+    (
+        "a",
+        Progress {
+            rate: None,
+            ..AGAIN
+        },
+        80,
+        "a: 50%, 14500 of 29000 bytes, 3 repeated",
     ),
     ("a", NOTHING, 80, "a: 100%, 0 of 0 bytes, 0 B/s"),
 ];
@@ -140,7 +152,7 @@ const AT_ONCE: Took = Took {
 };
 
 /// Whole files.
-static WHOLE: [(WholeFile, &str); 3] = [
+static WHOLE: [(WholeFile, &str); 5] = [
     (
         WholeFile {
             name: "a",
@@ -167,7 +179,28 @@ static WHOLE: [(WholeFile, &str); 3] = [
             name: "a",
             took: AT_ONCE,
         },
-        "a: 29000 bytes in 0.0 s, 29 kB/s",
+        "a: 29000 bytes in 0.0 s",
+    ),
+    (
+        WholeFile {
+            name: "a",
+            took: Took {
+                millis: 249,
+                repeats: 1,
+                ..AT_ONCE
+            },
+        },
+        "a: 29000 bytes in 0.2 s, 1 repeated",
+    ),
+    (
+        WholeFile {
+            name: "a",
+            took: Took {
+                millis: 250,
+                ..AT_ONCE
+            },
+        },
+        "a: 29000 bytes in 0.2 s, 116 kB/s",
     ),
 ];
 
@@ -190,7 +223,7 @@ static ODD_WHOLE: [(WholeFile, &str); 1] = [(
         name: "a\u{1b}[2J",
         took: LITTLE,
     },
-    "a\\u{1b}[2J: 1 bytes in 0.0 s, 1 B/s",
+    "a\\u{1b}[2J: 1 bytes in 0.0 s",
 )];
 
 #[test]

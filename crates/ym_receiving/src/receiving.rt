@@ -333,10 +333,13 @@ where
     let meter = Meter::new(alloc, rt, teller, QUIET_S);
     let shown = RefCell::new(Receiving::new(alloc, meter, besides(order.confirm)));
     let (sink, left, answer) = receive_watched(port, sink, &shown, looked, out);
-    let (last, lately) = shown.into_inner().end();
+    let mut shown = shown.into_inner();
+    let named = shown.named();
+    let (last, lately) = shown.end();
     let outcome = ReceiverFinish {
         state: left.state,
         last,
+        named,
         why: sink.first_fault(),
         lately: lately.on_line(left.slowest),
         words: left.words,

@@ -5,6 +5,7 @@ use std::io::Write;
 use ym_answer::CommandFault;
 use ym_ends::{LineWords, tell_end};
 use ym_folder::{DirSink, Folder, Leftover, StoreFault, part_name};
+use ym_header::HeaderFault;
 use ym_link::RecvState;
 use ym_teller::Teller;
 use ym_text::{EndMessage, FileMessage, Lately, Reason};
@@ -53,6 +54,8 @@ pub(crate) struct ReceiverFinish {
     pub(crate) state: RecvState,
     /// The file that its sink was last given, where that is known.
     pub(crate) last: Option<String>,
+    /// The name that came last, where that is known.
+    pub(crate) named: Option<String>,
     /// Why the sink has failed, where it has.
     pub(crate) why: Option<StoreFault>,
     /// What came of late.
@@ -72,13 +75,21 @@ pub(crate) fn tell_outcome<E: Write + Drop>(
     let ReceiverFinish {
         state,
         last,
+        named,
         why,
         lately,
         words,
     } = outcome;
     let is_running = state == RecvState::Running;
-    let message = EndMessage::of_receiver(state, lately);
-    tell_end(teller, answer, is_running, words, message);
+    match named {
+        Some(name) if state == RecvState::BadHeader(HeaderFault::NameUnsafe) => {
+            teller.tell(FileMessage::NameIsUnsafe(name.as_str()));
+        }
+        _ => {
+            let message = EndMessage::of_receiver(state, lately);
+            tell_end(teller, answer, is_running, words, message);
+        }
+    }
     match last {
         Some(name) if state == RecvState::SinkFailed => {
             tell_not_stored(teller, alloc, name.as_str(), why, leftover);

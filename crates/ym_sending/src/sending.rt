@@ -291,12 +291,19 @@ where
     let slowest = port.slowest;
     drop(port);
     // What is printed stands in lines of its own, also where both go to one terminal.
-    let lately = shown.into_inner().end().on_line(slowest);
+    let (name, lately) = shown.into_inner().end();
     let answer = tell_sender(ended, sender, out);
     let state = sender.state();
     let is_running = state == SendState::Running;
-    let message = EndMessage::of_sender(state, lately);
-    tell_end(teller, &answer, is_running, words, message);
+    match name {
+        Some(name) if state == SendState::SourceFailed => {
+            teller.tell(FileMessage::CannotRead(name.as_str()));
+        }
+        _ => {
+            let message = EndMessage::of_sender(state, lately.on_line(slowest));
+            tell_end(teller, &answer, is_running, words, message);
+        }
+    }
     answer
 }
 

@@ -5,8 +5,8 @@ use std::io::Write;
 use std::time::{Clock, Duration, Instant};
 use ym_teller::Teller;
 use ym_text::{
-    Awaited, Came, Coming, EchoMessage, FileMessage, Lately, Progress, Took, Waiting, WholeFile,
-    progress_line, rate_of, waiting_line,
+    Awaited, Came, Coming, EchoMessage, FileMessage, Lately, Progress, Sight, Took, Waiting,
+    WholeFile, progress_line, rate_of, waiting_line,
 };
 
 /// How long a rate is measured at least, in milliseconds.
@@ -37,8 +37,12 @@ struct Course {
 struct Quiet {
     /// What came since it last got on.
     came: Came,
-    /// When bytes came last, or when it began to wait for the first ones.
+    /// What was seen of the other end.
+    seen: Sight,
+    /// When it began to wait: for the first bytes, or for more behind those that came last.
     since: Option<Instant>,
+    /// Whether bytes came since then. What it does with them, as to store a file, is no wait.
+    has_heard: bool,
     /// When it was last shown whom it waits for.
     shown: Option<Instant>,
 }
@@ -92,7 +96,9 @@ impl<'t, E: Write + Drop, C: Clock + Drop> Meter<'t, E, C> {
             course: None,
             quiet: Quiet {
                 came: Came::Nothing,
+                seen: Sight::Nothing,
                 since: None,
+                has_heard: false,
                 shown: None,
             },
             limit,
@@ -170,8 +176,9 @@ impl<'t, E: Write + Drop, C: Clock + Drop> Meter<'t, E, C> {
     /// shown, once a second has passed.
     pub fn wait(&mut self, awaited: Awaited) {
         let is_first = self.quiet.since.is_none();
-        if is_first {
+        if is_first || self.quiet.has_heard {
             self.quiet.since = Instant::now(&self.clock).ok();
+            self.quiet.has_heard = false;
         }
         let millis = self.millis_since(self.quiet.since);
         let is_due = match self.quiet.shown {
@@ -183,7 +190,7 @@ impl<'t, E: Write + Drop, C: Clock + Drop> Meter<'t, E, C> {
             self.quiet.shown = Instant::now(&self.clock).ok();
             self.show_waiting(Waiting {
                 awaited,
-                seconds: millis / 1000,
+                seconds: (millis / 1000).min(self.limit),
                 limit: self.limit,
             });
         }
@@ -200,7 +207,7 @@ impl<'t, E: Write + Drop, C: Clock + Drop> Meter<'t, E, C> {
     /// These bytes came.
     pub fn hear(&mut self, bytes: &[u8]) {
         self.quiet.came = self.quiet.came.with(bytes);
-        self.quiet.since = Instant::now(&self.clock).ok();
+        self.quiet.has_heard = true;
         self.quiet.shown = None;
     }
 
@@ -225,20 +232,43 @@ impl<'t, E: Write + Drop, C: Clock + Drop> Meter<'t, E, C> {
     /// Its end got on.
     pub fn get_on(&mut self) {
         self.quiet.came = Came::Nothing;
+        self.quiet.seen = Sight::Peer;
+    }
+
+    /// A block came, which may be damaged: of a sender that names no file, or of another one.
+    pub fn meet(&mut self, is_nameless: bool) {
+        if self.quiet.seen == Sight::Nothing {
+            self.quiet.seen = if is_nameless {
+                Sight::Nameless
+            } else {
+                Sight::Peer
+            };
+        }
     }
 
     /// What came since its end last got on, and for how long nothing did.
     pub fn lately(&self) -> Lately {
+        let millis = if self.quiet.has_heard {
+            0
+        } else {
+            self.millis_since(self.quiet.since)
+        };
         Lately {
             came: self.quiet.came,
-            seconds: self.millis_since(self.quiet.since) / 1000,
+            seconds: millis / 1000,
+            // ten waits are the limit
+            is_silent: self.limit.saturating_mul(200) <= millis,
+            seen: self.quiet.seen,
             slow: None,
         }
     }
 
-    /// No file is shown any more.
-    pub fn end(&mut self) {
-        self.course = None;
+    /// No file is shown any more. The answer is the name of the one that was under way.
+    pub fn end(&mut self) -> Option<String> {
         self.teller.end();
+        match self.course.take() {
+            Some(course) => Some(course.name),
+            None => None,
+        }
     }
 }

@@ -11,6 +11,20 @@ use ym_header::Header;
 use ym_link::Wait;
 use ym_text::{Awaited, Coming, EchoMessage, FileMessage, Lately};
 
+/// The first byte of a block.
+const SHORT: u8 = 0x01;
+
+const LONG: u8 = 0x02;
+
+/// So many bytes of a delivery are kept: a block's front, and a name.
+const FRONT_BYTES: usize = 260;
+
+/// The text up to the first 00 of a block's body, where it is text.
+fn name_in(body: &[u8]) -> Option<&str> {
+    let end = body.iter().position(|&byte| byte == 0)?;
+    str::from_utf8(&body[..end]).ok()
+}
+
 /// What is shown of a receiver.
 #[derive(Drop)]
 pub struct Receiving<'t, E: Write + Drop, C: Clock + Drop> {
@@ -20,6 +34,8 @@ pub struct Receiving<'t, E: Write + Drop, C: Clock + Drop> {
     besides: u64,
     /// The name of the file that the sink was last given, where there was memory for it.
     last: Option<String>,
+    /// The first bytes of the delivery that came last.
+    front: Vec<u8>,
     /// What it waits for.
     awaited: Awaited,
     /// How often it has written since that file was begun, the file's blocks, and its bytes.
@@ -36,6 +52,7 @@ impl<'t, E: Write + Drop, C: Clock + Drop> Receiving<'t, E, C> {
             meter,
             besides,
             last: None,
+            front: Vec::new(alloc),
             awaited: Awaited::Sender,
             replies: 0,
             blocks: 0,
@@ -46,8 +63,39 @@ impl<'t, E: Write + Drop, C: Clock + Drop> Receiving<'t, E, C> {
     /// The name of the file that the sink was last given, where there was memory for it, and what
     /// came of late. The showing ends.
     pub fn end(&mut self) -> (Option<String>, Lately) {
-        self.meter.end();
+        let _ = self.meter.end();
         (self.last.take(), self.meter.lately())
+    }
+
+    /// The name in the delivery that came last, where that is a block 0, and its name is text.
+    pub fn named(&self) -> Option<String> {
+        match self.front.as_slice() {
+            [SHORT | LONG, 0, 0xff, body @ ..] => {
+                String::from_str(self.alloc, name_in(body)?).ok()
+            }
+            _ => None,
+        }
+    }
+
+    /// A delivery is waited for.
+    fn wait(&mut self) {
+        self.front.clear();
+        let awaited = self.awaited;
+        self.meter.wait(awaited);
+    }
+
+    /// These bytes came.
+    fn hear(&mut self, bytes: &[u8]) {
+        self.meter.hear(bytes);
+        let room = FRONT_BYTES.saturating_sub(self.front.len());
+        let _ = self
+            .front
+            .extend_from_slice(&bytes[..room.min(bytes.len())]);
+        if let [SHORT | LONG, number, check, ..] = self.front.as_slice() {
+            if *number == !*check {
+                self.meter.meet(*number == 1);
+            }
+        }
     }
 
     /// A file of this header is begun.
@@ -117,8 +165,7 @@ impl<'s, 't, E: Write + Drop, C: Clock + Drop> PortWatch for ReceiveWatch<'s, 't
             return;
         }
         if let Ok(mut shown) = self.shown.try_borrow_mut() {
-            let awaited = shown.awaited;
-            shown.meter.wait(awaited);
+            shown.wait();
         }
     }
 
@@ -128,7 +175,7 @@ impl<'s, 't, E: Write + Drop, C: Clock + Drop> PortWatch for ReceiveWatch<'s, 't
             return;
         }
         if let Ok(mut shown) = self.shown.try_borrow_mut() {
-            shown.meter.hear(bytes);
+            shown.hear(bytes);
         }
     }
 
@@ -185,7 +232,7 @@ impl<'s, 't, E: Write + Drop, C: Clock + Drop> SinkWatch for ReceiveWatch<'s, 't
 
     fn ended(&mut self) {
         if let Ok(mut shown) = self.shown.try_borrow_mut() {
-            shown.meter.end();
+            let _ = shown.meter.end();
         }
     }
 }

@@ -49,10 +49,10 @@ impl<'t, E: Write + Drop, C: Clock + Drop> Sending<'t, E, C> {
         }
     }
 
-    /// The showing ends. The answer is what came of late.
-    pub fn end(&mut self) -> Lately {
-        self.meter.end();
-        self.meter.lately()
+    /// The name of the file that was under way, where there was memory for it, and what came of
+    /// late. The showing ends.
+    pub fn end(&mut self) -> (Option<String>, Lately) {
+        (self.meter.end(), self.meter.lately())
     }
 
     /// A block 0 was written: the file before it is whole, and another one begins, or none.

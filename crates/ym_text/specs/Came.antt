@@ -9,6 +9,17 @@ abbrev pub and_asks : Came → Came
 and_asks came.Nothing = came.Asks
 and_asks before = before
 
+-- after more that asks for all blocks
+abbrev pub and_streams : Came → Came
+and_streams came.Nothing = came.Streams
+and_streams before = before
+
+-- after more that asks for a block again
+abbrev pub and_refusals : Came → Came
+and_refusals came.Text = came.Other
+and_refusals came.Other = came.Other
+and_refusals _ = came.Refuses
+
 -- after more that is text
 abbrev pub and_text : Came → Came
 and_text came.Other = came.Other

@@ -6,9 +6,11 @@ use Rattle.ym_core.specs.declared.state.RecvState.{RecvState}
 use Rattle.ym_core.specs.declared.state.RecvState.TheVariants as recv
 use Rattle.ym_core.specs.declared.state.SendState.{SendState}
 use Rattle.ym_core.specs.declared.state.SendState.TheVariants as send
-use Rattle.ym_text.specs.declared.came.Came.{Came}
-use Rattle.ym_text.specs.declared.came.Came.TheVariants as came
+use Rattle.ym_text.specs.declared.came.Sight.{Sight}
+use Rattle.ym_text.specs.declared.came.Sight.TheVariants as seen
 use Rattle.ym_text.specs.declared.came.Lately.{Lately}
+use Rattle.ym_text.specs.declared.cause.Cause.{Cause}
+use Rattle.ym_text.specs.declared.cause.Peer.TheVariants as peer
 use Rattle.ym_text.specs.declared.reason.Reason.{Reason}
 use Rattle.ym_text.specs.declared.line_message.LineMessage.{LineMessage}
 use Rattle.ym_text.specs.declared.line_message.LineMessage.TheVariants as line
@@ -22,6 +24,7 @@ use Rattle.std.specs.IoError.{error_kind}
 use Rattle.std.specs.declared.io.Error.{Error}
 use Rattle.std.specs.declared.io.ErrorKind.{ErrorKind}
 use Rattle.std.specs.declared.io.ErrorKind.TheVariants as kind
+use Rattle.ym_text.specs.Causes.{cause_of, cause_text}
 use Rattle.ym_text.specs.Reasons.{reason_of, reason_text}
 
 abbrev pub line_text : LineMessage → List ℕ
@@ -55,35 +58,6 @@ header_text header.LengthLarge =
     codes "the sender gave a file a length above 9223372036854775807"
 header_text header.Memory = codes "out of memory"
 
--- what came in place of what an end waited for, and what to look at then; the other end is named
-abbrev pub came_text : List ℕ → Came → ℕ → List ℕ
-came_text other came.Nothing seconds =
-    codes "nothing came for " ++ (decimal seconds ++ (codes " s: is the "
-    ++ (other ++ codes " running, at the same speed?")))
-came_text other came.Asks seconds =
-    codes "nothing came but C, ten times: does the "
-    ++ (other ++ codes " get what is written to it?")
-came_text other came.Text seconds =
-    codes "what comes is no YMODEM: is a shell or a boot loader's prompt at the other end?"
-came_text other came.Other seconds =
-    codes "nothing whole came, ten times in a row: do both ends have the same speed?"
-
-abbrev pub slow_text : ℕ → List ℕ
-slow_text took =
-    codes "answers take longer than "
-    ++ (decimal took ++ codes " seconds: use a line that hands on sooner")
-
--- where an answer takes longer than usual peers wait, and something came, that is the reason
-abbrev pub late_text : List ℕ → Came → Option ℕ → ℕ → List ℕ
-late_text other came.Nothing slow seconds = came_text other came.Nothing seconds
-late_text other came.Asks (Some took) seconds = slow_text took
-late_text other came.Text (Some took) seconds = slow_text took
-late_text other came.Other (Some took) seconds = slow_text took
-late_text other what None seconds = came_text other what seconds
-
-abbrev pub lately_text : List ℕ → Lately → List ℕ
-lately_text other lately = late_text other lately.came lately.slow lately.seconds
-
 -- to a sender a receiver should be there, and to a receiver a sender
 abbrev pub echo_text : EchoMessage → List ℕ
 echo_text echo.ToSender = codes "the line echoes what is sent: is a receiver running there?"
@@ -98,12 +72,14 @@ end_text end.LineEndless =
     codes "reads of the line do not end by themselves: set it by "
     ++ codes "`stty raw -echo clocal min 0 time 1`"
 end_text (end.LineRefused why) = codes "the line failed: " ++ reason_text why
-end_text (end.NoReply lately) = lately_text (codes "receiver") lately
-end_text (end.NoBlock lately) = lately_text (codes "sender") lately
+end_text (end.NoReply lately) = cause_text (cause_of peer.Receiver lately)
+end_text (end.NoBlock lately) = cause_text (cause_of peer.Sender lately)
 end_text end.SourceFailed =
     codes "a file could not be read, or has changed since it was looked at"
 end_text end.OutOfStep =
     codes "a block came out of turn: the two ends are out of step, send again"
+end_text end.Nameless =
+    codes "the sender names no file, as XMODEM does: start it as a sender of YMODEM"
 end_text (end.BadHeader fault) = header_text fault
 end_text end.TooManyFiles = codes "more than 65535 files came: send the rest in another batch"
 
@@ -111,7 +87,7 @@ end_text end.TooManyFiles = codes "more than 65535 files came: send the rest in 
 abbrev pub words_text : EndWords → List ℕ
 words_text (words.Text text) = text.now
 words_text (words.Refused why) = codes "the line failed: " ++ reason_text why
-words_text (words.Lately lately other) = lately_text other.now lately
+words_text (words.Unheard why) = cause_text why
 
 -- why a sender has ended so, where this came of late, unless it has finished or still runs
 abbrev pub sender_end : Lately → SendState → Option EndMessage
@@ -121,13 +97,18 @@ sender_end lately send.NoReply = Some (end.NoReply lately)
 sender_end lately send.Cancelled = Some end.PeerCancelled
 sender_end lately send.SourceFailed = Some end.SourceFailed
 
+-- a block came out of turn, to a receiver that saw this of the sender
+abbrev pub out_of_step : Sight → EndMessage
+out_of_step seen.Nameless = end.Nameless
+out_of_step _ = end.OutOfStep
+
 -- the same of a receiver, whose sink is told of elsewhere
 abbrev pub receiver_end : Lately → RecvState → Option EndMessage
 receiver_end lately recv.Running = None
 receiver_end lately recv.Finished = None
 receiver_end lately recv.TooManyErrors = Some (end.NoBlock lately)
 receiver_end lately recv.Cancelled = Some end.PeerCancelled
-receiver_end lately recv.OutOfStep = Some end.OutOfStep
+receiver_end lately recv.OutOfStep = Some (out_of_step lately.seen)
 receiver_end lately (recv.BadHeader fault) = Some (end.BadHeader fault)
 receiver_end lately recv.TooManyFiles = Some end.TooManyFiles
 receiver_end lately recv.SinkFailed = None

@@ -5,6 +5,14 @@ use Rattle.std.specs.Prelude.{ℕ, ◌≡◌, ◌≤◌, ◌⊎◌}
 abbrev pub IsAsk : ℕ → Type 0
 IsAsk byte = byte ≡ 67
 
+-- G, by which a receiver asks that takes all blocks without an answer
+abbrev pub IsStream : ℕ → Type 0
+IsStream byte = byte ≡ 71
+
+-- NAK, by which a receiver asks for a block again, or C
+abbrev pub IsRefusal : ℕ → Type 0
+IsRefusal byte = (byte ≡ 21) ⊎ (byte ≡ 67)
+
 -- a character of ASCII that is printed, or a control from BEL to CR, or ESC
 abbrev pub IsTextByte : ℕ → Type 0
 IsTextByte byte = ((7 ≤ byte) × (byte ≤ 13)) ⊎ (byte ≡ 27) ⊎ ((32 ≤ byte) × (byte ≤ 126))

@@ -13,9 +13,15 @@ reason_text why.Denied = codes "permission denied"
 reason_text why.NoFolder = codes "not a directory"
 reason_text why.NoRegularFile = codes "not a regular file"
 reason_text why.ReadOnly = codes "read-only file system"
+reason_text why.Unsupported = codes "the file system or the device does not support it"
 reason_text why.Full = codes "no space left on device"
 reason_text (why.Number number) = codes "error " ++ (decimal number ++ codes " of the system")
 reason_text why.Other = codes "the system refused it"
+
+-- one of the program's own has no number: a file is not what it has to be
+abbrev pub invalid : Option ℤ → Reason
+invalid None = why.NoRegularFile
+invalid (Some number) = why.Unsupported
 
 -- one that has no words of its own, by the number of the system
 abbrev pub numbered : Option ℤ → Reason
@@ -27,7 +33,8 @@ reason_for kind.NotFound number = why.Absent
 reason_for kind.PermissionDenied number = why.Denied
 reason_for kind.NotADirectory number = why.NoFolder
 reason_for kind.IsADirectory number = why.NoRegularFile
-reason_for kind.InvalidInput number = why.NoRegularFile
+reason_for kind.InvalidInput number = invalid number
+reason_for kind.Unsupported number = why.Unsupported
 reason_for kind.ReadOnlyFilesystem number = why.ReadOnly
 reason_for kind.StorageFull number = why.Full
 reason_for kind.QuotaExceeded number = why.Full

@@ -1,10 +1,16 @@
 //! What came of late.
 
 ghost use Rattle.std.specs.Prelude.{◌≡◌, ◌≢◌, ◌↔◌, [], IsTrue, All};
-ghost use Rattle.ym_text.specs.Readable.{IsAsk, IsTextByte};
+ghost use Rattle.ym_text.specs.Readable.{IsAsk, IsStream, IsRefusal, IsTextByte};
 
 /// The byte by which a receiver asks.
 const ASK: u8 = b'C';
+
+/// The one by which a receiver of YMODEM-g does, which answers no block.
+const STREAM: u8 = b'G';
+
+/// The one by which a receiver asks for a block again, and by which one of XMODEM asks.
+const NAK: u8 = 0x15;
 
 /// What came since an end last got on.
 #[derive(Clone, Copy, PartialEq, Eq)]
@@ -13,6 +19,10 @@ pub enum Came {
     Nothing,
     /// C alone.
     Asks,
+    /// NAK alone, or NAK and C or G.
+    Refuses,
+    /// G alone.
+    Streams,
     /// Text, as a person reads it.
     Text,
     /// Other bytes, or some of them.
@@ -26,6 +36,20 @@ fn is_asks(bytes: &[u8]) -> bool
     bytes.iter().all(|&byte| byte == ASK)
 }
 
+/// Whether these bytes are G alone.
+fn is_streams(bytes: &[u8]) -> bool
+    ensures { IsTrue result ↔ All IsStream bytes.now }
+{
+    bytes.iter().all(|&byte| byte == STREAM)
+}
+
+/// Whether these bytes are NAK and C alone.
+fn is_refusals(bytes: &[u8]) -> bool
+    ensures { IsTrue result ↔ All IsRefusal bytes.now }
+{
+    bytes.iter().all(|&byte| byte == NAK || byte == ASK)
+}
+
 /// Whether these bytes are characters of ASCII that are printed, or controls that stand in what a
 /// shell shows: BEL to CR, and ESC.
 fn is_text(bytes: &[u8]) -> bool
@@ -37,32 +61,89 @@ fn is_text(bytes: &[u8]) -> bool
 }
 
 impl Came {
-    ghost use Rattle.ym_text.specs.Came.{and_asks, and_text};
+    ghost use Rattle.ym_text.specs.Came.{and_asks, and_streams, and_refusals, and_text};
 
-    /// After these bytes more.
-    pub fn with(self, bytes: &[u8]) -> Came
-        ensures quiet { bytes.now ≡ [] → result ≡ self }
-        ensures asks { bytes.now ≢ [] → All IsAsk bytes.now → result ≡ and_asks self }
-        ensures text { ¬ All IsAsk bytes.now → All IsTextByte bytes.now → result ≡ and_text self }
-        ensures other { ¬ All IsAsk bytes.now → ¬ All IsTextByte bytes.now → result ≡ Came.Other }
+    /// After more that asks.
+    fn with_asks(self) -> Came
+        ensures { result ≡ and_asks self }
     {
-        if bytes.is_empty() {
-            return self;
+        match self {
+            Came::Nothing => Came::Asks,
+            came => came,
         }
-        if is_asks(bytes) {
-            return match self {
-                Came::Nothing => Came::Asks,
-                came => came,
-            };
+    }
+
+    /// After more that asks for all blocks.
+    fn with_streams(self) -> Came
+        ensures { result ≡ and_streams self }
+    {
+        match self {
+            Came::Nothing => Came::Streams,
+            came => came,
         }
-        if !is_text(bytes) {
-            return Came::Other;
+    }
+
+    /// After more that asks for a block again.
+    fn with_refusals(self) -> Came
+        ensures { result ≡ and_refusals self }
+    {
+        match self {
+            Came::Text | Came::Other => Came::Other,
+            _ => Came::Refuses,
         }
+    }
+
+    /// After more that is text.
+    fn with_text(self) -> Came
+        ensures { result ≡ and_text self }
+    {
         match self {
             Came::Other => Came::Other,
             _ => Came::Text,
         }
     }
+
+    /// After these bytes more.
+    pub fn with(self, bytes: &[u8]) -> Came
+        ensures quiet { bytes.now ≡ [] → result ≡ self }
+        ensures asks { bytes.now ≢ [] → All IsAsk bytes.now → result ≡ and_asks self }
+        ensures streams { ¬ All IsAsk bytes.now → All IsStream bytes.now →
+            result ≡ and_streams self }
+        ensures refusals { ¬ All IsAsk bytes.now → ¬ All IsStream bytes.now →
+            All IsRefusal bytes.now → result ≡ and_refusals self }
+        ensures text { ¬ All IsAsk bytes.now → ¬ All IsStream bytes.now →
+            ¬ All IsRefusal bytes.now → All IsTextByte bytes.now → result ≡ and_text self }
+        ensures other { ¬ All IsAsk bytes.now → ¬ All IsStream bytes.now →
+            ¬ All IsRefusal bytes.now → ¬ All IsTextByte bytes.now → result ≡ Came.Other }
+    {
+        if bytes.is_empty() {
+            return self;
+        }
+        if is_asks(bytes) {
+            return self.with_asks();
+        }
+        if is_streams(bytes) {
+            return self.with_streams();
+        }
+        if is_refusals(bytes) {
+            return self.with_refusals();
+        }
+        if is_text(bytes) {
+            return self.with_text();
+        }
+        Came::Other
+    }
+}
+
+/// What was seen of the other end.
+#[derive(Clone, Copy, PartialEq, Eq)]
+pub enum Sight {
+    /// Nothing whole.
+    Nothing,
+    /// To a sender that the receiver asked, and to a receiver a block.
+    Peer,
+    /// Its first block was block 1: it names no file.
+    Nameless,
 }
 
 /// After so many milliseconds without an answer usual peers ask again, or say theirs once more.
@@ -75,6 +156,10 @@ pub struct Lately {
     pub came: Came,
     /// For how many seconds nothing came.
     pub seconds: u64,
+    /// Whether that is longer than two waits.
+    pub is_silent: bool,
+    /// What was seen of the other end.
+    pub seen: Sight,
     /// How many seconds an answer takes on this line, where that is more than usual peers wait.
     pub slow: Option<u64>,
 }

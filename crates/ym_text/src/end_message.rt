@@ -2,9 +2,10 @@
 
 ghost use Rattle.std.specs.Prelude.{◌≡◌, Some};
 ghost use Rattle.ym_text.specs.Messages.{end_text, words_text, header_text};
-ghost use Rattle.ym_text.specs.Messages.{sender_end, receiver_end};
+ghost use Rattle.ym_text.specs.Messages.{sender_end, receiver_end, out_of_step};
 
-use crate::came::{Came, Lately};
+use crate::came::{Lately, Sight};
+use crate::cause::{Cause, Peer};
 use crate::reason::Reason;
 use std::fmt;
 use ym_core::{RecvState, SendState};
@@ -34,10 +35,22 @@ pub enum EndMessage {
     SourceFailed,
     /// A block came out of turn.
     OutOfStep,
+    /// The first block that came is no block 0, as where a sender of XMODEM sends.
+    Nameless,
     /// A block 0 was refused.
     BadHeader(HeaderFault),
     /// One more file came than a batch may have.
     TooManyFiles,
+}
+
+/// Why a block came out of turn, to a receiver that saw this of the sender.
+fn out_of_step(seen: Sight) -> EndMessage
+    ensures { result ≡ out_of_step seen }
+{
+    match seen {
+        Sight::Nameless => EndMessage::Nameless,
+        _ => EndMessage::OutOfStep,
+    }
 }
 
 impl EndMessage {
@@ -62,7 +75,7 @@ impl EndMessage {
             RecvState::Running | RecvState::Finished | RecvState::SinkFailed => None,
             RecvState::TooManyErrors => Some(EndMessage::NoBlock(lately)),
             RecvState::Cancelled => Some(EndMessage::PeerCancelled),
-            RecvState::OutOfStep => Some(EndMessage::OutOfStep),
+            RecvState::OutOfStep => Some(out_of_step(lately.seen)),
             RecvState::BadHeader(fault) => Some(EndMessage::BadHeader(fault)),
             RecvState::TooManyFiles => Some(EndMessage::TooManyFiles),
         }
@@ -87,78 +100,6 @@ fn header_words(fault: HeaderFault) -> &'static str
     }
 }
 
-/// What came in place of what an end waited for, and what to look at then.
-#[derive(Clone, Copy)]
-struct CameWords {
-    /// What came.
-    came: Came,
-    /// For how many seconds nothing did.
-    seconds: u64,
-    /// The other end.
-    other: &'static str,
-}
-
-impl fmt::Display for CameWords {
-    ghost use Rattle.ym_text.specs.Messages.{came_text};
-
-    ghost output = { λ words. Some (came_text words.other.now words.came words.seconds) };
-
-    fn fmt<W: fmt::Write>(&self, f: &mut fmt::Formatter<W>) -> fmt::Result {
-        let seconds = self.seconds;
-        let other = self.other;
-        match self.came {
-            Came::Nothing => write!(
-                f,
-                "nothing came for {seconds} s: is the {other} running, at the same speed?"
-            ),
-            Came::Asks => write!(
-                f,
-                "nothing came but C, ten times: does the {other} get what is written to it?"
-            ),
-            Came::Text => write!(
-                f,
-                "what comes is no YMODEM: is a shell or a boot loader's prompt at the other end?"
-            ),
-            Came::Other => write!(
-                f,
-                "nothing whole came, ten times in a row: do both ends have the same speed?"
-            ),
-        }
-    }
-}
-
-/// The same, or that answers take too long.
-#[derive(Clone, Copy)]
-struct LatelyWords {
-    /// What came.
-    lately: Lately,
-    /// The other end.
-    other: &'static str,
-}
-
-impl fmt::Display for LatelyWords {
-    ghost use Rattle.ym_text.specs.Messages.{lately_text};
-
-    ghost output = { λ words. Some (lately_text words.other.now words.lately) };
-
-    fn fmt<W: fmt::Write>(&self, f: &mut fmt::Formatter<W>) -> fmt::Result {
-        match (self.lately.came, self.lately.slow) {
-            (Came::Asks | Came::Text | Came::Other, Some(took)) => write!(
-                f,
-                "answers take longer than {took} seconds: use a line that hands on sooner"
-            ),
-            _ => {
-                let words = CameWords {
-                    came: self.lately.came,
-                    seconds: self.lately.seconds,
-                    other: self.other,
-                };
-                write!(f, "{words}")
-            }
-        }
-    }
-}
-
 /// What the line of an end is made of.
 #[derive(Clone, Copy)]
 pub(crate) enum EndWords {
@@ -166,8 +107,8 @@ pub(crate) enum EndWords {
     Text(&'static str),
     /// Why the system refused a call.
     Refused(Reason),
-    /// What came in place of what this other end should have sent.
-    Lately(Lately, &'static str),
+    /// Why an end heard nothing of use.
+    Unheard(Cause),
 }
 
 impl EndMessage {
@@ -185,13 +126,16 @@ impl EndMessage {
                 set it by `stty raw -echo clocal min 0 time 1`",
             ),
             EndMessage::LineRefused(why) => EndWords::Refused(why),
-            EndMessage::NoReply(lately) => EndWords::Lately(lately, "receiver"),
-            EndMessage::NoBlock(lately) => EndWords::Lately(lately, "sender"),
+            EndMessage::NoReply(lately) => EndWords::Unheard(Cause::of(Peer::Receiver, lately)),
+            EndMessage::NoBlock(lately) => EndWords::Unheard(Cause::of(Peer::Sender, lately)),
             EndMessage::SourceFailed => EndWords::Text(
                 "a file could not be read, or has changed since it was looked at",
             ),
             EndMessage::OutOfStep => EndWords::Text(
                 "a block came out of turn: the two ends are out of step, send again",
+            ),
+            EndMessage::Nameless => EndWords::Text(
+                "the sender names no file, as XMODEM does: start it as a sender of YMODEM",
             ),
             EndMessage::BadHeader(fault) => EndWords::Text(header_words(fault)),
             EndMessage::TooManyFiles => {
@@ -208,10 +152,7 @@ impl fmt::Display for EndMessage {
         match self.words() {
             EndWords::Text(text) => f.write_str(text),
             EndWords::Refused(why) => write!(f, "the line failed: {why}"),
-            EndWords::Lately(lately, other) => {
-                let words = LatelyWords { lately, other };
-                write!(f, "{words}")
-            }
+            EndWords::Unheard(why) => write!(f, "{why}"),
         }
     }
 }

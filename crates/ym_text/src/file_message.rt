@@ -13,6 +13,10 @@ pub enum FileMessage<'a> {
     CannotOpen(&'a str, Reason),
     /// The name or the length of the file at this path cannot stand in block 0.
     CannotSend(&'a str, HeaderFault),
+    /// The file of this name could not be read while it was sent, or has changed.
+    CannotRead(&'a str),
+    /// The sender gave this name, which is not safe.
+    NameIsUnsafe(&'a str),
     /// Nothing can be stored in the folder at this path.
     CannotStoreIn(&'a str, Reason),
     /// A file of this name is there already.
@@ -39,6 +43,24 @@ fn write_refused<W: fmt::Write>(
     write!(f, "cannot send '{path}': {fault}")
 }
 
+/// Why a file was not sent whole.
+fn write_unread<W: fmt::Write>(f: &mut fmt::Formatter<W>, name: &str) -> fmt::Result {
+    let name = Shown(name);
+    write!(
+        f,
+        "'{name}' could not be read, or has changed since it was looked at"
+    )
+}
+
+/// Why a name is not taken.
+fn write_unsafe<W: fmt::Write>(f: &mut fmt::Formatter<W>, name: &str) -> fmt::Result {
+    let name = Shown(name);
+    write!(
+        f,
+        "the sender gave the unsafe name '{name}': a path, or with control characters"
+    )
+}
+
 impl fmt::Display for FileMessage<'_> {
     fn fmt<W: fmt::Write>(&self, f: &mut fmt::Formatter<W>) -> fmt::Result {
         match *self {
@@ -47,6 +69,8 @@ impl fmt::Display for FileMessage<'_> {
                 write!(f, "cannot open '{path}': {why}")
             }
             FileMessage::CannotSend(path, fault) => write_refused(f, path, fault),
+            FileMessage::CannotRead(name) => write_unread(f, name),
+            FileMessage::NameIsUnsafe(name) => write_unsafe(f, name),
             FileMessage::CannotStoreIn(path, why) => {
                 let path = Shown(path);
                 write!(f, "cannot store in '{path}': {why}")

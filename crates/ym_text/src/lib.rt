@@ -3,6 +3,7 @@
 #![tactic(auto)]
 
 mod came;
+mod cause;
 mod cells;
 mod coming;
 mod echo_message;
@@ -18,7 +19,7 @@ mod shown_out;
 mod tty_message;
 mod waiting;
 
-pub use came::{Came, Lately};
+pub use came::{Came, Lately, Sight};
 pub use cells::progress_line;
 pub use coming::Coming;
 pub use echo_message::EchoMessage;

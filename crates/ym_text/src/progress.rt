@@ -13,26 +13,28 @@ pub struct Progress {
     pub done: u64,
     /// Bytes of the file.
     pub length: u64,
-    /// Bytes a second, of late.
-    pub rate: u64,
+    /// Bytes a second, of late, where that is known yet.
+    pub rate: Option<u64>,
     /// Blocks that were repeated.
     pub repeats: u64,
 }
 
-/// So many bytes a second.
+/// So many bytes a second, where that is known.
 #[derive(Clone, Copy)]
-struct Rate(u64);
+struct Rate(Option<u64>);
 
 impl fmt::Display for Rate {
     ghost output = { λ rate. Some (rate_text rate.0) };
 
     fn fmt<W: fmt::Write>(&self, f: &mut fmt::Formatter<W>) -> fmt::Result {
-        let rate = self.0;
+        let Some(rate) = self.0 else {
+            return Ok(());
+        };
         if rate < 10_000 {
-            return write!(f, "{rate} B/s");
+            return write!(f, ", {rate} B/s");
         }
         let thousands = rate / 1000;
-        write!(f, "{thousands} kB/s")
+        write!(f, ", {thousands} kB/s")
     }
 }
 
@@ -85,10 +87,10 @@ impl Progress {
     fn seconds_left(self) -> Option<u64>
         ensures { result ≡ left_of self.done self.length self.rate }
     {
-        if self.rate == 0 {
-            return None;
+        match self.rate {
+            None | Some(0) => None,
+            Some(rate) => Some(self.length.saturating_sub(self.done) / rate),
         }
-        Some(self.length.saturating_sub(self.done) / self.rate)
     }
 }
 
@@ -103,7 +105,7 @@ impl fmt::Display for Progress {
         let repeats = Repeats(self.repeats);
         write!(
             f,
-            "{percent}%, {done} of {length} bytes, {rate}{left}{repeats}"
+            "{percent}%, {done} of {length} bytes{rate}{left}{repeats}"
         )
     }
 }
@@ -146,9 +148,9 @@ impl fmt::Display for Brief {
         let repeats = Repeats(progress.repeats);
         match self.detail {
             Detail::All => write!(f, "{progress}"),
-            Detail::NoBytes => write!(f, "{percent}%, {rate}{left}{repeats}"),
-            Detail::NoRepeats => write!(f, "{percent}%, {rate}{left}"),
-            Detail::NoLeft => write!(f, "{percent}%, {rate}"),
+            Detail::NoBytes => write!(f, "{percent}%{rate}{left}{repeats}"),
+            Detail::NoRepeats => write!(f, "{percent}%{rate}{left}"),
+            Detail::NoLeft => write!(f, "{percent}%{rate}"),
             Detail::Percent => write!(f, "{percent}%"),
         }
     }
@@ -174,7 +176,7 @@ impl fmt::Display for Took {
         let tenths = self.millis / 100 % 10;
         let rate = Rate(rate_of(self.length, self.millis));
         let repeats = Repeats(self.repeats);
-        write!(f, "{length} bytes in {seconds}.{tenths} s, {rate}{repeats}")
+        write!(f, "{length} bytes in {seconds}.{tenths} s{rate}{repeats}")
     }
 }
 
@@ -195,13 +197,16 @@ impl fmt::Display for WholeFile<'_> {
     }
 }
 
-/// How many bytes a second so many bytes in so many milliseconds are; all of them where it took no
-/// millisecond.
-pub fn rate_of(bytes: u64, millis: u64) -> u64
+/// A rate is told once so many milliseconds have passed.
+const RATE_FROM_MS: u64 = 250;
+
+/// How many bytes a second so many bytes in so many milliseconds are, where that is long enough to
+/// tell.
+pub fn rate_of(bytes: u64, millis: u64) -> Option<u64>
     ensures { result ≡ rate_of bytes millis }
 {
-    if millis == 0 {
-        return bytes;
+    if millis < RATE_FROM_MS {
+        return None;
     }
-    bytes.saturating_mul(1000) / millis
+    Some(bytes.saturating_mul(1000) / millis)
 }

@@ -1,7 +1,7 @@
 //! Why the system refused a call.
 
 ghost use Rattle.std.specs.Prelude.{◌≡◌, Some, IfOk, IfErr};
-ghost use Rattle.ym_text.specs.Reasons.{reason_text};
+ghost use Rattle.ym_text.specs.Reasons.{reason_text, invalid};
 
 use std::io::ErrorKind;
 use std::{fmt, io};
@@ -19,12 +19,25 @@ pub enum Reason {
     NoRegularFile,
     /// It can only be read.
     ReadOnly,
+    /// It does not support what was asked of it.
+    Unsupported,
     /// There is no room left.
     Full,
     /// Another error of the system, by its number.
     Number(u32),
     /// Another one, that has no number.
     Other,
+}
+
+/// What an invalid call comes to: one that the system refused has a number, and one of the
+/// program's own has none.
+fn invalid(number: Option<i32>) -> Reason
+    ensures { result ≡ invalid number }
+{
+    match number {
+        Some(_) => Reason::Unsupported,
+        None => Reason::NoRegularFile,
+    }
 }
 
 impl Reason {
@@ -38,7 +51,9 @@ impl Reason {
             ErrorKind::NotFound => Reason::Absent,
             ErrorKind::PermissionDenied => Reason::Denied,
             ErrorKind::NotADirectory => Reason::NoFolder,
-            ErrorKind::IsADirectory | ErrorKind::InvalidInput => Reason::NoRegularFile,
+            ErrorKind::IsADirectory => Reason::NoRegularFile,
+            ErrorKind::InvalidInput => invalid(error.raw_os_error()),
+            ErrorKind::Unsupported => Reason::Unsupported,
             ErrorKind::ReadOnlyFilesystem => Reason::ReadOnly,
             ErrorKind::StorageFull | ErrorKind::QuotaExceeded => Reason::Full,
             _ => match error.raw_os_error() {
@@ -59,6 +74,7 @@ impl Reason {
             Reason::NoFolder => Ok("not a directory"),
             Reason::NoRegularFile => Ok("not a regular file"),
             Reason::ReadOnly => Ok("read-only file system"),
+            Reason::Unsupported => Ok("the file system or the device does not support it"),
             Reason::Full => Ok("no space left on device"),
             Reason::Number(number) => Err(number),
             Reason::Other => Ok("the system refused it"),

@@ -1,0 +1,95 @@
+-- Why an end heard nothing of use, as often as it may, and that in words.
+use Rattle.std.specs.Prelude.{ℕ, List, [], ◌++◌, codes, decimal, Bool, true, false, Option, Some, None}
+use Rattle.ym_text.specs.declared.came.Came.{Came}
+use Rattle.ym_text.specs.declared.came.Came.TheVariants as came
+use Rattle.ym_text.specs.declared.came.Sight.{Sight}
+use Rattle.ym_text.specs.declared.came.Sight.TheVariants as seen
+use Rattle.ym_text.specs.declared.came.Lately.{Lately}
+use Rattle.ym_text.specs.declared.cause.Peer.{Peer}
+use Rattle.ym_text.specs.declared.cause.Peer.TheVariants as peer
+use Rattle.ym_text.specs.declared.cause.Cause.{Cause}
+use Rattle.ym_text.specs.declared.cause.Cause.TheVariants as cause
+
+abbrev pub peer_text : Peer → List ℕ
+peer_text peer.Receiver = codes "receiver"
+peer_text peer.Sender = codes "sender"
+
+-- nothing comes: an end that was heard before has stopped, or its line was cut
+abbrev pub silence_of : Peer → Sight → ℕ → Cause
+silence_of other seen.Nothing seconds = cause.Absent other seconds
+silence_of other _ seconds = cause.Ceased other seconds
+
+-- nothing comes any more; a prompt is shown once, and whoever asked was there
+abbrev pub quiet_of : Peer → Sight → Came → ℕ → Cause
+quiet_of other before came.Nothing seconds = silence_of other before seconds
+quiet_of other before came.Other seconds = silence_of other before seconds
+quiet_of other before came.Text seconds = cause.Text
+quiet_of other before _ seconds = cause.Ceased other seconds
+
+-- NAK comes: before it has asked by C, a receiver of XMODEM asks so
+abbrev pub asked_of : Sight → Cause
+asked_of seen.Nothing = cause.Xmodem
+asked_of _ = cause.Refuses
+
+-- other bytes come: where something whole came before, both ends have the same speed
+abbrev pub noise_of : Sight → Cause
+noise_of seen.Nothing = cause.Noise
+noise_of _ = cause.Damage
+
+-- what receivers send comes
+abbrev pub prompt_of : Peer → Cause → Cause
+prompt_of peer.Receiver why = why
+prompt_of peer.Sender why = cause.NoSender
+
+abbrev pub heard_of : Peer → Sight → Came → ℕ → Cause
+heard_of other before came.Nothing seconds = silence_of other before seconds
+heard_of other before came.Asks seconds = prompt_of other cause.Asks
+heard_of other before came.Refuses seconds = prompt_of other (asked_of before)
+heard_of other before came.Streams seconds = prompt_of other cause.Streams
+heard_of other before came.Text seconds = cause.Text
+heard_of other before came.Other seconds = noise_of before
+
+-- where an answer takes longer than usual peers wait, and something came, that is the reason
+abbrev pub cause_for : Peer → Sight → ℕ → Came → Option ℕ → Bool → Cause
+cause_for other before seconds came.Nothing slow is_silent = silence_of other before seconds
+cause_for other before seconds what (Some took) is_silent = cause.Slow took
+cause_for other before seconds what None true = quiet_of other before what seconds
+cause_for other before seconds what None false = heard_of other before what seconds
+
+abbrev pub cause_of : Peer → Lately → Cause
+cause_of other lately =
+    cause_for other lately.seen lately.seconds lately.came lately.slow lately.is_silent
+
+-- what has no number in it
+abbrev pub fixed_text : Cause → List ℕ
+fixed_text (cause.Absent other seconds) = []
+fixed_text (cause.Ceased other seconds) = []
+fixed_text (cause.Slow took) = []
+fixed_text cause.Asks =
+    codes "nothing came but C, ten times: does the receiver get what is written to it?"
+fixed_text cause.Refuses =
+    codes "nothing came but NAK, ten times: does the receiver get every byte that is sent?"
+fixed_text cause.Xmodem =
+    codes "the receiver asks by NAK, as XMODEM does: start it as a receiver of YMODEM"
+fixed_text cause.Streams =
+    codes "the receiver asks by G, as YMODEM-g does: start it as a receiver of YMODEM"
+fixed_text cause.NoSender =
+    codes "nothing came but what receivers send: is a sender at the other end?"
+fixed_text cause.Text =
+    codes "what comes is no YMODEM: is a shell or a boot loader's prompt at the other end?"
+fixed_text cause.Damage =
+    codes "nothing whole came, ten times in a row: use a better line, or a lower speed"
+fixed_text cause.Noise =
+    codes "nothing whole came, ten times in a row: do both ends have the same speed?"
+
+abbrev pub cause_text : Cause → List ℕ
+cause_text (cause.Absent other seconds) =
+    codes "nothing came for " ++ (decimal seconds ++ (codes " s: is the "
+    ++ (peer_text other ++ codes " running, at the same speed?")))
+cause_text (cause.Ceased other seconds) =
+    codes "nothing came any more for " ++ (decimal seconds ++ (codes " s: has the "
+    ++ (peer_text other ++ codes " stopped, or was the line cut?")))
+cause_text (cause.Slow took) =
+    codes "answers take longer than "
+    ++ (decimal took ++ codes " seconds: use a line that hands on sooner")
+cause_text why = fixed_text why

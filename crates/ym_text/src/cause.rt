@@ -1,0 +1,199 @@
+//! Why an end heard nothing of use.
+
+ghost use Rattle.std.specs.Prelude.{◌≡◌, Some};
+ghost use Rattle.ym_text.specs.Causes.{peer_text, silence_of, quiet_of, noise_of, asked_of};
+ghost use Rattle.ym_text.specs.Causes.{heard_of, prompt_of, cause_of, fixed_text, cause_text};
+
+use crate::came::{Came, Lately, Sight};
+use std::fmt;
+
+/// Which end the other one is.
+#[derive(Clone, Copy)]
+pub(crate) enum Peer {
+    /// One that receives.
+    Receiver,
+    /// One that sends.
+    Sender,
+}
+
+impl Peer {
+    /// Its name.
+    fn text(self) -> &'static str
+        ensures { result.now ≡ peer_text self }
+    {
+        match self {
+            Peer::Receiver => "receiver",
+            Peer::Sender => "sender",
+        }
+    }
+}
+
+/// Why an end heard nothing of use, as often as it may. Its `Display` is that, in words, and what
+/// to look at then.
+#[derive(Clone, Copy)]
+pub(crate) enum Cause {
+    /// Nothing came for so many seconds, and nothing of use before.
+    Absent(Peer, u64),
+    /// Something did, and then nothing for so many seconds.
+    Ceased(Peer, u64),
+    /// Answers take so many seconds.
+    Slow(u64),
+    /// The receiver asks on.
+    Asks,
+    /// It asks for a block again and again.
+    Refuses,
+    /// It asks as one of XMODEM does.
+    Xmodem,
+    /// It asks as one of YMODEM-g does.
+    Streams,
+    /// A receiver heard what receivers send.
+    NoSender,
+    /// Text came.
+    Text,
+    /// Other bytes came from an end that was heard before.
+    Damage,
+    /// Other bytes came, and nothing whole yet.
+    Noise,
+}
+
+/// Why nothing comes.
+fn silence(peer: Peer, seen: Sight, seconds: u64) -> Cause
+    ensures { result ≡ silence_of peer seen seconds }
+{
+    match seen {
+        Sight::Nothing => Cause::Absent(peer, seconds),
+        _ => Cause::Ceased(peer, seconds),
+    }
+}
+
+/// Why nothing comes any more behind what came.
+fn quiet(peer: Peer, seen: Sight, came: Came, seconds: u64) -> Cause
+    ensures { result ≡ quiet_of peer seen came seconds }
+{
+    match came {
+        Came::Nothing | Came::Other => silence(peer, seen, seconds),
+        Came::Text => Cause::Text,
+        _ => Cause::Ceased(peer, seconds),
+    }
+}
+
+/// Why a receiver asks for a block again.
+fn asked(seen: Sight) -> Cause
+    ensures { result ≡ asked_of seen }
+{
+    match seen {
+        Sight::Nothing => Cause::Xmodem,
+        _ => Cause::Refuses,
+    }
+}
+
+/// Why other bytes come.
+fn noise(seen: Sight) -> Cause
+    ensures { result ≡ noise_of seen }
+{
+    match seen {
+        Sight::Nothing => Cause::Noise,
+        _ => Cause::Damage,
+    }
+}
+
+/// Why what receivers send comes from this end.
+fn prompts(peer: Peer, cause: Cause) -> Cause
+    ensures { result ≡ prompt_of peer cause }
+{
+    match peer {
+        Peer::Receiver => cause,
+        Peer::Sender => Cause::NoSender,
+    }
+}
+
+/// Why this comes, and nothing of use.
+fn heard(peer: Peer, seen: Sight, came: Came, seconds: u64) -> Cause
+    ensures { result ≡ heard_of peer seen came seconds }
+{
+    match came {
+        Came::Nothing => silence(peer, seen, seconds),
+        Came::Asks => prompts(peer, Cause::Asks),
+        Came::Refuses => prompts(peer, asked(seen)),
+        Came::Streams => prompts(peer, Cause::Streams),
+        Came::Text => Cause::Text,
+        Came::Other => noise(seen),
+    }
+}
+
+impl Cause {
+    /// Why nothing of use came from this end, where this came of late.
+    pub(crate) fn of(peer: Peer, lately: Lately) -> Cause
+        ensures { result ≡ cause_of peer lately }
+    {
+        let Lately { seconds, seen, .. } = lately;
+        match (lately.came, lately.slow, lately.is_silent) {
+            (Came::Nothing, _, _) => silence(peer, seen, seconds),
+            (_, Some(took), _) => Cause::Slow(took),
+            (came, None, true) => quiet(peer, seen, came, seconds),
+            (came, None, false) => heard(peer, seen, came, seconds),
+        }
+    }
+
+    /// Its words, or none where numbers stand in them.
+    fn text(self) -> &'static str
+        ensures { result.now ≡ fixed_text self }
+    {
+        match self {
+            Cause::Absent(_, _) | Cause::Ceased(_, _) | Cause::Slow(_) => "",
+            Cause::Asks => {
+                "nothing came but C, ten times: does the receiver get what is written to it?"
+            }
+            Cause::Refuses => {
+                "nothing came but NAK, ten times: does the receiver get every byte that is sent?"
+            }
+            Cause::Xmodem => {
+                "the receiver asks by NAK, as XMODEM does: start it as a receiver of YMODEM"
+            }
+            Cause::Streams => {
+                "the receiver asks by G, as YMODEM-g does: start it as a receiver of YMODEM"
+            }
+            Cause::NoSender => {
+                "nothing came but what receivers send: is a sender at the other end?"
+            }
+            Cause::Text => {
+                "what comes is no YMODEM: is a shell or a boot loader's prompt at the other end?"
+            }
+            Cause::Damage => {
+                "nothing whole came, ten times in a row: use a better line, or a lower speed"
+            }
+            Cause::Noise => {
+                "nothing whole came, ten times in a row: do both ends have the same speed?"
+            }
+        }
+    }
+}
+
+impl fmt::Display for Cause {
+    ghost output = { λ cause. Some (cause_text cause) };
+
+    fn fmt<W: fmt::Write>(&self, f: &mut fmt::Formatter<W>) -> fmt::Result {
+        match *self {
+            Cause::Absent(peer, seconds) => {
+                let peer = peer.text();
+                write!(
+                    f,
+                    "nothing came for {seconds} s: is the {peer} running, at the same speed?"
+                )
+            }
+            Cause::Ceased(peer, seconds) => {
+                let peer = peer.text();
+                write!(
+                    f,
+                    "nothing came any more for {seconds} s: has the {peer} stopped, or was the \
+                    line cut?"
+                )
+            }
+            Cause::Slow(took) => write!(
+                f,
+                "answers take longer than {took} seconds: use a line that hands on sooner"
+            ),
+            cause => f.write_str(cause.text()),
+        }
+    }
+}

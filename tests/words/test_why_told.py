@@ -1,0 +1,222 @@
+"""What `send` and `receive` tell of why they ended follows from what was seen of the other end, and
+names the file that it is of."""
+
+import contextlib
+import os
+import re
+import time
+
+from support.cases import case, cases, sentence
+from support.frames import ACK, ACK_START, CANCEL, END, EOT, NAK, START, block, header
+from support.peers import frames_at, receive_from, send_to
+from support.program import (
+    LIMIT,
+    connected,
+    file_lines,
+    folders,
+    free_port,
+    running,
+    write_files,
+)
+from support.telling import FAULT, FILE, coming
+from support.tracing import at_paths, calls_of, strace
+
+
+LOUD = ("--verbose",)
+XMODEM = "the receiver asks by NAK, as XMODEM does: start it as a receiver of YMODEM"
+STREAMS = "the receiver asks by G, as YMODEM-g does: start it as a receiver of YMODEM"
+REFUSES = "nothing came but NAK, ten times: does the receiver get every byte that is sent?"
+SPEED = "nothing whole came, ten times in a row: do both ends have the same speed?"
+BETTER_LINE = "nothing whole came, ten times in a row: use a better line, or a lower speed"
+NO_SENDER = "nothing came but what receivers send: is a sender at the other end?"
+NAMELESS = "the sender names no file, as XMODEM does: start it as a sender of YMODEM"
+AGAIN = "a block came out of turn: the two ends are out of step, send again"
+
+# So often a peer says it again, in seconds: an end takes each time as one delivery.
+AGAIN_S = 1.5
+
+
+def is_over(end):
+    """Whether the other end has cancelled or left, before this one says anything again."""
+    end.settimeout(AGAIN_S)
+    try:
+        while got := end.recv(4096):
+            if got.endswith(CANCEL):
+                return True
+    except TimeoutError:
+        return False
+    return True
+
+
+def says_on(end, data, times=20):
+    """Says this so often, until it is over."""
+    for _ in range(times):
+        end.sendall(data)
+        if is_over(end):
+            return
+
+
+def asks_by(byte):
+    return lambda end: says_on(end, bytes((byte,)))
+
+
+def refuses(end):
+    """A receiver that asks, and then refuses each frame."""
+    end.sendall(bytes((START,)))
+    next(frames_at(end))
+    says_on(end, bytes((NAK,)))
+
+
+def falls_silent(end):
+    """The same, which says nothing more behind some refusals."""
+    end.sendall(bytes((START,)))
+    next(frames_at(end))
+    says_on(end, bytes((NAK,)), 7)
+    end.settimeout(LIMIT)
+    while end.recv(4096):
+        pass
+
+
+def told_last(ended):
+    return ended.err.splitlines()[-1]
+
+
+@cases(
+    case("tells that a receiver asks as one of XMODEM", asks_by(NAK), XMODEM),
+    case("tells that a receiver asks as one of YMODEM-g", asks_by(ord("G")), STREAMS),
+    case("tells that a receiver refuses what is sent", refuses, REFUSES),
+    case("tells that what comes to a sender is noise", asks_by(0xFE), SPEED),
+)
+def test_no_reply(peer, told):
+    """What a sender that nobody answers tells of what came."""
+    ended = send_to(peer, FILE, LOUD)
+    ended.wants(1, "sender done 0 no-reply\n", ended.err)
+    assert told_last(ended) == told, "what it told"
+
+
+@sentence("tells that a receiver fell silent behind what it refused")
+def test_receiver_ceases():
+    """It was there, so nobody is asked whether it runs at the same speed."""
+    ended = send_to(falls_silent, FILE, LOUD)
+    ended.wants(1, "sender done 0 no-reply\n", ended.err)
+    ceased = r"nothing came any more for \d\d s: has the receiver stopped, or was the line cut\?"
+    assert re.fullmatch(ceased, told_last(ended)), "it told %r" % told_last(ended)
+
+
+def sends_damaged(end):
+    """A sender whose blocks come damaged behind block 0."""
+    end.sendall(header(b"a", b"128"))
+    damaged = bytearray(block(1, bytes(128)))
+    damaged[10] ^= 1
+    says_on(end, bytes(damaged))
+
+
+def sends_first(number):
+    """A sender whose first block has this number."""
+
+    def peer(end):
+        end.recv(1)
+        says_on(end, block(number, bytes(128)))
+
+    return peer
+
+
+@cases(
+    case("tells that the line damages blocks", sends_damaged, "too-many-errors", BETTER_LINE),
+    case("tells that a receiver is at both ends", asks_by(START), "too-many-errors", NO_SENDER),
+    case("tells that a sender sends as one of XMODEM", sends_first(1), "out-of-step", NAMELESS),
+    case("tells that a sender is in the middle", sends_first(7), "out-of-step", AGAIN),
+)
+def test_no_block(peer, state, told):
+    """What a receiver that gets no block tells of what came."""
+    with folders() as (_, there):
+        ended = receive_from(peer, there, LOUD)
+    ended.wants(1, "receiver files 0 %s\n" % state, ended.err)
+    assert told_last(ended) == told, "what it told"
+
+
+@sentence("names a file that could not be read while it was sent")
+def test_names_what_is_unread():
+    """A file that is cut behind its block 0: what goes to a pipe is the same, and who looks is told
+    which one it is."""
+    for flags in ((), LOUD):
+        with folders() as (here, _):
+            paths = write_files(here, [("first.bin", bytes(200_000))])
+
+            def peer(end, path=paths[0]):
+                end.sendall(bytes((START,)))
+                next(frames_at(end))
+                os.truncate(path, 10)
+                end.sendall(ACK_START)
+                while end.recv(4096):
+                    pass
+
+            ended = send_to(peer, [], flags, paths=paths)
+        told = "'first.bin' could not be read, or has changed since it was looked at\n"
+        assert ended.status == 3, "the status"
+        assert ended.out == "sender done 0 source-failed\n", "what it printed"
+        assert ended.err.endswith(told + FAULT if flags else FAULT), "it told %r" % ended.err
+        assert ("first.bin" in ended.err) == bool(flags), "whether it named the file"
+
+
+@contextlib.contextmanager
+def receiving(log, there, injected):
+    """`receive` that tells what it does, whose syncs of the part of `a` are changed so, and the
+    end of a connection to it."""
+    part, port = os.path.join(there, "a.part"), free_port()
+    words = ("receive", "-p", port, "--eager", *LOUD, there)
+    before = strace(log, *at_paths([part]), "-e", "inject=fsync,fdatasync:" + injected)
+    with running(*words, before=before) as receive, connected(port, receive) as end:
+        end.settimeout(LIMIT)
+        yield receive, end
+
+
+def sends_nothing_in(end):
+    """Sends the header of an empty file, and what ends it."""
+    reads(end, bytes((START,)))
+    for frame, reply in ((header(b"a"), ACK_START), (bytes((EOT,)), bytes((NAK,)))):
+        end.sendall(frame)
+        reads(end, reply)
+    end.sendall(bytes((EOT,)))
+
+
+def reads(end, wanted):
+    """Reads a reply, which is this one."""
+    got = b""
+    while len(got) < len(wanted):
+        piece = end.recv(1)
+        assert piece, "it left behind %r" % got
+        got += piece
+    assert got == wanted, "the reply"
+
+
+@sentence("tells that the file system cannot force a file onto the disk")
+def test_no_sync():
+    """What the system refuses at a sync is no matter of what kind of file it is."""
+    with folders() as (log, there):
+        log = os.path.join(log, "log")
+        with receiving(log, there, "error=EINVAL") as (receive, end):
+            sends_nothing_in(end)
+            reads(end, CANCEL)
+            ended = receive.ended()
+        assert any(it.is_injected for it in calls_of(log)), "no sync was refused"
+    told = "cannot store 'a': the file system or the device does not support it\n"
+    assert ended.err.endswith(coming("a", 0) + told + FAULT), "it told %r" % ended.err
+    assert ended.out == "receiver files 0 sink-failed\n", "what it printed"
+
+
+@sentence("does not count as a wait what its own disk takes")
+def test_waits_for_no_disk():
+    """A sync that takes more than ten seconds, after which it would be told whom it waits for."""
+    with folders() as (log, there):
+        with receiving(os.path.join(log, "log"), there, "delay_enter=10500000") as (receive, end):
+            began = time.monotonic()
+            sends_nothing_in(end)
+            reads(end, ACK_START)
+            took = time.monotonic() - began
+            end.sendall(END)
+            reads(end, bytes((ACK,)))
+            ended = receive.ended()
+    assert took > 10, "no sync was slow"
+    ended.wants(0, file_lines([("a", b"")]) + "receiver files 1 finished\n", ended.err)
+    assert "waiting for" not in ended.err, "it told %r" % ended.err
