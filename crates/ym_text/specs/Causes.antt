@@ -1,5 +1,5 @@
 -- Why an end heard nothing of use, as often as it may, and that in words.
-use Rattle.std.specs.Prelude.{ℕ, List, [], ◌++◌, codes, decimal, Bool, true, false, Option, Some, None}
+use Rattle.std.specs.Prelude.{ℕ, List, ◌++◌, codes, decimal, Bool, true, false, Option, Some, None}
 use Rattle.ym_text.specs.declared.came.Came.{Came}
 use Rattle.ym_text.specs.declared.came.Came.TheVariants as came
 use Rattle.ym_text.specs.declared.came.Sight.{Sight}
@@ -9,6 +9,8 @@ use Rattle.ym_text.specs.declared.cause.Peer.{Peer}
 use Rattle.ym_text.specs.declared.cause.Peer.TheVariants as peer
 use Rattle.ym_text.specs.declared.cause.Cause.{Cause}
 use Rattle.ym_text.specs.declared.cause.Cause.TheVariants as cause
+use Rattle.ym_text.specs.declared.cause.CauseWords.{CauseWords}
+use Rattle.ym_text.specs.declared.cause.CauseWords.TheVariants as words
 
 abbrev pub peer_text : Peer → List ℕ
 peer_text peer.Receiver = codes "receiver"
@@ -60,36 +62,49 @@ abbrev pub cause_of : Peer → Lately → Cause
 cause_of other lately =
     cause_for other lately.seen lately.seconds lately.came lately.slow lately.is_silent
 
--- what has no number in it
-abbrev pub fixed_text : Cause → List ℕ
-fixed_text (cause.Absent other seconds) = []
-fixed_text (cause.Ceased other seconds) = []
-fixed_text (cause.Slow took) = []
-fixed_text cause.Asks =
-    codes "nothing came but C, ten times: does the receiver get what is written to it?"
-fixed_text cause.Refuses =
-    codes "nothing came but NAK, ten times: does the receiver get every byte that is sent?"
-fixed_text cause.Xmodem =
-    codes "the receiver asks by NAK, as XMODEM does: start it as a receiver of YMODEM"
-fixed_text cause.Streams =
-    codes "the receiver asks by G, as YMODEM-g does: start it as a receiver of YMODEM"
-fixed_text cause.NoSender =
-    codes "nothing came but what receivers send: is a sender at the other end?"
-fixed_text cause.Text =
-    codes "what comes is no YMODEM: is a shell or a boot loader's prompt at the other end?"
-fixed_text cause.Damage =
-    codes "nothing whole came, ten times in a row: use a better line, or a lower speed"
-fixed_text cause.Noise =
-    codes "nothing whole came, ten times in a row: do both ends have the same speed?"
-
-abbrev pub cause_text : Cause → List ℕ
-cause_text (cause.Absent other seconds) =
+abbrev pub absent_text : Peer → ℕ → List ℕ
+absent_text other seconds =
     codes "nothing came for " ++ (decimal seconds ++ (codes " s: is the "
     ++ (peer_text other ++ codes " running, at the same speed?")))
-cause_text (cause.Ceased other seconds) =
-    codes "nothing came any more for " ++ (decimal seconds ++ (codes " s: has the "
-    ++ (peer_text other ++ codes " stopped, or was the line cut?")))
-cause_text (cause.Slow took) =
+
+abbrev pub stopped_text : Peer → List ℕ
+stopped_text other =
+    codes "has the " ++ (peer_text other ++ codes " stopped, or was the line cut?")
+
+abbrev pub ceased_text : Peer → ℕ → List ℕ
+ceased_text other seconds =
+    codes "nothing came any more for "
+    ++ (decimal seconds ++ (codes " s: " ++ stopped_text other))
+
+abbrev pub slow_text : ℕ → List ℕ
+slow_text took =
     codes "answers take longer than "
     ++ (decimal took ++ codes " seconds: use a line that hands on sooner")
-cause_text why = fixed_text why
+
+abbrev pub cause_text : Cause → List ℕ
+cause_text (cause.Absent other seconds) = absent_text other seconds
+cause_text (cause.Ceased other seconds) = ceased_text other seconds
+cause_text (cause.Slow took) = slow_text took
+cause_text cause.Asks =
+    codes "nothing came but C, ten times: does the receiver get what is written to it?"
+cause_text cause.Refuses =
+    codes "nothing came but NAK, ten times: does the receiver get every byte that is sent?"
+cause_text cause.Xmodem =
+    codes "the receiver asks by NAK, as XMODEM does: start it as a receiver of YMODEM"
+cause_text cause.Streams =
+    codes "the receiver asks by G, as YMODEM-g does: start it as a receiver of YMODEM"
+cause_text cause.NoSender =
+    codes "nothing came but what receivers send: is a sender at the other end?"
+cause_text cause.Text =
+    codes "what comes is no YMODEM: is a shell or a boot loader's prompt at the other end?"
+cause_text cause.Damage =
+    codes "nothing whole came, ten times in a row: use a better line, or a lower speed"
+cause_text cause.Noise =
+    codes "nothing whole came, ten times in a row: do both ends have the same speed?"
+
+-- the line that is made of these words
+abbrev pub words_text : CauseWords → List ℕ
+words_text (words.Text text) = text.now
+words_text (words.Absent told) = absent_text told.peer told.seconds
+words_text (words.Ceased told) = ceased_text told.peer told.seconds
+words_text (words.Slow told) = slow_text told.took

@@ -1,8 +1,9 @@
 //! Why an end heard nothing of use.
 
 ghost use Rattle.std.specs.Prelude.{◌≡◌, Some};
+ghost use Rattle.ym_text.specs.Causes.{absent_text, stopped_text, ceased_text, slow_text};
 ghost use Rattle.ym_text.specs.Causes.{peer_text, silence_of, quiet_of, noise_of, asked_of};
-ghost use Rattle.ym_text.specs.Causes.{heard_of, prompt_of, cause_of, fixed_text, cause_text};
+ghost use Rattle.ym_text.specs.Causes.{heard_of, prompt_of, cause_of, cause_text, words_text};
 
 use crate::came::{Came, Lately, Sight};
 use std::fmt;
@@ -54,6 +55,95 @@ pub(crate) enum Cause {
     Damage,
     /// Other bytes came, and nothing whole yet.
     Noise,
+}
+
+/// That nothing came.
+#[derive(Clone, Copy)]
+pub(crate) struct AbsentWords {
+    /// The other end.
+    pub(crate) peer: Peer,
+    /// For how many seconds nothing came.
+    pub(crate) seconds: u64,
+}
+
+impl fmt::Display for AbsentWords {
+    ghost output = { λ words. Some (absent_text words.peer words.seconds) };
+
+    fn fmt<W: fmt::Write>(&self, f: &mut fmt::Formatter<W>) -> fmt::Result {
+        let seconds = self.seconds;
+        let peer = self.peer.text();
+        write!(
+            f,
+            "nothing came for {seconds} s: is the {peer} running, at the same speed?"
+        )
+    }
+}
+
+/// Whether the other end is there no more.
+#[derive(Clone, Copy)]
+struct StoppedWords {
+    /// The other end.
+    peer: Peer,
+}
+
+impl fmt::Display for StoppedWords {
+    ghost output = { λ words. Some (stopped_text words.peer) };
+
+    fn fmt<W: fmt::Write>(&self, f: &mut fmt::Formatter<W>) -> fmt::Result {
+        let peer = self.peer.text();
+        write!(f, "has the {peer} stopped, or was the line cut?")
+    }
+}
+
+/// That nothing came any more.
+#[derive(Clone, Copy)]
+pub(crate) struct CeasedWords {
+    /// The other end.
+    pub(crate) peer: Peer,
+    /// For how many seconds nothing came.
+    pub(crate) seconds: u64,
+}
+
+impl fmt::Display for CeasedWords {
+    ghost output = { λ words. Some (ceased_text words.peer words.seconds) };
+
+    fn fmt<W: fmt::Write>(&self, f: &mut fmt::Formatter<W>) -> fmt::Result {
+        let seconds = self.seconds;
+        let question = StoppedWords { peer: self.peer };
+        write!(f, "nothing came any more for {seconds} s: {question}")
+    }
+}
+
+/// That answers take too long.
+#[derive(Clone, Copy)]
+pub(crate) struct SlowWords {
+    /// How many seconds one takes.
+    pub(crate) took: u64,
+}
+
+impl fmt::Display for SlowWords {
+    ghost output = { λ words. Some (slow_text words.took) };
+
+    fn fmt<W: fmt::Write>(&self, f: &mut fmt::Formatter<W>) -> fmt::Result {
+        let took = self.took;
+        write!(
+            f,
+            "answers take longer than {took} seconds: use a line that hands on sooner"
+        )
+    }
+}
+
+/// What the line of a cause is made of.
+#[derive(Clone, Copy)]
+pub(crate) enum CauseWords {
+    /// A text that is the same each time.
+    Text(&'static str),
+    /// That nothing came.
+    Absent(AbsentWords),
+    /// That nothing came any more.
+    Ceased(CeasedWords),
+    /// That answers take too long.
+    Slow(SlowWords),
 }
 
 /// Why nothing comes.
@@ -135,36 +225,38 @@ impl Cause {
         }
     }
 
-    /// Its words, or none where numbers stand in them.
-    fn text(self) -> &'static str
-        ensures { result.now ≡ fixed_text self }
+    /// What its line is made of.
+    fn words(self) -> CauseWords
+        ensures { cause_text self ≡ words_text result }
     {
         match self {
-            Cause::Absent(_, _) | Cause::Ceased(_, _) | Cause::Slow(_) => "",
-            Cause::Asks => {
-                "nothing came but C, ten times: does the receiver get what is written to it?"
-            }
-            Cause::Refuses => {
-                "nothing came but NAK, ten times: does the receiver get every byte that is sent?"
-            }
-            Cause::Xmodem => {
-                "the receiver asks by NAK, as XMODEM does: start it as a receiver of YMODEM"
-            }
-            Cause::Streams => {
-                "the receiver asks by G, as YMODEM-g does: start it as a receiver of YMODEM"
-            }
-            Cause::NoSender => {
-                "nothing came but what receivers send: is a sender at the other end?"
-            }
-            Cause::Text => {
-                "what comes is no YMODEM: is a shell or a boot loader's prompt at the other end?"
-            }
-            Cause::Damage => {
-                "nothing whole came, ten times in a row: use a better line, or a lower speed"
-            }
-            Cause::Noise => {
-                "nothing whole came, ten times in a row: do both ends have the same speed?"
-            }
+            Cause::Absent(peer, seconds) => CauseWords::Absent(AbsentWords { peer, seconds }),
+            Cause::Ceased(peer, seconds) => CauseWords::Ceased(CeasedWords { peer, seconds }),
+            Cause::Slow(took) => CauseWords::Slow(SlowWords { took }),
+            Cause::Asks => CauseWords::Text(
+                "nothing came but C, ten times: does the receiver get what is written to it?",
+            ),
+            Cause::Refuses => CauseWords::Text(
+                "nothing came but NAK, ten times: does the receiver get every byte that is sent?",
+            ),
+            Cause::Xmodem => CauseWords::Text(
+                "the receiver asks by NAK, as XMODEM does: start it as a receiver of YMODEM",
+            ),
+            Cause::Streams => CauseWords::Text(
+                "the receiver asks by G, as YMODEM-g does: start it as a receiver of YMODEM",
+            ),
+            Cause::NoSender => CauseWords::Text(
+                "nothing came but what receivers send: is a sender at the other end?",
+            ),
+            Cause::Text => CauseWords::Text(
+                "what comes is no YMODEM: is a shell or a boot loader's prompt at the other end?",
+            ),
+            Cause::Damage => CauseWords::Text(
+                "nothing whole came, ten times in a row: use a better line, or a lower speed",
+            ),
+            Cause::Noise => CauseWords::Text(
+                "nothing whole came, ten times in a row: do both ends have the same speed?",
+            ),
         }
     }
 }
@@ -173,27 +265,11 @@ impl fmt::Display for Cause {
     ghost output = { λ cause. Some (cause_text cause) };
 
     fn fmt<W: fmt::Write>(&self, f: &mut fmt::Formatter<W>) -> fmt::Result {
-        match *self {
-            Cause::Absent(peer, seconds) => {
-                let peer = peer.text();
-                write!(
-                    f,
-                    "nothing came for {seconds} s: is the {peer} running, at the same speed?"
-                )
-            }
-            Cause::Ceased(peer, seconds) => {
-                let peer = peer.text();
-                write!(
-                    f,
-                    "nothing came any more for {seconds} s: has the {peer} stopped, or was the \
-                    line cut?"
-                )
-            }
-            Cause::Slow(took) => write!(
-                f,
-                "answers take longer than {took} seconds: use a line that hands on sooner"
-            ),
-            cause => f.write_str(cause.text()),
+        match self.words() {
+            CauseWords::Text(text) => f.write_str(text),
+            CauseWords::Absent(words) => write!(f, "{words}"),
+            CauseWords::Ceased(words) => write!(f, "{words}"),
+            CauseWords::Slow(words) => write!(f, "{words}"),
         }
     }
 }
