@@ -2,13 +2,13 @@
 the line. `rb` asks so where a byte of that block was lost. A receiver that was only slow answers
 both copies."""
 
-import select
 import time
 
 from support.cases import case, cases
 from support.frames import ACK, ACK_START, END, EOT, START, block, header, mixed
 from support.peers import send_to
 from support.talking import expect, expect_no_more
+from support.terminal import is_ready
 
 FILES = [("a", b"x" * 3000)]
 ASKS_AFTER = 2.0
@@ -47,7 +47,7 @@ class Receiver:
         self.opens(end)
         if self.was_slow:
             end.sendall(ACK_START)
-            early, _, _ = select.select([end], [], [], MOMENT)
+            early = is_ready(end, MOMENT)
             assert not early, "block 1 was not acknowledged, and the program wrote on"
         end.sendall(bytes((ACK,)))
         for number, body in enumerate(mixed(FILES[0][1])[1:], 2):

@@ -3,7 +3,6 @@ it by its path, and what carries the bytes."""
 
 import contextlib
 import os
-import select
 import subprocess
 import termios
 import threading
@@ -11,6 +10,7 @@ import time
 import tty
 
 from support.program import LIMIT
+from support.terminal import ready
 
 
 BITS = 10
@@ -83,7 +83,7 @@ class Cable(threading.Thread):
     def run(self):
         while not self.over.is_set():
             try:
-                for end in select.select(self.ends(), [], [], 0.05)[0]:
+                for end in ready(self.ends(), 0.05):
                     self.carry(end)
             except (OSError, ValueError):
                 return  # a plug was pulled

@@ -1,10 +1,10 @@
 """The check's end of a plug."""
 
 import os
-import select
 import termios
 
 from support.program import LIMIT
+from support.terminal import is_ready
 
 
 class End:
@@ -14,7 +14,7 @@ class End:
         self.it = it
 
     def recv(self, count):
-        assert select.select([self.it.inner], [], [], LIMIT)[0], "the program wrote nothing"
+        assert is_ready(self.it.inner, LIMIT), "the program wrote nothing"
         return os.read(self.it.inner, count)
 
     def sendall(self, data):

@@ -35,12 +35,18 @@ def is_raw(end):
     return not termios.tcgetattr(end)[3] & (termios.ICANON | termios.ECHO)
 
 
-def is_ready(end, seconds):
-    """Whether something comes to a descriptor within so many seconds. `select` takes none above
-    1023, and hundreds of tests are under way at once."""
+def ready(ends, seconds):
+    """Those of these descriptors to which something comes, within so many seconds. `select` takes
+    none above 1023, and hundreds of tests are under way at once."""
     poll = select.poll()
-    poll.register(end, select.POLLIN)
-    return bool(poll.poll(seconds * 1000))
+    for end in ends:
+        poll.register(end, select.POLLIN)
+    return [end for end, _ in poll.poll(seconds * 1000)]
+
+
+def is_ready(end, seconds):
+    """Whether something comes to a descriptor within so many seconds."""
+    return bool(ready([end], seconds))
 
 
 class UnderTerminal:

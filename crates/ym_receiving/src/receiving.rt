@@ -38,7 +38,7 @@ use ym_record::{RecordedWire, Records};
 use ym_show::{Meter, ReceiveWatch, Receiving, WatchedPort};
 use ym_streams::{Output, StreamFault};
 use ym_teller::Teller;
-use ym_text::{FileMessage, Reason};
+use ym_text::{FileMessage, Lately, Reason};
 
 /// After so many seconds without a byte it gives up: ten deliveries, each waited for so long.
 const QUIET_S: u64 = 30;
@@ -303,6 +303,16 @@ where
     (sink, left, answer)
 }
 
+/// The name of the file that a sink was last given, the name that came last, and what came of late.
+/// The showing ends.
+fn end_of<E: Write + Drop, C: Clock + Drop>(
+    mut shown: Receiving<'_, E, C>,
+) -> (Option<String>, Option<String>, Lately) {
+    let named = shown.named();
+    let (last, lately) = shown.end();
+    (last, named, lately)
+}
+
 /// Receives the files that come over a port of the program's own into a new sink, as
 /// [`receive_on`] does into a folder.
 fn receive_into<R, P, K, O, E>(
@@ -333,13 +343,11 @@ where
     let meter = Meter::new(alloc, rt, teller, QUIET_S);
     let shown = RefCell::new(Receiving::new(alloc, meter, besides(order.confirm)));
     let (sink, left, answer) = receive_watched(port, sink, &shown, looked, out);
-    let mut shown = shown.into_inner();
-    let named = shown.named();
-    let (last, lately) = shown.end();
+    let (last, named, lately) = end_of(shown.into_inner());
     let outcome = ReceiverFinish {
         state: left.state,
-        last,
-        named,
+        last: last.as_deref(),
+        named: named.as_deref(),
         why: sink.first_fault(),
         lately: lately.on_line(left.slowest),
         words: left.words,

@@ -49,13 +49,13 @@ fn tell_not_stored<E: Write + Drop>(
 
 /// How a receiver has ended.
 #[derive(Drop)]
-pub(crate) struct ReceiverFinish {
+pub(crate) struct ReceiverFinish<'a> {
     /// Its own end.
     pub(crate) state: RecvState,
     /// The file that its sink was last given, where that is known.
-    pub(crate) last: Option<String>,
+    pub(crate) last: Option<&'a str>,
     /// The name that came last, where that is known.
-    pub(crate) named: Option<String>,
+    pub(crate) named: Option<&'a str>,
     /// Why the sink has failed, where it has.
     pub(crate) why: Option<StoreFault>,
     /// What came of late.
@@ -69,7 +69,7 @@ pub(crate) fn tell_outcome<E: Write + Drop>(
     teller: &mut Teller<E>,
     alloc: Global,
     answer: &Result<u8, CommandFault>,
-    outcome: ReceiverFinish,
+    outcome: ReceiverFinish<'_>,
     leftover: Leftover,
 ) {
     let ReceiverFinish {
@@ -83,7 +83,7 @@ pub(crate) fn tell_outcome<E: Write + Drop>(
     let is_running = state == RecvState::Running;
     match named {
         Some(name) if state == RecvState::BadHeader(HeaderFault::NameUnsafe) => {
-            teller.tell(FileMessage::NameIsUnsafe(name.as_str()));
+            teller.tell(FileMessage::NameIsUnsafe(name));
         }
         _ => {
             let message = EndMessage::of_receiver(state, lately);
@@ -92,7 +92,7 @@ pub(crate) fn tell_outcome<E: Write + Drop>(
     }
     match last {
         Some(name) if state == RecvState::SinkFailed => {
-            tell_not_stored(teller, alloc, name.as_str(), why, leftover);
+            tell_not_stored(teller, alloc, name, why, leftover);
         }
         _ => (),
     }

@@ -4,6 +4,7 @@
 
 mod sending;
 mod serial;
+mod telling;
 
 pub use sending::{SendOrder, send, send_batch};
 pub use serial::send_line;

@@ -12,6 +12,7 @@ ghost use Rattle.ym_sending.specs.Sending.{SendsOn, SendGives, send_gives};
 ghost use Rattle.ym_answer.specs.Page.{page};
 ghost use Rattle.ym_answer.specs.Status.{IsHostFault, send_answer};
 
+use crate::telling::{SenderFinish, tell_outcome};
 use std::alloc::{AllocGlobal, Global};
 use std::cell::RefCell;
 use std::fs::{File, Files};
@@ -21,7 +22,7 @@ use std::path::Path;
 use std::time::{Clock, Duration};
 use std::{io, thread};
 use ym_answer::CommandFault;
-use ym_ends::{AtPort, ToldLine, ToldWire, tell_end};
+use ym_ends::{AtPort, ToldLine, ToldWire};
 use ym_file::{Shape, Source};
 use ym_header::{HeaderFault, Stamp};
 use ym_host::{FileSource, SocketWire};
@@ -34,7 +35,7 @@ use ym_record::{RecordedWire, Records};
 use ym_show::{Meter, SendWatch, Sending, WatchedPort};
 use ym_streams::{Output, StreamFault};
 use ym_teller::Teller;
-use ym_text::{EndMessage, FileMessage, LineMessage, Reason};
+use ym_text::{FileMessage, LineMessage, Reason};
 
 /// How many milliseconds a sender waits for somebody to answer its call.
 const CALL_WAIT_MS: u64 = 10_000;
@@ -293,17 +294,13 @@ where
     // What is printed stands in lines of its own, also where both go to one terminal.
     let (name, lately) = shown.into_inner().end();
     let answer = tell_sender(ended, sender, out);
-    let state = sender.state();
-    let is_running = state == SendState::Running;
-    match name {
-        Some(name) if state == SendState::SourceFailed => {
-            teller.tell(FileMessage::CannotRead(name.as_str()));
-        }
-        _ => {
-            let message = EndMessage::of_sender(state, lately.on_line(slowest));
-            tell_end(teller, &answer, is_running, words, message);
-        }
-    }
+    let outcome = SenderFinish {
+        state: sender.state(),
+        name: name.as_deref(),
+        lately: lately.on_line(slowest),
+        words,
+    };
+    tell_outcome(teller, &answer, outcome);
     answer
 }
 

@@ -3,7 +3,6 @@ on a machine that was asleep: they go on, and the files are whole."""
 
 import os
 import random
-import select
 import signal
 import time
 
@@ -22,6 +21,7 @@ from support.program import (
     wants_stored,
     write_files,
 )
+from support.terminal import is_ready
 from support.waits import waiting
 
 
@@ -41,7 +41,7 @@ class StandsStill(End):
 
     def recv(self, count):
         until = time.monotonic() + LIMIT
-        while not select.select([self.it.inner], [], [], 0.5)[0]:
+        while not is_ready(self.it.inner, 0.5):
             assert time.monotonic() <= until, "the program wrote nothing"
             if self.child.poll() is not None and not waiting(self.it.inner):
                 raise ConnectionResetError("the program has ended")

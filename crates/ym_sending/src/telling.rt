@@ -1,0 +1,44 @@
+//! What is told of the end of a sender.
+
+use std::io::Write;
+use ym_answer::CommandFault;
+use ym_ends::{LineWords, tell_end};
+use ym_link::SendState;
+use ym_teller::Teller;
+use ym_text::{EndMessage, FileMessage, Lately};
+
+/// How a sender has ended, as far as it is told.
+#[derive(Clone, Copy)]
+pub(crate) struct SenderFinish<'a> {
+    pub(crate) state: SendState,
+    /// The name of the file that was under way, where that is known.
+    pub(crate) name: Option<&'a str>,
+    /// What came of late.
+    pub(crate) lately: Lately,
+    /// What faults of its port are told as.
+    pub(crate) words: LineWords,
+}
+
+/// Tells why a sender has ended. A file that could not be read is named.
+pub(crate) fn tell_outcome<E: Write + Drop>(
+    teller: &mut Teller<E>,
+    answer: &Result<u8, CommandFault>,
+    outcome: SenderFinish<'_>,
+) {
+    let SenderFinish {
+        state,
+        name,
+        lately,
+        words,
+    } = outcome;
+    match name {
+        Some(name) if state == SendState::SourceFailed => {
+            teller.tell(FileMessage::CannotRead(name));
+        }
+        _ => {
+            let is_running = state == SendState::Running;
+            let message = EndMessage::of_sender(state, lately);
+            tell_end(teller, answer, is_running, words, message);
+        }
+    }
+}
