@@ -27,7 +27,11 @@ fn words(rt: &HostRuntime) -> io::Result<Vec<String>> {
 /// none: some programs set it to 0 where they do not know.
 fn columns(rt: &HostRuntime) -> Option<usize> {
     match env::var(rt, "COLUMNS") {
-        Ok(text) => text.as_str().parse::<usize>().ok().filter(|cells| *cells > 0),
+        Ok(text) => text
+            .as_str()
+            .parse::<usize>()
+            .ok()
+            .filter(|cells| *cells > 0),
         Err(_) => None,
     }
 }
