@@ -9,7 +9,7 @@ complete -c ymodem-tty -n "not __fish_seen_subcommand_from $commands" -x -l flow
 complete -c ymodem-tty -n "not __fish_seen_subcommand_from $commands" -a send -d 'Sends files over a serial line, in order'
 complete -c ymodem-tty -n "not __fish_seen_subcommand_from $commands" -a receive -d 'Receives files over a serial line into a folder'
 complete -c ymodem-tty -n '__fish_seen_subcommand_from send receive' -l verbose -d 'Tells what it does, also if standard error is no terminal'
-complete -c ymodem-tty -n '__fish_seen_subcommand_from send receive' -l quiet -d 'Tells nothing on standard error but why it failed'
+complete -c ymodem-tty -n '__fish_seen_subcommand_from send receive' -l quiet -d 'Tells nothing but its report and faults'
 complete -c ymodem-tty -n '__fish_seen_subcommand_from send receive' -r -F -l record -d 'Records what passes on the line, for `ymodem explain`'
 complete -c ymodem-tty -n '__fish_seen_subcommand_from send' -l short -d 'Sends blocks of 128 bytes alone'
 complete -c ymodem-tty -n '__fish_seen_subcommand_from send' -F

@@ -16,7 +16,7 @@ complete -c ymodem -n "not __fish_seen_subcommand_from $commands" -a help -d 'Pr
 complete -c ymodem -n '__fish_seen_subcommand_from help' -a 'sb rb send receive play loop explain judge help'
 complete -c ymodem -n '__fish_seen_subcommand_from loop send receive judge' -x -s p -l port -d 'The port on 127.0.0.1, from 1 to 65535'
 complete -c ymodem -n '__fish_seen_subcommand_from loop send receive sb rb' -l verbose -d 'Tells what it does, also if standard error is no terminal'
-complete -c ymodem -n '__fish_seen_subcommand_from loop send receive sb rb' -l quiet -d 'Tells nothing on standard error but why it failed'
+complete -c ymodem -n '__fish_seen_subcommand_from loop send receive sb rb' -l quiet -d 'Tells nothing but its report and faults'
 complete -c ymodem -n '__fish_seen_subcommand_from send sb' -l short -d 'Sends blocks of 128 bytes alone'
 complete -c ymodem -n '__fish_seen_subcommand_from send sb' -F
 complete -c ymodem -n '__fish_seen_subcommand_from receive rb' -l single -d 'Acknowledges the first EOT of a file (else the second)'

@@ -42,7 +42,10 @@ impl fmt::Display for JudgeMessage<'_> {
                 )
             }
             JudgeMessage::NoPlace => f.write_str("judge takes --port or --line, and one of them"),
-            JudgeMessage::NoLine(path) => write!(f, "the line '{path}' cannot be opened"),
+            JudgeMessage::NoLine(path) => {
+                let path = Shown(path);
+                write!(f, "the line '{path}' cannot be opened")
+            }
             JudgeMessage::Unseen(path, why) => {
                 let path = Shown(path);
                 write!(f, "cannot look at '{path}': {why}")

@@ -59,11 +59,7 @@ impl Flag {
                 "verbose",
                 "Tells what it does, also if standard error is no terminal",
             ),
-            Flag::Quiet => (
-                "quiet",
-                "quiet",
-                "Tells nothing on standard error but why it failed",
-            ),
+            Flag::Quiet => ("quiet", "quiet", "Tells nothing but its report and faults"),
             Flag::Turned => (
                 "turned",
                 "turned",
