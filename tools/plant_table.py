@@ -5,6 +5,7 @@ import os
 import re
 
 from edit_crates import CRATES, ROOT, Listed
+from edit_texts import Edit, Unfit
 from plant_files import all_plants, wrong_with
 
 PLANTS, EDITS = "docs/plants.md", "docs/plants-refused.md"
@@ -96,6 +97,17 @@ def plants_that_cannot_be_tried():
             yield "%s: %s" % (plant.name, why)
 
 
+def edits_that_cannot_be_applied():
+    """The gate takes such an edit for none, and says nothing of it in its last line."""
+    for crate in sorted(Listed().lines):
+        top = os.path.join(CRATES, crate)
+        for part, name in edits_of(crate):
+            try:
+                Edit(os.path.join(top, part, name + ".edit")).applied({}, top)
+            except Unfit as why:
+                yield "%s/%s: %s" % (crate, name, why)
+
+
 def tables_of_other_bodies():
     for page in TABLES:
         if written(page) != text_of(page):
@@ -113,6 +125,7 @@ def bodies_that_are_not_there():
 
 RULES = {
     "plants that cannot be tried": plants_that_cannot_be_tried,
+    "edits that cannot be applied": edits_that_cannot_be_applied,
     "tables of other bodies": tables_of_other_bodies,
     "bodies that are not there": bodies_that_are_not_there,
 }

@@ -106,3 +106,25 @@ def test_plants_out_of_step():
         it.write(PLANTED, PLANT % ("all", CATCHER))
         assert it.run("tools/plants.py", "table")[0] == 0, "the table"
         assert told(it) == (False, []), "what it tells of a plant in the table"
+
+
+EDIT = """file: src/check.rt
+old: CheckState { value: %s }
+new: CheckState { value: 0xffff }
+"""
+EDITED = "crates/ym_check/edits/check.new.once_more.edit"
+
+
+@sentence("edits out of step")
+def test_edits_out_of_step():
+    """An edit that changes what is not there is told: nothing in the gate would be."""
+    with tree() as it:
+        it.write(EDITED, EDIT % "0")
+        assert it.run("tools/plants.py", "table")[0] == 0, "the table"
+        assert told(it) == (False, []), "what it tells of an edit in the table"
+        it.write(EDITED, EDIT % "1")
+        wrong = (
+            "edits that cannot be applied: ym_check/check.new.once_more: an 'old:' text is in"
+            " src/check.rt 0 times, and not once"
+        )
+        assert told(it) == (True, [wrong]), "what it tells of a text that is not there"

@@ -1,8 +1,9 @@
 """What `ymodem judge` lists and refuses, and what it tells where nobody is there."""
 
+import socket
 import subprocess
 
-from support.cases import sentence
+from support.cases import case, cases, sentence
 from support.judged import COUNTS
 from support.program import LIMIT, PROGRAM, free_port
 
@@ -46,6 +47,30 @@ def test_refuses_words():
         done = judge(*(port if it == "P" else it for it in words.split()))
         ended = (done.returncode, done.stdout, done.stderr)
         assert ended == (2, "", said), "%r: %r" % (words, ended)
+
+
+DEVICE = "fault: device\n"
+
+
+@cases(
+    case("judge: a line that is missing", "/nowhere/tty", "no such device"),
+    case("judge: a line that is another device", "/dev/null", "it is no terminal"),
+)
+def test_lines_that_cannot_be_opened(line, why):
+    for kind in COUNTS:
+        done = judge(kind, "--line", line)
+        ended = (done.returncode, done.stdout, done.stderr)
+        assert ended == (3, "", "cannot open '%s': %s\n%s" % (line, why, DEVICE)), ended
+
+
+@sentence("judge: a port that another program has")
+def test_port_in_use():
+    with socket.create_server(("127.0.0.1", 0)) as other:
+        port = other.getsockname()[1]
+        done = judge("sender", "--port", str(port))
+    said = "port %d is in use by another program: choose another one\n%s" % (port, DEVICE)
+    ended = (done.returncode, done.stdout, done.stderr)
+    assert ended == (3, "", said), ended
 
 
 @sentence("judge: nobody is there")

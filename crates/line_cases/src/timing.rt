@@ -7,13 +7,13 @@
 //! - `byte`: a byte came; how much of it is heard.
 //! - `until`: until when a read waits, 0 for a reply and 1 within one.
 //! - `expired`: such a read waited in vain; what it comes to.
-//! - `clearing`: a frame is to be written, by its number; until when the line clears.
+//! - `purge`: a frame is to be written, by its number; until when the line clears.
 //! - `dropped`: a byte was dropped; until when it clears then.
 //! - `wrote`: the frame was written; what was learned, and what is owed.
 //! - `cancel`: whether CAN CAN is to be heard.
 
 use super::words::Unread;
-use ym_timing::{Clearing, Expected, Owed, Role, Say, Timing, Vain};
+use ym_timing::{Expected, Owed, Purge, Role, Say, Timing, Vain};
 
 /// The frames that are written, and the replies.
 fn frame(index: Option<u8>) -> &'static [u8] {
@@ -75,7 +75,7 @@ fn learned(timing: &Timing) -> u64 {
 #[derive(Clone, Copy)]
 struct Run {
     timing: Timing,
-    clearing: Clearing,
+    purge: Purge,
     written: Option<u8>,
 }
 
@@ -84,26 +84,26 @@ impl Run {
         let timing = Timing::new(role);
         Run {
             timing,
-            clearing: timing.clearing(&[], 0),
+            purge: timing.purge(&[], 0),
             written: None,
         }
     }
 
     /// Lets the line clear before a frame.
     fn clear(&mut self, index: u8, now: u64) -> u64 {
-        self.clearing = self.timing.clearing(frame(Some(index)), now);
-        self.timing.clear_at(self.clearing)
+        self.purge = self.timing.purge(frame(Some(index)), now);
+        self.timing.clear_at(self.purge)
     }
 
     fn drop_byte(&mut self, byte: u8, now: u64) -> u64 {
-        self.clearing = self
+        self.purge = self
             .timing
-            .dropped(self.clearing, byte, frame(self.written), now);
-        self.timing.clear_at(self.clearing)
+            .dropped(self.purge, byte, frame(self.written), now);
+        self.timing.clear_at(self.purge)
     }
 
     fn write(&mut self, index: u8, now: u64) -> u64 {
-        self.timing.wrote(frame(Some(index)), self.clearing, now);
+        self.timing.wrote(frame(Some(index)), self.purge, now);
         self.written = Some(index);
         learned(&self.timing)
     }

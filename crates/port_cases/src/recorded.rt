@@ -5,7 +5,7 @@
 //! brought, and `MS:wrote`, a write.
 
 ghost use Rattle.std.specs.Prelude.{◌≡◌, ◌<◌, ◌≤◌, ℕ, Ok, Some, OnOk, OnErr, length};
-ghost use Rattle.ym_file.specs.Counts.{Rose};
+ghost use Rattle.ym_file.specs.Counts.{Counted};
 
 use crate::Unread;
 use std::alloc::Global;
@@ -190,7 +190,7 @@ impl Recorded {
 
     /// Counts a failure.
     fn fail(&mut self) -> PortFault
-        ensures { Rose self.old self.new }
+        ensures { Counted self.old self.new }
     {
         self.failed = self.failed.saturating_add(1);
         PortFault

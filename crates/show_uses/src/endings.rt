@@ -258,7 +258,7 @@ static TO_SENDERS: [Heard; 11] = [
 ];
 
 /// To a receiver.
-static TO_RECEIVERS: [Heard; 4] = [
+static TO_RECEIVERS: [Heard; 5] = [
     (
         &[b"\x01\x00"],
         Sight::Peer,
@@ -269,6 +269,13 @@ static TO_RECEIVERS: [Heard; 4] = [
         &[b"G"],
         Sight::Nothing,
         false,
+        "nothing came but what receivers send: is a sender at the other end?",
+    ),
+    // what the other receiver sends in the last waits may be taken for an echo
+    (
+        &[b"C"],
+        Sight::Nothing,
+        true,
         "nothing came but what receivers send: is a sender at the other end?",
     ),
     (

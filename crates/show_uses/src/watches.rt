@@ -26,8 +26,8 @@ fn teller_of_lines(rt: &HostRuntime) -> Teller<Vec<u8>> {
 }
 
 /// Whether these two texts are the beginning and the end of what was told.
-fn told(teller: &Teller<Vec<u8>>, front: &[u8], back: &[u8]) -> bool {
-    teller.err.starts_with(front) && teller.err.ends_with(back)
+fn told(teller: &Teller<Vec<u8>>, prefix: &[u8], back: &[u8]) -> bool {
+    teller.err.starts_with(prefix) && teller.err.ends_with(back)
 }
 
 /// A meter that goes by the clock of the system, for as long as its teller is there.
@@ -254,10 +254,10 @@ fn knows(rt: &HostRuntime, teller: &mut Teller<Vec<u8>>, header: &Header) -> boo
 /// Whether a receiver's file is told, and the part that it replaces.
 fn tells_of_receiver(rt: &HostRuntime, header: &Header) -> bool {
     let mut teller = teller_of_lines(rt);
-    let front = b"receiving a.txt, 130 bytes\n\
+    let prefix = b"receiving a.txt, 130 bytes\n\
         'a.txt.part', left from an earlier run, was replaced\n\
         a.txt: 130 bytes in ";
-    knows(rt, &mut teller, header) && told(&teller, front, b", 1 repeated\n")
+    knows(rt, &mut teller, header) && told(&teller, prefix, b", 1 repeated\n")
 }
 
 /// The same, of the file `a.txt` of 130 bytes.

@@ -1,5 +1,5 @@
 pub mod Openings
 pub mod Bodies
 pub mod Fronts
-pub mod Places
+pub mod Positions
 pub mod Filling

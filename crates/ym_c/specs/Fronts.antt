@@ -1,7 +1,7 @@
 -- What stands at the front of some bytes, and headers, as C sees them.
 use Rattle.std.specs.Prelude.{ℕ, ◌≡◌, ◌≤◌, ◌++◌, List, length, take, drop, Result, Ok, Err, ◌==◌, if◌then◌else◌}
 use Rattle.ym_frame.specs.Frame.{verdict_of, is_cut}
-use Rattle.ym_frame.specs.Pieces.{Reading, partial, refused}
+use Rattle.ym_frame.specs.Pieces.{Scan, partial, rejected}
 use Rattle.ym_frame.specs.declared.frame.Item.{Item}
 use Rattle.ym_frame.specs.declared.frame.Item.TheVariants.{Block, Eot, Cancel}
 use Rattle.ym_frame.specs.declared.frame.Broken.{Broken}
@@ -36,15 +36,15 @@ why_code Check = 3
 why_code SecondCan = 4
 why_code Cut = 5
 
--- the numbers and bytes are those of this reading
-abbrev pub KeepsReading : YmReader → Reading → Type 0
-KeepsReading r (partial held) = (r.why ≡ 0) × (r.len ≤ 1029) × (take r.len r.held ≡ held)
-KeepsReading r (refused broken) = (r.why ≡ why_code broken.why) × (r.place ≡ broken.place)
+-- the numbers and bytes are those of this scan
+abbrev pub KeepsScan : YmReader → Scan → Type 0
+KeepsScan r (partial held) = (r.why ≡ 0) × (r.len ≤ 1029) × (take r.len r.held ≡ held)
+KeepsScan r (rejected broken) = (r.why ≡ why_code broken.why) × (r.place ≡ broken.place)
 
 -- how many bytes of a piece are taken: none behind a frame; where no frame can come any more, all
-abbrev pub Takes : Reading → List ℕ → ℕ → Type 0
+abbrev pub Takes : Scan → List ℕ → ℕ → Type 0
 Takes (partial held) piece used = Feeds held piece used
-Takes (refused broken) piece used = used ≡ length piece
+Takes (rejected broken) piece used = used ≡ length piece
 
 -- what is told of the bytes held; the body of a block stands behind their first three
 abbrev pub IsFound : Result (Item × ℕ) Broken → YmFront → List ℕ → Type 0
@@ -52,6 +52,6 @@ IsFound (Ok (Block b, len)) f held =
     IsFront (Ok (Block b, len)) f × (take f.size (drop 3 held) ≡ b.body)
 IsFound other f held = IsFront other f
 
-abbrev pub IsRead : Reading → List ℕ → YmFront → List ℕ → Type 0
+abbrev pub IsRead : Scan → List ℕ → YmFront → List ℕ → Type 0
 IsRead (partial before) piece f held = IsFound (verdict_of (before ++ piece)) f held
-IsRead (refused broken) piece f held = (f.kind ≡ 4) × (f.length ≡ broken.place)
+IsRead (rejected broken) piece f held = (f.kind ≡ 4) × (f.length ≡ broken.place)

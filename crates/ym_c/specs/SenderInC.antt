@@ -3,12 +3,12 @@ use Rattle.std.specs.Prelude.{ℕ, Bool, false, ◌*◌, ◌≡◌, ◌<◌, ◌
 use Rattle.ym_frame.specs.declared.control.Control.{Control}
 use Rattle.ym_frame.specs.Seal.{IsBlockFrame}
 use Rattle.ym_header.specs.Text.{end_text}
-use Rattle.ym_core.specs.Place.{IsPlace}
+use Rattle.ym_core.specs.Position.{IsPosition}
 use Rattle.ym_core.specs.Standing.{hears, step}
-use Rattle.ym_core.specs.declared.place.Place.{Place}
-use Rattle.ym_core.specs.declared.place.Place.TheVariants.{Header, Block, Eot, End}
-use Rattle.ym_core.specs.declared.place.Mode.{Mode}
-use Rattle.ym_core.specs.declared.place.Mode.TheVariants.{Waiting, Sent}
+use Rattle.ym_core.specs.declared.position.Position.{Position}
+use Rattle.ym_core.specs.declared.position.Position.TheVariants.{Header, Block, Eot, End}
+use Rattle.ym_core.specs.declared.position.Mode.{Mode}
+use Rattle.ym_core.specs.declared.position.Mode.TheVariants.{Waiting, Sent}
 use Rattle.ym_core.specs.declared.standing.Standing.{Standing}
 use Rattle.ym_core.specs.declared.state.SendState.{SendState}
 use Rattle.ym_core.specs.declared.state.SendState.TheVariants.{Running, Finished, NoReply, Cancelled, SourceFailed}
@@ -17,14 +17,14 @@ use Rattle.ym_c.specs.declared.sender.YmFill.{YmFill}
 use Rattle.ym_c.specs.Codes.{bool_code}
 use Rattle.ym_machine.specs.declared.limits.TheConstants.{GIVE_UP, MOST_FILES}
 
-abbrev pub KeepsPlace : YmSender → Place → Type 0
-KeepsPlace s (Header file) = (s.place ≡ 0) × (s.file ≡ file)
-KeepsPlace s (Block file k) = (s.place ≡ 1) × (s.file ≡ file) × (s.number ≡ k)
-KeepsPlace s (Eot file) = (s.place ≡ 2) × (s.file ≡ file)
-KeepsPlace s End = s.place ≡ 3
+abbrev pub KeepsPosition : YmSender → Position → Type 0
+KeepsPosition s (Header file) = (s.place ≡ 0) × (s.file ≡ file)
+KeepsPosition s (Block file k) = (s.place ≡ 1) × (s.file ≡ file) × (s.number ≡ k)
+KeepsPosition s (Eot file) = (s.place ≡ 2) × (s.file ≡ file)
+KeepsPosition s End = s.place ≡ 3
 
 -- the number of the file fits the field
-abbrev pub FitsC : Place → Type 0
+abbrev pub FitsC : Position → Type 0
 FitsC (Header file) = file < 2 ^ 32
 FitsC (Block file k) = file < 2 ^ 32
 FitsC (Eot file) = file < 2 ^ 32
@@ -43,7 +43,7 @@ send_code SourceFailed = 4
 
 -- the numbers are those of where this sender stands
 pub record KeepsStanding (s : YmSender) (standing : Standing) : Type 0 where
-  pub place : KeepsPlace s standing.place
+  pub position : KeepsPosition s standing.position
   pub mode : s.mode ≡ mode_code standing.mode
   pub retries : s.retries ≡ standing.retries
   pub state : s.state ≡ send_code standing.state
@@ -53,7 +53,7 @@ pub record KeepsStanding (s : YmSender) (standing : Standing) : Type 0 where
 -- where a sender of a batch of so many blocks a file can come to stand; a batch has at most 65,535
 -- files
 pub record Stands (blocks : List ℕ) (standing : Standing) : Type 0 where
-  pub place : IsPlace blocks standing.place
+  pub position : IsPosition blocks standing.position
   pub retries : standing.retries ≤ GIVE_UP
   pub runs : standing.state ≡ Running → standing.retries < GIVE_UP
   pub few : length blocks ≤ MOST_FILES
@@ -65,7 +65,7 @@ IsNoSender blocks kept = (s : Standing) → KeepsStanding kept s → ¬ Stands b
 -- what they count as: a sender that has ended, with nothing to send
 abbrev pub ended_standing : Standing
 ended_standing = record {
-  place = End;
+  position = End;
   mode = Waiting;
   retries = 0;
   state = NoReply;
@@ -80,15 +80,15 @@ stays_ended blocks controls = refl
 
 -- A sender that runs has a frame of this kind out that its host has still to fill: of the block 0
 -- of a file, or of a data block.
-pub record IsUnfilled (s : YmSender) (place : ℕ) : Type 0 where
-  pub at : s.place ≡ place
+pub record IsUnfilled (s : YmSender) (position : ℕ) : Type 0 where
+  pub at : s.place ≡ position
   pub out : s.mode ≡ mode_code Sent
   pub runs : s.state ≡ send_code Running
   pub tries : s.retries < GIVE_UP
   pub empty : s.len ≡ 0
 
 -- what is to be filled
-abbrev pub IsFill : Option Place → YmFill → Type 0
+abbrev pub IsFill : Option Position → YmFill → Type 0
 IsFill (Some (Header file)) fill = (fill.kind ≡ 1) × (fill.file ≡ file)
 IsFill (Some (Block file k)) fill = (fill.kind ≡ 2) × (fill.file ≡ file) × (fill.number ≡ k)
 IsFill _ fill = fill.kind ≡ 0
@@ -96,7 +96,7 @@ IsFill _ fill = fill.kind ≡ 0
 -- what becomes of the frame: an EOT and an end block are filled without the host; what the host is
 -- to fill is empty until it does; and where nothing is to be filled, the frame stays as it was, to
 -- be sent again
-abbrev pub IsFilled : Option Place → YmSender → YmSender → Type 0
+abbrev pub IsFilled : Option Position → YmSender → YmSender → Type 0
 IsFilled (Some (Header file)) old new = new.len ≡ 0
 IsFilled (Some (Block file k)) old new = new.len ≡ 0
 IsFilled (Some (Eot file)) old new = take new.len new.frame ≡ 0x04 ∷ []

@@ -5,7 +5,7 @@ ghost use Rattle.std.specs.Prelude.{◌≡◌, ◌≤◌, ◌<◌, ◌*◌, fals
 ghost use Rattle.ym_c.specs.Codes.{bool_code};
 ghost use Rattle.ym_line_c.specs.Bulk as bulk;
 ghost use Rattle.ym_line_c.specs.LineCodes as codes;
-ghost use Rattle.ym_line_c.specs.Line.{timing_of, clock_of, clearing_of};
+ghost use Rattle.ym_line_c.specs.Line.{timing_of, clock_of, purge_of};
 ghost use Rattle.ym_timing.specs.ByteRows as rows;
 ghost use Rattle.ym_timing.specs.Cancel as cancel;
 ghost use Rattle.ym_timing.specs.Clears as clears;
@@ -136,15 +136,15 @@ pub extern "C" fn ym_line_cancelled(line: &mut YmLine) -> u32
 /// Why the line has to clear before these bytes are written, if it has to, and how far it is.
 #[unsafe(no_mangle)]
 pub extern "C" fn ym_line_clearing(line: &YmLine, bytes: &[u8], now: u64, clearing: &mut YmClearing)
-    ensures { clearing_of clearing.new ≡ clears.clearing bytes.now now (timing_of line.now) }
+    ensures { purge_of clearing.new ≡ clears.purge bytes.now now (timing_of line.now) }
 {
-    clearing.keep(line.timing().clearing(bytes, now));
+    clearing.keep(line.timing().purge(bytes, now));
 }
 
 /// Until when what comes is dropped; 0 where nothing is to be.
 #[unsafe(no_mangle)]
 pub extern "C" fn ym_line_clear_at(line: &YmLine, clearing: &YmClearing) -> u64
-    ensures { result ≡ clears.clear_at (clearing_of clearing.now) (timing_of line.now) }
+    ensures { result ≡ clears.clear_at (purge_of clearing.now) (timing_of line.now) }
 {
     // How far it is clear depends on this alone of what the line knows.
     let timing = Timing {
@@ -168,9 +168,9 @@ pub extern "C" fn ym_line_drop(
     now: u64,
 )
     ensures timing { timing_of line.new ≡ bulk.after_dropping bytes.now
-        (clearing_of clearing.old) written.now now (timing_of line.old) }
-    ensures clearing { clearing_of clearing.new ≡ bulk.cleared_by bytes.now
-        (clearing_of clearing.old) written.now now (timing_of line.old) }
+        (purge_of clearing.old) written.now now (timing_of line.old) }
+    ensures clearing { purge_of clearing.new ≡ bulk.cleared_by bytes.now
+        (purge_of clearing.old) written.now now (timing_of line.old) }
     ensures clock { clock_of line.new ≡ clock_of line.old }
 {
     let mut timing = line.timing();
@@ -179,11 +179,11 @@ pub extern "C" fn ym_line_drop(
     clearing.keep(left);
 }
 
-/// Takes that these bytes were written now, behind this clearing.
+/// Takes that these bytes were written now, behind this purge.
 #[unsafe(no_mangle)]
 pub extern "C" fn ym_line_wrote(line: &mut YmLine, clearing: &YmClearing, bytes: &[u8], now: u64)
     ensures timing { timing_of line.new
-        ≡ writing.wrote bytes.now (clearing_of clearing.now) now (timing_of line.old) }
+        ≡ writing.wrote bytes.now (purge_of clearing.now) now (timing_of line.old) }
     ensures clock { clock_of line.new ≡ clock_of line.old }
 {
     let mut timing = line.timing();

@@ -2,8 +2,8 @@
 
 ghost use Rattle.std.specs.Prelude.{◌≡◌, ◌≢◌, ◌≤◌, ◌<◌, ◌⊎◌, [], take, length};
 ghost use Rattle.ym_frame.specs.Frame.{verdict_of};
-ghost use Rattle.ym_frame.specs.Pieces.{Reading, partial, reading_left, item_found, reading_after, item_of};
-ghost use Rattle.ym_c.specs.Fronts.{KeepsReading, Takes, IsFound, IsRead, why_code};
+ghost use Rattle.ym_frame.specs.Pieces.{Scan, partial, scan_left, item_found, scan_after, item_of};
+ghost use Rattle.ym_c.specs.Fronts.{KeepsScan, Takes, IsFound, IsRead, why_code};
 
 use crate::feeding::take_bytes;
 use crate::frames::YmFront;
@@ -39,7 +39,7 @@ fn code_of_why(why: Why) -> u32
 /// Makes a reader to which nothing came, whatever stood there.
 #[unsafe(no_mangle)]
 pub extern "C" fn ym_reader_init(reader: &mut YmReader)
-    ensures { KeepsReading reader.new (partial []) }
+    ensures { KeepsScan reader.new (partial []) }
 {
     reader.place = 0;
     reader.len = 0;
@@ -50,7 +50,7 @@ pub extern "C" fn ym_reader_init(reader: &mut YmReader)
 fn tell(reader: &mut YmReader, front: &mut YmFront)
     requires whole { reader.old.why ≡ 0 }
     requires room { reader.old.len ≤ 1029 }
-    ensures reading { KeepsReading reader.new (reading_left
+    ensures scan { KeepsScan reader.new (scan_left
         (verdict_of (take reader.old.len reader.old.held)) (take reader.old.len reader.old.held)) }
     ensures found { IsFound (verdict_of (take reader.old.len reader.old.held))
         front.new reader.new.held }
@@ -99,10 +99,10 @@ pub extern "C" fn ym_reader_feed(reader: &mut YmReader, bytes: &[u8], front: &mu
     ensures none { (reader.old.why ≢ 0) ⊎ (1029 < reader.old.len) →
         (result ≡ length bytes.now) × (front.new.kind ≡ 4)
         × (front.new.length ≡ reader.old.place) × (reader.new ≡ reader.old) }
-    ensures reads { (reading : Reading) → KeepsReading reader.old reading →
-        Takes reading bytes.now result
-        × KeepsReading reader.new (reading_after reading (take result bytes.now))
-        × IsRead reading (take result bytes.now) front.new reader.new.held }
+    ensures reads { (scan : Scan) → KeepsScan reader.old scan →
+        Takes scan bytes.now result
+        × KeepsScan reader.new (scan_after scan (take result bytes.now))
+        × IsRead scan (take result bytes.now) front.new reader.new.held }
 {
     if reader.why != 0 || reader.len > 1029 {
         front.kind = 4;

@@ -3,8 +3,8 @@
 ghost use Rattle.std.specs.Prelude.{◌≡◌, ◌≢◌, ◌<◌, ◌≤◌, ◌↔◌, ◌⊎◌, ◌%◌, ◌+◌, ◌∷◌, [], ℕ, List, IsTrue, length, take, true};
 ghost use Rattle.ym_core.specs.declared.standing.Standing.{Standing as Stood};
 ghost use Rattle.ym_core.specs.declared.state.SendState.TheVariants.{Running};
-ghost use Rattle.ym_core.specs.Place.{IsPlace};
-ghost use Rattle.ym_core.specs.Reading.{controls_in};
+ghost use Rattle.ym_core.specs.Position.{IsPosition};
+ghost use Rattle.ym_core.specs.Scan.{controls_in};
 ghost use Rattle.ym_core.specs.Standing as table;
 ghost use Rattle.ym_frame.specs.Seal.{IsBlockFrame};
 ghost use Rattle.ym_header.specs.Text.{text, end_text};
@@ -16,7 +16,7 @@ ghost use Rattle.ym_c.specs.SenderInC.{KeepsStanding, Stands, IsNoSender, ended_
 use crate::codes::code_of_fault;
 use crate::headers::{header_of, stamp_from};
 use crate::standing::{ended, load, store};
-use ym_core::{BatchShape, Mode, Place, SendState, Standing, first_place};
+use ym_core::{BatchShape, Mode, Position, SendState, Standing, first_position};
 use ym_frame::seal_block;
 use ym_header::{HeaderRef, write_body};
 use ym_machine::GIVE_UP;
@@ -81,7 +81,7 @@ pub extern "C" fn ym_sender_init(sender: &mut YmSender, blocks: &[u64])
     ensures empty { sender.new.len ≡ 0 }
 {
     sender.len = 0;
-    store(sender, Standing::new(first_place(&Counts { blocks })));
+    store(sender, Standing::new(first_position(&Counts { blocks })));
 }
 
 /// Makes the frame of the block of this number and this body.
@@ -164,21 +164,21 @@ pub extern "C" fn ym_sender_hear(
     let step = standing.after(&Counts { blocks }, bytes);
     store(sender, step.standing);
     match step.fills {
-        Some(Place::Header { .. }) => {
+        Some(Position::Header { .. }) => {
             sender.len = 0;
             fill.kind = 1;
             fill.file = sender.file;
         }
-        Some(Place::Block { number, .. }) => {
+        Some(Position::Block { number, .. }) => {
             fill.kind = 2;
             fill.file = sender.file;
             fill.number = number;
             sender.len = 0;
         }
-        Some(Place::Eot { .. }) => {
+        Some(Position::Eot { .. }) => {
             sender.len = seal_eot(&mut sender.frame);
         }
-        Some(Place::End) => {
+        Some(Position::End) => {
             sender.len = seal_end(&mut sender.frame);
         }
         None => {}
@@ -202,10 +202,10 @@ pub extern "C" fn ym_sender_settled(sender: &YmSender, blocks: &[u64], bytes: &[
 const NOT_NOW: u32 = 7;
 
 /// Whether a frame at this kind of place is out that the host has still to fill.
-fn is_unfilled(kept: &YmSender, place: u32) -> bool
-    ensures { IsTrue result ↔ IsUnfilled kept.now place }
+fn is_unfilled(kept: &YmSender, position: u32) -> bool
+    ensures { IsTrue result ↔ IsUnfilled kept.now position }
 {
-    kept.place == place
+    kept.place == position
         && kept.mode == 1
         && kept.state == 0
         && kept.retries < u32::from(GIVE_UP)

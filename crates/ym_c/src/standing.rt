@@ -4,15 +4,15 @@ ghost use Rattle.std.specs.Prelude.{◌≡◌, ◌<◌, ◌≤◌, ℕ, Some, If
 ghost use Rattle.ym_core.specs.declared.standing.Standing.{Standing as Stood};
 ghost use Rattle.ym_core.specs.declared.state.SendState.TheVariants.{Running};
 ghost use Rattle.ym_core.specs.declared.state.SendState.{SendState as Ended};
-ghost use Rattle.ym_core.specs.declared.place.Mode.{Mode as Moded};
-ghost use Rattle.ym_core.specs.declared.place.Place.{Place as Placed};
-ghost use Rattle.ym_core.specs.Place.{IsPlace};
-ghost use Rattle.ym_c.specs.SenderInC.{FitsC, KeepsPlace, mode_code, send_code, KeepsStanding, Stands, ended_standing};
+ghost use Rattle.ym_core.specs.declared.position.Mode.{Mode as Moded};
+ghost use Rattle.ym_core.specs.declared.position.Position.{Position as Placed};
+ghost use Rattle.ym_core.specs.Position.{IsPosition};
+ghost use Rattle.ym_c.specs.SenderInC.{FitsC, KeepsPosition, mode_code, send_code, KeepsStanding, Stands, ended_standing};
 ghost use Rattle.ym_machine.specs.declared.limits.TheConstants.{GIVE_UP};
 
 use crate::codes::flag_of;
 use crate::sender::YmSender;
-use ym_core::{Mode, Place, SendState, Standing};
+use ym_core::{Mode, Position, SendState, Standing};
 use ym_machine::{GIVE_UP, MOST_FILES};
 
 /// A sender that has ended, with nothing to send, in place of numbers that no sender has.
@@ -20,7 +20,7 @@ pub fn ended() -> Standing
     ensures { result ≡ ended_standing }
 {
     Standing {
-        place: Place::End,
+        position: Position::End,
         mode: Mode::Waiting,
         retries: 0,
         state: SendState::NoReply,
@@ -28,24 +28,24 @@ pub fn ended() -> Standing
     }
 }
 
-/// The place that is kept, if it is one of the batch.
-fn place_of(kept: &YmSender, blocks: &[u64]) -> Option<Place>
-    ensures kept { (place : Placed) → KeepsPlace kept.now place → IsPlace blocks.now place →
-        result ≡ Some place }
-    ensures within { IfSome result (IsPlace blocks.now) }
-    ensures sound { IfSome result (KeepsPlace kept.now) }
+/// The position that is kept, if it is one of the batch.
+fn position_of(kept: &YmSender, blocks: &[u64]) -> Option<Position>
+    ensures kept { (position : Placed) → KeepsPosition kept.now position →
+        IsPosition blocks.now position → result ≡ Some position }
+    ensures within { IfSome result (IsPosition blocks.now) }
+    ensures sound { IfSome result (KeepsPosition kept.now) }
 {
     let file = kept.file as usize;
     match kept.place {
-        0 if file < blocks.len() => Some(Place::Header { file }),
+        0 if file < blocks.len() => Some(Position::Header { file }),
         1 if file < blocks.len() && 1 <= kept.number && kept.number <= blocks[file] => {
-            Some(Place::Block {
+            Some(Position::Block {
                 file,
                 number: kept.number,
             })
         }
-        2 if file < blocks.len() => Some(Place::Eot { file }),
-        3 => Some(Place::End),
+        2 if file < blocks.len() => Some(Position::Eot { file }),
+        3 => Some(Position::End),
         _ => None,
     }
 }
@@ -102,13 +102,13 @@ pub fn load(kept: &YmSender, blocks: &[u64]) -> Option<Standing>
     if kept.len > 1029 || blocks.len() > MOST_FILES {
         return None;
     }
-    let place = place_of(kept, blocks)?;
+    let position = position_of(kept, blocks)?;
     let mode = mode_of(kept.mode)?;
     let state = state_of(kept.state)?;
     let retries = retries_of(kept.retries, state)?;
     let cancel_pending = flag_of(kept.cancel_pending)?;
     Some(Standing {
-        place,
+        position,
         mode,
         retries,
         state,
@@ -118,17 +118,18 @@ pub fn load(kept: &YmSender, blocks: &[u64]) -> Option<Standing>
 
 /// Keeps where a sender stands.
 pub fn store(kept: &mut YmSender, standing: Standing)
-    ensures stands { FitsC standing.place → kept.old.len ≤ 1029 → KeepsStanding kept.new standing }
+    ensures stands { FitsC standing.position → kept.old.len ≤ 1029 →
+        KeepsStanding kept.new standing }
     ensures len { kept.new.len ≡ kept.old.len }
     ensures frame { kept.new.frame ≡ kept.old.frame }
 {
-    let (place, file, number) = match standing.place {
-        Place::Header { file } => (0, file, 0),
-        Place::Block { file, number } => (1, file, number),
-        Place::Eot { file } => (2, file, 0),
-        Place::End => (3, 0, 0),
+    let (position, file, number) = match standing.position {
+        Position::Header { file } => (0, file, 0),
+        Position::Block { file, number } => (1, file, number),
+        Position::Eot { file } => (2, file, 0),
+        Position::End => (3, 0, 0),
     };
-    kept.place = place;
+    kept.place = position;
     kept.file = u32::try_from(file).unwrap_or(u32::MAX);
     kept.number = number;
     kept.mode = match standing.mode {

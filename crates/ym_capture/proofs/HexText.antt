@@ -15,8 +15,8 @@ encode_append (x ∷ xs) ys =
 
 -- two parts of bytes
 pub cut : (m : ℕ) (rest part more : List ℕ) → part ≡ take m rest → more ≡ drop m rest → rest ≡ part ++ more
-cut m rest part more front back =
-    sym (ap₂ (λ (xs ys : List ℕ). xs ++ ys) front back ∙ take-append-drop m rest)
+cut m rest part more prefix back =
+    sym (ap₂ (λ (xs ys : List ℕ). xs ++ ys) prefix back ∙ take-append-drop m rest)
 
 -- one part more
 pub part_put : (text part more rest start bytes new : List ℕ) → rest ≡ part ++ more

@@ -25,7 +25,7 @@ kind_for magic =
     kind.Other
 
 abbrev pub kind_of : List ℕ → CaptureKind
-kind_of front = kind_for (four front)
+kind_of prefix = kind_for (four prefix)
 
 abbrev pub link_of : ℕ → Option Link
 link_of number =

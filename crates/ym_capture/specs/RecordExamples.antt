@@ -9,6 +9,6 @@ an_ask : line_of 0 Back (0x43 ∷ []) ≡ codes "0.000000 < 43\n"
 unfolding line_of digits encode_with
 an_ask = refl
 
-a_front : line_of 12004112 There (0x01 ∷ 0x00 ∷ 0xff ∷ 0x61 ∷ []) ≡ codes "12.004112 > 0100ff61\n"
+a_prefix : line_of 12004112 There (0x01 ∷ 0x00 ∷ 0xff ∷ 0x61 ∷ []) ≡ codes "12.004112 > 0100ff61\n"
 unfolding line_of digits encode_with
-a_front = refl
+a_prefix = refl

@@ -82,10 +82,10 @@ pub struct PacketHead {
 }
 
 /// What a file that begins so is.
-pub fn kind_of(front: &[u8]) -> CaptureKind
-    ensures { result ≡ kind_by front.now }
+pub fn kind_of(prefix: &[u8]) -> CaptureKind
+    ensures { result ≡ kind_by prefix.now }
 {
-    match four(front) {
+    match four(prefix) {
         0xa1b2_c3d4 => CaptureKind::Pcap(ByteOrder::HighFirst, Part::Micros),
         0xa1b2_3c4d => CaptureKind::Pcap(ByteOrder::HighFirst, Part::Nanos),
         0xd4c3_b2a1 => CaptureKind::Pcap(ByteOrder::LowFirst, Part::Micros),

@@ -7,7 +7,7 @@ ghost use Rattle.ym_capture.specs.PacketParts.{total_len as total_of, tcp_in as 
 ghost use Rattle.ym_capture.specs.PacketParts.{is_fragment as is_part};
 
 use crate::head::Link;
-use crate::numbers::{behind, byte_at, front, two};
+use crate::numbers::{behind, byte_at, prefix, two};
 
 /// Which internet protocol it is.
 #[derive(Clone, Copy)]
@@ -113,5 +113,5 @@ pub(crate) fn total_len(ip: &[u8]) -> usize
 pub(crate) fn tcp_in(ip: &[u8]) -> &[u8]
     ensures { result.now ≡ tcp_of ip.entry.now }
 {
-    behind(front(ip, total_len(ip)), header_len(ip))
+    behind(prefix(ip, total_len(ip)), header_len(ip))
 }

@@ -17,7 +17,7 @@ pub(crate) fn behind(bytes: &[u8], count: usize) -> &[u8]
 
 /// The first so many bytes; all where there are fewer.
 #[tactic(auto, using(std::proofs::lemmas::List::take_min))]
-pub(crate) fn front(bytes: &[u8], count: usize) -> &[u8]
+pub(crate) fn prefix(bytes: &[u8], count: usize) -> &[u8]
     ensures { result.now ≡ take count bytes.entry.now }
 {
     &bytes[..count.min(bytes.len())]

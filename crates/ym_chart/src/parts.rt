@@ -9,7 +9,7 @@ use ym_told::Direction;
 
 /// So many bytes at the front, or all where there are fewer.
 #[tactic(auto, using(std::proofs::lemmas::List::take_min))]
-pub(crate) fn front_of(bytes: &[u8], most: usize) -> &[u8]
+pub(crate) fn prefix_of(bytes: &[u8], most: usize) -> &[u8]
     ensures { result.now ≡ take most bytes.entry.now }
 {
     &bytes[..most.min(bytes.len())]
@@ -53,7 +53,7 @@ pub(crate) fn undated(line: &[u8]) -> &[u8]
 pub(crate) fn way_of(undated: &[u8]) -> Option<Direction>
     ensures { result ≡ spec.way_of undated.now }
 {
-    let mark = front_of(undated, 2);
+    let mark = prefix_of(undated, 2);
     if is(mark, "> ") {
         return Some(Direction::There);
     }
@@ -67,7 +67,7 @@ pub(crate) fn way_of(undated: &[u8]) -> Option<Direction>
 pub(crate) fn is_indented(line: &[u8]) -> bool
     ensures { result ≡ spec.is_indented line.now }
 {
-    is(front_of(line, 2), "  ")
+    is(prefix_of(line, 2), "  ")
 }
 
 /// How many bytes the name at the front has.
@@ -121,7 +121,7 @@ fn is(bytes: &[u8], text: &str) -> bool
 pub(crate) fn kind_of(words: &[u8]) -> Kind
     ensures { result ≡ spec.kind_of words.now }
 {
-    if is(front_of(words, 6), "block ") {
+    if is(prefix_of(words, 6), "block ") {
         return block_kind(sense_of(words));
     }
     if is(words, "ACK: took it") {

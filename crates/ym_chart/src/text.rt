@@ -3,7 +3,7 @@
 ghost use Rattle.std.specs.Prelude.{◌≡◌, ◌<◌, ◌++◌, IfOk, OnOk, flat_map, string_bytes};
 ghost use Rattle.ym_chart.specs.ChartText.{StandsFor, code, digit as digit_of_value, is_printable as prints, text_of, written};
 
-use crate::parts::front_of;
+use crate::parts::prefix_of;
 use std::alloc::{AllocError, Global};
 use std::fmt;
 use std::marker::Model;
@@ -34,7 +34,7 @@ impl Text {
             let written = escaped(alloc, bytes)?;
             return Ok(Text { written });
         }
-        let mut written = escaped(alloc, front_of(bytes, MOST_TEXT))?;
+        let mut written = escaped(alloc, prefix_of(bytes, MOST_TEXT))?;
         written.push_str(" ..")?;
         Ok(Text { written })
     }

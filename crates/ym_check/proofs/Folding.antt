@@ -169,16 +169,16 @@ fold_16 n l =
 -- ---- a word and the next one
 
 -- bits in front of others are added to these as what they become
-pub added_behind : (w k : ℕ) (front rest becomes : List Bool) → length front ≡ w → length rest ≡ k → length becomes ≡ k →
-    run start (front ++ replicate k false) ≡ run start becomes → run start (front ++ rest) ≡ run start (subtract rest becomes)
-added_behind w k front rest becomes high low same e =
+pub added_behind : (w k : ℕ) (prefix rest becomes : List Bool) → length prefix ≡ w → length rest ≡ k → length becomes ≡ k →
+    run start (prefix ++ replicate k false) ≡ run start becomes → run start (prefix ++ rest) ≡ run start (subtract rest becomes)
+added_behind w k prefix rest becomes high low same e =
     let before = replicate w false in
     let behind = replicate k false in
-    let zeros_long : length before ≡ length front = length-replicate w false ∙ sym high in
-    let long : length (before ++ rest) ≡ length (front ++ behind) =
-    omega (arith, length-append before rest, length-append front behind, length-replicate k false) in
-    rw (subtract-append before rest front behind zeros_long, zeros-subtract w front high, subtract-zeros k rest, zeros_in_front w rest, e, sym (start-subtract rest becomes (low ∙ sym same)))
-    at (start-subtract (before ++ rest) (front ++ behind) long)
+    let zeros_long : length before ≡ length prefix = length-replicate w false ∙ sym high in
+    let long : length (before ++ rest) ≡ length (prefix ++ behind) =
+    omega (arith, length-append before rest, length-append prefix behind, length-replicate k false) in
+    rw (subtract-append before rest prefix behind zeros_long, zeros-subtract w prefix high, subtract-zeros k rest, zeros_in_front w rest, e, sym (start-subtract rest becomes (low ∙ sym same)))
+    at (start-subtract (before ++ rest) (prefix ++ behind) long)
 
 -- the next word is added to what the word in front becomes
 pub folded_in : (w n m next : ℕ) → remainder (bits w n ++ replicate w false) ≡ remainder (bits w m) →

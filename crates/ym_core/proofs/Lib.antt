@@ -1,1 +1,1 @@
-pub mod Readings
+pub mod Scans

@@ -3,8 +3,8 @@ pub mod HeardRef
 pub mod Receiver
 pub mod Core
 pub mod Step
-pub mod Place
-pub mod Reading
+pub mod Position
+pub mod Scan
 pub mod Standing
 pub mod ReceiverExamples
 pub mod SenderExamples

@@ -1,12 +1,12 @@
 -- A sender of one file of two data blocks, computed: the file is number 0, and its frames are its
 -- block 0, blocks 1 and 2, its EOT, and the end block.
 use Rattle.std.specs.Prelude.{◌≡◌, ℕ, List, [], ◌∷◌, true, false, Some, refl}
-use Rattle.ym_core.specs.Reading.{controls_in}
+use Rattle.ym_core.specs.Scan.{controls_in}
 use Rattle.ym_core.specs.Standing.{step, hears, is_settled}
-use Rattle.ym_core.specs.declared.place.Place.{Place}
-use Rattle.ym_core.specs.declared.place.Place.TheVariants.{Header, Block, Eot, End}
-use Rattle.ym_core.specs.declared.place.Mode.{Mode}
-use Rattle.ym_core.specs.declared.place.Mode.TheVariants.{Waiting, Sent}
+use Rattle.ym_core.specs.declared.position.Position.{Position}
+use Rattle.ym_core.specs.declared.position.Position.TheVariants.{Header, Block, Eot, End}
+use Rattle.ym_core.specs.declared.position.Mode.{Mode}
+use Rattle.ym_core.specs.declared.position.Mode.TheVariants.{Waiting, Sent}
 use Rattle.ym_core.specs.declared.standing.Standing.{Standing}
 use Rattle.ym_core.specs.declared.standing.SendStep.{SendStep as Step}
 use Rattle.ym_core.specs.declared.state.SendState.TheVariants.{Running, NoReply, Cancelled}
@@ -14,22 +14,28 @@ use Rattle.ym_core.specs.declared.state.SendState.TheVariants.{Running, NoReply,
 abbrev two_blocks : List ℕ
 two_blocks = 2 ∷ []
 
--- the sender at a place
-abbrev at : Place → Mode → Standing
-at place mode =
-    record { place = place; mode = mode; retries = 0; state = Running; cancel_pending = false }
+-- the sender at a position
+abbrev at : Position → Mode → Standing
+at position mode =
+    record {
+      position = position;
+      mode = mode;
+      retries = 0;
+      state = Running;
+      cancel_pending = false;
+    }
 
 -- what a delivery of these bytes does to it
-abbrev after : Place → Mode → List ℕ → Step
-after place mode bytes = hears two_blocks (at place mode) (controls_in bytes)
+abbrev after : Position → Mode → List ℕ → Step
+after position mode bytes = hears two_blocks (at position mode) (controls_in bytes)
 
--- the frame of the place is filled and sent
-abbrev sends : Place → Step
-sends place = record { standing = at place Sent; fills = Some place }
+-- the frame of the position is filled and sent
+abbrev sends : Position → Step
+sends position = record { standing = at position Sent; fills = Some position }
 
 -- one more delivery without progress
-abbrev missed_at : Place → Mode → Step
-missed_at place mode = step (record (at place mode) { retries = 1 })
+abbrev missed_at : Position → Mode → Step
+missed_at position mode = step (record (at position mode) { retries = 1 })
 
 start_asks : after (Header 0) Waiting (0x43 ∷ []) ≡ sends (Header 0)
 start_asks = refl
@@ -47,7 +53,7 @@ start_is_no_ack = refl
 next_block : after (Block 0 1) Sent (0x06 ∷ []) ≡ sends (Block 0 2)
 next_block = refl
 
--- behind a data block the reading stops at ACK
+-- behind a data block the scan stops at ACK
 no_more_is_read : after (Block 0 1) Sent (0x06 ∷ 0x18 ∷ 0x18 ∷ []) ≡ sends (Block 0 2)
 no_more_is_read = refl
 

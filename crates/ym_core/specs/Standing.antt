@@ -2,14 +2,14 @@
 use Rattle.std.specs.Prelude.{◌≡◌, ℕ, ◌+◌, nat_lt, if◌then◌else◌, Bool, true, false, is_some, List, Option, None, Some}
 use Rattle.ym_frame.specs.declared.control.Control.{Control}
 use Rattle.ym_machine.specs.declared.limits.TheConstants.{GIVE_UP}
-use Rattle.ym_core.specs.Place.{first_of}
-use Rattle.ym_core.specs.Reading.{reads}
-use Rattle.ym_core.specs.declared.place.Place.{Place}
-use Rattle.ym_core.specs.declared.place.Place.TheVariants.{Block}
-use Rattle.ym_core.specs.declared.place.Mode.{Mode}
-use Rattle.ym_core.specs.declared.place.Mode.TheVariants.{Waiting, Sent}
-use Rattle.ym_core.specs.declared.reading.Stop.{Stop}
-use Rattle.ym_core.specs.declared.reading.Stop.TheVariants.{Sends, Again, Finishes, Cancels}
+use Rattle.ym_core.specs.Position.{first_of}
+use Rattle.ym_core.specs.Scan.{reads}
+use Rattle.ym_core.specs.declared.position.Position.{Position}
+use Rattle.ym_core.specs.declared.position.Position.TheVariants.{Block}
+use Rattle.ym_core.specs.declared.position.Mode.{Mode}
+use Rattle.ym_core.specs.declared.position.Mode.TheVariants.{Waiting, Sent}
+use Rattle.ym_core.specs.declared.scan.Stop.{Stop}
+use Rattle.ym_core.specs.declared.scan.Stop.TheVariants.{Sends, Again, Finishes, Cancels}
 use Rattle.ym_core.specs.declared.standing.Standing.{Standing}
 use Rattle.ym_core.specs.declared.standing.SendStep.{SendStep as Step}
 use Rattle.ym_core.specs.declared.state.SendState.{SendState}
@@ -19,7 +19,7 @@ use Rattle.ym_core.specs.declared.state.SendState.TheVariants.{Running, Finished
 abbrev pub new_standing : List ℕ → Standing
 new_standing counts =
     record {
-      place = first_of counts;
+      position = first_of counts;
       mode = Waiting;
       retries = 0;
       state = Running;
@@ -37,34 +37,34 @@ missed s =
     if nat_lt (s.retries + 1) GIVE_UP then step (record s { retries = s.retries + 1 })
     else step (record s { retries = s.retries + 1; state = NoReply; cancel_pending = true })
 
--- progress: the place or the mode changed
-abbrev pub moved : Standing → Place → Mode → Standing
-moved s place mode = record s { place = place; mode = mode; retries = 0 }
+-- progress: the position or the mode changed
+abbrev pub moved : Standing → Position → Mode → Standing
+moved s position mode = record s { position = position; mode = mode; retries = 0 }
 
--- at the same place, in the same mode
+-- at the same position, in the same mode
 pub record IsSame (old new : Standing) : Type 0 where
-  pub place : new.place ≡ old.place
+  pub position : new.position ≡ old.position
   pub mode : new.mode ≡ old.mode
 
 -- The controls came to their end: the sender has moved where its mode changed.
-abbrev pub read_through : Standing → Place → Mode → Mode → Step
-read_through s place Sent Sent = missed s
-read_through s place Waiting Waiting = missed s
-read_through s place old new = step (moved s place new)
+abbrev pub read_through : Standing → Position → Mode → Mode → Step
+read_through s position Sent Sent = missed s
+read_through s position Waiting Waiting = missed s
+read_through s position old new = step (moved s position new)
 
-abbrev pub after_reading : Standing → Place → Mode → Option Stop → Step
-after_reading s place mode None = read_through s place s.mode mode
-after_reading s place mode (Some Again) = missed s
-after_reading s place mode (Some Sends) =
-    record { standing = moved s place mode; fills = Some place }
-after_reading s place mode (Some Finishes) = step (record s { state = Finished })
-after_reading s place mode (Some Cancels) =
-    step (record s { place = place; mode = mode; state = Cancelled })
+abbrev pub after_scan : Standing → Position → Mode → Option Stop → Step
+after_scan s position mode None = read_through s position s.mode mode
+after_scan s position mode (Some Again) = missed s
+after_scan s position mode (Some Sends) =
+    record { standing = moved s position mode; fills = Some position }
+after_scan s position mode (Some Finishes) = step (record s { state = Finished })
+after_scan s position mode (Some Cancels) =
+    step (record s { position = position; mode = mode; state = Cancelled })
 
 abbrev pub runs : List ℕ → Standing → List Control → Step
 runs counts s controls =
-    let r = reads counts s.place s.mode controls in
-    after_reading s r.place r.mode r.stop
+    let r = reads counts s.position s.mode controls in
+    after_scan s r.position r.mode r.stop
 
 -- a sender that has ended hears no more, and has said its CAN CAN
 abbrev pub hears_in : SendState → List ℕ → Standing → List Control → Step
@@ -74,16 +74,16 @@ hears_in ended counts s controls = step (record s { cancel_pending = false })
 abbrev pub hears : List ℕ → Standing → List Control → Step
 hears counts s controls = hears_in s.state counts s controls
 
--- the reading stops, so that more bytes change nothing
+-- the scan stops, so that more bytes change nothing
 abbrev pub is_settled_in : SendState → List ℕ → Standing → List Control → Bool
-is_settled_in Running counts s controls = is_some (reads counts s.place s.mode controls).stop
+is_settled_in Running counts s controls = is_some (reads counts s.position s.mode controls).stop
 is_settled_in ended counts s controls = true
 
 abbrev pub is_settled : List ℕ → Standing → List Control → Bool
 is_settled counts s controls = is_settled_in s.state counts s controls
 
--- Only a data block is filled from a source. Where that fails, the place has moved and the sender
--- has ended, with CAN CAN to go.
-abbrev pub after_fill : Bool → Option Place → Standing → Standing
+-- Only a data block is filled from a source. Where that fails, the position has moved, and the
+-- sender has ended, with CAN CAN to go.
+abbrev pub after_fill : Bool → Option Position → Standing → Standing
 after_fill true (Some (Block file k)) s = record s { state = SourceFailed; cancel_pending = true }
 after_fill failed fills s = s

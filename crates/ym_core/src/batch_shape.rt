@@ -1,9 +1,9 @@
 //! A batch, as its sender counts it.
 
-/// A batch of files, as far as a sender's course depends on it.
+/// A batch of files, as far as a sender's history depends on it.
 pub trait BatchShape {
     ghost use Rattle.std.specs.Prelude.{List, ℕ, ◌≡◌, ◌<◌, length};
-    ghost use Rattle.ym_core.specs.Place.{count_at};
+    ghost use Rattle.ym_core.specs.Position.{count_at};
 
     /// How many data blocks each file is sent in.
     ghost counts: { Self → List ℕ };

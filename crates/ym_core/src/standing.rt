@@ -1,14 +1,14 @@
 //! What a sender keeps beside its files and its frame, and what a delivery makes of it.
 
 ghost use Rattle.std.specs.Prelude.{◌≡◌, ◌<◌, ℕ, List, true, false};
-ghost use Rattle.ym_core.specs.Place.{IsPlace};
-ghost use Rattle.ym_core.specs.Reading.{controls_in};
+ghost use Rattle.ym_core.specs.Position.{IsPosition};
+ghost use Rattle.ym_core.specs.Scan.{controls_in};
 ghost use Rattle.ym_core.specs.Standing as table;
 ghost use Rattle.ym_machine.specs.declared.limits.TheConstants.{GIVE_UP};
 
 use crate::batch_shape::BatchShape;
-use crate::place::{Mode, Place};
-use crate::reading::{Reading, Stop, read_delivery};
+use crate::position::{Mode, Position};
+use crate::scan::{Scan, Stop, read_delivery};
 use crate::state::SendState;
 use ym_machine::GIVE_UP;
 
@@ -16,7 +16,7 @@ use ym_machine::GIVE_UP;
 #[derive(Clone, Copy, PartialEq, Eq)]
 pub struct Standing {
     /// The frame that is out or to go.
-    pub place: Place,
+    pub position: Position,
     /// Whether that frame is out.
     pub mode: Mode,
     /// Deliveries in a row without progress.
@@ -32,16 +32,16 @@ pub struct Standing {
 pub struct SendStep {
     /// Where the sender stands behind it.
     pub standing: Standing,
-    /// The place whose frame becomes the sent one.
-    pub fills: Option<Place>,
+    /// The position whose frame becomes the sent one.
+    pub fills: Option<Position>,
 }
 
 impl Standing {
     /// Waiting at the first frame of a batch.
-    pub fn new(first: Place) -> Standing
+    pub fn new(first: Position) -> Standing
         ensures { result ≡
             record {
-              place = first;
+              position = first;
               mode = Mode.Waiting;
               retries = 0;
               state = SendState.Running;
@@ -49,7 +49,7 @@ impl Standing {
             } }
     {
         Standing {
-            place: first,
+            position: first,
             mode: Mode::Waiting,
             retries: 0,
             state: SendState::Running,
@@ -76,12 +76,12 @@ impl Standing {
         }
     }
 
-    /// After progress to a place and a mode.
-    fn moved(self, place: Place, mode: Mode) -> Standing
-        ensures { result ≡ table.moved self place mode }
+    /// After progress to a position and a mode.
+    fn moved(self, position: Position, mode: Mode) -> Standing
+        ensures { result ≡ table.moved self position mode }
     {
         Standing {
-            place,
+            position,
             mode,
             retries: 0,
             ..self
@@ -101,19 +101,19 @@ impl Standing {
 
     /// After a delivery that a running sender has read, by `read_delivery` from its place and mode
     /// on: what `after` gives on its bytes, without reading them again.
-    pub fn after_reading(self, read: Reading) -> SendStep
+    pub fn after_scan(self, read: Scan) -> SendStep
         requires { self.retries < GIVE_UP }
-        ensures step { result ≡ table.after_reading self read.place read.mode read.stop }
-        ensures within { (counts : List ℕ) → IsPlace counts self.place → IsPlace counts read.place →
-            IsPlace counts result.standing.place }
+        ensures step { result ≡ table.after_scan self read.position read.mode read.stop }
+        ensures within { (counts : List ℕ) → IsPosition counts self.position →
+            IsPosition counts read.position → IsPosition counts result.standing.position }
         ensures retries { result.standing.state ≡ SendState.Running →
             result.standing.retries < GIVE_UP }
     {
         let standing = match read.stop {
             Some(Stop::Sends) => {
                 return SendStep {
-                    standing: self.moved(read.place, read.mode),
-                    fills: Some(read.place),
+                    standing: self.moved(read.position, read.mode),
+                    fills: Some(read.position),
                 };
             }
             Some(Stop::Again) => self.missed(),
@@ -122,7 +122,7 @@ impl Standing {
                 ..self
             },
             Some(Stop::Cancels) => Standing {
-                place: read.place,
+                position: read.position,
                 mode: read.mode,
                 state: SendState::Cancelled,
                 ..self
@@ -131,7 +131,7 @@ impl Standing {
                 if self.mode == read.mode {
                     self.missed()
                 } else {
-                    self.moved(read.place, read.mode)
+                    self.moved(read.position, read.mode)
                 }
             }
         };
@@ -141,18 +141,18 @@ impl Standing {
         }
     }
 
-    /// After a delivery of these bytes. Where a place is filled, the host sends its frame, and
+    /// After a delivery of these bytes. Where a position is filled, the host sends its frame, and
     /// keeps it to send it again; where it cannot make that frame, it keeps `source_failed`.
     pub fn after<B: BatchShape>(self, batch: &B, bytes: &[u8]) -> SendStep
-        requires place { IsPlace (B.counts batch.now) self.place }
+        requires position { IsPosition (B.counts batch.now) self.position }
         requires retries { self.state ≡ SendState.Running → self.retries < GIVE_UP }
         ensures step { result ≡ table.hears (B.counts batch.now) self (controls_in bytes.now) }
-        ensures within { IsPlace (B.counts batch.now) result.standing.place }
+        ensures within { IsPosition (B.counts batch.now) result.standing.position }
         ensures runs { result.standing.state ≡ SendState.Running →
             result.standing.retries < GIVE_UP }
     {
         if self.state == SendState::Running {
-            self.after_reading(read_delivery(batch, self.place, self.mode, bytes))
+            self.after_scan(read_delivery(batch, self.position, self.mode, bytes))
         } else {
             SendStep {
                 standing: Standing {
@@ -166,13 +166,13 @@ impl Standing {
 
     /// Whether more bytes cannot change what these make of it.
     pub fn settled<B: BatchShape>(self, batch: &B, bytes: &[u8]) -> bool
-        requires { IsPlace (B.counts batch.now) self.place }
+        requires { IsPosition (B.counts batch.now) self.position }
         ensures { result ≡ table.is_settled (B.counts batch.now) self (controls_in bytes.now) }
     {
         if self.state != SendState::Running {
             return true;
         }
-        read_delivery(batch, self.place, self.mode, bytes)
+        read_delivery(batch, self.position, self.mode, bytes)
             .stop
             .is_some()
     }

@@ -5,7 +5,7 @@ use Rattle.ym_frame.specs.declared.control.Control.{Control}
 use Rattle.ym_frame.specs.declared.control.Control.TheVariants.{Ack, Can}
 use Rattle.ym_frame.specs.declared.control.Reply.{Reply}
 use Rattle.ym_frame.specs.declared.control.Reply.TheVariants as reply
-use Rattle.ym_core.specs.Reading.{controls_in}
+use Rattle.ym_core.specs.Scan.{controls_in}
 use Rattle.ym_machine.specs.Steps.{is_within, same_control, controls as reply_controls}
 use Rattle.ym_line.specs.declared.delivery.Delivery.{Delivery}
 use Rattle.ym_line.specs.declared.delivery.Delivery.TheVariants.{Whole, Lost, Damaged}

@@ -2,16 +2,16 @@
 use Rattle.std.proofs.Common.{◌≡◌, ◌≢◌, ◌⊎◌, ◌+◌, ◌∙◌, inl, inr, ℕ, nat_lt, Bool, true, false, if◌then◌else◌, List, [], ◌∷◌, ◌++◌, refl, sym, ap, subst}
 use Rattle.ym_frame.specs.declared.control.Control.{Control}
 use Rattle.ym_frame.specs.declared.control.Control.TheVariants.{Ack, Nak, Start, Can}
-use Rattle.ym_core.specs.Reading.{controls_in, goes_on, reads, stops}
-use Rattle.ym_core.specs.declared.reading.Reading.{Reading}
-use Rattle.ym_core.specs.declared.reading.Stop.TheVariants.{Again, Cancels}
-use Rattle.ym_core.specs.Standing.{after_reading, hears, hears_in, missed, read_through, step}
+use Rattle.ym_core.specs.Scan.{controls_in, goes_on, reads, stops}
+use Rattle.ym_core.specs.declared.scan.Scan.{Scan}
+use Rattle.ym_core.specs.declared.scan.Stop.TheVariants.{Again, Cancels}
+use Rattle.ym_core.specs.Standing.{after_scan, hears, hears_in, missed, read_through, step}
 use Rattle.ym_core.specs.declared.standing.SendStep.{SendStep as Step}
 use Rattle.ym_machine.specs.declared.limits.TheConstants.{GIVE_UP}
-use Rattle.ym_link.specs.Course.{SenderHears, sender_none, sender_more}
-use Rattle.ym_core.specs.declared.place.Place.{Place}
-use Rattle.ym_core.specs.declared.place.Mode.{Mode}
-use Rattle.ym_core.specs.declared.place.Mode.TheVariants.{Waiting, Sent}
+use Rattle.ym_link.specs.History.{SenderHears, sender_none, sender_more}
+use Rattle.ym_core.specs.declared.position.Position.{Position}
+use Rattle.ym_core.specs.declared.position.Mode.{Mode}
+use Rattle.ym_core.specs.declared.position.Mode.TheVariants.{Waiting, Sent}
 use Rattle.ym_core.specs.declared.standing.Standing.{Standing}
 use Rattle.ym_core.specs.declared.state.SendState.{SendState}
 use Rattle.ym_core.specs.declared.state.SendState.TheVariants as state
@@ -24,19 +24,19 @@ use Rattle.ym_delay.specs.Cleared.{EndsInVain, EndsWell, HasAck, HasCan, ReadsAc
 -- ---- What a sender reads that has sent
 
 -- it stays where it is, or is cancelled
-abbrev pub Stays : Type 0 → Place → Reading → Type 0
-Stays CanCame place r = (r ≡ goes_on place Sent) ⊎ ((r ≡ stops place Sent Again) ⊎ ((r ≡ stops place Sent Cancels) × CanCame))
+abbrev pub Stays : Type 0 → Position → Scan → Type 0
+Stays CanCame position r = (r ≡ goes_on position Sent) ⊎ ((r ≡ stops position Sent Again) ⊎ ((r ≡ stops position Sent Cancels) × CanCame))
 
-pub reading : (blocks : List ℕ) (place : Place) (controls : List Control) → HasAck (up_to_start controls) ⊎ Stays (HasCan (up_to_start controls)) place (reads blocks place Sent controls)
-reading blocks place [] = inr (inl refl)
-reading blocks place (Ack ∷ more) = inl tt
-reading blocks place (Nak ∷ more) = inr (inr (inl refl))
-reading blocks place (Start ∷ more) = inr (inr (inl refl))
-reading blocks place (Can ∷ []) = inr (inl refl)
-reading blocks place (Can ∷ Can ∷ more) = inr (inr (inr (refl, tt)))
-reading blocks place (Can ∷ Ack ∷ more) = inl tt
-reading blocks place (Can ∷ Nak ∷ more) = inr (inr (inl refl))
-reading blocks place (Can ∷ Start ∷ more) = inr (inr (inl refl))
+pub scan : (blocks : List ℕ) (position : Position) (controls : List Control) → HasAck (up_to_start controls) ⊎ Stays (HasCan (up_to_start controls)) position (reads blocks position Sent controls)
+scan blocks position [] = inr (inl refl)
+scan blocks position (Ack ∷ more) = inl tt
+scan blocks position (Nak ∷ more) = inr (inr (inl refl))
+scan blocks position (Start ∷ more) = inr (inr (inl refl))
+scan blocks position (Can ∷ []) = inr (inl refl)
+scan blocks position (Can ∷ Can ∷ more) = inr (inr (inr (refl, tt)))
+scan blocks position (Can ∷ Ack ∷ more) = inl tt
+scan blocks position (Can ∷ Nak ∷ more) = inr (inr (inl refl))
+scan blocks position (Can ∷ Start ∷ more) = inr (inr (inl refl))
 
 -- ---- What becomes of a sender that reads no ACK
 
@@ -57,25 +57,25 @@ missed-kept CanCame st taken is =
       | inr over ↦ record { standing = record st { retries = st.retries + 1; state = state.NoReply; cancel_pending = true }; is = is ∙ over; why = inr (inl refl) }
     ]
 
-as-read : (st : Standing) (r : Reading) (x : Reading) → r ≡ x → after_reading st r.place r.mode r.stop ≡ after_reading st x.place x.mode x.stop
-as-read st r x is = ap (λ (y : Reading). after_reading st y.place y.mode y.stop) is
+as-read : (st : Standing) (r : Scan) (x : Scan) → r ≡ x → after_scan st r.position r.mode r.stop ≡ after_scan st x.position x.mode x.stop
+as-read st r x is = ap (λ (y : Scan). after_scan st y.position y.mode y.stop) is
 
-stays-kept : (CanCame : Type 0) (st : Standing) (r : Reading) → st.mode ≡ Sent → Stays CanCame st.place r → Kept CanCame st (after_reading st r.place r.mode r.stop)
-stays-kept CanCame st r sent (inl is) = missed-kept CanCame st _ (as-read st r (goes_on st.place Sent) is ∙ ap (λ m. read_through st st.place m Sent) sent)
-stays-kept CanCame st r sent (inr (inl is)) = missed-kept CanCame st _ (as-read st r (stops st.place Sent Again) is)
+stays-kept : (CanCame : Type 0) (st : Standing) (r : Scan) → st.mode ≡ Sent → Stays CanCame st.position r → Kept CanCame st (after_scan st r.position r.mode r.stop)
+stays-kept CanCame st r sent (inl is) = missed-kept CanCame st _ (as-read st r (goes_on st.position Sent) is ∙ ap (λ m. read_through st st.position m Sent) sent)
+stays-kept CanCame st r sent (inr (inl is)) = missed-kept CanCame st _ (as-read st r (stops st.position Sent Again) is)
 stays-kept CanCame st r sent (inr (inr (is, can))) = record {
-  standing = record st { place = st.place; mode = Sent; state = state.Cancelled };
-  is = as-read st r (stops st.place Sent Cancels) is;
+  standing = record st { position = st.position; mode = Sent; state = state.Cancelled };
+  is = as-read st r (stops st.position Sent Cancels) is;
   why = inr (inr (refl, can));
 }
 
 kept : (blocks : List ℕ) (st : Standing) (controls : List Control) → st.state ≡ state.Running → st.mode ≡ Sent → HasAck (up_to_start controls) ⊎ Kept (HasCan (up_to_start controls)) st (hears blocks st controls)
 kept blocks st controls run sent =
-    elim (reading blocks st.place controls) [
+    elim (scan blocks st.position controls) [
       | inl ack ↦ inl ack
       | inr stays ↦ inr (
           subst (Kept (HasCan (up_to_start controls)) st) (sym (ap (λ x. hears_in x blocks st controls) run))
-          (stays-kept (HasCan (up_to_start controls)) st (reads blocks st.place st.mode controls) sent (subst (λ m. Stays (HasCan (up_to_start controls)) st.place (reads blocks st.place m controls)) (sym sent) stays))
+          (stays-kept (HasCan (up_to_start controls)) st (reads blocks st.position st.mode controls) sent (subst (λ m. Stays (HasCan (up_to_start controls)) st.position (reads blocks st.position m controls)) (sym sent) stays))
           )
     ]
 
@@ -130,31 +130,31 @@ three : (old new : SenderParts) (bytes : List ℕ) → old.standing.state ≡ st
     Three (record { wrote = said old; came = bytes }) (said new)
 three old new bytes run hears some going = elim (four old new bytes run hears some) [ inl is ↦ is | inr off ↦ absurd (going off.0) ]
 
--- ---- Along a course
+-- ---- Along a history
 
 abbrev pub AllThree : List Spoke → List ℕ → Type 0
 AllThree [] next = Unit {0}
 AllThree (x ∷ []) next = Three x next
 AllThree (x ∷ y ∷ spoke) next = Three x y.wrote × AllThree (y ∷ spoke) next
 
-one-more : (front : List Spoke) (x : Spoke) (next : List ℕ) → AllThree front x.wrote → Three x next → AllThree (front ++ x ∷ []) next
+one-more : (prefix : List Spoke) (x : Spoke) (next : List ℕ) → AllThree prefix x.wrote → Three x next → AllThree (prefix ++ x ∷ []) next
 one-more [] x next all this = this
 one-more (first ∷ []) x next all this = (all, this)
-one-more (first ∷ second ∷ front) x next all this = (all.0, one-more (second ∷ front) x next all.1 this)
+one-more (first ∷ second ∷ prefix) x next all this = (all.0, one-more (second ∷ prefix) x next all.1 this)
 
 -- at last it may give up a wait
-at-last : (front : List Spoke) (x : Spoke) (next : List ℕ) → AllThree front x.wrote → Three x next ⊎ ((x.came ≡ []) ⊎ ReadsCan x.came) → SaysAgain (front ++ x ∷ []) next
+at-last : (prefix : List Spoke) (x : Spoke) (next : List ℕ) → AllThree prefix x.wrote → Three x next ⊎ ((x.came ≡ []) ⊎ ReadsCan x.came) → SaysAgain (prefix ++ x ∷ []) next
 at-last [] x next all (inl (inl same)) = inl same
 at-last [] x next all (inl (inr (inl ack))) = inr (inl ack)
 at-last [] x next all (inl (inr (inr none))) = inr (inr (inl none))
 at-last [] x next all (inr ends) = inr (inr (inr ends))
 at-last (first ∷ []) x next all this = (all, at-last [] x next tt this)
-at-last (first ∷ second ∷ front) x next all this = (all.0, at-last (second ∷ front) x next all.1 this)
+at-last (first ∷ second ∷ prefix) x next all this = (all.0, at-last (second ∷ prefix) x next all.1 this)
 
-in-vain : (front : List Spoke) (x : Spoke) → EndsInVain (front ++ x ∷ []) → x.came ≡ []
+in-vain : (prefix : List Spoke) (x : Spoke) → EndsInVain (prefix ++ x ∷ []) → x.came ≡ []
 in-vain [] x none = none
 in-vain (first ∷ []) x none = none
-in-vain (first ∷ second ∷ front) x none = in-vain (second ∷ front) x none
+in-vain (first ∷ second ∷ prefix) x none = in-vain (second ∷ prefix) x none
 
 all-three : (s : SenderParts) (deliveries : List (List ℕ)) (progress : ℕ) (new : SenderParts) (hears : SenderHears s deliveries progress new) → new.standing.state ≢ state.NoReply → new.standing.state ≢ state.Cancelled →
     AllThree (spoke_along s deliveries progress new hears) (said new)

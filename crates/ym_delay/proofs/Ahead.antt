@@ -8,7 +8,7 @@ use Rattle.ym_frame.specs.declared.control.Reply.{Reply}
 use Rattle.ym_frame.specs.declared.control.Reply.TheVariants.{Start, Silence}
 use Rattle.ym_frame.specs.declared.frame.Item.{Item}
 use Rattle.ym_core.specs.Hearing.{heard_of}
-use Rattle.ym_core.specs.Reading.{controls_in}
+use Rattle.ym_core.specs.Scan.{controls_in}
 use Rattle.ym_core.specs.declared.delivery.Heard.TheVariants as heard
 use Rattle.ym_machine.specs.Steps.{is_within, controls as reply_controls}
 use Rattle.ym_line.specs.declared.delivery.Delivery.{Delivery}
@@ -26,27 +26,27 @@ IsAnswered s [] = (back : Delivery) × ArrivesBack back Silence s.came
 IsAnswered s (a ∷ answered) =
     ((there : Delivery) × (back : Delivery) × ArrivesThere there s.wrote a.heard × ArrivesBack back a.wrote s.came) ⊎ (IsAnswered s answered ⊎ (controls_in s.came ≡ []))
 
-alone : (s : Spoke) (front : List Spoke) (rounds : List Round) → SenderAlone (front ++ s ∷ []) rounds → IsAnswered s []
+alone : (s : Spoke) (prefix : List Spoke) (rounds : List Round) → SenderAlone (prefix ++ s ∷ []) rounds → IsAnswered s []
 alone s [] [] pairs = absurd pairs
 alone s [] (round ∷ rounds) pairs = (round.back, pairs.1)
-alone s (first ∷ front) [] pairs = absurd pairs
-alone s (first ∷ front) (round ∷ rounds) pairs = alone s front rounds pairs.2
+alone s (first ∷ prefix) [] pairs = absurd pairs
+alone s (first ∷ prefix) (round ∷ rounds) pairs = alone s prefix rounds pairs.2
 
 -- what is so of fewer replies is so of more
 more-answered : (s : Spoke) (a : Answered) (answered : List Answered) → IsAnswered s answered → IsAnswered s (a ∷ answered)
 more-answered s a answered is = inr (inl is)
 
-pub is-answered : (s : Spoke) (last : List ℕ) (rounds : List Round) (front : List Spoke) (answered : List Answered) → PairUp (front ++ s ∷ []) last answered rounds → IsAnswered s answered
+pub is-answered : (s : Spoke) (last : List ℕ) (rounds : List Round) (prefix : List Spoke) (answered : List Answered) → PairUp (prefix ++ s ∷ []) last answered rounds → IsAnswered s answered
 is-answered s last rounds [] [] pairs = alone s [] rounds pairs
-is-answered s last rounds (first ∷ front) [] pairs = alone s (first ∷ front) rounds pairs
+is-answered s last rounds (first ∷ prefix) [] pairs = alone s (first ∷ prefix) rounds pairs
 is-answered s last [] [] (a ∷ answered) pairs = absurd pairs
-is-answered s last [] (first ∷ front) (a ∷ answered) pairs = absurd pairs
+is-answered s last [] (first ∷ prefix) (a ∷ answered) pairs = absurd pairs
 is-answered s last (round ∷ rounds) [] (a ∷ answered) (inl (there, inl (back, later))) = inl (round.there, round.back, there, back)
 is-answered s last (round ∷ rounds) [] (a ∷ answered) (inl (there, inr (lost, later))) = more-answered s a answered (is-answered s last rounds [] answered later)
 is-answered s last (round ∷ rounds) [] (a ∷ answered) (inr (vain, later)) = inr (inr vain.nothing)
-is-answered s last (round ∷ rounds) (first ∷ front) (a ∷ answered) (inl (there, inl (back, later))) = more-answered s a answered (is-answered s last rounds front answered later)
-is-answered s last (round ∷ rounds) (first ∷ front) (a ∷ answered) (inl (there, inr (lost, later))) = more-answered s a answered (is-answered s last rounds (first ∷ front) answered later)
-is-answered s last (round ∷ rounds) (first ∷ front) (a ∷ answered) (inr (vain, later)) = is-answered s last rounds front (a ∷ answered) later
+is-answered s last (round ∷ rounds) (first ∷ prefix) (a ∷ answered) (inl (there, inl (back, later))) = more-answered s a answered (is-answered s last rounds prefix answered later)
+is-answered s last (round ∷ rounds) (first ∷ prefix) (a ∷ answered) (inl (there, inr (lost, later))) = more-answered s a answered (is-answered s last rounds (first ∷ prefix) answered later)
+is-answered s last (round ∷ rounds) (first ∷ prefix) (a ∷ answered) (inr (vain, later)) = is-answered s last rounds prefix (a ∷ answered) later
 
 -- ---- A block is no other one, and a C is no ACK
 

@@ -17,7 +17,7 @@ use Rattle.ym_core.specs.declared.stage.OpenFile.{OpenFile}
 use Rattle.ym_core.specs.declared.stage.Stage.{Stage}
 use Rattle.ym_core.specs.declared.stage.Stage.TheVariants.{AwaitHeader, InFile}
 use Rattle.ym_core.specs.declared.state.RecvState.TheVariants as state
-use Rattle.ym_link.specs.Course.{ReceiverHears, receiver_none, receiver_more}
+use Rattle.ym_link.specs.History.{ReceiverHears, receiver_none, receiver_more}
 use Rattle.ym_link.specs.ReceiverInto.{HearsGives, ReceiverParts, Takes}
 use Rattle.ym_pair.specs.Logs.{Answered, answered_along}
 use Rattle.ym_delay.specs.Cleared.{AcksAgain, AnswersAlike, IsAck}
@@ -209,7 +209,7 @@ running : (old : ReceiverParts) (h : Heard) (reply : Reply) (new : ReceiverParts
 running old h reply new run gives =
     (gives.0, gives.2.0, subst (λ s. Takes old s gives.2.0 reply new) (ap (λ x. hears_at x old.receiver gives.0 h) run) gives.2.1)
 
--- ---- Along a course
+-- ---- Along a history
 
 -- since then it has heard nothing else
 abbrev pub Alive : Answered → List Answered → Type 0
@@ -321,8 +321,8 @@ pub alike : (r : ReceiverParts) (deliveries : List Heard) (progress : ℕ) (new 
     AnswersAlike (answered_along r deliveries progress new hears) × StillReady (answered_along r deliveries progress new hears) new.receiver
 alike r deliveries progress new (receiver_none _) some = (tt, tt)
 alike r deliveries progress new (receiver_more _ before steps between h reply _ hears is on large gives) some =
-    let front = answered_along r before steps between hears in
+    let prefix = answered_along r before steps between hears in
     let all = alike r before steps between hears (goes-on between.receiver on) in (
-      alike-more front (record { heard = h; wrote = reply }) (none-cancels r before steps between hears on) all.0 (fits-now between h reply new on gives front all.1 some) (bad-says between h reply new on gives),
-      still-now between h reply new on gives front all.1,
+      alike-more prefix (record { heard = h; wrote = reply }) (none-cancels r before steps between hears on) all.0 (fits-now between h reply new on gives prefix all.1 some) (bad-says between h reply new on gives),
+      still-now between h reply new on gives prefix all.1,
     )

@@ -11,8 +11,8 @@ use Rattle.ym_port.specs.declared.line.TheConstants.{CLEAR_PIECE}
 use Rattle.ym_timing.specs.Clears as clears
 use Rattle.ym_timing.specs.Pace.{bound}
 use Rattle.ym_timing.specs.Times.{later, waited}
-use Rattle.ym_timing.specs.declared.clearing.Clearing.{Clearing}
-use Rattle.ym_timing.specs.declared.clearing.Need.TheVariants.{Several}
+use Rattle.ym_timing.specs.declared.purge.Purge.{Purge}
+use Rattle.ym_timing.specs.declared.purge.Need.TheVariants.{Several}
 use Rattle.ym_timing.specs.declared.out.Out.{Out}
 use Rattle.ym_timing.specs.declared.pace.Pace.{Pace}
 use Rattle.ym_timing.specs.declared.pace.Trust.{Trust}
@@ -35,7 +35,7 @@ ear-same : (r : Role) (byte : ℕ) (written : List ℕ) (now : ℕ) (first t : T
 ear-same Sender byte written now first t is = record { role = is.role; pace = is.pace; out = is.out }
 ear-same Receiver byte written now first t is = is
 
-dropped-same : (c : Clearing) (byte : ℕ) (written : List ℕ) (now : ℕ) (first t : Timing) → Same first t → Same first (clears.after_dropped c byte written now t)
+dropped-same : (c : Purge) (byte : ℕ) (written : List ℕ) (now : ℕ) (first t : Timing) → Same first t → Same first (clears.after_dropped c byte written now t)
 dropped-same c byte written now first t is =
     let ear = ear-same t.role byte written now first t is in
     either (λ (x : Timing). Same first x) (clears.is_heard byte written now t) _ _ (λ _. record { role = ear.role; pace = ear.pace; out = ear.out }) (λ _. ear)
@@ -69,40 +69,40 @@ module _ (first t : Timing) (is : Same first t) (since from : ℕ) (before : sin
 
 module _ (since end : ℕ) (first : Timing) where
   -- a sender that clears behind several writes, since then at the earliest
-  pub record Clears (c : Clearing) (t : Timing) : Type 0 where
+  pub record Clears (c : Purge) (t : Timing) : Type 0 where
     pub same : Same first t
     pub need : c.need ≡ Several
     pub from : since ≤ c.from
     pub end_is : c.end_at ≡ end
 
-  brings-clears : (counts answers : Bool) (now : ℕ) (c : Clearing) (t : Timing) → since ≤ now → Clears c t → Clears (clears.brings counts answers now c) t
+  brings-clears : (counts answers : Bool) (now : ℕ) (c : Purge) (t : Timing) → since ≤ now → Clears c t → Clears (clears.brings counts answers now c) t
   brings-clears counts answers now c t before is =
       record { same = is.same; need = is.need; from = either (λ x. since ≤ x) counts now c.from (λ _. before) (λ _. is.from); end_is = is.end_is }
 
-  brought-clears : (heard : Bool) (c : Clearing) (byte now : ℕ) (t : Timing) → since ≤ now → Clears c t → Clears (clears.brought heard c byte now t) t
+  brought-clears : (heard : Bool) (c : Purge) (byte now : ℕ) (t : Timing) → since ≤ now → Clears c t → Clears (clears.brought heard c byte now t) t
   brought-clears heard c byte now t before is = brings-clears (heard && nat_eq byte 0x06 || clears.counts_all t.role c.need) (heard && nat_eq byte 0x06) now c t before is
 
-  byte-clears : (c : Clearing) (byte : ℕ) (written : List ℕ) (now : ℕ) (t : Timing) → since ≤ now → Clears c t → Clears (clears.dropped c byte written now t) (clears.after_dropped c byte written now t)
+  byte-clears : (c : Purge) (byte : ℕ) (written : List ℕ) (now : ℕ) (t : Timing) → since ≤ now → Clears c t → Clears (clears.dropped c byte written now t) (clears.after_dropped c byte written now t)
   byte-clears c byte written now t before is =
       let kept = either (λ x. Clears x t) (clears.is_heard byte written now t) (clears.heeds_in t.role byte (clears.brought true c byte now t)) (clears.brought false c byte now t)
       (λ _. let one = brought-clears true c byte now t before is in record { same = one.same; need = one.need; from = one.from; end_is = one.end_is }) (λ _. brought-clears false c byte now t before is) in
       record { same = dropped-same c byte written now first t is.same; need = kept.need; from = kept.from; end_is = kept.end_is }
 
-  bytes-clear : (bytes written : List ℕ) (now : ℕ) (d : Dropped) → since ≤ now → Clears d.clearing d.timing → Clears (dropped bytes written now d).clearing (dropped bytes written now d).timing
+  bytes-clear : (bytes written : List ℕ) (now : ℕ) (d : Dropped) → since ≤ now → Clears d.purge d.timing → Clears (dropped bytes written now d).purge (dropped bytes written now d).timing
   bytes-clear [] written now d before is = is
   bytes-clear (b ∷ bytes) written now d before is =
-      bytes-clear bytes written now (record { clearing = clears.dropped d.clearing b written now d.timing; timing = clears.after_dropped d.clearing b written now d.timing }) before
-      (byte-clears d.clearing b written now d.timing before is)
+      bytes-clear bytes written now (record { purge = clears.dropped d.purge b written now d.timing; timing = clears.after_dropped d.purge b written now d.timing }) before
+      (byte-clears d.purge b written now d.timing before is)
 
   -- ---- When it is clear
 
-  abbrev pub Quiet : Clearing → Line → Type 0
+  abbrev pub Quiet : Purge → Line → Type 0
   Quiet c l = IsOverAtOnce c l ⊎ (min (clears.several_until since first) end ≤ l.clock.at)
 
   quiet-by : (whole until from now : ℕ) → whole ≡ min until end → from ≤ until → whole ≤ now → min from end ≤ now
   quiet-by whole until from now is long late = omega (arith, is, long, late)
 
-  pub bounded : (c : Clearing) (l : Line) → Clears c l.timing → clears.clear_at c l.timing ≤ l.clock.at → Quiet c l
+  pub bounded : (c : Purge) (l : Line) → Clears c l.timing → clears.clear_at c l.timing ≤ l.clock.at → Quiet c l
   bounded c l is late = by l.timing.has_cancel refl (clears.is_answered c l.timing) refl
     where
       by : (cancel : Bool) → l.timing.has_cancel ≡ cancel → (answered : Bool) → clears.is_answered c l.timing ≡ answered → Quiet c l
@@ -114,23 +114,23 @@ module _ (since end : ℕ) (first : Timing) where
 
   -- ---- The whole of it
 
-  pub record Ends (count : ℕ) (found : Clearing) (e : Cleared) : Type 0 where
+  pub record Ends (count : ℕ) (found : Purge) (e : Cleared) : Type 0 where
     pub is : IsOverAtOnce found e.line ⊎ ((count ≤ length e.tape.done) ⊎ (min (clears.several_until since first) end ≤ e.line.clock.at))
 
-  abbrev Goes : ℕ → Clearing → Cleared → Type 0
+  abbrev Goes : ℕ → Purge → Cleared → Type 0
   Goes count found e = e.answer ≡ Ok found → Ends count found e
 
   or-is : (a b : Bool) → (a || b) ≡ true → (a ≡ true) ⊎ (b ≡ true)
   or-is true b is = inl refl
   or-is false b is = inr is
 
-  same-found : (c found : Clearing) → ◌≡◌ {A = Result Clearing PortFault} (Ok c) (Ok found) → c ≡ found
+  same-found : (c found : Purge) → ◌≡◌ {A = Result Purge PortFault} (Ok c) (Ok found) → c ≡ found
   same-found c found is = cc
 
-  never-failed : (e : PortFault) (found : Clearing) → ◌≡◌ {A = Result Clearing PortFault} (Err e) (Ok found) → ⊥
+  never-failed : (e : PortFault) (found : Purge) → ◌≡◌ {A = Result Purge PortFault} (Err e) (Ok found) → ⊥
   never-failed e found is = cc
 
-  is-over : (count : ℕ) (found c : Clearing) (l : Line) (t : Tape) → Clears c l.timing → is_clear c l ≡ true → Goes count found (over c l t)
+  is-over : (count : ℕ) (found c : Purge) (l : Line) (t : Tape) → Clears c l.timing → is_clear c l ≡ true → Goes count found (over c l t)
   is-over count found c l t is clear ok =
       subst (λ x. Ends count x (over c l t)) (same-found c found ok) (
       elim (or-is l.is_closed (nat_le (clears.clear_at c l.timing) l.clock.at) clear) [
@@ -139,7 +139,7 @@ module _ (since end : ℕ) (first : Timing) where
       ]
       )
 
-  more-ends : (count less : ℕ) (found : Clearing) (e : Cleared) → count ≤ less → Ends less found e → Ends count found e
+  more-ends : (count less : ℕ) (found : Purge) (e : Cleared) → count ≤ less → Ends less found e → Ends count found e
   more-ends count less found e fewer ends =
       elim ends.is [
         | inl now ↦ record { is = inl now }
@@ -147,21 +147,21 @@ module _ (since end : ℕ) (first : Timing) where
       ]
 
   -- behind one read
-  once : (less : ℕ) (found : Clearing) (seen : Seen) (until count : ℕ) (c : Clearing) (l : Line) (t : Tape) → since ≤ 2 ^ 64 - 1 → since ≤ l.clock.at → Clears c l.timing → count + 1 ≤ length t.done →
-      ((c : Clearing) (l : Line) (t : Tape) → since ≤ l.clock.at → Clears c l.timing → Goes (length t.done + less) found (cleared less c l t)) →
+  once : (less : ℕ) (found : Purge) (seen : Seen) (until count : ℕ) (c : Purge) (l : Line) (t : Tape) → since ≤ 2 ^ 64 - 1 → since ≤ l.clock.at → Clears c l.timing → count + 1 ≤ length t.done →
+      ((c : Purge) (l : Line) (t : Tape) → since ≤ l.clock.at → Clears c l.timing → Goes (length t.done + less) found (cleared less c l t)) →
       Goes (count + suc less) found (clear_on (cleared less) (clear_step seen c until l t).answer (clear_step seen c until l t).line (clear_step seen c until l t).tape)
   once less found (Data bytes) until count c l t within before is more goes =
       let now : since ≤ (looked (moment_of t) l).clock.at = omega (arith, within, before) in
       let tape = longest Looked t.done in
       λ ok. more-ends _ _ found _ (omega (arith, more, tape))
-      (goes _ _ (after_moment t) now (bytes-clear bytes l.written (looked (moment_of t) l).clock.at (record { clearing = c; timing = l.timing }) now is) ok)
+      (goes _ _ (after_moment t) now (bytes-clear bytes l.written (looked (moment_of t) l).clock.at (record { purge = c; timing = l.timing }) now is) ok)
   once less found Silence until count c l t within before is more goes =
       let tape = longest Looked t.done in
       λ ok. more-ends _ _ found _ (omega (arith, more, tape)) (goes c (record l { clock = waited until (moment_of t) l.clock }) (after_moment t) (omega (arith, within, before)) is ok)
   once less found End until count c l t within before is more goes = λ ok. more-ends _ _ found _ (omega (arith, more)) (goes c (record l { is_closed = true }) t before is ok)
   once less found Failed until count c l t within before is more goes = λ ok. absurd (never-failed _ found ok)
 
-  pub clears-on : (more : ℕ) (found c : Clearing) (l : Line) (t : Tape) → since ≤ 2 ^ 64 - 1 → since ≤ l.clock.at → Clears c l.timing → Goes (length t.done + more) found (cleared more c l t)
+  pub clears-on : (more : ℕ) (found c : Purge) (l : Line) (t : Tape) → since ≤ 2 ^ 64 - 1 → since ≤ l.clock.at → Clears c l.timing → Goes (length t.done + more) found (cleared more c l t)
   unfolding cleared
   clears-on zero found c l t within before is = λ ok. record { is = inr (inl (omega arith)) }
   clears-on (suc less) found c l t within before is =

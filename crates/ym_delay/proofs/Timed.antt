@@ -1,7 +1,7 @@
 -- On a line with time in it deliveries pair up, round for round.
 use Rattle.std.proofs.Common.{◌≡◌, ◌+◌, ◌<◌, ◌≤◌, ◌⊎◌, inl, inr, ℕ, List, [], ◌∷◌, refl, sym, ap, subst, arith}
 unfoldable use Rattle.ym_frame.specs.Frame.{verdict_of}
-use Rattle.ym_core.specs.Reading.{controls_in}
+use Rattle.ym_core.specs.Scan.{controls_in}
 use Rattle.ym_core.specs.declared.delivery.Heard.{Heard}
 use Rattle.ym_core.specs.declared.delivery.Heard.TheVariants.{Bad}
 use Rattle.ym_line.specs.declared.delivery.Delivery.{Delivery}

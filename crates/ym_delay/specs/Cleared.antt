@@ -5,7 +5,7 @@ use Rattle.ym_frame.specs.declared.control.Control.{Control}
 use Rattle.ym_frame.specs.declared.control.Control.TheVariants as control
 use Rattle.ym_frame.specs.declared.control.Reply.{Reply}
 use Rattle.ym_frame.specs.declared.control.Reply.TheVariants as reply
-use Rattle.ym_core.specs.Reading.{controls_in}
+use Rattle.ym_core.specs.Scan.{controls_in}
 use Rattle.ym_core.specs.declared.delivery.Heard.TheVariants.{Bad}
 use Rattle.ym_core.specs.declared.state.SendState.TheVariants as state
 use Rattle.ym_link.specs.Sender.{SenderParts}

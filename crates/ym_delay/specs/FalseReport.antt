@@ -9,16 +9,16 @@ use Rattle.ym_header.specs.declared.fault.HeaderFault.{HeaderFault}
 use Rattle.ym_header.specs.declared.reading.Zero.{Zero}
 use Rattle.ym_header.specs.declared.reading.Zero.TheVariants.{File}
 use Rattle.ym_header.specs.declared.stamp.Stamp.TheVariants.{Nothing}
-use Rattle.ym_core.specs.Reading.{controls_in}
+use Rattle.ym_core.specs.Scan.{controls_in}
 use Rattle.ym_core.specs.Receiver.{Receiver}
 use Rattle.ym_core.specs.Receiver as receiver
 use Rattle.ym_core.specs.Standing as sender
 use Rattle.ym_core.specs.declared.delivery.Heard.{Heard}
 use Rattle.ym_core.specs.declared.delivery.Heard.TheVariants as heard
-use Rattle.ym_core.specs.declared.place.Mode.{Mode}
-use Rattle.ym_core.specs.declared.place.Mode.TheVariants.{Waiting, Sent}
-use Rattle.ym_core.specs.declared.place.Place.{Place}
-use Rattle.ym_core.specs.declared.place.Place.TheVariants.{Header, Block, Eot, End}
+use Rattle.ym_core.specs.declared.position.Mode.{Mode}
+use Rattle.ym_core.specs.declared.position.Mode.TheVariants.{Waiting, Sent}
+use Rattle.ym_core.specs.declared.position.Position.{Position}
+use Rattle.ym_core.specs.declared.position.Position.TheVariants.{Header, Block, Eot, End}
 use Rattle.ym_core.specs.declared.standing.Standing.{Standing}
 use Rattle.ym_pair.specs.Logs.{Answered, Spoke}
 use Rattle.ym_pair.specs.PairingExamples.{eot, ending}
@@ -49,8 +49,8 @@ meaning batch = Ok (File (record { name = batch.name; length = 128; stamp = Noth
 -- ---- What the tables make of what is heard
 
 -- what the sender has to say
-abbrev pub says_at : SmallBatch → Mode → Place → List ℕ
-says_at batch Waiting place = []
+abbrev pub says_at : SmallBatch → Mode → Position → List ℕ
+says_at batch Waiting position = []
 says_at batch Sent (Header file) = batch.zero
 says_at batch Sent (Block file k) = batch.one
 says_at batch Sent (Eot file) = eot
@@ -67,7 +67,7 @@ sender_after s (came ∷ deliveries) = sender_after (sender_behind s came) deliv
 abbrev pub sender_says : SmallBatch → Standing → List (List ℕ) → List Spoke
 sender_says batch s [] = []
 sender_says batch s (came ∷ deliveries) =
-    record { wrote = says_at batch s.mode s.place; came = came }
+    record { wrote = says_at batch s.mode s.position; came = came }
     ∷ sender_says batch (sender_behind s came) deliveries
 
 abbrev pub step_of : SmallBatch → Receiver → Heard → receiver.Step

@@ -7,7 +7,7 @@ use Rattle.ym_port.specs.Wire.{Tape}
 use Rattle.ym_port.specs.declared.line.Line.{Line}
 use Rattle.ym_port.specs.declared.line.TheConstants.{CLEAR_PIECE}
 use Rattle.ym_timing.specs.Clears.{clear_at}
-use Rattle.ym_timing.specs.declared.clearing.Clearing.{Clearing}
+use Rattle.ym_timing.specs.declared.purge.Purge.{Purge}
 
 -- some of them, and what the clock told as they came
 pub record Late : Type 0 where
@@ -17,35 +17,35 @@ pub record Late : Type 0 where
 -- ---- What is known of the line when they are dropped
 
 -- how far it is clear behind these bytes
-abbrev pub clearing_after : Late → Clearing → Line → Clearing
-clearing_after late c l = dropping c late.bytes (looked late.at l)
+abbrev pub purge_after : Late → Purge → Line → Purge
+purge_after late c l = dropping c late.bytes (looked late.at l)
 
-abbrev pub line_after : Late → Clearing → Line → Line
+abbrev pub line_after : Late → Purge → Line → Line
 line_after late c l = after_dropping c late.bytes (looked late.at l)
 
 -- and behind them all
-abbrev pub clearing_behind : Clearing → Line → List Late → Clearing
-clearing_behind c l [] = c
-clearing_behind c l (late ∷ others) =
-    clearing_behind (clearing_after late c l) (line_after late c l) others
+abbrev pub purge_behind : Purge → Line → List Late → Purge
+purge_behind c l [] = c
+purge_behind c l (late ∷ others) =
+    purge_behind (purge_after late c l) (line_after late c l) others
 
-abbrev pub line_behind : Clearing → Line → List Late → Line
+abbrev pub line_behind : Purge → Line → List Late → Line
 line_behind c l [] = l
 line_behind c l (late ∷ others) =
-    line_behind (clearing_after late c l) (line_after late c l) others
+    line_behind (purge_after late c l) (line_after late c l) others
 
 -- ---- When they come
 
 -- a read takes them whole, before the line is clear
-pub record IsLate (c : Clearing) (l : Line) (late : Late) : Type 0 where
+pub record IsLate (c : Purge) (l : Line) (late : Late) : Type 0 where
   pub early : is_clear c l ≡ false
   pub some : 1 ≤ length late.bytes
   pub fits : length late.bytes ≤ CLEAR_PIECE
 
-abbrev pub AreLate : Clearing → Line → List Late → Type 0
+abbrev pub AreLate : Purge → Line → List Late → Type 0
 AreLate c l [] = Unit {0}
 AreLate c l (late ∷ others) =
-    IsLate c l late × AreLate (clearing_after late c l) (line_after late c l) others
+    IsLate c l late × AreLate (purge_after late c l) (line_after late c l) others
 
 -- ---- What the wire brings
 
@@ -69,7 +69,7 @@ brings late at rest = record {
 
 -- So the port leaves off, where it fell quiet at this clearing and line: its clock has waited until
 -- the line was clear, and the rest is still to come.
-pub record LeavesOff (c : Clearing) (l : Line) (at : ℕ) (rest : Tape) (e : Cleared) : Type 0 where
+pub record LeavesOff (c : Purge) (l : Line) (at : ℕ) (rest : Tape) (e : Cleared) : Type 0 where
   pub answer : e.answer ≡ Ok c
   pub line : e.line ≡ passed (clear_at c l.timing) at l
   pub clear : is_clear c e.line ≡ true

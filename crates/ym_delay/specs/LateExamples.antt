@@ -8,13 +8,13 @@ use Rattle.ym_port.specs.Wire.{Tape}
 use Rattle.ym_port.specs.declared.deed.Deed.TheVariants.{Looked, Waited}
 use Rattle.ym_port.specs.declared.line.Line.{Line}
 use Rattle.ym_timing.specs.ByteRows.{after_bytes, writes}
-use Rattle.ym_timing.specs.Clears.{clear_at, clearing}
+use Rattle.ym_timing.specs.Clears.{clear_at, purge}
 use Rattle.ym_timing.specs.Timing.{new_timing}
-use Rattle.ym_timing.specs.declared.clearing.Clearing.{Clearing}
-use Rattle.ym_timing.specs.declared.clearing.Heed.TheVariants.{Other}
+use Rattle.ym_timing.specs.declared.purge.Purge.{Purge}
+use Rattle.ym_timing.specs.declared.purge.Heed.TheVariants.{Other}
 use Rattle.ym_timing.specs.declared.role.Role.TheVariants.{Sender}
 use Rattle.ym_timing.specs.declared.timing.Timing.{Timing}
-use Rattle.ym_delay.specs.LateAnswers.{Late, brings, clearing_behind, line_behind}
+use Rattle.ym_delay.specs.LateAnswers.{Late, brings, purge_behind, line_behind}
 
 abbrev block_0 : List ℕ
 block_0 = 0x01 ∷ 0x00 ∷ 0xFF ∷ 0x61 ∷ 0x1A ∷ []
@@ -37,8 +37,8 @@ line = record (new_line Sender) {
 
 -- Two more ACKs may come, so it has to clear before block 1: for as long as the writes are apart,
 -- and a jitter.
-abbrev start : Clearing
-start = clearing block_1 7100 opened
+abbrev start : Purge
+start = purge block_1 7100 opened
 
 start-until : clear_at start opened ≡ 12100
 start-until = refl
@@ -51,7 +51,7 @@ acks = record { bytes = 0x06 ∷ []; at = 8000 } ∷ []
 early : is_clear start line ≡ false
 early = refl
 
-unclear : is_clear (clearing_behind start line acks) (line_behind start line acks) ≡ false
+unclear : is_clear (purge_behind start line acks) (line_behind start line acks) ≡ false
 unclear = refl
 
 -- and a C behind the quiet

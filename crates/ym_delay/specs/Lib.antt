@@ -1,6 +1,6 @@
 pub mod Beyond
 pub mod Cleared
-pub mod Courses
+pub mod Histories
 pub mod FalseReport
 pub mod HowLong
 pub mod LateAnswers

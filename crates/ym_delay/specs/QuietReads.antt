@@ -6,9 +6,9 @@ use Rattle.ym_port.specs.declared.line.TheConstants.{MOST_READS}
 use Rattle.ym_port.specs.TimedPort.{Read, looked, read_of}
 use Rattle.ym_port.specs.Wire.{Tape, moment_of}
 use Rattle.ym_port.specs.declared.line.Line.{Line}
-use Rattle.ym_timing.specs.Clears.{clearing, is_answered}
-use Rattle.ym_timing.specs.declared.clearing.Clearing.{Clearing}
-use Rattle.ym_timing.specs.declared.clearing.Need.TheVariants.{Several}
+use Rattle.ym_timing.specs.Clears.{purge, is_answered}
+use Rattle.ym_timing.specs.declared.purge.Purge.{Purge}
+use Rattle.ym_timing.specs.declared.purge.Need.TheVariants.{Several}
 
 -- when a read for a reply begins: the clock is asked first
 abbrev pub began : Line → Tape → ℕ
@@ -26,9 +26,9 @@ IsSpent before after = length before.done + MOST_READS ≤ length after.done
 
 -- these bytes go on from a frame of which several answers may come
 abbrev pub IsSeveral : List ℕ → Line → Tape → Type 0
-IsSeveral bytes l t = (clearing bytes (began l t) l.timing).need ≡ Several
+IsSeveral bytes l t = (purge bytes (began l t) l.timing).need ≡ Several
 
 -- the line was closed or has CAN CAN, or each copy of a block had its ACK: there is nothing to wait
 -- for
-pub record IsOverAtOnce (c : Clearing) (l : Line) : Type 0 where
+pub record IsOverAtOnce (c : Purge) (l : Line) : Type 0 where
   pub is : (l.is_closed ≡ true) ⊎ ((l.timing.has_cancel ≡ true) ⊎ (is_answered c l.timing ≡ true))

@@ -6,7 +6,7 @@ use Rattle.ym_timing.specs.Clears.{is_answered, several_until}
 use Rattle.ym_timing.specs.Pace.{bound}
 use Rattle.ym_timing.specs.Times.{later}
 use Rattle.ym_timing.specs.Writing.{is_late, is_likely, is_prompted, soon}
-use Rattle.ym_timing.specs.declared.clearing.Clearing.{Clearing}
+use Rattle.ym_timing.specs.declared.purge.Purge.{Purge}
 use Rattle.ym_timing.specs.declared.limits.TheConstants.{APART, FIRST_FRAME, LIKELY, LONGEST}
 use Rattle.ym_timing.specs.declared.limits.TheConstants.{SENDER_QUIET, UNASKED}
 use Rattle.ym_timing.specs.declared.pace.Trust.{Trust}
@@ -87,10 +87,10 @@ pub record CopiesLikely (times : Times) (led : ℕ) (s : SpokeAt) : Type 0 where
 -- its count each copy of the block was answered.
 pub record CountsByRule (more dropped : ℕ) (s next : SpokeAt) : Type 0 where
   pub timing : Timing
-  pub clearing : Clearing
-  pub answered : is_answered clearing timing ≡ true
+  pub purge : Purge
+  pub answered : is_answered purge timing ≡ true
   pub copies : more ≤ timing.out.copies - 1
-  pub counted : timing.out.copies - 1 ≤ clearing.owed + dropped
+  pub counted : timing.out.copies - 1 ≤ purge.owed + dropped
   pub acked : ReadsAck s.spoke.came
   pub other : next.spoke.wrote ≡ s.spoke.wrote → ⊥
 

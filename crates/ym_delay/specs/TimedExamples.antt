@@ -23,8 +23,8 @@ abbrev pub line_of : ℕ → Times
 line_of oldest = record slow_line { oldest = oldest }
 
 -- a sender lets the line clear for so long as its rule has it where no ACK comes meanwhile
-abbrev pub clearing_line_of : ℕ → Times
-clearing_line_of oldest = record slow_line { oldest = oldest; sender_acts = 1350 }
+abbrev pub purge_line_of : ℕ → Times
+purge_line_of oldest = record slow_line { oldest = oldest; sender_acts = 1350 }
 
 abbrev pub said : List ℕ → ℕ → List ℕ → ℕ → SpokeAt
 said wrote at came by = record { spoke = record { wrote = wrote; came = came }; at = at; by = by }

@@ -5,14 +5,14 @@ ghost use Rattle.ym_core.specs.declared.delivery.Heard.{Heard};
 ghost use Rattle.ym_core.specs.declared.state.RecvState.TheVariants as receiver_is;
 ghost use Rattle.ym_link.specs.Port.{Silence};
 ghost use Rattle.ym_link.specs.ReceiverInto.{ReceiverParts};
-ghost use Rattle.ym_link.specs.Course.{ReceiverHears, SenderHears};
+ghost use Rattle.ym_link.specs.History.{ReceiverHears, SenderHears};
 ghost use Rattle.ym_link.specs.Sender.{IsSender, SenderParts, spoken as sent};
 ghost use Rattle.ym_link.specs.SendOver.{written_for};
 ghost use Rattle.ym_timing.specs.Clears.{several_until};
 ghost use Rattle.ym_timing.specs.Pace.{first_wait};
 ghost use Rattle.ym_timing.specs.Times.{later};
 ghost use Rattle.ym_timing.specs.declared.role.Role.TheVariants.{Receiver, Sender};
-ghost use Rattle.ym_timing.specs.declared.clearing.Clearing.{Clearing};
+ghost use Rattle.ym_timing.specs.declared.purge.Purge.{Purge};
 ghost use Rattle.ym_port.specs.TimedPort.{clears_for};
 ghost use Rattle.ym_port.specs.Wire.{Tape};
 ghost use Rattle.ym_port.specs.declared.line.Line.{Line};
@@ -25,7 +25,7 @@ ghost use Rattle.ym_delay.specs.Beyond.{GoesApart};
 ghost use Rattle.ym_delay.specs.Cleared.{AnswersAlike, EndsWell, LetsClear, SaysAgain};
 ghost use Rattle.ym_delay.specs.TimedExamples.{ahead_last, ahead_receiver, ahead_sender};
 ghost use Rattle.ym_delay.specs.TimedExamples.{clear_last, clear_line, clear_receiver};
-ghost use Rattle.ym_delay.specs.TimedExamples.{clear_sender, clearing_line_of, line_of};
+ghost use Rattle.ym_delay.specs.TimedExamples.{clear_sender, purge_line_of, line_of};
 ghost use Rattle.ym_delay.specs.TimedExamples.{slow_last, slow_line, slow_receiver, slow_sender};
 ghost use Rattle.ym_delay.specs.TimedLine.{AnsweredAt, AnswersInTime, BeginsSilent};
 ghost use Rattle.ym_delay.specs.TimedLine.{CallsAreTimed, HearsEachTime, IsPrompt, IsTimed};
@@ -34,12 +34,12 @@ ghost use Rattle.ym_delay.specs.TimedLine.{answers_of, spoken};
 ghost use Rattle.ym_delay.specs.HowLong.{AnswersEnd, ReadsEnd, answered_by, heard_by};
 ghost use Rattle.ym_delay.specs.QuietReads.{IsOverAtOnce, IsSeveral, IsSpent, began, reply_read};
 
-mod courses;
+mod histories;
 mod late_answers;
 mod report;
 mod rule;
 
-pub use courses::{
+pub use histories::{
     batches_in_time_commit_a_prefix, batches_in_time_complete, batches_take_so_long,
 };
 pub use late_answers::late_answers_are_dropped;
@@ -171,8 +171,8 @@ pub fn a_slow_line_is_timed()
 pub fn the_oldest_that_is_prompt()
     ensures within { (oldest : ℕ) → oldest ≤ 1449 → IsPrompt (line_of oldest) }
     ensures beyond { (oldest : ℕ) → 1450 ≤ oldest → IsPrompt (line_of oldest) → ⊥ }
-    ensures clearing { (oldest : ℕ) → oldest ≤ 824 → IsPrompt (clearing_line_of oldest) }
-    ensures clearing_beyond { (oldest : ℕ) → 825 ≤ oldest → IsPrompt (clearing_line_of oldest) → ⊥ }
+    ensures purge { (oldest : ℕ) → oldest ≤ 824 → IsPrompt (purge_line_of oldest) }
+    ensures purge_beyond { (oldest : ℕ) → 825 ≤ oldest → IsPrompt (purge_line_of oldest) → ⊥ }
 {}
 
 /// No such law holds of slower lines: on each line on which something may be 1.45 seconds old there
@@ -256,14 +256,14 @@ pub fn a_quiet_read_waited()
 /// nothing to wait for where the line was closed, CAN CAN came, or each copy of a block had its
 /// ACK; and it gives up when it has asked the line 65,536 times.
 pub fn a_cleared_line_was_quiet()
-    ensures by_rule { (bytes : List ℕ) (l : Line) (t : Tape) (c : Clearing) →
+    ensures by_rule { (bytes : List ℕ) (l : Line) (t : Tape) (c : Purge) →
         l.timing.role ≡ Sender → IsSeveral bytes l t → l.timing.heard.answered_at ≤ began l t →
         (clears_for bytes l t).answer ≡ Ok c →
         IsOverAtOnce c (clears_for bytes l t).line
         ⊎ (IsSpent t (clears_for bytes l t).tape
         ⊎ (min (several_until l.timing.heard.answered_at l.timing) (later (began l t) 60000)
         ≤ (clears_for bytes l t).line.clock.at)) }
-    ensures quiet { (bytes : List ℕ) (l : Line) (t : Tape) (c : Clearing) →
+    ensures quiet { (bytes : List ℕ) (l : Line) (t : Tape) (c : Purge) →
         l.timing.role ≡ Sender → IsSeveral bytes l t → l.timing.heard.answered_at ≤ began l t →
         (clears_for bytes l t).answer ≡ Ok c →
         IsOverAtOnce c (clears_for bytes l t).line

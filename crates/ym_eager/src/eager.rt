@@ -2,7 +2,7 @@
 
 ghost use Rattle.std.specs.Prelude.{◌≡◌, ◌<◌, ◌≤◌, ◌++◌, ◌∷◌, [], ℕ, List, true, false, Ok};
 ghost use Rattle.std.specs.Prelude.{OnOk, OnErr, length, is_ok};
-ghost use Rattle.ym_file.specs.Counts.{Rose};
+ghost use Rattle.ym_file.specs.Counts.{Counted};
 ghost use Rattle.ym_link.specs.Port.{Tape, seen_of, read_gives, read_leaves, after_write};
 ghost use Rattle.ym_link.specs.declared.port.Wait.{Wait as Asked};
 ghost use Rattle.ym_eager.specs.Eager.{ahead};
@@ -61,7 +61,8 @@ impl<P: Port + Drop> Port for Eager<P> {
         ensures below { self.old.is_first ≡ false → (w : List Asked) → P.asked self.new.port w →
             (v : List Asked) × P.asked self.old.port v × (w ≡ v ++ wait ∷ []) }
         ensures ok { OnOk result (P.failures self.new.port ≡ P.failures self.old.port) }
-        ensures failed { OnErr result (Rose (P.failures self.old.port) (P.failures self.new.port)) }
+        ensures failed { OnErr result (Counted
+            (P.failures self.old.port) (P.failures self.new.port)) }
     {
         self.waits = self.waits.then(&wait);
         if self.is_first {

@@ -7,7 +7,7 @@ mod places;
 mod telling;
 mod told_line;
 
-pub use opening::open_line;
+pub use opening::{open_line, why_closed};
 pub use places::{AtPort, OnLine};
 pub use telling::tell_end;
 pub use told_line::{LineWords, ToldLine, ToldWire};

@@ -11,7 +11,7 @@ use ym_teller::Teller;
 use ym_text::{Reason, TtyMessage};
 
 /// Why the terminal at this path is not opened, as it is told.
-fn refused<'a>(path: &'a str, fault: &OpenFault) -> TtyMessage<'a> {
+pub fn why_closed<'a>(path: &'a str, fault: &OpenFault) -> TtyMessage<'a> {
     match fault {
         OpenFault::Absent => TtyMessage::Absent(path),
         OpenFault::Denied => TtyMessage::Denied(path),
@@ -35,7 +35,7 @@ pub fn open_line<R: Files<File = File>, E: Write + Drop>(
             Ok(file)
         }
         Err(fault) => {
-            teller.tell(refused(path, &fault));
+            teller.tell(why_closed(path, &fault));
             Err(CommandFault::Device)
         }
     }

@@ -12,7 +12,7 @@ use Rattle.ym_explain.specs.declared.answered.AnswerLine.TheVariants as line
 use Rattle.ym_explain.specs.declared.signs.Sign.{Sign}
 use Rattle.ym_explain.specs.declared.signs.Sign.TheVariants as sign
 use Rattle.ym_explain.specs.declared.told.FrameKind.TheVariants as kind
-use Rattle.ym_explain.specs.declared.told.SendPlace.TheVariants as place
+use Rattle.ym_explain.specs.declared.told.SendPosition.TheVariants as position
 use Rattle.ym_explain.specs.declared.verdict.Verdict.{Verdict}
 use Rattle.ym_explain.specs.declared.verdict.Verdict.TheVariants as verdict
 
@@ -20,20 +20,20 @@ abbrev block : ℕ → ℕ → Item
 block number first = item.Block (record { number = number; body = first ∷ [] })
 
 -- a block 0 with a name begins a file, and without one ends the batch
-name : told_of place.Before (block 0 0x61) ≡ tells kind.Name place.Named
+name : told_of position.Before (block 0 0x61) ≡ tells kind.Name position.Named
 name = refl
 
-end : told_of place.Ended (block 0 0) ≡ tells kind.End place.Over
+end : told_of position.Ended (block 0 0) ≡ tells kind.End position.Over
 end = refl
 
 -- behind block 255 comes block 0, which is no name there
-wraps : told_of (place.Data 255) (block 0 0x61) ≡ tells kind.Data (place.Data 0)
+wraps : told_of (position.Data 255) (block 0 0x61) ≡ tells kind.Data (position.Data 0)
 wraps = refl
 
-again : told_of (place.Data 7) (block 7 0x61) ≡ tells kind.Copy (place.Data 7)
+again : told_of (position.Data 7) (block 7 0x61) ≡ tells kind.Copy (position.Data 7)
 again = refl
 
-lost : told_of (place.Data 7) (block 9 0x61) ≡ tells kind.OutOfTurn (place.Data 9)
+lost : told_of (position.Data 7) (block 9 0x61) ≡ tells kind.OutOfTurn (position.Data 9)
 lost = refl
 
 ack : byte_line 0x06 ≡ line.Answer Ack
@@ -44,10 +44,10 @@ abbrev verdict_on : List Sign → Verdict
 verdict_on signs = first_shown (seen_of nothing_seen signs) ORDER
 
 whole :
-    verdict_on (sign.Answer Start ∷ sign.Block place.Before kind.Name ∷ sign.Answer Ack ∷
-    sign.Answer Start ∷ sign.Block place.Named kind.Data ∷ sign.Answer Ack ∷
+    verdict_on (sign.Answer Start ∷ sign.Block position.Before kind.Name ∷ sign.Answer Ack ∷
+    sign.Answer Start ∷ sign.Block position.Named kind.Data ∷ sign.Answer Ack ∷
     sign.Eot ∷ sign.Answer Nak ∷ sign.Eot ∷ sign.Answer Ack ∷ sign.Answer Start ∷
-    sign.Block place.Ended kind.End ∷ sign.Answer Ack ∷ []) ≡ verdict.Whole
+    sign.Block position.Ended kind.End ∷ sign.Answer Ack ∷ []) ≡ verdict.Whole
 whole = refl
 
 nothing : verdict_on [] ≡ verdict.NobodyAsked
@@ -64,21 +64,22 @@ seven_bits = refl
 
 -- the name was acknowledged twice
 ahead :
-    verdict_on (sign.Answer Start ∷ sign.Block place.Before kind.Name ∷ sign.Answer Ack ∷
+    verdict_on (sign.Answer Start ∷ sign.Block position.Before kind.Name ∷ sign.Answer Ack ∷
     sign.Answer Ack ∷ []) ≡ verdict.ReplyAhead
 ahead = refl
 
 -- the block was refused, and came once more
 repeated :
-    verdict_on (sign.Answer Start ∷ sign.Block place.Before kind.Name ∷ sign.Answer Ack ∷
-    sign.Answer Start ∷ sign.Block place.Named kind.Data ∷ sign.Answer Nak ∷
-    sign.Block (place.Data 1) kind.Copy ∷ sign.Answer Ack ∷ sign.Eot ∷ sign.Answer Ack ∷
-    sign.Answer Start ∷ sign.Block place.Ended kind.End ∷ sign.Answer Ack ∷ []) ≡ verdict.Repeated
+    verdict_on (sign.Answer Start ∷ sign.Block position.Before kind.Name ∷ sign.Answer Ack ∷
+    sign.Answer Start ∷ sign.Block position.Named kind.Data ∷ sign.Answer Nak ∷
+    sign.Block (position.Data 1) kind.Copy ∷ sign.Answer Ack ∷ sign.Eot ∷ sign.Answer Ack ∷
+    sign.Answer Start ∷ sign.Block position.Ended kind.End ∷ sign.Answer Ack ∷ [])
+    ≡ verdict.Repeated
 repeated = refl
 
 -- the name was written three times, and nothing was answered
 silent :
-    verdict_on (sign.Answer Start ∷ sign.Block place.Before kind.Name ∷
-    sign.Block place.Named kind.Copy ∷ sign.Block place.Named kind.Copy ∷ sign.SenderCancel ∷ [])
-    ≡ verdict.FellSilent
+    verdict_on (sign.Answer Start ∷ sign.Block position.Before kind.Name ∷
+    sign.Block position.Named kind.Copy ∷ sign.Block position.Named kind.Copy ∷
+    sign.SenderCancel ∷ []) ≡ verdict.FellSilent
 silent = refl

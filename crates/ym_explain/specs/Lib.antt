@@ -1,9 +1,9 @@
 pub mod Answered
 pub mod Evidence
 pub mod ExplainExamples
-pub mod FrontOf
+pub mod PrefixOf
 pub mod Noting
-pub mod SentFront
+pub mod SentPrefix
 pub mod SignOf
 pub mod Talking
 pub mod Telling

@@ -4,8 +4,8 @@ use Rattle.ym_frame.specs.declared.control.Control.{Control}
 use Rattle.ym_frame.specs.declared.control.Control.TheVariants.{Ack, Nak, Start, Can}
 use Rattle.ym_explain.specs.declared.told.FrameKind.{FrameKind}
 use Rattle.ym_explain.specs.declared.told.FrameKind.TheVariants as kind
-use Rattle.ym_explain.specs.declared.told.SendPlace.{SendPlace}
-use Rattle.ym_explain.specs.declared.told.SendPlace.TheVariants as place
+use Rattle.ym_explain.specs.declared.told.SendPosition.{SendPosition}
+use Rattle.ym_explain.specs.declared.told.SendPosition.TheVariants as position
 use Rattle.ym_explain.specs.declared.signs.Sign.{Sign}
 use Rattle.ym_explain.specs.declared.signs.Sign.TheVariants as sign
 use Rattle.ym_explain.specs.declared.signs.Signs.{Signs}
@@ -70,8 +70,8 @@ with_damage seen short headed = record (with_frame seen) {
 }
 
 -- the first block has no block 0 before it
-abbrev pub is_unnamed : SendPlace → FrameKind → Bool
-is_unnamed place.Before kind.OutOfTurn = true
+abbrev pub is_unnamed : SendPosition → FrameKind → Bool
+is_unnamed position.Before kind.OutOfTurn = true
 is_unnamed at kind = false
 
 abbrev pub is_end : FrameKind → Bool
@@ -82,7 +82,7 @@ abbrev pub is_copy : FrameKind → Bool
 is_copy kind.Copy = true
 is_copy kind = false
 
-abbrev pub with_block : Signs → SendPlace → FrameKind → Signs
+abbrev pub with_block : Signs → SendPosition → FrameKind → Signs
 with_block seen at kind = record (with_frame seen) {
   framed = true;
   unmended = false;

@@ -11,7 +11,7 @@ use Rattle.ym_explain.specs.declared.sent.SentLine.TheVariants as line
 use Rattle.ym_explain.specs.declared.signs.Sign.{Sign}
 use Rattle.ym_explain.specs.declared.signs.Sign.TheVariants as sign
 use Rattle.ym_explain.specs.declared.told.FrameKind.{FrameKind}
-use Rattle.ym_explain.specs.declared.told.SendPlace.{SendPlace}
+use Rattle.ym_explain.specs.declared.told.SendPosition.{SendPosition}
 
 -- A CAN that stands alone is no frame, and any other reason is one of a frame. Where its check is
 -- wrong or its end is missing, its number and the complement agree.
@@ -22,12 +22,12 @@ damage_sign Complement short = sign.Damage short false
 damage_sign Check short = sign.Damage short true
 damage_sign Cut short = sign.Damage short true
 
-abbrev pub frame_sign : SendPlace → Whole → FrameKind → Sign
+abbrev pub frame_sign : SendPosition → Whole → FrameKind → Sign
 frame_sign at (whole.Block size) kind = sign.Block at kind
 frame_sign at whole.Eot kind = sign.Eot
 frame_sign at whole.Cancel kind = sign.SenderCancel
 
-abbrev pub sign_of : SendPlace → SentLine → Sign
+abbrev pub sign_of : SendPosition → SentLine → Sign
 sign_of at line.Junk = sign.Junk
 sign_of at (line.Damage broken short) = damage_sign broken.why short
 sign_of at (line.Frame whole kind) = frame_sign at whole kind

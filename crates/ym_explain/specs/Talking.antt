@@ -14,8 +14,8 @@ use Rattle.ym_explain.specs.declared.talk.Fate.{Fate}
 use Rattle.ym_explain.specs.declared.talk.Fate.TheVariants.{Start, Out, Taken, Refused, Damaged}
 use Rattle.ym_explain.specs.declared.told.FrameKind.{FrameKind}
 use Rattle.ym_explain.specs.declared.told.FrameKind.TheVariants as kind
-use Rattle.ym_explain.specs.declared.told.SendPlace.{SendPlace}
-use Rattle.ym_explain.specs.declared.told.SendPlace.TheVariants as place
+use Rattle.ym_explain.specs.declared.told.SendPosition.{SendPosition}
+use Rattle.ym_explain.specs.declared.told.SendPosition.TheVariants as position
 
 -- the frame before it once more
 abbrev pub copy_footing : Fate → Footing
@@ -43,19 +43,19 @@ footing_of fate kind.OutOfTurn = Astray
 footing_of fate kind.Cancel = Leaving
 
 -- a refusal of the frame that is out, which is an EOT where the sender stands behind one
-abbrev pub refusal_at : SendPlace → Meaning
-refusal_at place.Ended = WantsEotAgain
-refusal_at place.Before = Refuses
-refusal_at place.Named = Refuses
-refusal_at (place.Data number) = Refuses
-refusal_at place.Over = Refuses
+abbrev pub refusal_at : SendPosition → Meaning
+refusal_at position.Ended = WantsEotAgain
+refusal_at position.Before = Refuses
+refusal_at position.Named = Refuses
+refusal_at (position.Data number) = Refuses
+refusal_at position.Over = Refuses
 
 -- an acknowledgement where the last frame has had its answer: of a copy, if one has none yet
 abbrev pub ack_again : Bool → Meaning
 ack_again true = TakesCopy
 ack_again false = Ahead
 
-abbrev pub meaning_of : SendPlace → Fate → Bool → Control → Meaning
+abbrev pub meaning_of : SendPosition → Fate → Bool → Control → Meaning
 meaning_of at fate owed control.Can = LoneCan
 meaning_of at Start owed control.Start = Asks
 meaning_of at Taken owed control.Start = AsksOn

@@ -12,10 +12,10 @@ mod told;
 mod verdict;
 
 pub use answered::{AnswerLine, tell_answer};
-pub use passed::{Passed, damage_len, front_of};
+pub use passed::{Passed, damage_len, prefix_of};
 pub use sent::{SentLine, SentTold, tell_sent};
 pub use sign_of::{answer_sign, is_zmodem, sent_sign};
 pub use signs::{REFUSALS, Sign, Signs};
 pub use talk::{Fate, Footing, Meaning, fate_behind, follows, is_ahead, is_parting, meaning_of};
-pub use told::{FrameKind, SendPlace, Told, tell};
+pub use told::{FrameKind, SendPosition, Told, tell};
 pub use verdict::{Verdict, Ways, verdict_of};

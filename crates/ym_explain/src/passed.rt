@@ -1,7 +1,7 @@
 //! What stands at the front of what one end has written.
 
 ghost use Rattle.std.specs.Prelude.{◌≡◌, ◌<◌, ◌≤◌, length};
-ghost use Rattle.ym_explain.specs.FrontOf.{IsPassed, IsUpToBlock, ends_at, same_head, has_block as there_is_block};
+ghost use Rattle.ym_explain.specs.PrefixOf.{IsPassed, IsUpToBlock, ends_at, same_head, has_block as there_is_block};
 
 use ym_frame::{Broken, Whole, Why, whole_at};
 
@@ -19,7 +19,7 @@ pub enum Passed {
 }
 
 /// What stands at the front of these bytes.
-pub fn front_of(bytes: &[u8]) -> Passed
+pub fn prefix_of(bytes: &[u8]) -> Passed
     ensures { IsPassed bytes.now result }
 {
     match whole_at(bytes) {
@@ -36,7 +36,7 @@ pub fn front_of(bytes: &[u8]) -> Passed
 fn has_block(bytes: &[u8]) -> bool
     ensures { result ≡ there_is_block bytes.now }
 {
-    matches!(front_of(bytes), Passed::Frame(Whole::Block(_)))
+    matches!(prefix_of(bytes), Passed::Frame(Whole::Block(_)))
 }
 
 /// Whether these bytes begin as this frame does, with a number whose complement agrees.
@@ -66,9 +66,9 @@ pub fn damage_len(bytes: &[u8], most: usize) -> usize
     requires within { most ≤ length bytes.now }
     ensures { IsUpToBlock bytes.now most result }
 {
-    for place in 1..most {
-        if is_over(bytes, &bytes[place..]) {
-            return place;
+    for position in 1..most {
+        if is_over(bytes, &bytes[position..]) {
+            return position;
         }
     }
     most

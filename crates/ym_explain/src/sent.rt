@@ -2,10 +2,10 @@
 
 ghost use Rattle.std.specs.Prelude.{◌≡◌, ◌<◌, length};
 ghost use Rattle.ym_frame.specs.WholeFrame.{length_in};
-ghost use Rattle.ym_explain.specs.SentFront.{IsToldSent, IsToldDamage, damage_limit};
+ghost use Rattle.ym_explain.specs.SentPrefix.{IsToldSent, IsToldDamage, damage_limit};
 
-use crate::passed::{Passed, damage_len, front_of};
-use crate::told::{FrameKind, SendPlace, tell};
+use crate::passed::{Passed, damage_len, prefix_of};
+use crate::told::{FrameKind, SendPosition, tell};
 use ym_frame::{Broken, SOH, STX, Whole};
 
 /// What stands at the front of what the sender wrote.
@@ -37,44 +37,44 @@ pub struct SentTold {
     /// How many bytes it has: 1 to 1029.
     pub used: usize,
     /// Where the sender stands behind it.
-    pub place: SendPlace,
+    pub position: SendPosition,
 }
 
-/// What stands at the front of what the sender wrote, where it stood at this place. `None` where
+/// What stands at the front of what the sender wrote, where it stood at this position. `None` where
 /// the bytes may go on to a frame. A damaged frame is told by the bytes that are there: 2058 show
 /// where the next block begins.
 #[tactic(auto, unfolding(ym_frame::specs::Frame::verdict_of))]
-pub fn tell_sent(place: SendPlace, bytes: &[u8]) -> Option<SentTold>
-    ensures { IsToldSent place bytes.now result }
+pub fn tell_sent(position: SendPosition, bytes: &[u8]) -> Option<SentTold>
+    ensures { IsToldSent position bytes.now result }
 {
     match bytes {
         [] => None,
-        _ => tell_some(place, bytes),
+        _ => tell_some(position, bytes),
     }
 }
 
 /// The same where there are bytes.
-fn tell_some(place: SendPlace, bytes: &[u8]) -> Option<SentTold>
+fn tell_some(position: SendPosition, bytes: &[u8]) -> Option<SentTold>
     requires { 0 < length bytes.now }
-    ensures { IsToldSent place bytes.now result }
+    ensures { IsToldSent position bytes.now result }
 {
-    match front_of(bytes) {
+    match prefix_of(bytes) {
         Passed::Open => None,
         Passed::Junk => Some(SentTold {
             line: SentLine::Junk,
             used: 1,
-            place,
+            position,
         }),
-        Passed::Damaged(broken) => Some(told_damage(place, broken, bytes)),
+        Passed::Damaged(broken) => Some(told_damage(position, broken, bytes)),
         Passed::Frame(whole) => {
-            let told = tell(place, &whole.item(bytes));
+            let told = tell(position, &whole.item(bytes));
             Some(SentTold {
                 line: SentLine::Frame {
                     whole,
                     kind: told.kind,
                 },
                 used: frame_len(whole),
-                place: told.place,
+                position: told.position,
             })
         }
     }
@@ -92,9 +92,9 @@ fn frame_len(whole: Whole) -> usize
 }
 
 /// The frame at the front, which is broken there.
-fn told_damage(place: SendPlace, broken: Broken, bytes: &[u8]) -> SentTold
+fn told_damage(position: SendPosition, broken: Broken, bytes: &[u8]) -> SentTold
     requires { 0 < length bytes.now }
-    ensures { IsToldDamage place bytes.now broken result }
+    ensures { IsToldDamage position bytes.now broken result }
 {
     let most = most_damaged(bytes);
     let used = damage_len(bytes, most);
@@ -104,7 +104,7 @@ fn told_damage(place: SendPlace, broken: Broken, bytes: &[u8]) -> SentTold
             short: used < most,
         },
         used,
-        place,
+        position,
     }
 }
 

@@ -6,13 +6,13 @@ ghost use Rattle.ym_explain.specs.SignOf.{sign_of, answer_sign as sign_of_answer
 use crate::answered::AnswerLine;
 use crate::sent::SentLine;
 use crate::signs::Sign;
-use crate::told::SendPlace;
+use crate::told::SendPosition;
 use ym_frame::{Whole, Why};
 
-/// The sign that a line of the sender is, which stood at this place before it. A CAN that stands
+/// The sign that a line of the sender is, which stood at this position before it. A CAN that stands
 /// alone is no frame.
-pub fn sent_sign(place: SendPlace, line: SentLine) -> Sign
-    ensures { result ≡ sign_of place line }
+pub fn sent_sign(position: SendPosition, line: SentLine) -> Sign
+    ensures { result ≡ sign_of position line }
 {
     match line {
         SentLine::Junk => Sign::Junk,
@@ -28,7 +28,7 @@ pub fn sent_sign(place: SendPlace, line: SentLine) -> Sign
             },
         },
         SentLine::Frame { whole, kind } => match whole {
-            Whole::Block(_) => Sign::Block { place, kind },
+            Whole::Block(_) => Sign::Block { position, kind },
             Whole::Eot => Sign::Eot,
             Whole::Cancel => Sign::SenderCancel,
         },

@@ -3,7 +3,7 @@
 ghost use Rattle.std.specs.Prelude.{◌≡◌};
 ghost use Rattle.ym_explain.specs.Noting.{noted, nothing_seen, with_byte, with_bytes, with_answer_junk, with_frame, with_damage, with_block, with_answer, with_ack, with_nak};
 
-use crate::told::{FrameKind, SendPlace};
+use crate::told::{FrameKind, SendPosition};
 use ym_frame::Control;
 
 /// So many refusals in a row, and the receiver took nothing.
@@ -17,7 +17,7 @@ pub enum Sign {
     /// The sender wrote the whole frame of a block.
     Block {
         /// Where it stood before.
-        place: SendPlace,
+        position: SendPosition,
         /// What the block is there.
         kind: FrameKind,
     },
@@ -152,7 +152,7 @@ impl Signs {
         let mut seen = self;
         match event {
             Sign::Byte(byte) => return self.note_byte(byte),
-            Sign::Block { place, kind } => return self.note_block(place, kind),
+            Sign::Block { position, kind } => return self.note_block(position, kind),
             Sign::Answer(control) => return self.note_answer(control),
             Sign::Eot => return self.note_frame(),
             Sign::SenderCancel => {
@@ -228,14 +228,14 @@ impl Signs {
     }
 
     /// The same behind a whole block.
-    fn note_block(self, place: SendPlace, kind: FrameKind) -> Signs
-        ensures { result ≡ with_block self place kind }
+    fn note_block(self, position: SendPosition, kind: FrameKind) -> Signs
+        ensures { result ≡ with_block self position kind }
     {
         let mut seen = self.note_frame();
         seen.framed = true;
         seen.unmended = false;
-        match (place, kind) {
-            (SendPlace::Before, FrameKind::OutOfTurn) => seen.unnamed = true,
+        match (position, kind) {
+            (SendPosition::Before, FrameKind::OutOfTurn) => seen.unnamed = true,
             (_, FrameKind::End) => seen.over = true,
             (_, FrameKind::Copy) => seen.repeated = true,
             _ => {}

@@ -4,7 +4,7 @@
 ghost use Rattle.std.specs.Prelude.{◌≡◌};
 ghost use Rattle.ym_explain.specs.Talking.{footing_of, meaning_of as meaning, behind_answer, is_parting as parts, is_ahead as runs_ahead};
 
-use crate::told::{FrameKind, SendPlace};
+use crate::told::{FrameKind, SendPosition};
 use ym_frame::Control;
 
 /// What became of the last frame of the sender.
@@ -86,10 +86,10 @@ pub fn follows(fate: Fate, kind: FrameKind) -> Footing
     }
 }
 
-/// What an answer means to a sender that stands at this place. `owed` says whether a frame, or a
+/// What an answer means to a sender that stands at this position. `owed` says whether a frame, or a
 /// copy of one, has no answer yet.
-pub fn meaning_of(place: SendPlace, fate: Fate, owed: bool, control: Control) -> Meaning
-    ensures { result ≡ meaning place fate owed control }
+pub fn meaning_of(position: SendPosition, fate: Fate, owed: bool, control: Control) -> Meaning
+    ensures { result ≡ meaning position fate owed control }
 {
     match (control, fate) {
         (Control::Can, _) => Meaning::LoneCan,
@@ -105,8 +105,8 @@ pub fn meaning_of(place: SendPlace, fate: Fate, owed: bool, control: Control) ->
             }
         }
         (Control::Nak, Fate::Start) => Meaning::AsksByNak,
-        (Control::Nak, Fate::Out) => match place {
-            SendPlace::Ended => Meaning::WantsEotAgain,
+        (Control::Nak, Fate::Out) => match position {
+            SendPosition::Ended => Meaning::WantsEotAgain,
             _ => Meaning::Refuses,
         },
         (Control::Nak, Fate::Damaged) => Meaning::Refuses,

@@ -2,13 +2,13 @@
 
 ghost use Rattle.std.specs.Prelude.{◌≡◌};
 ghost use Rattle.ym_frame.specs.ItemRef.{owned_item};
-ghost use Rattle.ym_explain.specs.Telling.{told_of, eot_told, block_kind, number_kind, place_behind};
+ghost use Rattle.ym_explain.specs.Telling.{told_of, eot_told, block_kind, number_kind, position_behind};
 
 use ym_frame::ItemRef;
 
 /// Where the sender of the files stands, by its last frame that was no copy.
 #[derive(Clone, Copy)]
-pub enum SendPlace {
+pub enum SendPosition {
     /// No frame came.
     Before,
     /// The block 0 of a file came, and no data block behind it.
@@ -49,63 +49,63 @@ pub struct Told {
     /// What the frame is.
     pub kind: FrameKind,
     /// Where the sender stands now.
-    pub place: SendPlace,
+    pub position: SendPosition,
 }
 
-/// What a frame is that came at this place, and where the sender stands behind it.
-pub fn tell(place: SendPlace, item: &ItemRef<'_>) -> Told
-    ensures { result ≡ told_of place (owned_item item.now) }
+/// What a frame is that came at this position, and where the sender stands behind it.
+pub fn tell(position: SendPosition, item: &ItemRef<'_>) -> Told
+    ensures { result ≡ told_of position (owned_item item.now) }
 {
     match item {
         ItemRef::Block(block) => {
             let number = block.number();
-            let kind = told_block(place, number, block.body()[0] == 0);
+            let kind = told_block(position, number, block.body()[0] == 0);
             Told {
                 kind,
-                place: behind_block(place, number, kind),
+                position: behind_block(position, number, kind),
             }
         }
-        ItemRef::Eot => told_eot(place),
+        ItemRef::Eot => told_eot(position),
         ItemRef::Cancel => Told {
             kind: FrameKind::Cancel,
-            place,
+            position,
         },
     }
 }
 
-/// What an EOT is at this place.
-fn told_eot(place: SendPlace) -> Told
-    ensures { result ≡ eot_told place }
+/// What an EOT is at this position.
+fn told_eot(position: SendPosition) -> Told
+    ensures { result ≡ eot_told position }
 {
-    match place {
-        SendPlace::Named | SendPlace::Data { .. } => Told {
+    match position {
+        SendPosition::Named | SendPosition::Data { .. } => Told {
             kind: FrameKind::Eot,
-            place: SendPlace::Ended,
+            position: SendPosition::Ended,
         },
-        SendPlace::Ended => Told {
+        SendPosition::Ended => Told {
             kind: FrameKind::Copy,
-            place,
+            position,
         },
-        SendPlace::Before | SendPlace::Over => Told {
+        SendPosition::Before | SendPosition::Over => Told {
             kind: FrameKind::OutOfTurn,
-            place,
+            position,
         },
     }
 }
 
 /// What a block of this number is, whose body begins with 00 where it has no name.
-fn told_block(place: SendPlace, number: u8, nameless: bool) -> FrameKind
-    ensures { result ≡ block_kind place number nameless }
+fn told_block(position: SendPosition, number: u8, nameless: bool) -> FrameKind
+    ensures { result ≡ block_kind position number nameless }
 {
-    match place {
-        SendPlace::Before | SendPlace::Ended => match (number, nameless) {
+    match position {
+        SendPosition::Before | SendPosition::Ended => match (number, nameless) {
             (0, true) => FrameKind::End,
             (0, false) => FrameKind::Name,
             _ => FrameKind::OutOfTurn,
         },
-        SendPlace::Named => told_number(0, number),
-        SendPlace::Data { number: last } => told_number(last, number),
-        SendPlace::Over => match number {
+        SendPosition::Named => told_number(0, number),
+        SendPosition::Data { number: last } => told_number(last, number),
+        SendPosition::Over => match number {
             0 => FrameKind::Copy,
             _ => FrameKind::OutOfTurn,
         },
@@ -126,13 +126,13 @@ fn told_number(last: u8, number: u8) -> FrameKind
 }
 
 /// Where the sender stands behind a block of this number and kind.
-fn behind_block(place: SendPlace, number: u8, kind: FrameKind) -> SendPlace
-    ensures { result ≡ place_behind place number kind }
+fn behind_block(position: SendPosition, number: u8, kind: FrameKind) -> SendPosition
+    ensures { result ≡ position_behind position number kind }
 {
     match kind {
-        FrameKind::Name => SendPlace::Named,
-        FrameKind::End => SendPlace::Over,
-        FrameKind::Data | FrameKind::OutOfTurn => SendPlace::Data { number },
-        FrameKind::Copy | FrameKind::Eot | FrameKind::Cancel => place,
+        FrameKind::Name => SendPosition::Named,
+        FrameKind::End => SendPosition::Over,
+        FrameKind::Data | FrameKind::OutOfTurn => SendPosition::Data { number },
+        FrameKind::Copy | FrameKind::Eot | FrameKind::Cancel => position,
     }
 }

@@ -7,7 +7,7 @@ use Rattle.ym_capture.specs.declared.fault.CaptureFault.{CaptureFault}
 use Rattle.ym_explain.specs.declared.verdict.Verdict.{Verdict}
 use Rattle.ym_explain.specs.declared.verdict.Ways.{Ways}
 use Rattle.ym_explain.specs.declared.verdict.Ways.TheVariants as ways
-use Rattle.ym_file.specs.Counts.{Rose}
+use Rattle.ym_file.specs.Counts.{Counted}
 use Rattle.ym_inspect.specs.CaptureFaults.{CountsReads, CountsWrites, record_words}
 use Rattle.ym_inspect.specs.CaptureTold.{Explains, TellsLast, tagged, ways_of}
 use Rattle.ym_inspect.specs.PcapRead.{FaultOfCapture, TellsCapture}
@@ -63,8 +63,8 @@ pcapng_words name =
     "' is a pcapng capture, which is not read; editcap -F pcap IN OUT makes a pcap of it")
 
 abbrev pub no_capture_words : Text → ℕ → CaptureFault → List ℕ
-no_capture_words name place why =
-    codes "'" ++ (name ++ (codes "' cannot be read on: byte " ++ (decimal place ++ (codes ": "
+no_capture_words name position why =
+    codes "'" ++ (name ++ (codes "' cannot be read on: byte " ++ (decimal position ++ (codes ": "
     ++ capture_words why))))
 
 abbrev pub too_many_words : List ℕ
@@ -84,7 +84,7 @@ untold_words (untold.UnreadPair there back) = pair_words there.now back.now
 untold_words (untold.Endless name) = endless_words name.now
 untold_words (untold.NoRecord name number why) = no_record_words name.now number why
 untold_words (untold.Pcapng name) = pcapng_words name.now
-untold_words (untold.NoCapture name place why) = no_capture_words name.now place why
+untold_words (untold.NoCapture name position why) = no_capture_words name.now position why
 untold_words untold.TooMany = too_many_words
 untold_words (untold.ChartThere path) = chart_there_words path.now
 untold_words (untold.ChartUnwritten path why) = chart_unwritten_words path.now why
@@ -125,7 +125,7 @@ pub record Told (form : Form) (text : Option (List ℕ)) (reads_failed : ℕ) (o
 abbrev pub Refuses : List ℕ → ℕ → Page → Result ℕ CommandFault → Page → Type 0
 Refuses words status old answer new =
     ((answer ≡ Ok status) × Prints old (line words) (Ok tt) new)
-    ⊎ ((answer ≡ Err fault.Device) × Rose old.failed new.failed)
+    ⊎ ((answer ≡ Err fault.Device) × Counted old.failed new.failed)
 
 abbrev pub Fails : CommandFault → Page → Result ℕ CommandFault → Page → Type 0
 Fails why old answer new = (answer ≡ Err why) × (new ≡ old)
@@ -143,8 +143,8 @@ AnswersCapture name unread (Err (inspect.Line number why)) old answer new =
     Refuses (no_record_words name number why) 1 old answer new
 AnswersCapture name unread (Err inspect.Pcapng) old answer new =
     Refuses (pcapng_words name) 1 old answer new
-AnswersCapture name unread (Err (inspect.Packet place why)) old answer new =
-    Refuses (no_capture_words name place why) 1 old answer new
+AnswersCapture name unread (Err (inspect.Packet position why)) old answer new =
+    Refuses (no_capture_words name position why) 1 old answer new
 
 -- where the file at this path could not be opened
 abbrev pub AnswersClosed : Text → Page → Result ℕ CommandFault → Page → Type 0

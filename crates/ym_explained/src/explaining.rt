@@ -92,8 +92,8 @@ fn answer<E: Output>(
             refuse(err, Untold::NoRecord(name, number, why), UNTOLD)
         }
         Err(InspectFault::Pcapng) => refuse(err, Untold::Pcapng(name), UNTOLD),
-        Err(InspectFault::Packet { place, why }) => {
-            refuse(err, Untold::NoCapture(name, place, why), UNTOLD)
+        Err(InspectFault::Packet { position, why }) => {
+            refuse(err, Untold::NoCapture(name, position, why), UNTOLD)
         }
     }
 }

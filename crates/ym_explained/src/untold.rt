@@ -64,8 +64,8 @@ impl fmt::Display for Untold<'_> {
                 "'{name}' is a pcapng capture, which is not read; editcap -F pcap IN OUT makes a \
                  pcap of it"
             ),
-            Untold::NoCapture(name, place, why) => {
-                write!(f, "'{name}' cannot be read on: byte {place}: {why}")
+            Untold::NoCapture(name, position, why) => {
+                write!(f, "'{name}' cannot be read on: byte {position}: {why}")
             }
             Untold::TooMany => f.write_str(too_many()),
             Untold::ChartThere(path) => {

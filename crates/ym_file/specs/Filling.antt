@@ -1,6 +1,6 @@
 -- What a call that asks a source once leaves of it (this profile's choice).
 use Rattle.std.specs.Prelude.{◌≡◌, ℕ, List, Option, Result, OnOk, OnErr}
-use Rattle.ym_file.specs.Counts.{Rose, raised}
+use Rattle.ym_file.specs.Counts.{Counted, raised}
 use Rattle.ym_file.specs.declared.source.SourceFault.{SourceFault}
 
 -- The source has the file that it had, and counts one fill more. Where the call failed its failure
@@ -11,4 +11,4 @@ pub record AskedOnce {A S : Type 0} (size : S → ℕ) (bytes : S → Option (Li
   pub bytes_stay : bytes new ≡ bytes old
   pub counted : fills new ≡ raised (fills old)
   pub ok : OnOk result (failures new ≡ failures old)
-  pub failed : OnErr result (Rose (failures old) (failures new))
+  pub failed : OnErr result (Counted (failures old) (failures new))

@@ -6,7 +6,7 @@ ghost use Rattle.ym_header.specs.declared.limits.TheConstants.{MOST_LENGTH};
 ghost use Rattle.ym_file.specs.Plan.{count_of, padded, piece_at, size_at};
 ghost use Rattle.ym_file.specs.Filling.{AskedOnce};
 
-use crate::plan::{Place, Shape, place_of};
+use crate::plan::{Position, Shape, position_of};
 use crate::source::{Source, SourceFault};
 use ym_frame::{Block, seal_block};
 
@@ -21,11 +21,11 @@ pub fn block_at(bytes: &[u8], shape: Shape, k: u64) -> Block
     ensures number { result.number ≡ k % 256 }
     ensures body { result.body ≡ piece_at shape bytes.now k }
 {
-    let place = place_of(bytes.len() as u64, shape, k);
-    let rest = &bytes[place.start as usize..];
-    let filled = place.size.min(rest.len());
+    let position = position_of(bytes.len() as u64, shape, k);
+    let rest = &bytes[position.start as usize..];
+    let filled = position.size.min(rest.len());
     let mut array = [0; 1024];
-    let body = &mut array[..place.size];
+    let body = &mut array[..position.size];
     body[..filled].copy_from_slice(&rest[..filled]);
     pad(body, filled);
     block_of(k, body)
@@ -45,9 +45,9 @@ pub fn block_from<S: Source>(source: &mut S, shape: Shape, k: u64) -> Result<Blo
     ensures source { AskedOnce S.size S.bytes S.fills S.failures source.old result source.new }
 {
     let mut array = [0; 1024];
-    let place = place_of(source.length(), shape, k);
-    let body = &mut array[..place.size];
-    read_body(source, place, body)?;
+    let position = position_of(source.length(), shape, k);
+    let body = &mut array[..position.size];
+    read_body(source, position, body)?;
     Ok(block_of(k, body))
 }
 
@@ -73,45 +73,50 @@ pub fn frame_from<S: Source>(
         IsBlockFrame (k % 256) (piece_at shape all k) (take len buffer.new))) }
     ensures source { AskedOnce S.size S.bytes S.fills S.failures source.old result source.new }
 {
-    let place = place_of(source.length(), shape, k);
-    let length = place.size + 5;
-    write_frame(source, place, k, &mut buffer[..length])?;
+    let position = position_of(source.length(), shape, k);
+    let length = position.size + 5;
+    write_frame(source, position, k, &mut buffer[..length])?;
     Ok(length)
 }
 
-/// Makes the frame of block k, whose bytes stand at this place, in a slice of the frame's length.
+/// Makes the frame of block k, whose bytes stand at this position, in a slice of the frame's
+/// length.
 fn write_frame<S: Source>(
     source: &mut S,
-    place: Place,
+    position: Position,
     k: u64,
     frame: &mut [u8],
 ) -> Result<(), SourceFault>
-    requires there { place.start ≤ S.size source.old }
-    requires size { list_length frame.old ≡ place.size + 5 }
-    requires kind { (place.size ≡ 128) ⊎ (place.size ≡ 1024) }
-    ensures frame { OnOk result ((body : List ℕ) × (list_length body ≡ place.size) ×
+    requires there { position.start ≤ S.size source.old }
+    requires size { list_length frame.old ≡ position.size + 5 }
+    requires kind { (position.size ≡ 128) ⊎ (position.size ≡ 1024) }
+    ensures frame { OnOk result ((body : List ℕ) × (list_length body ≡ position.size) ×
         IsBlockFrame (k % 256) body frame.new) }
     ensures body { OnOk result (IfSome (S.bytes source.old) (λ all.
-        IsBlockFrame (k % 256) (padded place.size (take place.size (drop place.start all)))
+        IsBlockFrame (k % 256) (padded position.size (take position.size (drop position.start all)))
         frame.new)) }
     ensures source { AskedOnce S.size S.bytes S.fills S.failures source.old result source.new }
 {
-    read_body(source, place, &mut frame[3..3 + place.size])?;
+    read_body(source, position, &mut frame[3..3 + position.size])?;
     seal_block((k % 256) as u8, frame);
     Ok(())
 }
 
-/// Fills the body of the block at this place from a source.
-fn read_body<S: Source>(source: &mut S, place: Place, body: &mut [u8]) -> Result<(), SourceFault>
-    requires there { place.start ≤ S.size source.old }
-    requires size { list_length body.old ≡ place.size }
+/// Fills the body of the block at this position from a source.
+fn read_body<S: Source>(
+    source: &mut S,
+    position: Position,
+    body: &mut [u8],
+) -> Result<(), SourceFault>
+    requires there { position.start ≤ S.size source.old }
+    requires size { list_length body.old ≡ position.size }
     ensures body { OnOk result (IfSome (S.bytes source.old) (λ all.
-        body.new ≡ padded place.size (take place.size (drop place.start all)))) }
+        body.new ≡ padded position.size (take position.size (drop position.start all)))) }
     ensures source { AskedOnce S.size S.bytes S.fills S.failures source.old result source.new }
 {
     let length = source.length();
-    let filled = (place.size as u64).min(length - place.start) as usize;
-    read_padded(source, place.start, body, filled)?;
+    let filled = (position.size as u64).min(length - position.start) as usize;
+    read_padded(source, position.start, body, filled)?;
     Ok(())
 }
 

@@ -1,7 +1,7 @@
 //! A sink in memory.
 
 ghost use Rattle.std.specs.Prelude.{◌≡◌, ◌≢◌, ◌↔◌, ◌<◌, ◌≤◌, ◌++◌, [], None, Some, OnOk, OnErr, IsTrue, length as list_length};
-ghost use Rattle.ym_file.specs.Counts.{Rose, fails_next, new_tally};
+ghost use Rattle.ym_file.specs.Counts.{Counted, fails_next, new_tally};
 ghost use Rattle.ym_file.specs.Kept.{room, IsCoveredFile, IsNew};
 ghost use Rattle.ym_file.specs.MemSink.{kept_of, after_begin, after_add, after_commit, after_refusal};
 
@@ -80,7 +80,7 @@ impl Sink for MemSink {
         ensures refused { OnErr result (self.new ≡ after_refusal self.old) }
         ensures fails { (result ≡ Err SinkFault.Failed) ↔ IsTrue (fails_next self.old.tally) }
         ensures failed { result ≡ Err SinkFault.Failed →
-            Rose self.old.tally.failures self.new.tally.failures }
+            Counted self.old.tally.failures self.new.tally.failures }
     {
         if self.countdown.fails() {
             return Err(SinkFault::Failed);
@@ -100,7 +100,7 @@ impl Sink for MemSink {
         ensures refused { OnErr result (self.new ≡ after_refusal self.old) }
         ensures fails { (result ≡ Err SinkFault.Failed) ↔ IsTrue (fails_next self.old.tally) }
         ensures failed { result ≡ Err SinkFault.Failed →
-            Rose self.old.tally.failures self.new.tally.failures }
+            Counted self.old.tally.failures self.new.tally.failures }
     {
         if self.countdown.fails() {
             return Err(SinkFault::Failed);
@@ -121,7 +121,7 @@ impl Sink for MemSink {
         ensures memory { result ≢ Err SinkFault.Memory }
         ensures fails { (result ≡ Err SinkFault.Failed) ↔ IsTrue (fails_next self.old.tally) }
         ensures failed { result ≡ Err SinkFault.Failed →
-            Rose self.old.tally.failures self.new.tally.failures }
+            Counted self.old.tally.failures self.new.tally.failures }
     {
         if self.countdown.fails() {
             return Err(SinkFault::Failed);

@@ -1,7 +1,7 @@
 //! A source in memory.
 
 ghost use Rattle.std.specs.Prelude.{◌≡◌, ◌↔◌, ◌≤◌, ◌+◌, Some, OnOk, OnErr, IsErr, IsTrue, length as list_length, take, drop};
-ghost use Rattle.ym_file.specs.Counts.{Rose, fails_next, counted, raised, new_tally};
+ghost use Rattle.ym_file.specs.Counts.{Counted, fails_next, counted, raised, new_tally};
 
 use crate::countdown::Countdown;
 use crate::source::{Source, SourceFault};
@@ -75,7 +75,7 @@ impl Source for MemSource {
               fills = raised self.old.fills;
             } }
         ensures fails { IsErr result ↔ IsTrue (fails_next self.old.tally) }
-        ensures failed { OnErr result (Rose self.old.tally.failures self.new.tally.failures) }
+        ensures failed { OnErr result (Counted self.old.tally.failures self.new.tally.failures) }
     {
         self.fills = self.fills.saturating_add(1);
         if self.countdown.fails() {

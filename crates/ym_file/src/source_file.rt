@@ -6,7 +6,7 @@ ghost use Rattle.ym_frame.specs.Frame.{IsFrame};
 ghost use Rattle.ym_frame.specs.declared.frame.Item.{Item};
 ghost use Rattle.ym_frame.specs.declared.frame.Item.TheVariants as Item;
 ghost use Rattle.ym_header.specs.Header.{IsHeader, IsRefused, length_limit};
-ghost use Rattle.ym_file.specs.Counts.{new_tally, Rose, raised};
+ghost use Rattle.ym_file.specs.Counts.{new_tally, Counted, raised};
 ghost use Rattle.ym_file.specs.SourceFile.{IsFile, IsBlockOf, blocks_of, filled};
 
 use crate::block::frame_from;
@@ -113,7 +113,7 @@ impl<S: Source> SourceFile<S> {
         ensures header { self.new.header ≡ self.old.header }
         ensures bytes { self.new.bytes ≡ self.old.bytes }
         ensures counted { self.new.fills ≡ raised self.old.fills }
-        ensures failed { OnErr result (Rose self.old.failures self.new.failures) }
+        ensures failed { OnErr result (Counted self.old.failures self.new.failures) }
     {
         let _length = self.header.length();
         frame_from(&mut self.source, shape, k, buffer)

@@ -74,8 +74,8 @@ pub record Grown (name bytes : List ℕ) (old new : Option FolderParts) : Type 0
   pub others : OthersStay name old new
 
 -- the same of a front of these bytes
-abbrev pub GrownByFront : List ℕ → List ℕ → Option FolderParts → Option FolderParts → Type 0
-GrownByFront name bytes old new = (n : ℕ) × Grown name (take n bytes) old new
+abbrev pub GrownByPrefix : List ℕ → List ℕ → Option FolderParts → Option FolderParts → Type 0
+GrownByPrefix name bytes old new = (n : ℕ) × Grown name (take n bytes) old new
 
 -- a name that was free is one more name of a file
 pub record Linked (from to : List ℕ) (old new : Option FolderParts) : Type 0 where

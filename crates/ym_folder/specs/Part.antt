@@ -10,7 +10,7 @@ IsPartName name part = (kept : ℕ) × (kept ≤ 250) × IsCharBoundary name kep
     × (part ≡ take kept name ++ codes ".part")
 
 abbrev pub EndsInPart : List ℕ → Type 0
-EndsInPart name = (front : List ℕ) × (name ≡ front ++ codes ".part")
+EndsInPart name = (prefix : List ℕ) × (name ≡ prefix ++ codes ".part")
 
 -- nothing that was there has changed, but this name may be new
 pub record MayAdd (name : List ℕ) (old new : Option FolderParts) : Type 0 where

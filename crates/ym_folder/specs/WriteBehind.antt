@@ -8,5 +8,5 @@ abbrev pub put_so_far : Option (List ℕ) → List ℕ → Option (List ℕ)
 put_so_far taken waiting = append_known taken waiting
 
 -- known bytes grow by a front of these
-abbrev pub GrowsByFront : Option (List ℕ) → Option (List ℕ) → List ℕ → Type 0
-GrowsByFront old new all = (n : ℕ) × (new ≡ append_known old (take n all))
+abbrev pub GrowsByPrefix : Option (List ℕ) → Option (List ℕ) → List ℕ → Type 0
+GrowsByPrefix old new all = (n : ℕ) × (new ≡ append_known old (take n all))

@@ -2,13 +2,13 @@
 
 ghost use Rattle.std.specs.Prelude.{◌≡◌, ◌≢◌, ◌⊎◌, ◌++◌, ◌≤◌, ◌<◌, ℕ, List, [], true, false, None, Some, All, Err, IfSome, OnOk, OnErr, IfOk, option_map, unwrap_or, length as list_length};
 ghost use Rattle.std.specs.Io.KnownBytes.{append_known};
-ghost use Rattle.ym_file.specs.Counts.{Rose};
+ghost use Rattle.ym_file.specs.Counts.{Counted};
 ghost use Rattle.ym_file.specs.Kept.{IsNew, IsCoveredFile, begun, added, committed, room};
 ghost use Rattle.ym_folder.specs.DirSink.{kept_of, put, stands, IsTold, Keeps, Adds, IsOwn, IsStored};
 ghost use Rattle.ym_folder.specs.FilePlace.{name_of};
 ghost use Rattle.ym_folder.specs.Folder.{OthersStay, under, empty_in};
 ghost use Rattle.ym_folder.specs.Part.{IsPartName};
-ghost use Rattle.ym_folder.specs.WriteBehind.{GrowsByFront};
+ghost use Rattle.ym_folder.specs.WriteBehind.{GrowsByPrefix};
 
 use crate::folder::Folder;
 use crate::open_part::{self, OpenPart, Standing};
@@ -261,7 +261,7 @@ impl<D: Folder + Drop> DirSink<D> {
         ensures closed { self.new.opened ≡ None }
         ensures headers { self.new.headers ≡ self.old.headers }
         ensures ok { OnOk result (self.new.failures ≡ self.old.failures) }
-        ensures failed { OnErr result (Rose self.old.failures self.new.failures) }
+        ensures failed { OnErr result (Counted self.old.failures self.new.failures) }
         ensures fault { result ≢ Err SinkFault.Memory }
         ensures keeps { Keeps self.old self.new }
         ensures adds { Adds self.old self.new }
@@ -294,7 +294,7 @@ impl<D: Folder + Drop> DirSink<D> {
     /// Counts a failure, and keeps why the first one was.
     fn fail(&mut self, why: StoreFault) -> SinkFault
         ensures fault { result ≡ SinkFault.Failed }
-        ensures rose { Rose self.old.failures self.new.failures }
+        ensures counted_failure { Counted self.old.failures self.new.failures }
         ensures same { self.new ≡ record self.old {
           failures = self.new.failures;
           first = Some (unwrap_or self.old.first why);
@@ -316,7 +316,7 @@ impl<D: Folder + Drop> Sink for DirSink<D> {
         ensures done { OnOk result (kept_of self.new ≡ begun header (kept_of self.old)) }
         ensures refused { OnErr result (kept_of self.new ≡ kept_of self.old) }
         ensures failed { result ≡ Err SinkFault.Failed →
-            Rose self.old.failures self.new.failures }
+            Counted self.old.failures self.new.failures }
         ensures not_failed { result ≢ Err SinkFault.Failed →
             self.new.failures ≡ self.old.failures }
         ensures keeps { Keeps self.old self.new }
@@ -360,7 +360,7 @@ impl<D: Folder + Drop> Sink for DirSink<D> {
         ensures done { OnOk result (kept_of self.new ≡ added bytes.now (kept_of self.old)) }
         ensures refused { OnErr result (kept_of self.new ≡ kept_of self.old) }
         ensures failed { result ≡ Err SinkFault.Failed →
-            Rose self.old.failures self.new.failures }
+            Counted self.old.failures self.new.failures }
         ensures not_failed { result ≢ Err SinkFault.Failed →
             self.new.failures ≡ self.old.failures }
         ensures keeps { Keeps self.old self.new }
@@ -368,8 +368,8 @@ impl<D: Folder + Drop> Sink for DirSink<D> {
         ensures all { OnOk result (put self.new ≡ append_known (put self.old) bytes.now) }
         ensures sound { OnOk result (self.old.is_sound ≡ true) }
         ensures torn { OnErr result (self.new.is_sound ≡ false) }
-        ensures front { (part : List ℕ) → OnErr result (IsOwn self.old part →
-            GrowsByFront (stands self.old part) (stands self.new part)
+        ensures prefix { (part : List ℕ) → OnErr result (IsOwn self.old part →
+            GrowsByPrefix (stands self.old part) (stands self.new part)
             (self.old.waiting ++ bytes.now)) }
     {
         let error = match &mut self.taking {
@@ -391,7 +391,7 @@ impl<D: Folder + Drop> Sink for DirSink<D> {
         ensures refused { OnErr result (kept_of self.new ≡ kept_of self.old) }
         ensures memory { result ≢ Err SinkFault.Memory }
         ensures failed { result ≡ Err SinkFault.Failed →
-            Rose self.old.failures self.new.failures }
+            Counted self.old.failures self.new.failures }
         ensures not_failed { result ≢ Err SinkFault.Failed →
             self.new.failures ≡ self.old.failures }
         ensures keeps { Keeps self.old self.new }

@@ -1,7 +1,7 @@
 //! What a sink asks of a folder, and what that answers.
 
 ghost use Rattle.std.specs.Prelude.{◌≡◌, ℕ, List, Option, true, false, OnOk, OnErr, IfOk, IfErr};
-ghost use Rattle.ym_folder.specs.Folder.{FolderParts, AllStay, Made, Grown, GrownByFront};
+ghost use Rattle.ym_folder.specs.Folder.{FolderParts, AllStay, Made, Grown, GrownByPrefix};
 ghost use Rattle.ym_folder.specs.Folder.{Linked, Renamed, Removed, TellsNoLinks};
 ghost use Rattle.ym_folder.specs.Folder.{has_links, has_refused};
 ghost use Rattle.ym_folder.specs.FilePlace.{name_of};
@@ -54,8 +54,8 @@ pub trait Folder {
         ensures of { is_of file.new (name_of at.now) }
         ensures grown { OnOk result
             (Grown (name_of at.now) bytes.now (seen self.old) (seen self.new)) }
-        ensures front { OnErr result
-            (GrownByFront (name_of at.now) bytes.now (seen self.old) (seen self.new)) }
+        ensures prefix { OnErr result
+            (GrownByPrefix (name_of at.now) bytes.now (seen self.old) (seen self.new)) }
         ensures calm { has_refused (seen self.new) ≡ has_refused (seen self.old) };
 
     /// Gives a file one more name, where nothing stands there.

@@ -7,7 +7,7 @@ ghost use Rattle.ym_folder.specs.Folder.{OthersStay, under};
 ghost use Rattle.ym_folder.specs.OpenPart.{IsSameFile, IsAsWritten};
 ghost use Rattle.ym_folder.specs.Part.{NameGiven, NameNotGiven};
 ghost use Rattle.ym_folder.specs.Storing.{Stores, GetsAll};
-ghost use Rattle.ym_folder.specs.WriteBehind.{put_so_far, GrowsByFront};
+ghost use Rattle.ym_folder.specs.WriteBehind.{put_so_far, GrowsByPrefix};
 
 use crate::dir_sink::Durability;
 use crate::folder::Folder;
@@ -79,7 +79,7 @@ pub(crate) fn put<D: Folder>(
         (put_so_far (under (D.seen folder.new) (name_of opened.old.part)) behind.new
         ≡ append_known (put_so_far (under (D.seen folder.old) (name_of opened.old.part)) behind.old)
         bytes.now) }
-    ensures front { OnErr result (GrowsByFront
+    ensures prefix { OnErr result (GrowsByPrefix
         (under (D.seen folder.old) (name_of opened.old.part))
         (under (D.seen folder.new) (name_of opened.old.part)) (behind.old ++ bytes.now)) }
 {

@@ -4,7 +4,7 @@ ghost use Rattle.std.specs.Prelude.{◌≡◌, ◌++◌, [], OnOk, OnErr, IfOk};
 ghost use Rattle.std.specs.Io.KnownBytes.{append_known};
 ghost use Rattle.ym_folder.specs.Folder.{OthersStay, under};
 ghost use Rattle.ym_folder.specs.FilePlace.{name_of};
-ghost use Rattle.ym_folder.specs.WriteBehind.{put_so_far, GrowsByFront};
+ghost use Rattle.ym_folder.specs.WriteBehind.{put_so_far, GrowsByPrefix};
 
 use crate::folder::Folder;
 use crate::place::FilePlace;
@@ -41,7 +41,7 @@ fn append<D: Folder>(
     ensures others { OthersStay (name_of at.now) (D.seen folder.old) (D.seen folder.new) }
     ensures all { OnOk result (under (D.seen folder.new) (name_of at.now)
         ≡ append_known (under (D.seen folder.old) (name_of at.now)) bytes.now) }
-    ensures front { OnErr result (GrowsByFront (under (D.seen folder.old) (name_of at.now))
+    ensures prefix { OnErr result (GrowsByPrefix (under (D.seen folder.old) (name_of at.now))
         (under (D.seen folder.new) (name_of at.now)) bytes.now) }
 {
     folder.append(file, at, bytes)
@@ -77,7 +77,7 @@ impl WriteBehind {
         ensures written { OnOk result (under (D.seen folder.new) (name_of at.now)
             ≡ put_so_far (under (D.seen folder.old) (name_of at.now)) self.old) }
         ensures none_wait { OnOk result (self.new ≡ []) }
-        ensures front { OnErr result (GrowsByFront (under (D.seen folder.old) (name_of at.now))
+        ensures prefix { OnErr result (GrowsByPrefix (under (D.seen folder.old) (name_of at.now))
             (under (D.seen folder.new) (name_of at.now)) self.old) }
     {
         append(folder, file, at, self.waiting.as_slice())?;
@@ -100,7 +100,7 @@ impl WriteBehind {
         ensures all { OnOk result (put_so_far (under (D.seen folder.new) (name_of at.now)) self.new
             ≡ append_known (put_so_far (under (D.seen folder.old) (name_of at.now)) self.old)
             bytes.now) }
-        ensures front { OnErr result (GrowsByFront (under (D.seen folder.old) (name_of at.now))
+        ensures prefix { OnErr result (GrowsByPrefix (under (D.seen folder.old) (name_of at.now))
             (under (D.seen folder.new) (name_of at.now)) (self.old ++ bytes.now)) }
     {
         if bytes.len() <= BEHIND.saturating_sub(self.waiting.len()) {

@@ -22,42 +22,42 @@ open_parts size bytes still =
       | bad w l m e ↦ let no : Check ≡ Cut = rw e at still in cc
     ]
 
-pub block_last : (size : ℕ) (held : List ℕ) (byte : ℕ) → IsOpen (block_verdict size held) → size + 4 ≤ length held →
-    block_verdict size (held ++ byte ∷ []) ≡
-    cond (check_of (body_of size held) == slice_index held (size + 3) * 256 + byte) (Ok (Block (record { number = slice_index held 1; body = body_of size held }), size + 5)) (Err (fault_at (size + 3) Check))
-block_last size held byte still h =
-    let all = held ++ byte ∷ [] in
-    let parts = open_parts size held still in
-    let long : length all ≡ size + 5 = omega (arith, length-append held (byte ∷ []), parts.1) in
-    let right : wrong_at all ≡ false = wrong_more held (byte ∷ []) (omega arith) ∙ parts.0 in
+pub block_last : (size : ℕ) (buffered : List ℕ) (byte : ℕ) → IsOpen (block_verdict size buffered) → size + 4 ≤ length buffered →
+    block_verdict size (buffered ++ byte ∷ []) ≡
+    cond (check_of (body_of size buffered) == slice_index buffered (size + 3) * 256 + byte) (Ok (Block (record { number = slice_index buffered 1; body = body_of size buffered }), size + 5)) (Err (fault_at (size + 3) Check))
+block_last size buffered byte still h =
+    let all = buffered ++ byte ∷ [] in
+    let parts = open_parts size buffered still in
+    let long : length all ≡ size + 5 = omega (arith, length-append buffered (byte ∷ []), parts.1) in
+    let right : wrong_at all ≡ false = wrong_more buffered (byte ∷ []) (omega arith) ∙ parts.0 in
     let whole : nat_lt (length all) (size + 5) ≡ false = le-ltb (length all) (size + 5) (omega arith) in
-    let number : slice_index all 1 ≡ slice_index held 1 = get_or-append held (byte ∷ []) 0 1 (omega arith) in
-    let high : slice_index all (size + 3) ≡ slice_index held (size + 3) = get_or-append held (byte ∷ []) 0 (size + 3) (omega arith) in
-    let place : size + 4 ≡ length held = omega (arith, parts.1) in
-    let low : slice_index all (size + 4) ≡ byte = rw place (get_or-append_seam held byte [] 0) in
-    let body : body_of size all ≡ body_of size held = body_of-more size held (byte ∷ []) (omega arith) in
+    let number : slice_index all 1 ≡ slice_index buffered 1 = get_or-append buffered (byte ∷ []) 0 1 (omega arith) in
+    let high : slice_index all (size + 3) ≡ slice_index buffered (size + 3) = get_or-append buffered (byte ∷ []) 0 (size + 3) (omega arith) in
+    let place : size + 4 ≡ length buffered = omega (arith, parts.1) in
+    let low : slice_index all (size + 4) ≡ byte = rw place (get_or-append_seam buffered byte [] 0) in
+    let body : body_of size all ≡ body_of size buffered = body_of-more size buffered (byte ∷ []) (omega arith) in
     rw (right, whole, number, high, low, body) refl
 
-pub block_last_good : (size : ℕ) (held : List ℕ) (byte : ℕ) → IsOpen (block_verdict size held) → size + 4 ≤ length held →
-    check_of (body_of size held) ≡ slice_index held (size + 3) * 256 + byte →
-    block_verdict size (held ++ byte ∷ []) ≡ Ok (Block (record { number = slice_index held 1; body = body_of size held }), size + 5)
-block_last_good size held byte still h m = rw (block_last size held byte still h, eq-eqb (check_of (body_of size held)) (slice_index held (size + 3) * 256 + byte) m) refl
+pub block_last_good : (size : ℕ) (buffered : List ℕ) (byte : ℕ) → IsOpen (block_verdict size buffered) → size + 4 ≤ length buffered →
+    check_of (body_of size buffered) ≡ slice_index buffered (size + 3) * 256 + byte →
+    block_verdict size (buffered ++ byte ∷ []) ≡ Ok (Block (record { number = slice_index buffered 1; body = body_of size buffered }), size + 5)
+block_last_good size buffered byte still h m = rw (block_last size buffered byte still h, eq-eqb (check_of (body_of size buffered)) (slice_index buffered (size + 3) * 256 + byte) m) refl
 
-pub block_last_bad : (size : ℕ) (held : List ℕ) (byte : ℕ) → IsOpen (block_verdict size held) → size + 4 ≤ length held →
-    (check_of (body_of size held) ≡ slice_index held (size + 3) * 256 + byte → ⊥) →
-    block_verdict size (held ++ byte ∷ []) ≡ Err (fault_at (size + 3) Check)
-block_last_bad size held byte still h m = rw (block_last size held byte still h, ne_eqb (check_of (body_of size held)) (slice_index held (size + 3) * 256 + byte) m) refl
+pub block_last_bad : (size : ℕ) (buffered : List ℕ) (byte : ℕ) → IsOpen (block_verdict size buffered) → size + 4 ≤ length buffered →
+    (check_of (body_of size buffered) ≡ slice_index buffered (size + 3) * 256 + byte → ⊥) →
+    block_verdict size (buffered ++ byte ∷ []) ≡ Err (fault_at (size + 3) Check)
+block_last_bad size buffered byte still h m = rw (block_last size buffered byte still h, ne_eqb (check_of (body_of size buffered)) (slice_index buffered (size + 3) * 256 + byte) m) refl
 
 -- once its complement has passed, a block that is not whole goes on
-pub block_goes_on : (size : ℕ) (held more : List ℕ) → IsOpen (block_verdict size held) → 2 < length held → length held + length more < size + 5 →
-    IsOpen (block_verdict size (held ++ more))
-block_goes_on size held more still longer short =
-    let parts = open_parts size held still in
-    elim (block_case size (held ++ more)) [
-      | wrong v f ↦ let no : false ≡ true = sym parts.0 ∙ sym (wrong_more held more longer) ∙ v in cc
+pub block_goes_on : (size : ℕ) (buffered more : List ℕ) → IsOpen (block_verdict size buffered) → 2 < length buffered → length buffered + length more < size + 5 →
+    IsOpen (block_verdict size (buffered ++ more))
+block_goes_on size buffered more still longer short =
+    let parts = open_parts size buffered still in
+    elim (block_case size (buffered ++ more)) [
+      | wrong v f ↦ let no : false ≡ true = sym parts.0 ∙ sym (wrong_more buffered more longer) ∙ v in cc
       | cut v k f ↦ rw f refl
-      | good v k m f ↦ absurd (omega (arith, length-append held more))
-      | bad v k m f ↦ absurd (omega (arith, length-append held more))
+      | good v k m f ↦ absurd (omega (arith, length-append buffered more))
+      | bad v k m f ↦ absurd (omega (arith, length-append buffered more))
     ]
 
 pub cancel_short : (more : List ℕ) → IsOpen (cancel_verdict more) → more ≡ []
@@ -82,11 +82,11 @@ long_enough : (size : Size) → length_of size ≤ 1024
 long_enough Short = omega arith
 long_enough Long = omega arith
 
-pub body_held : (size : Size) (len : ℕ) (bytes held rest chunk : List ℕ) → take len bytes ≡ held → rest ≡ take 1026 (drop 3 bytes) → chunk ≡ take 1024 rest →
-    length_of size + 3 ≤ length held → take (length_of size) chunk ≡ body_of (length_of size) held
-body_held size len bytes held rest chunk is all first h =
+pub body_buffered : (size : Size) (len : ℕ) (bytes buffered rest chunk : List ℕ) → take len bytes ≡ buffered → rest ≡ take 1026 (drop 3 bytes) → chunk ≡ take 1024 rest →
+    length_of size + 3 ≤ length buffered → take (length_of size) chunk ≡ body_of (length_of size) buffered
+body_buffered size len bytes buffered rest chunk is all first h =
     let n = length_of size in
-    let within : length held ≤ len = omega (arith, ap length is, length-take len bytes) in
+    let within : length buffered ≤ len = omega (arith, ap length is, length-take len bytes) in
     let split : 3 + (len - 3) ≡ len = omega arith in
     let body = drop 3 bytes in
     ap (take n) (first ∙ ap (take 1024) all) ∙
@@ -96,5 +96,5 @@ body_held size len bytes held rest chunk is all first h =
     ap (take n) (sym (drop-take 3 (len - 3) bytes) ∙ ap (λ k. drop 3 (take k bytes)) split) ∙
     ap (body_of n) is
 
-pub first_within : (len : ℕ) (bytes held : List ℕ) (i : ℕ) → take len bytes ≡ held → i < length held → i < len
-first_within len bytes held i is h = omega (arith, ap length is, length-take len bytes)
+pub first_within : (len : ℕ) (bytes buffered : List ℕ) (i : ℕ) → take len bytes ≡ buffered → i < length buffered → i < len
+first_within len bytes buffered i is h = omega (arith, ap length is, length-take len bytes)

@@ -5,7 +5,7 @@ pub use Rattle.ym_frame.specs.Control.{IsSubsequence, behind, controls, is_contr
 pub use Rattle.ym_frame.specs.Frame.{HasNoFrame, IsFrame, IsOpen, IsVerdict, block_verdict, body_of, cancel_verdict, check_field, fault_at}
 unfoldable pub use Rattle.ym_frame.specs.Frame.{verdict_of}
 pub use Rattle.ym_frame.specs.Reader.{IsBetween, body_left}
-pub use Rattle.ym_frame.specs.Pieces.{item_of, reading_after}
+pub use Rattle.ym_frame.specs.Pieces.{item_of, scan_after}
 pub use Rattle.ym_frame.specs.declared.frame.Broken.{Broken}
 pub use Rattle.ym_frame.specs.declared.frame.Item.{Item}
 pub use Rattle.ym_frame.specs.declared.frame.Item.TheVariants.{Block}

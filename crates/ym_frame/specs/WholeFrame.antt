@@ -23,7 +23,7 @@ item_in whole.Cancel frame = Cancel
 
 -- the bytes are all of the frame but its last byte
 abbrev pub IsAllBut : List ℕ → Whole → Type 0
-IsAllBut held whole = length_in whole ≡ length held + 1
+IsAllBut buffered whole = length_in whole ≡ length buffered + 1
 
 -- all of the frame is there
 abbrev pub IsThere : Whole → List ℕ → Type 0

@@ -26,8 +26,8 @@ run_at : (p : ℕ → Bool) (xs ys : List ℕ) → Passes p xs → prefix_len p 
 run_at p [] ys h e = e
 run_at p (x ∷ xs) ys h e = let here = h.0 in rw (here, run_at p xs ys h.1 e) (omega arith)
 
-front_at : (p : ℕ → Bool) (xs ys : List ℕ) → Passes p xs → prefix_len p ys ≡ 0 → take (prefix_len p (xs ++ ys)) (xs ++ ys) ≡ xs
-front_at p xs ys h e = ap (λ n. take n (xs ++ ys)) (run_at p xs ys h e) ∙ take_at xs ys (length xs) refl
+prefix_at : (p : ℕ → Bool) (xs ys : List ℕ) → Passes p xs → prefix_len p ys ≡ 0 → take (prefix_len p (xs ++ ys)) (xs ++ ys) ≡ xs
+prefix_at p xs ys h e = ap (λ n. take n (xs ++ ys)) (run_at p xs ys h e) ∙ take_at xs ys (length xs) refl
 
 -- ---- The name
 
@@ -39,7 +39,7 @@ name_passes [] h = tt
 name_passes (b ∷ bs) h = (name_byte b (All-head (λ b. (0x20 ≤ b) × (b ≢ 0x2f)) b bs h).0, name_passes bs (All-tail (λ b. (0x20 ≤ b) × (b ≢ 0x2f)) b bs h))
 
 name_at : (name rest : List ℕ) → IsSafe name → name_in (name ++ 0 ∷ rest) ≡ name
-name_at name rest safe = front_at (λ b. not (is_zero b)) name (0 ∷ rest) (name_passes name safe.bytes) refl
+name_at name rest safe = prefix_at (λ b. not (is_zero b)) name (0 ∷ rest) (name_passes name safe.bytes) refl
 
 behind_name_at : (name rest : List ℕ) → IsSafe name → behind_name (name ++ 0 ∷ rest) ≡ rest
 behind_name_at name rest safe =
@@ -56,7 +56,7 @@ digits_pass p radix each [] h = tt
 digits_pass p radix each (c ∷ cs) h = (each c h.0, digits_pass p radix each cs h.1)
 
 digits_at : (ds rest : List ℕ) → AllDigits 10 ds → prefix_len is_ascii_digit rest ≡ 0 → digits_in (ds ++ rest) ≡ ds
-digits_at ds rest h e = front_at is_ascii_digit ds rest (digits_pass is_ascii_digit 10 digit_passes ds h) e
+digits_at ds rest h e = prefix_at is_ascii_digit ds rest (digits_pass is_ascii_digit 10 digit_passes ds h) e
 
 behind_digits_at : (ds rest : List ℕ) → AllDigits 10 ds → prefix_len is_ascii_digit rest ≡ 0 → behind_digits (ds ++ rest) ≡ rest
 behind_digits_at ds rest h e = rw (digits_at ds rest h e, drop_at ds rest (length ds) refl) refl
@@ -67,7 +67,7 @@ octal_passes : (c : ℕ) → digit_value c < 8 → not (ends_field c) ≡ true
 octal_passes c h = let range = digit_from_value c (omega (arith, h)) in grind (arith, nat_tests)
 
 field_at : (ds rest : List ℕ) → AllDigits 8 ds → prefix_len (λ c. not (ends_field c)) rest ≡ 0 → field_in (0x20 ∷ (ds ++ rest)) ≡ ds
-field_at ds rest h e = front_at (λ c. not (ends_field c)) ds rest (digits_pass (λ c. not (ends_field c)) 8 octal_passes ds h) e
+field_at ds rest h e = prefix_at (λ c. not (ends_field c)) ds rest (digits_pass (λ c. not (ends_field c)) 8 octal_passes ds h) e
 
 behind_field_at : (ds rest : List ℕ) → AllDigits 8 ds → prefix_len (λ c. not (ends_field c)) rest ≡ 0 → behind_field (0x20 ∷ (ds ++ rest)) ≡ rest
 behind_field_at ds rest h e = rw (field_at ds rest h e, sym (drop-drop (length ds) 1 (0x20 ∷ (ds ++ rest))), drop_at ds rest (length ds) refl) refl

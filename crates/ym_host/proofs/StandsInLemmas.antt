@@ -11,10 +11,10 @@ StandsIn-copied held start at count copied (Some all) stands le fits e =
     let skipped = at - start in
     let rest = length held - skipped in
     let all_held : length held ≡ skipped + rest = omega arith in
-    let place : start + skipped ≡ at = omega arith in
+    let position : start + skipped ≡ at = omega arith in
     let behind : drop skipped held ≡ take rest (drop at all) =
     ap (drop skipped) (stands ∙ ap (λ n. take n (drop start all)) all_held) ∙ drop-take skipped rest (drop start all)
-    ∙ ap (take rest) (drop-drop skipped start all ∙ ap (λ n. drop n all) place) in
+    ∙ ap (take rest) (drop-drop skipped start all ∙ ap (λ n. drop n all) position) in
     let enough : count ≤ rest = omega arith in
     let long : count ≤ length (drop skipped held) = omega (arith, length-drop skipped held) in
     let counted : length copied ≡ count = ap length e ∙ length-take-le count (drop skipped held) long in

@@ -1,7 +1,7 @@
 //! A source that opens a file and reads it.
 
 ghost use Rattle.std.specs.Prelude.{◌≡◌, ◌≤◌, ◌+◌, ℕ, List, Option, OnOk, OnErr, IfOk, IfSome, length as list_length};
-ghost use Rattle.ym_file.specs.Counts.{Rose};
+ghost use Rattle.ym_file.specs.Counts.{Counted};
 ghost use Rattle.ym_host.specs.ReadAhead.{StandsIn};
 
 use crate::read_ahead::ReadAhead;

@@ -1,7 +1,7 @@
 //! A carrier over the two ends of one TCP connection.
 
 ghost use Rattle.std.specs.Prelude.{◌≡◌, ◌≢◌, ◌<◌, None, Ok, Err, OnOk, length};
-ghost use Rattle.ym_file.specs.Counts.{Rose};
+ghost use Rattle.ym_file.specs.Counts.{Counted};
 ghost use Rattle.ym_link.specs.declared.port.TheConstants.{DELIVERY_LIMIT};
 
 use std::io;
@@ -66,7 +66,7 @@ impl SocketCarrier {
 
     /// Counts a failure, after which every carry is one.
     fn fail(&mut self) -> CarryFault
-        ensures rose { Rose self.old self.new }
+        ensures counted_failure { Counted self.old self.new }
         ensures fault { result ≡ CarryFault.Device }
     {
         self.failed = self.failed.saturating_add(1);
@@ -109,7 +109,7 @@ impl Carrier for SocketCarrier {
         ensures arrived { OnOk result (into.new.items ≡ bytes.now) }
         ensures broken { self.old ≢ 0 → result ≡ Err CarryFault.Device }
         ensures limit { DELIVERY_LIMIT < length bytes.now → result ≢ Ok tt }
-        ensures failed { result ≡ Err CarryFault.Device → Rose self.old self.new }
+        ensures failed { result ≡ Err CarryFault.Device → Counted self.old self.new }
         ensures not_failed { result ≢ Err CarryFault.Device → self.new ≡ self.old }
     {
         if self.failed > 0 {

@@ -1,7 +1,7 @@
 //! A TCP connection, as a line with a clock.
 
 ghost use Rattle.std.specs.Prelude.{◌≡◌, ◌<◌, ◌≤◌, ℕ, Ok, OnOk, OnErr, length};
-ghost use Rattle.ym_file.specs.Counts.{Rose};
+ghost use Rattle.ym_file.specs.Counts.{Counted};
 
 use crate::drip::Drip;
 use crate::moments::millis_of;
@@ -131,7 +131,7 @@ impl<R: Clock + Drop> SocketWire<R> {
 
     /// Counts a failure.
     fn fail(&mut self) -> PortFault
-        ensures { Rose self.old self.new }
+        ensures { Counted self.old self.new }
     {
         self.failed = self.failed.saturating_add(1);
         PortFault

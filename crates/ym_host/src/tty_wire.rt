@@ -1,7 +1,7 @@
 //! A terminal whose reads end by themselves, as a line with a clock.
 
 ghost use Rattle.std.specs.Prelude.{◌≡◌, ◌<◌, ◌≤◌, ◌+◌, ◌/◌, ℕ, Ok, OnOk, OnErr, length};
-ghost use Rattle.ym_file.specs.Counts.{Rose};
+ghost use Rattle.ym_file.specs.Counts.{Counted};
 
 use crate::drip::Drip;
 use crate::moments::millis_of;
@@ -125,7 +125,7 @@ impl<R: Clock + Drop, I: Read + Drop, O: Write + Drop> TtyWire<R, I, O> {
 
     /// Counts a failure, and keeps why.
     fn fail(&mut self, fault: TtyFault) -> PortFault
-        ensures { Rose self.old self.new }
+        ensures { Counted self.old self.new }
     {
         self.keep(fault);
         self.failed = self.failed.saturating_add(1);
@@ -177,7 +177,7 @@ impl<R: Clock + Drop, I: Read + Drop, O: Write + Drop> TtyWire<R, I, O> {
         requires { 0 < length buf.old }
         ensures count { (n : ℕ) → result ≡ Ok (Got.Bytes n) → (0 < n) × (n ≤ length buf.old) }
         ensures ok { OnOk result (self.new ≡ self.old) }
-        ensures failed { OnErr result (Rose self.old self.new) }
+        ensures failed { OnErr result (Counted self.old self.new) }
     {
         let end = self.look().saturating_add(millis);
         for _ in 0..most_reads(millis) {

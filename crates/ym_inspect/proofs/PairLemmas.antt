@@ -5,11 +5,11 @@ use Rattle.std.specs.Io.KnownBytes.{Consumes, IsAtEnd}
 use Rattle.ym_explain.specs.declared.verdict.Verdict.{Verdict}
 use Rattle.ym_explain.specs.declared.verdict.Ways.TheVariants as ways
 use Rattle.ym_told.specs.RunText.{same_way}
-use Rattle.ym_told.specs.declared.front.Settle.{Settle}
+use Rattle.ym_told.specs.declared.prefix.Settle.{Settle}
 use Rattle.ym_told.specs.declared.way.Direction.{Direction}
 use Rattle.ym_told.specs.declared.way.Direction.TheVariants.{There, Back}
 use Rattle.ym_inspect.specs.CaptureTold.{Ends, Tells, nothing, came, tagged}
-use Rattle.ym_inspect.specs.Inspecting.{Parts, nothing_held, with_piece, IsTold}
+use Rattle.ym_inspect.specs.Inspecting.{Parts, nothing_buffered, with_piece, IsTold}
 use Rattle.ym_inspect.specs.PairTold.{WayOn, PairOn, ExplainsPair, of_way}
 use Rattle.ym_inspect.proofs.TellLemmas.{tells_on, one_told, tagged-append}
 
@@ -144,7 +144,7 @@ pair_on there back old before mid_there mid_back mid between new_there new_back 
 -- nothing is left of either, and the end was told
 pub pair_whole :
     (sent answered : List ℕ) (there back new_there new_back : Option (List ℕ)) (now : Parts) (before : Option (List ℕ)) (at_end : Parts) (out : Option (List ℕ))
-    (verdict : Verdict) (after : Option (List ℕ)) → there ≡ Some sent → back ≡ Some answered → now ≡ nothing_held
+    (verdict : Verdict) (after : Option (List ℕ)) → there ≡ Some sent → back ≡ Some answered → now ≡ nothing_buffered
     → PairOn there back now before new_there new_back at_end out → IsAtEnd new_there → IsAtEnd new_back → Ends at_end out ways.Both verdict after
     → ExplainsPair sent answered before verdict after
 pair_whole sent answered there back new_there new_back now before at_end out verdict after t b n on there_end back_end ends = record {

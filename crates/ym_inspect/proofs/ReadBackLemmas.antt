@@ -93,10 +93,10 @@ more_digits : (n : ℕ) (ds : List ℕ) → 10 ≤ n → AreSeconds (n / 10) ds
     → AreSeconds n (ds ++ (48 + n % 10) ∷ [])
 more_digits n ds large before = λ number read fits.
     let whole : n / 10 * 10 + n % 10 ≡ n = omega arith in
-    let front : n / 10 * 1000000 < 2 ^ 64 = omega arith in
+    let prefix : n / 10 * 1000000 < 2 ^ 64 = omega arith in
     let last : n % 10 < 10 = omega arith in
     chars_append (Ok (so_much line.Start number read)) ds ((48 + n % 10) ∷ [])
-    ∙ ap (λ (much : Result SoMuch InspectFault). and_char much (48 + n % 10)) (before number read front)
+    ∙ ap (λ (much : Result SoMuch InspectFault). and_char much (48 + n % 10)) (before number read prefix)
     ∙ next_digit (n / 10) (n % 10) number read last (omega arith)
     ∙ ap (λ (m : ℕ). Ok (so_much (line.Seconds (m * 1000000)) number read)) whole
 

@@ -10,7 +10,7 @@ use Rattle.std.specs.Io.KnownBytes.{Consumes, IsAtEnd}
 use Rattle.ym_told.specs.declared.way.Direction.{Direction}
 use Rattle.ym_inspect.specs.CaptureFaults.{IsOfTelling}
 use Rattle.ym_inspect.specs.CaptureTold.{Tells, tagged, nothing}
-use Rattle.ym_inspect.specs.Inspecting.{Parts, nothing_held}
+use Rattle.ym_inspect.specs.Inspecting.{Parts, nothing_buffered}
 use Rattle.ym_inspect.specs.Recorded.{after_char, capped}
 use Rattle.ym_inspect.specs.RecordRead.{SoMuch, SoFar, GoesOn, Keeps, KeepsWay, SaysLine, IsFirstLine, way_in, in_line, so_much, no_line, behind_char, and_char, and_chars, at_record_end, recorded}
 use Rattle.ym_inspect.specs.declared.fault.InspectFault.{InspectFault}
@@ -52,16 +52,16 @@ pub handed_on :
     → SoFar before new state [] after read
 handed_on before at state piece out read way new after so e t = record {
   told = so.told ++ tagged way piece;
-  tells = tells_on nothing_held before so.told at out (tagged way piece) new after so.tells t;
+  tells = tells_on nothing_buffered before so.told at out (tagged way piece) new after so.tells t;
   all = so.all ∙ ap (λ (w : Option Direction). so.told ++ in_line w piece) e ∙ sym (append-nil (so.told ++ tagged way piece))
       ∙ ap (λ (zs : List (Direction × ℕ)). (so.told ++ tagged way piece) ++ zs) (sym (in_nothing (way_in state)));
-  held = λ _. refl;
+  buffered = λ _. refl;
 }
 
-pub none_held :
+pub none_buffered :
     (before : Option (List ℕ)) (at : Parts) (state : InLine) (piece : List ℕ) (out : Option (List ℕ)) (read : List (Direction × ℕ)) → SoFar before at state piece out read
     → piece ≡ [] → SoFar before at state [] out read
-none_held before at state piece out read so e = subst (λ (p : List ℕ). SoFar before at state p out read) e so
+none_buffered before at state piece out read so e = subst (λ (p : List ℕ). SoFar before at state p out read) e so
 
 -- nothing is held, and the next state is this
 pub nothing_taken :
@@ -73,7 +73,7 @@ nothing_taken before at state out read new so =
       told = so.told;
       tells = so.tells;
       all = ap (λ (zs : List (Direction × ℕ)). zs ++ in_line (way_in new) []) r_is;
-      held = λ _. refl;
+      buffered = λ _. refl;
     }
 
 -- a byte more, or none, in a line that has its way
@@ -88,7 +88,7 @@ in_way before at state piece out read way new more so e f =
       tells = so.tells;
       all = ap (λ (zs : List (Direction × ℕ)). zs ++ in_line (way_in new) more) r_is ∙ append_assoc so.told (in_line (way_in new) piece) (in_line (way_in new) more)
           ∙ ap (λ (zs : List (Direction × ℕ)). so.told ++ zs) (sym (in_append (way_in new) piece more));
-      held = λ n. absurd (none-some way (sym n ∙ f));
+      buffered = λ n. absurd (none-some way (sym n ∙ f));
     }
 
 -- none, behind no way
@@ -98,7 +98,7 @@ behind_none :
 behind_none before at state piece out read new more so e f =
     subst (λ (m : List ℕ). SoFar before at new (piece ++ m) out (read ++ in_line (way_in new) m)) (sym f)
     (subst (λ (p : List ℕ). SoFar before at new (p ++ []) out (read ++ in_line (way_in new) [])) (sym e)
-    (nothing_taken before at state out read new (none_held before at state piece out read so e)))
+    (nothing_taken before at state out read new (none_buffered before at state piece out read so e)))
 
 -- a byte that is completed stands in its line
 ends_none : (way after : Option Direction) (c : ℕ) (byte : Option ℕ) → Keeps way c after byte → c ≡ 10 → byte ≡ None
@@ -114,7 +114,7 @@ taken_in :
     (new : Stepped) → SoFar before at state piece out read → Keeps way c (way_in new.state) new.byte → (c ≡ 10 → ⊥) → way_in state ≡ way
     → SoFar before at new.state (piece ++ option_to_list new.byte) out (read ++ in_line (way_in new.state) (option_to_list new.byte))
 taken_in None before at state piece out read c new so keeps goes e =
-    behind_none before at state piece out read new.state (option_to_list new.byte) so (so.held e) (ap (λ (o : Option ℕ). option_to_list o) keeps)
+    behind_none before at state piece out read new.state (option_to_list new.byte) so (so.buffered e) (ap (λ (o : Option ℕ). option_to_list o) keeps)
 taken_in (Some way) before at state piece out read c new so keeps goes e =
     in_way before at state piece out read way new.state (option_to_list new.byte) so e (stays way (way_in new.state) c new.byte keeps goes)
 
@@ -126,9 +126,9 @@ stepped_on state number read c new e = ap (λ (r : Result Stepped RecordFault). 
 -- so it goes on in a line
 pub goes_in_line :
     (before : Option (List ℕ)) (at : Parts) (state : InLine) (number : ℕ) (piece : List ℕ) (out : Option (List ℕ)) (read : List (Direction × ℕ)) (c : ℕ) (new : Stepped)
-    (held : List ℕ) → after_char state c ≡ Ok new → KeepsWay state c new → (c ≡ 10 → ⊥) → held ≡ piece ++ option_to_list new.byte
-    → SoFar before at state piece out read → GoesOn before (and_char (Ok (so_much state number read)) c) at new.state number held out
-goes_in_line before at state number piece out read c new held e keeps goes h so = record {
+    (buffered : List ℕ) → after_char state c ≡ Ok new → KeepsWay state c new → (c ≡ 10 → ⊥) → buffered ≡ piece ++ option_to_list new.byte
+    → SoFar before at state piece out read → GoesOn before (and_char (Ok (so_much state number read)) c) at new.state number buffered out
+goes_in_line before at state number piece out read c new buffered e keeps goes h so = record {
   read = read ++ in_line (way_in new.state) (option_to_list new.byte);
   much_is = stepped_on state number read c new e
       ∙ ap (λ (b : Bool). Ok (so_much new.state (if b then capped (number + 1) else number) (read ++ in_line (way_in new.state) (option_to_list new.byte)))) (no_end c goes);
@@ -139,9 +139,9 @@ goes_in_line before at state number piece out read c new held e keeps goes h so 
 -- and at the end of one
 pub goes_behind_line :
     (before : Option (List ℕ)) (at : Parts) (state : InLine) (number : ℕ) (out : Option (List ℕ)) (read : List (Direction × ℕ)) (c : ℕ) (new : Stepped) (next : ℕ)
-    → (held : List ℕ) → after_char state c ≡ Ok new → KeepsWay state c new → c ≡ 10 → next ≡ capped (number + 1) → held ≡ []
-    → SoFar before at state [] out read → GoesOn before (and_char (Ok (so_much state number read)) c) at new.state next held out
-goes_behind_line before at state number out read c new next held e keeps ends n h so =
+    → (buffered : List ℕ) → after_char state c ≡ Ok new → KeepsWay state c new → c ≡ 10 → next ≡ capped (number + 1) → buffered ≡ []
+    → SoFar before at state [] out read → GoesOn before (and_char (Ok (so_much state number read)) c) at new.state next buffered out
+goes_behind_line before at state number out read c new next buffered e keeps ends n h so =
     let none : option_to_list new.byte ≡ [] = ap (λ (o : Option ℕ). option_to_list o) (ends_none (way_in state) (way_in new.state) c new.byte keeps ends) in
     record {
       read = read ++ in_line (way_in new.state) [];
@@ -155,32 +155,32 @@ goes_behind_line before at state number out read c new next held e keeps ends n 
 -- the same, of a record whose parts are these
 pub goes_on_in_line :
     (before : Option (List ℕ)) (at : Parts) (state : InLine) (number : ℕ) (piece : List ℕ) (out : Option (List ℕ)) (read : List (Direction × ℕ)) (c : ℕ) (new : Stepped)
-    (new_at : Parts) (new_state : InLine) (new_number : ℕ) (held : List ℕ) → after_char state c ≡ Ok new → KeepsWay state c new → (c ≡ 10 → ⊥)
-    → new_at ≡ at → new_state ≡ new.state → new_number ≡ number → held ≡ piece ++ option_to_list new.byte
-    → SoFar before at state piece out read → GoesOn before (and_char (Ok (so_much state number read)) c) new_at new_state new_number held out
-goes_on_in_line before at state number piece out read c new new_at new_state new_number held e keeps goes a s n h so =
-    subst (λ (m : ℕ). GoesOn before (and_char (Ok (so_much state number read)) c) new_at new_state m held out) (sym n)
-    (subst (λ (l : InLine). GoesOn before (and_char (Ok (so_much state number read)) c) new_at l number held out) (sym s)
-    (subst (λ (p : Parts). GoesOn before (and_char (Ok (so_much state number read)) c) p new.state number held out) (sym a)
-    (goes_in_line before at state number piece out read c new held e keeps goes h so)))
+    (new_at : Parts) (new_state : InLine) (new_number : ℕ) (buffered : List ℕ) → after_char state c ≡ Ok new → KeepsWay state c new → (c ≡ 10 → ⊥)
+    → new_at ≡ at → new_state ≡ new.state → new_number ≡ number → buffered ≡ piece ++ option_to_list new.byte
+    → SoFar before at state piece out read → GoesOn before (and_char (Ok (so_much state number read)) c) new_at new_state new_number buffered out
+goes_on_in_line before at state number piece out read c new new_at new_state new_number buffered e keeps goes a s n h so =
+    subst (λ (m : ℕ). GoesOn before (and_char (Ok (so_much state number read)) c) new_at new_state m buffered out) (sym n)
+    (subst (λ (l : InLine). GoesOn before (and_char (Ok (so_much state number read)) c) new_at l number buffered out) (sym s)
+    (subst (λ (p : Parts). GoesOn before (and_char (Ok (so_much state number read)) c) p new.state number buffered out) (sym a)
+    (goes_in_line before at state number piece out read c new buffered e keeps goes h so)))
 
 pub goes_on_behind_line :
     (before : Option (List ℕ)) (at : Parts) (state : InLine) (number : ℕ) (out : Option (List ℕ)) (read : List (Direction × ℕ)) (c : ℕ) (new : Stepped)
-    (new_state : InLine) (next : ℕ) (held : List ℕ) → after_char state c ≡ Ok new → KeepsWay state c new → c ≡ 10 → new_state ≡ new.state
-    → next ≡ capped (number + 1) → held ≡ [] → SoFar before at state [] out read
-    → GoesOn before (and_char (Ok (so_much state number read)) c) at new_state next held out
-goes_on_behind_line before at state number out read c new new_state next held e keeps ends s n h so =
-    subst (λ (l : InLine). GoesOn before (and_char (Ok (so_much state number read)) c) at l next held out) (sym s)
-    (goes_behind_line before at state number out read c new next held e keeps ends n h so)
+    (new_state : InLine) (next : ℕ) (buffered : List ℕ) → after_char state c ≡ Ok new → KeepsWay state c new → c ≡ 10 → new_state ≡ new.state
+    → next ≡ capped (number + 1) → buffered ≡ [] → SoFar before at state [] out read
+    → GoesOn before (and_char (Ok (so_much state number read)) c) at new_state next buffered out
+goes_on_behind_line before at state number out read c new new_state next buffered e keeps ends s n h so =
+    subst (λ (l : InLine). GoesOn before (and_char (Ok (so_much state number read)) c) at l next buffered out) (sym s)
+    (goes_behind_line before at state number out read c new next buffered e keeps ends n h so)
 
 -- all that was read was told
 pub all_told :
     (before : Option (List ℕ)) (at : Parts) (state : InLine) (piece : List ℕ) (out : Option (List ℕ)) (read : List (Direction × ℕ)) → SoFar before at state piece out read
-    → piece ≡ [] → Tells nothing_held before read at out
+    → piece ≡ [] → Tells nothing_buffered before read at out
 all_told before at state piece out read so e =
     let r_is : read ≡ so.told = so.all ∙ ap (λ (p : List ℕ). so.told ++ in_line (way_in state) p) e ∙ ap (λ (zs : List (Direction × ℕ)). so.told ++ zs) (in_nothing (way_in state))
     ∙ append-nil so.told in
-    subst (λ (zs : List (Direction × ℕ)). Tells nothing_held before zs at out) (sym r_is) so.tells
+    subst (λ (zs : List (Direction × ℕ)). Tells nothing_buffered before zs at out) (sym r_is) so.tells
 
 -- what is of telling is no fault of a line
 pub no_line_told : {A : Type 0} (told : Result A InspectFault) (fault : InspectFault) (at : Result SoMuch InspectFault) → IsOfTelling told → told ≡ Err fault → SaysLine fault at
@@ -222,9 +222,9 @@ walked_wrong before much xs i at state number piece out fault within walked says
 -- all of them were, and what was held was handed on
 pub walked_all :
     (before : Option (List ℕ)) (much : Result SoMuch InspectFault) (xs : List ℕ) (i : ℕ) (at : Parts) (state : InLine) (number : ℕ) (piece : List ℕ) (out : Option (List ℕ))
-    (new : Parts) (held : List ℕ) (after : Option (List ℕ)) → length xs ≤ i → (walked : Walked before much (drop i xs) at state number piece out) → held ≡ []
-    → SoFar before new state [] after walked.read → GoesOn before much new state number held after
-walked_all before much xs i at state number piece out new held after above walked none so = record {
+    (new : Parts) (buffered : List ℕ) (after : Option (List ℕ)) → length xs ≤ i → (walked : Walked before much (drop i xs) at state number piece out) → buffered ≡ []
+    → SoFar before new state [] after walked.read → GoesOn before much new state number buffered after
+walked_all before much xs i at state number piece out new buffered after above walked none so = record {
   read = walked.read;
   much_is = walked.much_is ∙ ap (λ (zs : List ℕ). and_chars (Ok (so_much state number walked.read)) zs) (drop_all i xs above);
   so_far = subst (λ (p : List ℕ). SoFar before new state p after walked.read) (sym none) so;
@@ -320,23 +320,23 @@ on_ok_one (Err fault) P R p f = tt
 -- what was held is handed on behind the last character
 pub walked_end :
     (before : Option (List ℕ)) (much : Result SoMuch InspectFault) (xs : List ℕ) (i : ℕ) (at : Parts) (state : InLine) (number : ℕ) (piece : List ℕ) (out : Option (List ℕ))
-    (new : Parts) (new_state : InLine) (new_number : ℕ) (held : List ℕ) (after : Option (List ℕ)) → length xs ≤ i
-    → (walked : Walked before much (drop i xs) at state number piece out) → new_state ≡ state → new_number ≡ number → ((way_in state ≡ None → piece ≡ []) → held ≡ [])
-    → SoFar before new state [] after walked.read → GoesOn before much new new_state new_number held after
-walked_end before much xs i at state number piece out new new_state new_number held after above walked s n none so =
-    subst (λ (l : InLine). GoesOn before much new l new_number held after) (sym s)
-    (subst (λ (m : ℕ). GoesOn before much new state m held after) (sym n)
-    (walked_all before much xs i at state number piece out new held after above walked (none walked.so_far.held) so))
+    (new : Parts) (new_state : InLine) (new_number : ℕ) (buffered : List ℕ) (after : Option (List ℕ)) → length xs ≤ i
+    → (walked : Walked before much (drop i xs) at state number piece out) → new_state ≡ state → new_number ≡ number → ((way_in state ≡ None → piece ≡ []) → buffered ≡ [])
+    → SoFar before new state [] after walked.read → GoesOn before much new new_state new_number buffered after
+walked_end before much xs i at state number piece out new new_state new_number buffered after above walked s n none so =
+    subst (λ (l : InLine). GoesOn before much new l new_number buffered after) (sym s)
+    (subst (λ (m : ℕ). GoesOn before much new state m buffered after) (sym n)
+    (walked_all before much xs i at state number piece out new buffered after above walked (none walked.so_far.buffered) so))
 
 -- ---- The beginning and the end
 
 pub none_so_far :
-    (before : Option (List ℕ)) (at : Parts) (state : InLine) (piece : List ℕ) → at ≡ nothing_held → state ≡ line.Start → piece ≡ [] → SoFar before at state piece before []
+    (before : Option (List ℕ)) (at : Parts) (state : InLine) (piece : List ℕ) → at ≡ nothing_buffered → state ≡ line.Start → piece ≡ [] → SoFar before at state piece before []
 none_so_far before at state piece a s p =
     subst (λ (q : Parts). SoFar before q state piece before []) (sym a)
-    (subst (λ (l : InLine). SoFar before nothing_held l piece before []) (sym s)
-    (subst (λ (bs : List ℕ). SoFar before nothing_held line.Start bs before []) (sym p)
-    (record { told = []; tells = nothing nothing_held before; all = refl; held = λ _. refl })))
+    (subst (λ (l : InLine). SoFar before nothing_buffered l piece before []) (sym s)
+    (subst (λ (bs : List ℕ). SoFar before nothing_buffered line.Start bs before []) (sym p)
+    (record { told = []; tells = nothing nothing_buffered before; all = refl; buffered = λ _. refl })))
 
 begins : (state : InLine) (number : ℕ) (text : List ℕ) → state ≡ line.Start → number ≡ 1 → and_chars (Ok no_line) text ≡ and_chars (Ok (so_much state number [])) text
 begins state number text s n =
@@ -355,19 +355,19 @@ says_so state number text much s n e = ap at_record_end (begins state number tex
 -- ---- A text of which the first characters were read before
 
 pub in_two :
-    (start : Result SoMuch InspectFault) (front rest text : List ℕ) (mid last : Result SoMuch InspectFault) → text ≡ front ++ rest → and_chars start front ≡ mid
+    (start : Result SoMuch InspectFault) (prefix rest text : List ℕ) (mid last : Result SoMuch InspectFault) → text ≡ prefix ++ rest → and_chars start prefix ≡ mid
     → and_chars mid rest ≡ last → and_chars start text ≡ last
-in_two start front rest text mid last split first behind =
-    ap (λ (xs : List ℕ). and_chars start xs) split ∙ chars_append start front rest ∙ ap (λ (m : Result SoMuch InspectFault). and_chars m rest) first ∙ behind
+in_two start prefix rest text mid last split first behind =
+    ap (λ (xs : List ℕ). and_chars start xs) split ∙ chars_append start prefix rest ∙ ap (λ (m : Result SoMuch InspectFault). and_chars m rest) first ∙ behind
 
 pub wrong_in_front :
-    (start : Result SoMuch InspectFault) (front rest text : List ℕ) (fault : InspectFault) → text ≡ front ++ rest → SaysLine fault (and_chars start front)
+    (start : Result SoMuch InspectFault) (prefix rest text : List ℕ) (fault : InspectFault) → text ≡ prefix ++ rest → SaysLine fault (and_chars start prefix)
     → SaysLine fault (and_chars start text)
-wrong_in_front start front rest text fault split says = λ n why e.
-    in_two start front rest text (Err fault) (Err fault) split (says n why e) (fault_stays fault rest)
+wrong_in_front start prefix rest text fault split says = λ n why e.
+    in_two start prefix rest text (Err fault) (Err fault) split (says n why e) (fault_stays fault rest)
 
 pub wrong_behind :
-    (start : Result SoMuch InspectFault) (front rest text : List ℕ) (mid : Result SoMuch InspectFault) (fault : InspectFault) → text ≡ front ++ rest
-    → and_chars start front ≡ mid → SaysLine fault (and_chars mid rest) → SaysLine fault (and_chars start text)
-wrong_behind start front rest text mid fault split first says = λ n why e.
-    in_two start front rest text mid (Err fault) split first (says n why e)
+    (start : Result SoMuch InspectFault) (prefix rest text : List ℕ) (mid : Result SoMuch InspectFault) (fault : InspectFault) → text ≡ prefix ++ rest
+    → and_chars start prefix ≡ mid → SaysLine fault (and_chars mid rest) → SaysLine fault (and_chars start text)
+wrong_behind start prefix rest text mid fault split first says = λ n why e.
+    in_two start prefix rest text mid (Err fault) split first (says n why e)

@@ -3,9 +3,9 @@ use Rattle.std.proofs.Common.{◌≡◌, ◌∙◌, ◌<◌, ◌+◌, ◌||◌, 
 use Rattle.std.proofs.Math.Numerals.{add-one}
 use Rattle.std.proofs.Math.Seq.{drop-cons}
 use Rattle.std.proofs.lemmas.List.{append-nil}
-use Rattle.ym_explain.specs.FrontOf.{has_block}
+use Rattle.ym_explain.specs.PrefixOf.{has_block}
 use Rattle.std.specs.Io.KnownBytes.{Consumes, IsAtEnd}
-use Rattle.ym_told.specs.declared.front.Settle.{Settle}
+use Rattle.ym_told.specs.declared.prefix.Settle.{Settle}
 use Rattle.ym_told.specs.declared.way.Direction.{Direction}
 use Rattle.ym_inspect.specs.CaptureTold.{Tells, TellsAll, has_frame, nothing, came, passed, told, tagged, at_moment}
 use Rattle.ym_inspect.specs.Inspecting.{Parts, with_piece, IsTold}
@@ -21,8 +21,8 @@ tells_on old before read mid between more new after p (came _ _ ys at out way pi
     (came _ _ _ _ _ way piece (tells_on old before read mid between ys at out p q))
 tells_on old before read mid between more new after p (passed _ _ _ at out way now q) =
     passed _ _ _ _ _ way now (tells_on old before read mid between more at out p q)
-tells_on old before read mid between more new after p (told _ _ _ at out way settle front _ _ q is tells) =
-    told _ _ _ _ _ way settle front _ _ (tells_on old before read mid between more at out p q) is tells
+tells_on old before read mid between more new after p (told _ _ _ at out way settle prefix _ _ q is tells) =
+    told _ _ _ _ _ way settle prefix _ _ (tells_on old before read mid between more at out p q) is tells
 
 -- one front more
 pub one_told :
@@ -33,10 +33,10 @@ one_told old before read mid between way settle new after p t =
 
 -- bytes that come behind what was told, at another moment, and what is told then
 pub took :
-    (old : Parts) (before : Option (List ℕ)) (mid : Parts) (between : Option (List ℕ)) (way : Direction) (now : ℕ) (piece : List ℕ) (passed_at held new : Parts)
-    (after : Option (List ℕ)) → Tells old before [] mid between → passed_at ≡ at_moment mid way now → held ≡ with_piece passed_at way piece
-    → Tells held between [] new after → Tells old before (tagged way piece) new after
-took old before mid between way now piece passed_at held new after p e f q =
+    (old : Parts) (before : Option (List ℕ)) (mid : Parts) (between : Option (List ℕ)) (way : Direction) (now : ℕ) (piece : List ℕ) (passed_at buffered new : Parts)
+    (after : Option (List ℕ)) → Tells old before [] mid between → passed_at ≡ at_moment mid way now → buffered ≡ with_piece passed_at way piece
+    → Tells buffered between [] new after → Tells old before (tagged way piece) new after
+took old before mid between way now piece passed_at buffered new after p e f q =
     let moved : Tells (with_piece (at_moment mid way now) way piece) between [] new after =
     subst (λ (h : Parts). Tells h between [] new after) (f ∙ ap (λ (m : Parts). with_piece m way piece) e) q in
     subst (λ (zs : List (Direction × ℕ)). Tells old before zs new after) (append-nil (tagged way piece))
@@ -66,14 +66,14 @@ consumed (Some ys) rest piece h = (ys, refl, h)
 
 -- a piece more was read, held and told
 pub piece_read :
-    (text : List ℕ) (way : Direction) (old : Parts) (before remaining : Option (List ℕ)) (mid : Parts) (between left : Option (List ℕ)) (piece : List ℕ) (held : Parts)
+    (text : List ℕ) (way : Direction) (old : Parts) (before remaining : Option (List ℕ)) (mid : Parts) (between left : Option (List ℕ)) (piece : List ℕ) (buffered : Parts)
     (settle : Settle) (new : Parts) (after : Option (List ℕ)) → ReadSoFar text way old before remaining mid between → Consumes remaining left piece
-    → held ≡ with_piece mid way piece → TellsAll held between way settle new after → ReadSoFar text way old before left new after
-piece_read text way old before remaining mid between left piece held settle new after so con e all =
+    → buffered ≡ with_piece mid way piece → TellsAll buffered between way settle new after → ReadSoFar text way old before left new after
+piece_read text way old before remaining mid between left piece buffered settle new after so con e all =
     let known : Consumes (Some so.rest) left piece = subst (λ (r : Option (List ℕ)). Consumes r left piece) so.left con in
     let more : (ys : List ℕ) × (left ≡ Some ys) × (so.rest ≡ piece ++ ys) = consumed left so.rest piece known in
     let both : List (Direction × ℕ) = tagged way so.taken ++ tagged way piece in
-    let holds : Tells old before both held between =
+    let holds : Tells old before both buffered between =
     subst (λ (h : Parts). Tells old before both h between) (sym e) (came old before (tagged way so.taken) mid between way piece so.tells) in
     record {
       taken = so.taken ++ piece;
@@ -81,7 +81,7 @@ piece_read text way old before remaining mid between left piece held settle new 
       split = so.split ∙ ap (λ (ys : List ℕ). so.taken ++ ys) more.2 ∙ sym (append_assoc so.taken piece more.0);
       left = more.1;
       tells = subst (λ (zs : List (Direction × ℕ)). Tells old before zs new after) (append-nil both ∙ sym (tagged-append way so.taken piece))
-          (tells_on old before both held between [] new after holds all.tells);
+          (tells_on old before both buffered between [] new after holds all.tells);
     }
 
 -- nothing is left to read: the whole text was
@@ -96,7 +96,7 @@ all_read text way old before remaining new after left so con at_end =
     let whole : text ≡ so.taken = so.split ∙ ap (λ (ys : List ℕ). so.taken ++ ys) rest_is ∙ append-nil so.taken in
     subst (λ (t : List ℕ). Tells old before (tagged way t) new after) (sym whole) so.tells
 
--- where no block begins at a place, one that is there begins behind it
+-- where no block begins at a position, one that is there begins behind it
 pub frame_later :
     (xs : List ℕ) (i : ℕ) → i < length xs → has_block (drop i xs) ≡ false → has_frame (drop (i + 1) xs) ≡ has_frame (drop i xs)
 frame_later xs i within none =

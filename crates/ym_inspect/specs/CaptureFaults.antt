@@ -2,7 +2,7 @@
 use Rattle.std.specs.Prelude.{◌≡◌, ◌≢◌, ℕ, List, ◌++◌, codes, decimal, Result, Err}
 use Rattle.ym_capture.specs.CaptureWords.{capture_words}
 use Rattle.ym_capture.specs.declared.fault.CaptureFault.{CaptureFault}
-use Rattle.ym_file.specs.Counts.{Rose}
+use Rattle.ym_file.specs.Counts.{Counted}
 use Rattle.ym_inspect.specs.declared.fault.InspectFault.{InspectFault}
 use Rattle.ym_inspect.specs.declared.fault.InspectFault.TheVariants.{Memory, Read, Write, Endless, Line, Pcapng, Packet}
 use Rattle.ym_inspect.specs.declared.fault.RecordFault.{RecordFault}
@@ -22,27 +22,27 @@ fault_words Endless = codes "the capture has no end"
 fault_words (Line number why) =
     codes "line " ++ (decimal number ++ (codes ": " ++ record_words why))
 fault_words Pcapng = codes "it is a pcapng capture, which is not read"
-fault_words (Packet place why) =
-    codes "byte " ++ (decimal place ++ (codes ": " ++ capture_words why))
+fault_words (Packet position why) =
+    codes "byte " ++ (decimal position ++ (codes ": " ++ capture_words why))
 
 -- A write failed only where that is the fault: so the count of failed writes goes on.
 abbrev pub CountsWrites : {A : Type 0} → Result A InspectFault → ℕ → ℕ → Type 0
 CountsWrites {A} told old new =
-    (told ≡ Err Write → Rose old new) × (told ≢ Err Write → new ≡ old)
+    (told ≡ Err Write → Counted old new) × (told ≢ Err Write → new ≡ old)
 
 -- So it is with reads.
 abbrev pub CountsReads : {A : Type 0} → Result A InspectFault → ℕ → ℕ → Type 0
 CountsReads {A} told old new =
-    (told ≡ Err Read → Rose old new) × (told ≢ Err Read → new ≡ old)
+    (told ≡ Err Read → Counted old new) × (told ≢ Err Read → new ≡ old)
 
 -- Where something is told nothing is read, and no line and no packet is refused.
 abbrev pub IsOfTelling : {A : Type 0} → Result A InspectFault → Type 0
 IsOfTelling {A} told =
     (told ≢ Err Read) × ((number : ℕ) (why : RecordFault) → told ≢ Err (Line number why))
-    × ((place : ℕ) (why : CaptureFault) → told ≢ Err (Packet place why))
+    × ((position : ℕ) (why : CaptureFault) → told ≢ Err (Packet position why))
 
 -- Where a file is read nothing is written, and nothing that it has is refused.
 abbrev pub IsOfReading : {A : Type 0} → Result A InspectFault → Type 0
 IsOfReading {A} told =
     (told ≢ Err Write) × ((number : ℕ) (why : RecordFault) → told ≢ Err (Line number why))
-    × ((place : ℕ) (why : CaptureFault) → told ≢ Err (Packet place why))
+    × ((position : ℕ) (why : CaptureFault) → told ≢ Err (Packet position why))

@@ -2,20 +2,20 @@
 use Rattle.std.specs.Prelude.{◌≡◌, ℕ, Bool, false, ◌||◌, List, [], ◌∷◌, ◌++◌, Option, Some, None, true}
 use Rattle.std.specs.Io.KnownBytes.{Appends}
 use Rattle.ym_explain.specs.Evidence.{first_shown, order_of}
-use Rattle.ym_explain.specs.FrontOf.{has_block}
+use Rattle.ym_explain.specs.PrefixOf.{has_block}
 use Rattle.ym_explain.specs.VerdictText.{verdict_text}
 use Rattle.ym_explain.specs.declared.verdict.Verdict.{Verdict}
 use Rattle.ym_explain.specs.declared.verdict.Ways.{Ways}
 use Rattle.ym_explain.specs.declared.verdict.Ways.TheVariants as ways
 use Rattle.ym_told.specs.RunText.{end_words}
-use Rattle.ym_told.specs.declared.front.HeldFront.{HeldFront}
-use Rattle.ym_told.specs.declared.front.Settle.{Settle}
-use Rattle.ym_told.specs.declared.front.Settle.TheVariants.{All}
+use Rattle.ym_told.specs.declared.prefix.BufferedPrefix.{BufferedPrefix}
+use Rattle.ym_told.specs.declared.prefix.Settle.{Settle}
+use Rattle.ym_told.specs.declared.prefix.Settle.TheVariants.{All}
 use Rattle.ym_told.specs.declared.moment.CaptureMoment.{CaptureMoment}
 use Rattle.ym_told.specs.declared.way.Direction.{Direction}
 use Rattle.ym_told.specs.declared.way.Direction.TheVariants as way
 use Rattle.ym_inspect.specs.EndWords.{parting_words}
-use Rattle.ym_inspect.specs.Inspecting.{Parts, nothing_held, with_piece, IsFront, TellsFront}
+use Rattle.ym_inspect.specs.Inspecting.{Parts, nothing_buffered, with_piece, IsPrefix, TellsPrefix}
 
 -- bytes of a way, each with it
 abbrev pub tagged : Direction → List ℕ → List (Direction × ℕ)
@@ -51,18 +51,18 @@ pub data Tells :
       → Tells old before read (at_moment mid way now) between
   told :
       (old : Parts) (before : Option (List ℕ)) (read : List (Direction × ℕ)) (mid : Parts)
-      (between : Option (List ℕ)) (way : Direction) (settle : Settle) (front : HeldFront)
+      (between : Option (List ℕ)) (way : Direction) (settle : Settle) (prefix : BufferedPrefix)
       (new : Parts) (after : Option (List ℕ))
       → Tells old before read mid between
-      → IsFront mid way settle (Some front)
-      → TellsFront mid way front new between after
+      → IsPrefix mid way settle (Some prefix)
+      → TellsPrefix mid way prefix new between after
       → Tells old before read new after
 
 -- all that is sure of a way was told
 pub record TellsAll (old : Parts) (before : Option (List ℕ)) (way : Direction) (settle : Settle)
     (new : Parts) (after : Option (List ℕ)) : Type 0 where
   pub tells : Tells old before [] new after
-  pub sure : IsFront new way settle None
+  pub sure : IsPrefix new way settle None
 
 -- where the two ends parted is told where both ways are known
 abbrev pub parting_told : Ways → Option CaptureMoment → Option CaptureMoment
@@ -92,7 +92,7 @@ pub record Explains (ways : Ways) (read : List (Direction × ℕ)) (before : Opt
     (verdict : Verdict) (after : Option (List ℕ)) : Type 0 where
   pub at_end : Parts
   pub between : Option (List ℕ)
-  pub tells : Tells nothing_held before read at_end between
+  pub tells : Tells nothing_buffered before read at_end between
   pub ends : Ends at_end between ways verdict after
 
 -- the way that is known alone

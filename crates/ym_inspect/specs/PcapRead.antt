@@ -15,9 +15,9 @@ use Rattle.ym_explain.specs.declared.verdict.Verdict.{Verdict}
 use Rattle.ym_explain.specs.declared.verdict.Ways.TheVariants as ways
 use Rattle.ym_told.specs.declared.way.Direction.{Direction}
 use Rattle.ym_inspect.specs.CaptureTold.{Explains, Tells, tagged}
-use Rattle.ym_inspect.specs.Inspecting.{Parts, nothing_held}
+use Rattle.ym_inspect.specs.Inspecting.{Parts, nothing_buffered}
 use Rattle.ym_inspect.specs.Recorded.{capped}
-use Rattle.ym_inspect.specs.FirstBytes.{front_of_text}
+use Rattle.ym_inspect.specs.FirstBytes.{prefix_of_text}
 use Rattle.ym_inspect.specs.RecordRead.{IsFirstLine, TellsRecord}
 use Rattle.ym_inspect.specs.declared.fault.InspectFault.{InspectFault}
 use Rattle.ym_inspect.specs.declared.fault.InspectFault.TheVariants as fault
@@ -26,11 +26,11 @@ use Rattle.ym_inspect.specs.declared.fault.InspectFault.TheVariants as fault
 pub record Reached : Type 0 where
   pub form : Form
   pub connection : Connection
-  pub place : ℕ
+  pub position : ℕ
 
 abbrev pub reached : Form → Connection → ℕ → Reached
-reached form connection place =
-    record { form = form; connection = connection; place = place }
+reached form connection position =
+    record { form = form; connection = connection; position = position }
 
 abbrev pub at_first : Form → Bool → Reached
 at_first form turned = reached form (none_yet form.link turned) HEAD
@@ -41,7 +41,7 @@ length_in form head = (packet_head form head).length
 
 abbrev pub behind_body : Reached → List ℕ → Connection → Reached
 behind_body at body connection =
-    reached at.form connection (capped (at.place + (PACKET_HEAD + length body)))
+    reached at.form connection (capped (at.position + (PACKET_HEAD + length body)))
 
 -- the bytes that a packet brings, each with its way
 abbrev pub brings : Reached → List ℕ → Connection → List (Direction × ℕ)
@@ -81,15 +81,15 @@ pub data IsWrong : Reached → List ℕ → CaptureFault → Type 0 where
       → IsWrong at (head ++ (body ++ more)) why
 
 -- A capture cannot be read on behind so many bytes, for this reason.
-pub record StopsAt (turned : Bool) (order : ByteOrder) (part : Part) (text : List ℕ) (place : ℕ)
+pub record StopsAt (turned : Bool) (order : ByteOrder) (part : Part) (text : List ℕ) (position : ℕ)
     (why : CaptureFault) : Type 0 where
-  pub front : List ℕ
+  pub prefix : List ℕ
   pub rest : List ℕ
   pub at : Reached
   pub read : List (Direction × ℕ)
-  pub split : text ≡ front ++ rest
-  pub captured : Captured turned order part front at read
-  pub place_is : place ≡ at.place
+  pub split : text ≡ prefix ++ rest
+  pub captured : Captured turned order part prefix at read
+  pub position_is : position ≡ at.position
   pub wrong : IsWrong at rest why
 
 pub data Stops : Bool → ByteOrder → Part → List ℕ → ℕ → CaptureFault → Type 0 where
@@ -101,40 +101,40 @@ pub data Stops : Bool → ByteOrder → Part → List ℕ → ℕ → CaptureFau
       → length head ≡ HEAD → form_of order part head ≡ Err why
       → Stops turned order part (head ++ rest) 0 why
   at_packet :
-      (turned : Bool) (order : ByteOrder) (part : Part) (text : List ℕ) (place : ℕ)
-      (why : CaptureFault) → StopsAt turned order part text place why
-      → Stops turned order part text place why
+      (turned : Bool) (order : ByteOrder) (part : Part) (text : List ℕ) (position : ℕ)
+      (why : CaptureFault) → StopsAt turned order part text position why
+      → Stops turned order part text position why
 
 -- A fault of a packet is that of the capture.
-abbrev pub SaysPlace : Bool → ByteOrder → Part → InspectFault → List ℕ → Type 0
-SaysPlace turned order part (fault.Packet place why) text =
-    Stops turned order part text place why
-SaysPlace turned order part fault.Pcapng text = Unit {0}
-SaysPlace turned order part (fault.Line number why) text = Unit {0}
-SaysPlace turned order part fault.Memory text = Unit {0}
-SaysPlace turned order part fault.Read text = Unit {0}
-SaysPlace turned order part fault.Write text = Unit {0}
-SaysPlace turned order part fault.Endless text = Unit {0}
+abbrev pub SaysPosition : Bool → ByteOrder → Part → InspectFault → List ℕ → Type 0
+SaysPosition turned order part (fault.Packet position why) text =
+    Stops turned order part text position why
+SaysPosition turned order part fault.Pcapng text = Unit {0}
+SaysPosition turned order part (fault.Line number why) text = Unit {0}
+SaysPosition turned order part fault.Memory text = Unit {0}
+SaysPosition turned order part fault.Read text = Unit {0}
+SaysPosition turned order part fault.Write text = Unit {0}
+SaysPosition turned order part fault.Endless text = Unit {0}
 
 -- a capture under way: how far it was read, the bytes of the packet under way, and what is told
 pub record Underway : Type 0 where
   pub at : Reached
-  pub held : List ℕ
+  pub buffered : List ℕ
   pub parts : Parts
 
 -- of a capture that is written so no packet was read
 abbrev pub none_read : Form → Bool → Underway
 none_read form turned =
-    record { at = at_first form turned; held = []; parts = nothing_held }
+    record { at = at_first form turned; buffered = []; parts = nothing_buffered }
 
 -- what was read of a capture and told of it: all but the packet under way, which is held
 pub record PacketsTold (turned : Bool) (order : ByteOrder) (part : Part) (text : List ℕ)
     (before : Option (List ℕ)) (now : Underway) (out : Option (List ℕ)) : Type 0 where
-  pub front : List ℕ
+  pub prefix : List ℕ
   pub read : List (Direction × ℕ)
-  pub split : text ≡ front ++ now.held
-  pub captured : Captured turned order part front now.at read
-  pub tells : Tells nothing_held before read now.parts out
+  pub split : text ≡ prefix ++ now.buffered
+  pub captured : Captured turned order part prefix now.at read
+  pub tells : Tells nothing_buffered before read now.parts out
 
 -- What was read and told so far goes on, with these bytes more.
 abbrev pub TellsOn :
@@ -149,14 +149,14 @@ abbrev pub StopsWith : List ℕ → Underway → Option (List ℕ) → InspectFa
 StopsWith more old out fault =
     (turned : Bool) (order : ByteOrder) (part : Part) (text : List ℕ) (before : Option (List ℕ))
     → PacketsTold turned order part text before old out
-    → SaysPlace turned order part fault (text ++ more)
+    → SaysPosition turned order part fault (text ++ more)
 
 -- the packet under way is not whole
 abbrev pub IsOpen : Underway → Type 0
 IsOpen now =
-    (length now.held < PACKET_HEAD)
-    ⊎ ((PACKET_HEAD ≤ length now.held)
-    × (length now.held < PACKET_HEAD + length_in now.at.form (take PACKET_HEAD now.held)))
+    (length now.buffered < PACKET_HEAD)
+    ⊎ ((PACKET_HEAD ≤ length now.buffered)
+    × (length now.buffered < PACKET_HEAD + length_in now.at.form (take PACKET_HEAD now.buffered)))
 
 -- all that a capture brings is told in its order, and nothing else
 pub record TellsPcap (turned : Bool) (order : ByteOrder) (part : Part) (text : List ℕ)
@@ -187,14 +187,14 @@ TellsKind kind.Other turned text before verdict after = TellsRecord text before 
 abbrev pub TellsCapture :
     Bool → List ℕ → Option (List ℕ) → Verdict → Option (List ℕ) → Type 0
 TellsCapture turned text before verdict after =
-    TellsKind (kind_of (front_of_text text)) turned text before verdict after
+    TellsKind (kind_of (prefix_of_text text)) turned text before verdict after
 
 abbrev pub FaultOfKind : CaptureKind → Bool → InspectFault → List ℕ → Type 0
-FaultOfKind (kind.Pcap order part) turned fault text = SaysPlace turned order part fault text
+FaultOfKind (kind.Pcap order part) turned fault text = SaysPosition turned order part fault text
 FaultOfKind kind.Pcapng turned fault text = Unit {0}
 FaultOfKind kind.Other turned fault text = IsFirstLine fault text
 
 -- the place of a capture, or the line of a record, from which it cannot be read on
 abbrev pub FaultOfCapture : Bool → InspectFault → List ℕ → Type 0
 FaultOfCapture turned fault text =
-    FaultOfKind (kind_of (front_of_text text)) turned fault text
+    FaultOfKind (kind_of (prefix_of_text text)) turned fault text

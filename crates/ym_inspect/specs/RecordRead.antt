@@ -5,7 +5,7 @@ use Rattle.ym_explain.specs.declared.verdict.Verdict.{Verdict}
 use Rattle.ym_explain.specs.declared.verdict.Ways.TheVariants as ways
 use Rattle.ym_told.specs.declared.way.Direction.{Direction}
 use Rattle.ym_inspect.specs.CaptureTold.{Explains, Tells, tagged}
-use Rattle.ym_inspect.specs.Inspecting.{Parts, nothing_held}
+use Rattle.ym_inspect.specs.Inspecting.{Parts, nothing_buffered}
 use Rattle.ym_inspect.specs.Recorded.{after_char, capped, end_fault}
 use Rattle.ym_inspect.specs.declared.fault.InspectFault.{InspectFault}
 use Rattle.ym_inspect.specs.declared.fault.InspectFault.TheVariants.{Line}
@@ -81,9 +81,9 @@ KeepsWay old c new = Keeps (way_in old) c (way_in new.state) new.byte
 pub record SoFar (before : Option (List ℕ)) (at : Parts) (state : InLine) (piece : List ℕ)
     (out : Option (List ℕ)) (read : List (Direction × ℕ)) : Type 0 where
   pub told : List (Direction × ℕ)
-  pub tells : Tells nothing_held before told at out
+  pub tells : Tells nothing_buffered before told at out
   pub all : read ≡ told ++ in_line (way_in state) piece
-  pub held : way_in state ≡ None → piece ≡ []
+  pub buffered : way_in state ≡ None → piece ≡ []
 
 abbrev pub so_much : InLine → ℕ → List (Direction × ℕ) → SoMuch
 so_much state number read = record { state = state; number = number; read = read }

@@ -5,7 +5,7 @@ ghost use Rattle.ym_capture.specs.CaptureHead.{form_of as form_by};
 ghost use Rattle.ym_inspect.specs.CaptureFaults.{CountsReads, CountsWrites, IsOfReading};
 ghost use Rattle.ym_inspect.specs.CaptureTold.{TellsLast};
 ghost use Rattle.ym_inspect.specs.FirstBytes.{Begins};
-ghost use Rattle.ym_inspect.specs.PcapRead.{FaultOfCapture, SaysPlace, TellsCapture};
+ghost use Rattle.ym_inspect.specs.PcapRead.{FaultOfCapture, SaysPosition, TellsCapture};
 
 use crate::fault::InspectFault;
 use crate::pcap::Packets;
@@ -19,42 +19,42 @@ use ym_streams::{Input, Output};
 /// The first bytes of a file: as many as stand before the first packet of a capture, or all where
 /// it has fewer.
 fn first_bytes<I: Input>(alloc: Global, input: &mut I) -> Result<Vec<u8>, InspectFault>
-    ensures begins { IfOk result (λ front. (text : List ℕ) → I.remaining input.old ≡ Some text
-        → Begins front.items text (I.remaining input.new)) }
+    ensures begins { IfOk result (λ prefix. (text : List ℕ) → I.remaining input.old ≡ Some text
+        → Begins prefix.items text (I.remaining input.new)) }
     ensures reads { CountsReads result (I.failures input.old) (I.failures input.new) }
     ensures why { IsOfReading result }
 {
-    let mut front = Vec::new(alloc);
+    let mut prefix = Vec::new(alloc);
     let mut one = [0u8; 1];
-    while front.len() < HEAD {
+    while prefix.len() < HEAD {
         let count = read_some(input, &mut one)?;
         if count == 0 {
-            return Ok(front);
+            return Ok(prefix);
         }
-        front.extend_from_slice(&one[..count])?;
+        prefix.extend_from_slice(&one[..count])?;
     }
-    Ok(front)
+    Ok(prefix)
 }
 
 /// How a capture that begins so is written.
-fn form_at(order: ByteOrder, part: Part, front: &[u8]) -> Result<Form, InspectFault>
-    ensures there { IfOk result (λ _. HEAD ≤ length front.now) }
-    ensures form { IfOk result (λ form. form_by order part front.now ≡ Ok form) }
-    ensures place { IfErr result (λ fault.
-        (turned : Bool) (text : List ℕ) (left : Option (List ℕ)) → Begins front.now text left
-        → SaysPlace turned order part fault text) }
+fn form_at(order: ByteOrder, part: Part, prefix: &[u8]) -> Result<Form, InspectFault>
+    ensures there { IfOk result (λ _. HEAD ≤ length prefix.now) }
+    ensures form { IfOk result (λ form. form_by order part prefix.now ≡ Ok form) }
+    ensures position { IfErr result (λ fault.
+        (turned : Bool) (text : List ℕ) (left : Option (List ℕ)) → Begins prefix.now text left
+        → SaysPosition turned order part fault text) }
     ensures read { result ≢ Err InspectFault.Read }
     ensures write { result ≢ Err InspectFault.Write }
 {
-    if front.len() < HEAD {
+    if prefix.len() < HEAD {
         return Err(InspectFault::Packet {
-            place: 0,
+            position: 0,
             why: CaptureFault::Cut,
         });
     }
-    match form_of(order, part, front) {
+    match form_of(order, part, prefix) {
         Ok(form) => Ok(form),
-        Err(why) => Err(InspectFault::Packet { place: 0, why }),
+        Err(why) => Err(InspectFault::Packet { position: 0, why }),
     }
 }
 
@@ -82,13 +82,13 @@ pub fn explain_capture<I: Input, O: Output>(
     ensures reads { CountsReads result (I.failures input.old) (I.failures input.new) }
     ensures wrote { CountsWrites result (O.failures out.old) (O.failures out.new) }
 {
-    let front = first_bytes(alloc, input)?;
-    let front = front.as_slice();
-    match kind_of(front) {
-        CaptureKind::Other => tell_record(alloc, front, input, out),
+    let prefix = first_bytes(alloc, input)?;
+    let prefix = prefix.as_slice();
+    match kind_of(prefix) {
+        CaptureKind::Other => tell_record(alloc, prefix, input, out),
         CaptureKind::Pcapng => Err(InspectFault::Pcapng),
         CaptureKind::Pcap(order, part) => {
-            let form = form_at(order, part, front)?;
+            let form = form_at(order, part, prefix)?;
             let mut packets = Packets::new(alloc, form, turned);
             packets.explain(input, out)
         }

@@ -68,7 +68,7 @@ pub enum InspectFault {
     /// A capture of packets cannot be read on.
     Packet {
         /// The place of the first byte of what is wrong, from 0 on.
-        place: u64,
+        position: u64,
         /// What is wrong there.
         why: CaptureFault,
     },
@@ -88,7 +88,7 @@ impl fmt::Display for InspectFault {
             InspectFault::Endless => f.write_str("the capture has no end"),
             InspectFault::Line { number, why } => write!(f, "line {number}: {why}"),
             InspectFault::Pcapng => f.write_str("it is a pcapng capture, which is not read"),
-            InspectFault::Packet { place, why } => write!(f, "byte {place}: {why}"),
+            InspectFault::Packet { position, why } => write!(f, "byte {position}: {why}"),
         }
     }
 }

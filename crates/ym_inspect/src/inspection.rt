@@ -3,21 +3,21 @@
 ghost use Rattle.std.specs.Prelude.{◌≡◌, [], OnOk, IfOk};
 ghost use Rattle.ym_explain.specs.Evidence.{first_shown, order_of};
 ghost use Rattle.std.specs.Io.KnownBytes.{Appends};
-ghost use Rattle.ym_told.specs.TellFront.{used_by};
+ghost use Rattle.ym_told.specs.TellPrefix.{used_by};
 ghost use Rattle.ym_inspect.specs.CaptureTold.{Ends, Tells, TellsAll, at_moment, last_words, tagged};
 ghost use Rattle.ym_inspect.specs.CaptureFaults.{CountsWrites, IsOfTelling};
-ghost use Rattle.ym_inspect.specs.Inspecting.{nothing_held, held_of, with_piece, with_scene, without, IsFront, IsTold, TellsFront};
+ghost use Rattle.ym_inspect.specs.Inspecting.{nothing_buffered, buffered_of, with_piece, with_scene, without, IsPrefix, IsTold, TellsPrefix};
 
+use crate::buffered::Buffered;
 use crate::fault::InspectFault;
-use crate::held::Held;
 use crate::parting::Parting;
 use std::alloc::{AllocError, Global};
 use std::marker::Model;
 use ym_explain::{Verdict, Ways, tell_sent, verdict_of};
 use ym_streams::Output;
 use ym_told::{
-    BothStanding, CaptureMoment, Direction, HeldFront, RunEnd, Scene, Settle, Stretch, front_back,
-    front_there,
+    BothStanding, BufferedPrefix, CaptureMoment, Direction, RunEnd, Scene, Settle, Stretch,
+    prefix_back, prefix_there,
 };
 
 /// A frame that is not whole is over where nothing more came for so many microseconds.
@@ -30,8 +30,8 @@ const ANSWERED: u64 = 50_000;
 #[derive(Drop)]
 pub(crate) struct Inspection {
     alloc: Global,
-    there: Held,
-    back: Held,
+    there: Buffered,
+    back: Buffered,
     scene: Scene,
     last_there: Option<u64>,
     last_back: Option<u64>,
@@ -56,12 +56,12 @@ impl Model for Inspection {
 impl Inspection {
     /// One of which nothing came.
     pub(crate) fn new(alloc: Global) -> Inspection
-        ensures { result ≡ nothing_held }
+        ensures { result ≡ nothing_buffered }
     {
         Inspection {
             alloc,
-            there: Held::new(alloc),
-            back: Held::new(alloc),
+            there: Buffered::new(alloc),
+            back: Buffered::new(alloc),
             scene: Scene::new(),
             last_there: None,
             last_back: None,
@@ -77,8 +77,8 @@ impl Inspection {
     }
 
     /// The bytes of this way that are held.
-    pub(crate) fn held(&self, way: Direction) -> &[u8]
-        ensures { result.now ≡ held_of self.now way }
+    pub(crate) fn buffered(&self, way: Direction) -> &[u8]
+        ensures { result.now ≡ buffered_of self.now way }
     {
         match way {
             Direction::There => self.there.as_slice(),
@@ -177,15 +177,19 @@ impl Inspection {
     }
 
     /// What stands at the front of what is held of this way, where that is sure.
-    fn front(&self, way: Direction, settle: Settle) -> Option<HeldFront>
-        ensures { IsFront self.now way settle result }
+    fn prefix(&self, way: Direction, settle: Settle) -> Option<BufferedPrefix>
+        ensures { IsPrefix self.now way settle result }
     {
         match way {
             Direction::There => {
-                let held = self.there.as_slice();
-                front_there(held, tell_sent(self.scene.standing.place, held), settle)
+                let buffered = self.there.as_slice();
+                prefix_there(
+                    buffered,
+                    tell_sent(self.scene.standing.position, buffered),
+                    settle,
+                )
             }
-            Direction::Back => front_back(
+            Direction::Back => prefix_back(
                 self.scene.run.is_in_text(),
                 self.back.as_slice(),
                 settle,
@@ -206,48 +210,48 @@ impl Inspection {
         ensures failed { CountsWrites result (O.failures out.old) (O.failures out.new) }
         ensures why { IsOfTelling result }
     {
-        match self.front(way, settle) {
+        match self.prefix(way, settle) {
             None => Ok(false),
-            Some(front) => {
-                self.tell_front(way, front, out)?;
+            Some(prefix) => {
+                self.tell_prefix(way, prefix, out)?;
                 Ok(true)
             }
         }
     }
 
     /// Tells this front, and lets go of it.
-    fn tell_front<O: Output>(
+    fn tell_prefix<O: Output>(
         &mut self,
         way: Direction,
-        front: HeldFront,
+        prefix: BufferedPrefix,
         out: &mut O,
     ) -> Result<(), InspectFault>
-        ensures tells { OnOk result (TellsFront self.old way front self.new
+        ensures tells { OnOk result (TellsPrefix self.old way prefix self.new
             (O.contents out.old) (O.contents out.new)) }
         ensures failed { CountsWrites result (O.failures out.old) (O.failures out.new) }
         ensures why { IsOfTelling result }
     {
-        let stretch = Stretch::of(front, self.held(way));
+        let stretch = Stretch::of(prefix, self.buffered(way));
         let text = self.scene.text(self.alloc, way, &stretch)?;
         let behind = self.scene.behind(way, &stretch);
         if out.put(text.as_bytes()).is_err() {
             return Err(InspectFault::Write);
         }
-        self.go_on(way, front, behind);
+        self.go_on(way, prefix, behind);
         Ok(())
     }
 
     /// Goes on behind this front, where the scene is this.
-    fn go_on(&mut self, way: Direction, front: HeldFront, behind: Scene)
-        ensures { self.new ≡ without (with_scene self.old behind) way (used_by front) }
+    fn go_on(&mut self, way: Direction, prefix: BufferedPrefix, behind: Scene)
+        ensures { self.new ≡ without (with_scene self.old behind) way (used_by prefix) }
     {
         if behind.standing.parted && !self.scene.standing.parted {
             self.parted_at = Some(self.scene.moment);
         }
         self.scene = behind;
         match way {
-            Direction::There => self.there.let_go(front.used()),
-            Direction::Back => self.back.let_go(front.used()),
+            Direction::There => self.there.let_go(prefix.used()),
+            Direction::Back => self.back.let_go(prefix.used()),
         }
     }
 

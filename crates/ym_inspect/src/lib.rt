@@ -1,9 +1,9 @@
 //! Reads what was recorded of a line, in pieces, and writes what `ym_told` tells of it.
 #![tactic(auto)]
 
+mod buffered;
 mod capture;
 mod fault;
-mod held;
 mod in_line;
 mod inspection;
 pub mod laws;

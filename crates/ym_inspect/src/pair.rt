@@ -65,7 +65,7 @@ impl<'a, I: Input> OneWay<'a, I> {
             self.new.is_over (I.remaining self.new.input.now)) }
         ensures why { result ≢ Err InspectFault.Write }
     {
-        if self.is_over || !inspection.held(self.way).is_empty() {
+        if self.is_over || !inspection.buffered(self.way).is_empty() {
             return Ok(());
         }
         self.fill(inspection)
@@ -110,7 +110,7 @@ impl<'a, I: Input> OneWay<'a, I> {
 
 /// Whether the next byte of the receiver asks.
 fn asks_next(inspection: &Inspection) -> bool {
-    matches!(inspection.held(Direction::Back), [b'C', ..])
+    matches!(inspection.buffered(Direction::Back), [b'C', ..])
 }
 
 /// Whether the receiver is to be told next: a frame that is out waits for it, and else it may ask.

@@ -5,8 +5,8 @@ ghost use Rattle.ym_inspect.specs.CaptureFaults.{CountsReads, CountsWrites, IsOf
 ghost use Rattle.ym_inspect.specs.CaptureTold.{Tells, TellsLast, tagged};
 ghost use Rattle.ym_inspect.specs.PcapRead.{length_in, none_read, IsOpen, StopsWith, TellsAllOf, TellsOn};
 
+use crate::buffered::Buffered;
 use crate::fault::InspectFault;
-use crate::held::Held;
 use crate::inspection::Inspection;
 use crate::reading::{PIECE, read_some};
 use std::alloc::Global;
@@ -39,10 +39,10 @@ fn tell_fresh<O: Output>(
 #[derive(Drop)]
 pub(crate) struct Packets {
     inspection: Inspection,
-    held: Held,
+    buffered: Buffered,
     form: Form,
     connection: Connection,
-    place: u64,
+    position: u64,
     began: Option<u64>,
 }
 
@@ -52,8 +52,8 @@ impl Model for Packets {
     ghost Value = { Underway };
 
     ghost view = { λ p. record {
-      at = reached p.form p.connection p.place;
-      held = p.held;
+      at = reached p.form p.connection p.position;
+      buffered = p.buffered;
       parts = p.inspection;
     } };
 }
@@ -66,20 +66,20 @@ impl Packets {
     {
         Packets {
             inspection: Inspection::new(alloc),
-            held: Held::new(alloc),
+            buffered: Buffered::new(alloc),
             form,
             connection: Connection::new(form.link, turned),
-            place: HEAD as u64,
+            position: HEAD as u64,
             began: None,
         }
     }
 
     /// This fault of the packet under way.
     fn fault(&self, why: CaptureFault) -> InspectFault
-        ensures { result ≡ InspectFault.Packet self.now.at.place why }
+        ensures { result ≡ InspectFault.Packet self.now.at.position why }
     {
         InspectFault::Packet {
-            place: self.place,
+            position: self.position,
             why,
         }
     }
@@ -100,17 +100,17 @@ impl Packets {
         count: usize,
         out: &mut O,
     ) -> Result<(), InspectFault>
-        requires there { PACKET_HEAD + count ≤ length self.old.held }
-        requires stated { count ≡ length_in self.old.at.form (take PACKET_HEAD self.old.held) }
+        requires there { PACKET_HEAD + count ≤ length self.old.buffered }
+        requires stated { count ≡ length_in self.old.at.form (take PACKET_HEAD self.old.buffered) }
         ensures read { OnOk result
             (TellsOn [] self.old (O.contents out.old) self.new (O.contents out.new)) }
-        ensures place { IfErr result (λ fault.
+        ensures position { IfErr result (λ fault.
             (more : List ℕ) → StopsWith more self.old (O.contents out.old) fault) }
         ensures failed { CountsWrites result (O.failures out.old) (O.failures out.new) }
         ensures why { result ≢ Err InspectFault.Read }
     {
         let at = self.moment(at);
-        let packet = &self.held.as_slice()[PACKET_HEAD..][..count];
+        let packet = &self.buffered.as_slice()[PACKET_HEAD..][..count];
         let behind = match self.connection.behind(packet) {
             Ok(behind) => behind,
             Err(why) => return Err(self.fault(why)),
@@ -118,8 +118,8 @@ impl Packets {
         let fresh = self.connection.fresh(packet);
         tell_fresh(&mut self.inspection, behind.way(packet), at, fresh, out)?;
         self.connection = behind;
-        self.place = self.place.saturating_add((PACKET_HEAD + count) as u64);
-        self.held.let_go(PACKET_HEAD + count);
+        self.position = self.position.saturating_add((PACKET_HEAD + count) as u64);
+        self.buffered.let_go(PACKET_HEAD + count);
         Ok(())
     }
 
@@ -128,22 +128,22 @@ impl Packets {
     fn tell_one<O: Output>(&mut self, out: &mut O) -> Result<bool, InspectFault>
         ensures read { OnOk result
             (TellsOn [] self.old (O.contents out.old) self.new (O.contents out.new)) }
-        ensures place { IfErr result (λ fault.
+        ensures position { IfErr result (λ fault.
             (more : List ℕ) → StopsWith more self.old (O.contents out.old) fault) }
         ensures unfinished { result ≡ Ok false → IsOpen self.new }
         ensures failed { CountsWrites result (O.failures out.old) (O.failures out.new) }
         ensures why { result ≢ Err InspectFault.Read }
     {
-        let held = self.held.as_slice();
-        if held.len() < PACKET_HEAD {
+        let buffered = self.buffered.as_slice();
+        if buffered.len() < PACKET_HEAD {
             return Ok(false);
         }
-        let head = packet_head(self.form, &held[..PACKET_HEAD]);
+        let head = packet_head(self.form, &buffered[..PACKET_HEAD]);
         if head.length > MOST_PACKET {
             return Err(self.fault(CaptureFault::Long));
         }
         let count = head.length as usize;
-        if held.len() - PACKET_HEAD < count {
+        if buffered.len() - PACKET_HEAD < count {
             return Ok(false);
         }
         self.tell_packet(head.at, count, out)?;
@@ -154,7 +154,7 @@ impl Packets {
     fn tell_whole<O: Output>(&mut self, out: &mut O) -> Result<(), InspectFault>
         ensures read { OnOk result
             (TellsOn [] self.old (O.contents out.old) self.new (O.contents out.new)) }
-        ensures place { IfErr result (λ fault.
+        ensures position { IfErr result (λ fault.
             (more : List ℕ) → StopsWith more self.old (O.contents out.old) fault) }
         ensures unfinished { OnOk result (IsOpen self.new) }
         ensures failed { CountsWrites result (O.failures out.old) (O.failures out.new) }
@@ -176,7 +176,7 @@ impl Packets {
     ) -> Result<(), InspectFault>
         ensures read { OnOk result ((rest : List ℕ) → I.remaining input.old ≡ Some rest
             → TellsOn rest self.old (O.contents out.old) self.new (O.contents out.new)) }
-        ensures place { IfErr result (λ fault. (rest : List ℕ)
+        ensures position { IfErr result (λ fault. (rest : List ℕ)
             → I.remaining input.old ≡ Some rest
             → StopsWith rest self.old (O.contents out.old) fault) }
         ensures unfinished { OnOk result (IsOpen self.new) }
@@ -190,7 +190,7 @@ impl Packets {
             if count == 0 {
                 return Ok(());
             }
-            self.held.add(&buffer[..count])?;
+            self.buffered.add(&buffer[..count])?;
         }
         Err(InspectFault::Endless)
     }
@@ -200,12 +200,12 @@ impl Packets {
         requires { IsOpen self.old }
         ensures told { IfOk result (λ verdict.
             TellsAllOf [] self.old (O.contents out.old) verdict (O.contents out.new)) }
-        ensures place { IfErr result (StopsWith [] self.old (O.contents out.old)) }
+        ensures position { IfErr result (StopsWith [] self.old (O.contents out.old)) }
         ensures last { IfOk result (λ verdict. TellsLast Ways.Both verdict (O.contents out.new)) }
         ensures failed { CountsWrites result (O.failures out.old) (O.failures out.new) }
         ensures why { result ≢ Err InspectFault.Read }
     {
-        if !self.held.as_slice().is_empty() {
+        if !self.buffered.as_slice().is_empty() {
             return Err(self.fault(CaptureFault::Cut));
         }
         self.inspection.end(Ways::Both, out)
@@ -220,7 +220,7 @@ impl Packets {
         ensures told { IfOk result (λ verdict. (rest : List ℕ)
             → I.remaining input.old ≡ Some rest
             → TellsAllOf rest self.old (O.contents out.old) verdict (O.contents out.new)) }
-        ensures place { IfErr result (λ fault. (rest : List ℕ)
+        ensures position { IfErr result (λ fault. (rest : List ℕ)
             → I.remaining input.old ≡ Some rest
             → StopsWith rest self.old (O.contents out.old) fault) }
         ensures last { IfOk result (λ verdict. TellsLast Ways.Both verdict (O.contents out.new)) }

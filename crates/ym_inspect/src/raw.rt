@@ -1,7 +1,7 @@
 //! A file of bytes of one way alone.
 
 ghost use Rattle.std.specs.Prelude.{◌≡◌, ℕ, List, Some, IfOk};
-ghost use Rattle.ym_explain.specs.FrontOf.{has_block};
+ghost use Rattle.ym_explain.specs.PrefixOf.{has_block};
 ghost use Rattle.ym_inspect.specs.CaptureFaults.{CountsReads, CountsWrites};
 ghost use Rattle.ym_inspect.specs.CaptureTold.{Explains, TellsLast, has_frame, tagged, ways_of};
 
@@ -9,7 +9,7 @@ use crate::fault::InspectFault;
 use crate::inspection::Inspection;
 use crate::reading::tell_file;
 use std::alloc::Global;
-use ym_explain::{Passed, Verdict, Ways, front_of};
+use ym_explain::{Passed, Verdict, Ways, prefix_of};
 use ym_frame::Whole;
 use ym_streams::{Input, Output};
 use ym_told::Direction;
@@ -54,8 +54,8 @@ fn one_way(way: Direction) -> Ways
 pub fn has_frames(bytes: &[u8]) -> bool
     ensures { result ≡ has_frame bytes.now }
 {
-    for (place, _) in bytes.iter().enumerate() {
-        if begins_block(&bytes[place..]) {
+    for (position, _) in bytes.iter().enumerate() {
+        if begins_block(&bytes[position..]) {
             return true;
         }
     }
@@ -66,5 +66,5 @@ pub fn has_frames(bytes: &[u8]) -> bool
 fn begins_block(bytes: &[u8]) -> bool
     ensures { result ≡ has_block bytes.now }
 {
-    matches!(front_of(bytes), Passed::Frame(Whole::Block(_)))
+    matches!(prefix_of(bytes), Passed::Frame(Whole::Block(_)))
 }

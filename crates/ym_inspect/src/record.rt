@@ -5,7 +5,7 @@ ghost use Rattle.std.specs.Prelude.{◌≡◌, ◌≢◌, ◌+◌, ◌++◌, ℕ
 ghost use Rattle.ym_inspect.specs.CaptureFaults.{CountsReads, CountsWrites, IsOfTelling};
 ghost use Rattle.ym_inspect.specs.CaptureTold.{Explains, TellsLast};
 ghost use Rattle.ym_inspect.specs.FirstBytes.{Begins};
-ghost use Rattle.ym_inspect.specs.Inspecting.{nothing_held};
+ghost use Rattle.ym_inspect.specs.Inspecting.{nothing_buffered};
 ghost use Rattle.ym_inspect.specs.Recorded.{after_char, capped};
 ghost use Rattle.ym_inspect.specs.RecordRead.{and_char, and_chars, at_record_end, so_much, way_in, EndsLine, GoesOn, IsFirstLine, KeepsWay, SaysLine, SoFar, TellsRecord};
 
@@ -43,7 +43,7 @@ struct Recording {
 impl Recording {
     /// One of which nothing was read.
     fn new(alloc: Global) -> Recording
-        ensures inspection { result.inspection ≡ nothing_held }
+        ensures inspection { result.inspection ≡ nothing_buffered }
         ensures state { result.state ≡ InLine.Start }
         ensures number { result.number ≡ 1 }
         ensures piece { result.piece.items ≡ [] }
@@ -254,24 +254,24 @@ impl Recording {
 /// Tells a record, of which these bytes were read, and answers what went wrong in its session.
 pub(crate) fn tell_record<I: Input, O: Output>(
     alloc: Global,
-    front: &[u8],
+    prefix: &[u8],
     input: &mut I,
     out: &mut O,
 ) -> Result<Verdict, InspectFault>
     // All that the lines say is told in their order, and nothing else.
     ensures told { IfOk result (λ verdict. (text : List ℕ)
-        → Begins front.now text (I.remaining input.old)
+        → Begins prefix.now text (I.remaining input.old)
         → TellsRecord text (O.contents out.old) verdict (O.contents out.new)) }
     // A line that cannot be read is the first such line.
     ensures line { IfErr result (λ fault. (text : List ℕ)
-        → Begins front.now text (I.remaining input.old) → IsFirstLine fault text) }
+        → Begins prefix.now text (I.remaining input.old) → IsFirstLine fault text) }
     // The last of what is told is this verdict.
     ensures last { IfOk result (λ verdict. TellsLast Ways.Both verdict (O.contents out.new)) }
     ensures reads { CountsReads result (I.failures input.old) (I.failures input.new) }
     ensures wrote { CountsWrites result (O.failures out.old) (O.failures out.new) }
 {
     let mut recording = Recording::new(alloc);
-    recording.take(front, out)?;
+    recording.take(prefix, out)?;
     recording.read_all(input, out)?;
     recording.end(out)
 }

@@ -1,4 +1,4 @@
--- What an end does in its turn: the frame of a place, the item of what a sender wrote, and the
+-- What an end does in its turn: the frame of a position, the item of what a sender wrote, and the
 -- answers of which a receiver's bytes are made.
 use Rattle.std.specs.Prelude.{ℕ, ◌%◌, ◌==◌, Bool, true, false, List, [], ◌∷◌, Option, Some, None, if◌then◌else◌, slice_index}
 use Rattle.std.specs.List.{list_all}
@@ -7,25 +7,25 @@ use Rattle.ym_frame.specs.declared.control.Reply.TheVariants as reply
 use Rattle.ym_frame.specs.declared.frame.Item.TheVariants as item
 use Rattle.ym_core.specs.declared.delivery.Heard.{Heard}
 use Rattle.ym_core.specs.declared.delivery.Heard.TheVariants as heard
-use Rattle.ym_core.specs.declared.place.Place.{Place}
-use Rattle.ym_core.specs.declared.place.Place.TheVariants as place
-use Rattle.ym_core.specs.declared.place.Mode.{Mode}
-use Rattle.ym_core.specs.declared.place.Mode.TheVariants.{Waiting, Sent}
+use Rattle.ym_core.specs.declared.position.Position.{Position}
+use Rattle.ym_core.specs.declared.position.Position.TheVariants as position
+use Rattle.ym_core.specs.declared.position.Mode.{Mode}
+use Rattle.ym_core.specs.declared.position.Mode.TheVariants.{Waiting, Sent}
 use Rattle.ym_core.specs.declared.standing.Standing.{Standing}
 use Rattle.ym_core.specs.declared.state.SendState.{SendState}
 use Rattle.ym_core.specs.declared.state.SendState.TheVariants as state
 use Rattle.ym_judge.specs.declared.act.Act.{Act}
 use Rattle.ym_judge.specs.declared.act.Act.TheVariants.{Nothing, Header, Block, Eot, End, Cancel, Noise, Answer, Answers}
 
--- the frame of a place
-abbrev pub act_at : Place → Act
-act_at (place.Header file) = Header
-act_at (place.Block file number) = Block (number % 256)
-act_at (place.Eot file) = Eot
-act_at place.End = End
+-- the frame of a position
+abbrev pub act_at : Position → Act
+act_at (position.Header file) = Header
+act_at (position.Block file number) = Block (number % 256)
+act_at (position.Eot file) = Eot
+act_at position.End = End
 
 -- a running sender sends the frame that is out, and holds back one that is not asked for
-abbrev pub act_in : Mode → Place → Act
+abbrev pub act_in : Mode → Position → Act
 act_in Sent at = act_at at
 act_in Waiting at = Nothing
 
@@ -35,7 +35,7 @@ parting true = Cancel
 parting false = Nothing
 
 abbrev pub act_by : SendState → Standing → Act
-act_by state.Running s = act_in s.mode s.place
+act_by state.Running s = act_in s.mode s.position
 act_by state.NoReply s = parting s.cancel_pending
 act_by state.SourceFailed s = parting s.cancel_pending
 act_by state.Finished s = Nothing
@@ -78,9 +78,9 @@ abbrev pub can_then : List ℕ → Option (Reply × List ℕ)
 can_then [] = None
 can_then (byte ∷ more) = if byte == 0x18 then Some (reply.Cancel, more) else None
 
-abbrev pub front_answer : List ℕ → Option (Reply × List ℕ)
-front_answer [] = None
-front_answer (byte ∷ more) =
+abbrev pub prefix_answer : List ℕ → Option (Reply × List ℕ)
+prefix_answer [] = None
+prefix_answer (byte ∷ more) =
     if byte == 0x06 then Some (ack_then more) else
     if byte == 0x18 then can_then more else
     if byte == 0x15 then Some (reply.Nak, more) else
@@ -106,8 +106,8 @@ second_in first (Some (second, more)) = if is_last second more then Answers firs
 abbrev pub first_in : Option (Reply × List ℕ) → Act
 first_in None = Noise
 first_in (Some (first, [])) = Answer first
-first_in (Some (first, byte ∷ more)) = second_in first (front_answer (byte ∷ more))
+first_in (Some (first, byte ∷ more)) = second_in first (prefix_answer (byte ∷ more))
 
 abbrev pub answer_in : List ℕ → Act
 answer_in [] = Nothing
-answer_in (byte ∷ more) = first_in (front_answer (byte ∷ more))
+answer_in (byte ∷ more) = first_in (prefix_answer (byte ∷ more))

@@ -13,7 +13,7 @@ abbrev pub cases_for : Peer → List Case
 cases_for Sender = SENDER_CASES
 cases_for Receiver = RECEIVER_CASES
 
--- the first two data blocks of a file alone are places
+-- the first two data blocks of a file alone are positions
 abbrev pub block_spot : ℕ → Option Spot
 block_spot number =
     if number == 1 then Some First else

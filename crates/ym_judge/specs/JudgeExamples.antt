@@ -1,7 +1,7 @@
 -- What a case shows, computed.
 use Rattle.std.specs.Prelude.{◌≡◌, true, false, [], ◌∷◌, refl}
 use Rattle.ym_frame.specs.declared.control.Reply.TheVariants as reply
-use Rattle.ym_core.specs.declared.place.Place.TheVariants as place
+use Rattle.ym_core.specs.declared.position.Position.TheVariants as position
 use Rattle.ym_judge.specs.AnswerBytes.{answers_in}
 use Rattle.ym_judge.specs.Acts.{act_at, answer_in}
 use Rattle.ym_judge.specs.Carriage.{carried_as}
@@ -12,7 +12,7 @@ use Rattle.ym_judge.specs.declared.claims.Claims.{Claims}
 use Rattle.ym_judge.specs.declared.twist.Twist.TheVariants as twist
 
 -- the 257th data block has number 1 again
-block_257 : act_at (place.Block 0 257) ≡ act.Block 1
+block_257 : act_at (position.Block 0 257) ≡ act.Block 1
 block_257 = refl
 
 -- a C right behind an ACK is one answer with it, and two ACK are two answers

@@ -1,7 +1,7 @@
 -- The reference's sender: where it stands behind a delivery, by its table.
 use Rattle.std.specs.Prelude.{◌≡◌, ◌≢◌, ◌<◌, ℕ, List}
-use Rattle.ym_core.specs.Place.{IsPlace}
-use Rattle.ym_core.specs.Reading.{controls_in}
+use Rattle.ym_core.specs.Position.{IsPosition}
+use Rattle.ym_core.specs.Scan.{controls_in}
 use Rattle.ym_core.specs.Standing as table
 use Rattle.ym_core.specs.declared.standing.Standing.{Standing}
 use Rattle.ym_core.specs.declared.state.SendState.TheVariants.{Running, Finished}
@@ -13,7 +13,7 @@ pub record TwinParts : Type 0 where
   pub standing : Standing
 
 pub record IsTwin (t : TwinParts) : Type 0 where
-  pub place : IsPlace t.blocks t.standing.place
+  pub position : IsPosition t.blocks t.standing.position
   pub retries : t.standing.state ≡ Running → t.standing.retries < GIVE_UP
 
 abbrev pub new_at : List ℕ → TwinParts

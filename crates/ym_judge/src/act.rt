@@ -2,10 +2,10 @@
 
 ghost use Rattle.std.specs.Prelude.{◌≡◌, MatchOption, None, Some};
 ghost use Rattle.ym_core.specs.Hearing.{heard_of};
-ghost use Rattle.ym_judge.specs.Acts.{act_at, act_of, act_heard, answer_in, are_cans, front_answer};
+ghost use Rattle.ym_judge.specs.Acts.{act_at, act_of, act_heard, answer_in, are_cans, prefix_answer};
 
 use std::fmt;
-use ym_core::{HeardRef, Mode, Place, SendState, Standing, heard_in};
+use ym_core::{HeardRef, Mode, Position, SendState, Standing, heard_in};
 use ym_form::BlockForm;
 use ym_frame::{CAN, ItemRef, Reply};
 
@@ -34,15 +34,15 @@ pub enum Act {
     Form(BlockForm),
 }
 
-/// The frame of a place.
-fn act_at(place: Place) -> Act
-    ensures { result ≡ act_at place }
+/// The frame of a position.
+fn act_at(position: Position) -> Act
+    ensures { result ≡ act_at position }
 {
-    match place {
-        Place::Header { .. } => Act::Header,
-        Place::Block { number, .. } => Act::Block((number % 256) as u8),
-        Place::Eot { .. } => Act::Eot,
-        Place::End => Act::End,
+    match position {
+        Position::Header { .. } => Act::Header,
+        Position::Block { number, .. } => Act::Block((number % 256) as u8),
+        Position::Eot { .. } => Act::Eot,
+        Position::End => Act::End,
     }
 }
 
@@ -51,7 +51,7 @@ pub fn asked_of_sender(standing: Standing) -> Act
     ensures { result ≡ act_of standing }
 {
     match standing.state {
-        SendState::Running if standing.mode == Mode::Sent => act_at(standing.place),
+        SendState::Running if standing.mode == Mode::Sent => act_at(standing.position),
         SendState::NoReply | SendState::SourceFailed if standing.cancel_pending => Act::Cancel,
         _ => Act::Nothing,
     }
@@ -84,9 +84,9 @@ pub fn delivered(in_file: bool, bytes: &[u8]) -> Act
 }
 
 /// The answer that stands at the front of these bytes, and what stands behind it.
-fn front_answer(bytes: &[u8]) -> Option<(Reply, &[u8])>
-    ensures { MatchOption result (front_answer bytes.entry.now ≡ None) (λ front.
-        front_answer bytes.entry.now ≡ Some (front.0, front.1.now)) }
+fn prefix_answer(bytes: &[u8]) -> Option<(Reply, &[u8])>
+    ensures { MatchOption result (prefix_answer bytes.entry.now ≡ None) (λ prefix.
+        prefix_answer bytes.entry.now ≡ Some (prefix.0, prefix.1.now)) }
 {
     match bytes {
         [0x06, 0x43, rest @ ..] => Some((Reply::AckStart, rest)),
@@ -112,10 +112,10 @@ pub fn answered(bytes: &[u8]) -> Act
     if bytes.is_empty() {
         return Act::Nothing;
     }
-    match front_answer(bytes) {
+    match prefix_answer(bytes) {
         None => Act::Noise,
         Some((first, [])) => Act::Answer(first),
-        Some((first, rest)) => match front_answer(rest) {
+        Some((first, rest)) => match prefix_answer(rest) {
             Some((second, [])) => Act::Answers(first, second),
             Some((Reply::Cancel, more)) if are_cans(more) => Act::Answers(first, Reply::Cancel),
             _ => Act::Noise,

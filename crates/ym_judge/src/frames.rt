@@ -12,10 +12,10 @@ pub const JUNK: [u8; 3] = [0x55, 0x55, 0x55];
 const CAN: u8 = 0x18;
 
 /// These bytes, and those behind them.
-fn joined(alloc: Global, front: &[u8], rest: &[u8]) -> Result<Vec<u8>, AllocError>
-    ensures { IfOk result (λ bytes. bytes.items ≡ front.now ++ rest.now) }
+fn joined(alloc: Global, prefix: &[u8], rest: &[u8]) -> Result<Vec<u8>, AllocError>
+    ensures { IfOk result (λ bytes. bytes.items ≡ prefix.now ++ rest.now) }
 {
-    let mut bytes = Vec::from_slice(alloc, front)?;
+    let mut bytes = Vec::from_slice(alloc, prefix)?;
     bytes.extend_from_slice(rest)?;
     Ok(bytes)
 }

@@ -4,7 +4,7 @@ ghost use Rattle.std.specs.Prelude.{◌≡◌, ◌↔◌, true};
 
 use crate::act::{Act, asked_of_sender};
 use std::marker::Model;
-use ym_core::{BatchShape, SendState, Standing, first_place};
+use ym_core::{BatchShape, SendState, Standing, first_position};
 
 /// A batch of which is known in how many data blocks each file is sent.
 #[derive(Drop)]
@@ -50,7 +50,7 @@ impl<'a> SenderTwin<'a> {
     pub fn new(blocks: &'a [u64]) -> SenderTwin<'a>
         ensures { result ≡ new_at blocks.entry.now }
     {
-        let first = first_place(&BlockCounts { blocks });
+        let first = first_position(&BlockCounts { blocks });
         SenderTwin {
             blocks,
             standing: Standing::new(first),

@@ -1,4 +1,4 @@
-//! The places of a session at which a case does something.
+//! The positions of a session at which a case does something.
 
 ghost use Rattle.std.specs.Prelude.{◌≡◌, Some};
 ghost use Rattle.ym_judge.specs.Cases.{spot_at};

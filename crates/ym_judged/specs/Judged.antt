@@ -5,7 +5,7 @@ use Rattle.std.specs.Prelude.{Option, Some, None, Result, Ok, Err, IfErr}
 use Rattle.std.specs.List.{AllZip, filter, flat_map, fold, list_any}
 use Rattle.std.specs.Str.{bytes_eq}
 use Rattle.clap.specs.Words.{Text}
-use Rattle.ym_file.specs.Counts.{Rose}
+use Rattle.ym_file.specs.Counts.{Counted}
 use Rattle.ym_judge.specs.Cases.{cases_for}
 use Rattle.ym_judge.specs.JudgeText.{avoid_line, case_json, case_line, case_text, sums_line}
 use Rattle.ym_judge.specs.Reporting.{counted, no_sums}
@@ -124,7 +124,7 @@ Gives = Page → Result ℕ CommandFault → Page → Type 0
 
 -- some of it may have gone there
 abbrev pub OutFails : Gives
-OutFails old answer new = (answer ≡ Err fault.Device) × Rose old.failed new.failed
+OutFails old answer new = (answer ≡ Err fault.Device) × Counted old.failed new.failed
 
 -- the names of all cases were printed, or out failed
 abbrev pub ListsCases : Peer → Gives

@@ -14,8 +14,6 @@ pub(crate) enum JudgeMessage<'a> {
     NoCase(Peer, &'a str),
     /// There is no port and no line, or there are both.
     NoPlace,
-    /// The line at this path cannot be opened.
-    NoLine(&'a str),
     /// The folder or the file at this path cannot be looked at.
     Unseen(&'a str, Reason),
 }
@@ -42,10 +40,6 @@ impl fmt::Display for JudgeMessage<'_> {
                 )
             }
             JudgeMessage::NoPlace => f.write_str("judge takes --port or --line, and one of them"),
-            JudgeMessage::NoLine(path) => {
-                let path = Shown(path);
-                write!(f, "the line '{path}' cannot be opened")
-            }
             JudgeMessage::Unseen(path, why) => {
                 let path = Shown(path);
                 write!(f, "cannot look at '{path}': {why}")

@@ -1,18 +1,23 @@
 //! The way to a peer that is tried.
 
-ghost use Rattle.std.specs.Prelude.{option_map};
+ghost use Rattle.std.specs.Prelude.{◌≡◌, IfErr, option_map};
+ghost use Rattle.ym_answer.specs.declared.command_fault.CommandFault.TheVariants as fault;
 ghost use Rattle.ym_judged.specs.Judged.{HasWay};
 
+use crate::judging::PeerOrder;
 use std::alloc::{AllocError, Global};
 use std::fs::{File, Files};
 use std::net::{Ipv4Addr, Net, SocketAddr, TcpListener, TcpStream};
 use std::thread;
 use std::time::{Clock, Duration};
 use ym_answer::CommandFault;
+use ym_ends::why_closed;
 use ym_host::{SocketWire, TtyFault, TtyWire, open_tty};
 use ym_judge::{Case, Peer};
 use ym_judging::{Outcome, try_receiver, try_sender};
 use ym_port::{Role, Wire};
+use ym_streams::Output;
+use ym_text::LineMessage;
 use ym_words::port_number;
 
 /// How often it is looked for a peer, and how many milliseconds pass between: 30 seconds in all.
@@ -31,42 +36,62 @@ pub(crate) enum Access {
     Serial(File),
 }
 
-/// The port that a receiver listens at, or where a sender is waited for.
-fn access_at<R: Net<Listener = TcpListener, Stream = TcpStream>>(
+/// Where a sender is waited for, or why it cannot be, which is told.
+fn listen<R: Net<Listener = TcpListener, Stream = TcpStream>, E: Output>(
     rt: &R,
-    peer: Peer,
     port: u16,
+    err: &mut E,
 ) -> Result<Access, CommandFault> {
-    match peer {
-        Peer::Receiver => Ok(Access::Calling(port)),
-        Peer::Sender => {
-            let address = SocketAddr::from((Ipv4Addr::LOCALHOST, port));
-            let listener = TcpListener::bind(rt, address)?;
+    match TcpListener::bind(rt, SocketAddr::from((Ipv4Addr::LOCALHOST, port))) {
+        Ok(listener) => {
             listener.set_nonblocking(true)?;
             Ok(Access::Listening(listener))
+        }
+        Err(error) => {
+            err.put_line(LineMessage::of_error(port, &error))?;
+            Err(CommandFault::Device)
         }
     }
 }
 
-/// The way to a peer that these words tell.
-pub(crate) fn access_of<R: Files<File = File> + Net<Listener = TcpListener, Stream = TcpStream>>(
+/// The line at this path, or why it cannot be opened, which is told.
+fn open<R: Files<File = File>, E: Output>(
     rt: &R,
-    peer: Peer,
-    port: Option<&str>,
-    line: Option<&str>,
+    path: &str,
+    err: &mut E,
 ) -> Result<Access, CommandFault>
-    ensures { HasWay (option_map (λ w. w.now) port.entry) (option_map (λ w. w.now) line.entry)
-        result }
+    ensures { IfErr result (λ why. why ≡ fault.Device) }
 {
-    match (port, line) {
-        (Some(text), None) => match port_number(text) {
-            Some(port) => access_at(rt, peer, port),
-            None => Err(CommandFault::Port),
+    match open_tty(rt, path) {
+        Ok(file) => Ok(Access::Serial(file)),
+        Err(fault) => {
+            err.put_line(why_closed(path, &fault))?;
+            Err(CommandFault::Device)
+        }
+    }
+}
+
+/// The way to a peer that its words tell, or why there is none. That is told where the words are
+/// right.
+pub(crate) fn access_of<R, E>(
+    rt: &R,
+    asked: PeerOrder<'_>,
+    err: &mut E,
+) -> Result<Access, CommandFault>
+where
+    R: Files<File = File> + Net<Listener = TcpListener, Stream = TcpStream>,
+    E: Output,
+    ensures { HasWay (option_map (λ w. w.now) asked.entry.order.port)
+        (option_map (λ w. w.now) asked.entry.order.line) result }
+{
+    let order = asked.order;
+    match (order.port, order.line) {
+        (Some(text), None) => match (port_number(text), asked.peer) {
+            (Some(port), Peer::Receiver) => Ok(Access::Calling(port)),
+            (Some(port), Peer::Sender) => listen(rt, port, err),
+            (None, _) => Err(CommandFault::Port),
         },
-        (None, Some(path)) => match open_tty(rt, path) {
-            Ok(file) => Ok(Access::Serial(file)),
-            Err(_) => Err(CommandFault::Device),
-        },
+        (None, Some(path)) => open(rt, path, err),
         _ => Err(CommandFault::Device),
     }
 }

@@ -192,11 +192,11 @@ impl Report {
 
 /// What is asked for of a peer.
 #[derive(Clone, Copy)]
-struct PeerOrder<'a> {
+pub(crate) struct PeerOrder<'a> {
     /// What the peer does.
-    peer: Peer,
+    pub peer: Peer,
     /// What is asked for.
-    order: JudgeOrder<'a>,
+    pub order: JudgeOrder<'a>,
 }
 
 /// A peer that is tried.
@@ -265,18 +265,14 @@ where
     status_of(&report)
 }
 
-/// Tells why there is no way to the peer.
+/// The answer where there is no way to the peer: words that name none, or two, are refused.
 fn refuse_place<E: Output>(err: &mut E, order: JudgeOrder<'_>) -> Result<u8, CommandFault>
     ensures gives { LacksWay (option_map (λ w. w.now) order.entry.port)
         (option_map (λ w. w.now) order.entry.line) result }
     ensures status { IfOk result (λ status. status ≤ 2) }
 {
     match (order.port, order.line) {
-        (None, Some(path)) => {
-            err.put_line(JudgeMessage::NoLine(path))?;
-            Err(CommandFault::Device)
-        }
-        (Some(_), None) => Err(CommandFault::Device),
+        (None, Some(_)) | (Some(_), None) => Err(CommandFault::Device),
         _ => refuse(err, JudgeMessage::NoPlace),
     }
 }
@@ -299,14 +295,13 @@ where
         (page (O.contents outputs.new.out) (O.failures outputs.new.out)) }
     ensures status { IfOk result (λ status. status ≤ 2) }
 {
-    let order = asked.order;
-    match access_of(rt, asked.peer, order.port, order.line) {
+    match access_of(rt, asked, &mut outputs.err) {
         Ok(access) => {
             let trial = Trial { access, asked };
             try_cases(rt, alloc, &trial, cases, outputs)
         }
         Err(CommandFault::Port) => Err(CommandFault::Port),
-        Err(_) => refuse_place(&mut outputs.err, order),
+        Err(_) => refuse_place(&mut outputs.err, asked.order),
     }
 }
 

@@ -34,10 +34,10 @@ pub(crate) fn has_cancelled(did: Act) -> bool
 }
 
 /// These bytes, and those behind them.
-pub(crate) fn joined(alloc: Global, front: &[u8], rest: &[u8]) -> Result<Vec<u8>, AllocError>
-    ensures { IfOk result (λ bytes. bytes.items ≡ front.now ++ rest.now) }
+pub(crate) fn joined(alloc: Global, prefix: &[u8], rest: &[u8]) -> Result<Vec<u8>, AllocError>
+    ensures { IfOk result (λ bytes. bytes.items ≡ prefix.now ++ rest.now) }
 {
-    let mut bytes = Vec::from_slice(alloc, front)?;
+    let mut bytes = Vec::from_slice(alloc, prefix)?;
     bytes.extend_from_slice(rest)?;
     Ok(bytes)
 }

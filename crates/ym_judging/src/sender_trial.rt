@@ -52,7 +52,7 @@ struct SenderTrial {
 }
 
 /// How many bytes the frame has with which these begin. Where none does, all of them.
-fn front_length(bytes: &[u8]) -> usize
+fn prefix_length(bytes: &[u8]) -> usize
     ensures { result ≤ length bytes.now }
 {
     match verdict(bytes) {
@@ -270,7 +270,7 @@ impl SenderTrial {
         ensures noted { GrowsBy 1 self.old.notes self.new.notes }
         ensures case { self.new.case ≡ self.old.case }
     {
-        let rest = &bytes[front_length(bytes)..];
+        let rest = &bytes[prefix_length(bytes)..];
         if !rest.is_empty() && delivered(false, bytes) != Act::Cancel {
             self.note(Act::Nothing, delivered(false, rest), tenths, false);
         }

@@ -65,12 +65,12 @@ fn header_frame(alloc: Global, file: &Payload) -> Result<Vec<u8>, AllocError>
 fn block_frame(alloc: Global, file: &Payload, number: u8) -> Result<Vec<u8>, AllocError>
     ensures { IfOk result (λ frame. IsDataBlock (sent_of file.now) number frame.items) }
 {
-    let place = u64::from(number);
-    if place == 0 || place > count_of(file) {
+    let position = u64::from(number);
+    if position == 0 || position > count_of(file) {
         return Ok(Vec::new(alloc));
     }
     let bytes = content(alloc, file.length)?;
-    let block = block_at(bytes.as_slice(), Shape::Mixed, place);
+    let block = block_at(bytes.as_slice(), Shape::Mixed, position);
     frame_of(alloc, &Item::Block(block))
 }
 

@@ -2,7 +2,7 @@
 use Rattle.std.proofs.Common.{◌≡◌, ◌≢◌, ◌∙◌, ◌≤◌, ◌<◌, ◌⊎◌, ℕ, ◌+◌, suc, List, [], ◌∷◌, length, map, take, Option, None, Some, IfSome, IsSome, All, sum_by, refl, sym, ap, subst, inl, inr, arith}
 use Rattle.std.proofs.lemmas.List.{length-map, take_all}
 use Rattle.std.proofs.lemmas.List.Sums.{sum_by-cons}
-use Rattle.ym_line.proofs.Names.{pieces_of, Shape, Confirm, frames_of, Turn, NoFailure, IsDamage, after_turns, Batch, AllTold, file_of, told_pieces, FileParts, IsFile, SendState, Round, Seen, Trace, AllWhole, AreGoing, HaveFinished, NoneRose, whole_rounds, AreNew, Pair, IsTrace, AreTurns, CommitsFirst, PairRefines, Reports}
+use Rattle.ym_line.proofs.Names.{pieces_of, Shape, Confirm, frames_of, Turn, NoFailure, IsDamage, after_turns, Batch, AllTold, file_of, told_pieces, FileParts, IsFile, SendState, Round, Seen, Trace, AllWhole, AreGoing, HaveFinished, NoneCounted, whole_rounds, AreNew, Pair, IsTrace, AreTurns, CommitsFirst, PairRefines, Reports}
 use Rattle.ym_file.specs.Plan.{count_of}
 use Rattle.ym_machine.specs.declared.limits.TheConstants.{BURST}
 use Rattle.ym_machine.specs.RoundsRemaining.{SenderGoes, ReceiverGoes, IsGoing, CountsWithin, IsComplete, needed_by, rounds_needed}
@@ -96,7 +96,7 @@ record Ran (rounds : List Round) (old : Pair) (trace : Trace) (new : Pair) : Typ
   commits : CommitsFirst (batch_to_send old) (after old turns) new
   reports : Reports (batch_to_send old) (after old turns) trace
 
-ran : Laws → Completion → (rounds : List Round) (old new : Pair) (trace : Trace) → IsTrace rounds old trace new → AreNew old → All IsFile old.sender.files → NoneRose old new → Ran rounds old trace new
+ran : Laws → Completion → (rounds : List Round) (old new : Pair) (trace : Trace) → IsTrace rounds old trace new → AreNew old → All IsFile old.sender.files → NoneCounted old new → Ran rounds old trace new
 ran laws completion rounds old new trace gives fresh files none =
     let runs = run-of laws rounds old new trace gives fresh files in
     let refines : PairRefines (confirm_of old) (batch_to_send old) (after old runs.turns) new = run-refines laws rounds old new trace fresh files runs in
@@ -173,7 +173,7 @@ run-complete laws completion rounds old new trace gives brings enough = elim (tr
       }
 ]
 
-pub run-sooner : Laws → Completion → (rounds : List Round) (old new : Pair) (trace : Trace) → IsTrace rounds old trace new → AreNew old → NoneRose old new →
+pub run-sooner : Laws → Completion → (rounds : List Round) (old new : Pair) (trace : Trace) → IsTrace rounds old trace new → AreNew old → NoneCounted old new →
     AllWhole rounds → length rounds < rounds_for old → trace.send ≢ send_state.Finished
 run-sooner laws completion rounds old new trace gives fresh none whole fewer = elim (trace-heard rounds old new trace.rounds.items gives.goes_on) [
   | inl same ↦ λ finished. let runs : trace.send ≡ send_state.Running = still-send rounds old new trace gives fresh same.1 in cc

@@ -1,7 +1,7 @@
 -- A round of a pair that refines a state of the machine is a turn of the machine.
 use Rattle.std.proofs.Common.{◌≡◌, ◌∙◌, ℕ, Bool, true, false, List, [], ◌∷◌, length, Option, Some, Ok, IsSome, refl, sym, ap, subst, inl, inr, arith}
 use Rattle.std.proofs.lemmas.List.Elements.{All-set}
-use Rattle.ym_line.proofs.Names.{reply_bytes, Control, Reply, Confirm, File, frames_of, State, Turn, IsDamage, came_back, after_turn, after_turns, HeaderParts, done_at, controls_in, IsBatch, Batch, IsSaid, AllTold, SenderParts, IsSender, spoken, FileParts, file_at, no_file, Kept, Place, Delivery, Round, Seen, Trace, ShowsBack, arrives, Pair, Goes, GoOn, IsTrace, AreTurns, IsSourceTruth, PairRefines, Reports, RunsAsMachine, came_of, is_whole, turn_of}
+use Rattle.ym_line.proofs.Names.{reply_bytes, Control, Reply, Confirm, File, frames_of, State, Turn, IsDamage, came_back, after_turn, after_turns, HeaderParts, done_at, controls_in, IsBatch, Batch, IsSaid, AllTold, SenderParts, IsSender, spoken, FileParts, file_at, no_file, Kept, Position, Delivery, Round, Seen, Trace, ShowsBack, arrives, Pair, Goes, GoOn, IsTrace, AreTurns, IsSourceTruth, PairRefines, Reports, RunsAsMachine, came_of, is_whole, turn_of}
 use Rattle.ym_machine.specs.Frames.{count_within, files_within}
 use Rattle.ym_machine.specs.Steps as machine
 use Rattle.ym_machine.specs.Machine.{Invariant, said, receiver_step, sender_step, KeepsSender, KeepsReceiver}
@@ -13,7 +13,7 @@ use Rattle.ym_link.specs.SenderRefines.{SenderRefines}
 use Rattle.ym_link.specs.Sender.{IsStep, IsFilled, counts}
 use Rattle.ym_file.specs.SourceFile.{filled}
 use Rattle.ym_core.specs.Standing.{hears}
-use Rattle.ym_core.specs.declared.place.Place.TheVariants.{Block}
+use Rattle.ym_core.specs.declared.position.Position.TheVariants.{Block}
 use Rattle.ym_line.specs.Rounds.{GoesThere}
 use Rattle.ym_line.specs.Turns.{IsReceiverStep, IsTurn}
 use Rattle.ym_line.proofs.Turns.{FrameFound, WithinReply, said-heard, came-within, controls-arrive}
@@ -39,7 +39,7 @@ pub record Laws : Type 0 where
       Invariant confirm (frames_of files) (sender_step (frames_of files) source_failed came (receiver_step (frames_of files) confirm sink_failed whole old).0)
   pub keeps_sender : (files : List (File HeaderParts)) (confirm : Confirm) (sink_failed whole : Bool) (old : State) →
       KeepsSender old (receiver_step (frames_of files) confirm sink_failed whole old).0
-  pub done : (files : Batch) (st : State) (sender : SenderParts) → SenderRefines files st sender → done_at (length sender.files) sender.standing.place ≡ count_within files st.acknowledged
+  pub done : (files : Batch) (st : State) (sender : SenderParts) → SenderRefines files st sender → done_at (length sender.files) sender.standing.position ≡ count_within files st.acknowledged
   pub counted : (files : Batch) (n : ℕ) → length (files_within files n) ≡ count_within files n
   pub keeps_receiver : (files : List (File HeaderParts)) (source_failed : Bool) (came : List Control) (old : State) →
       KeepsReceiver old (sender_step (frames_of files) source_failed came old)
@@ -54,7 +54,7 @@ receiver-still confirm files old new r kept same refines = grind (arith, same, r
 
 -- ---- The sources
 
-pub source-truth : (failed : Bool) (fills : Option Place) (old new : List FileParts) → IsFilled failed fills old new → IsSourceTruth failed old new
+pub source-truth : (failed : Bool) (fills : Option Position) (old new : List FileParts) → IsFilled failed fills old new → IsSourceTruth failed old new
 source-truth false (Some (Block file k)) old new filled = inr (file, filled)
 source-truth true (Some (Block file k)) old new filled = (file, filled)
 source-truth false _ old new filled = inl filled

@@ -13,14 +13,14 @@ pub use Rattle.ym_machine.specs.Machine.{State}
 pub use Rattle.ym_machine.specs.Run.{IsDamage, NoFailure, Turn, after_turn, after_turns, came_back}
 pub use Rattle.ym_machine.specs.declared.confirm.Confirm.{Confirm}
 pub use Rattle.ym_machine.specs.declared.limits.TheConstants.{MOST_FILES}
-pub use Rattle.ym_core.specs.Place.{done_at}
-pub use Rattle.ym_core.specs.Reading.{controls_in}
-pub use Rattle.ym_core.specs.declared.place.Place.{Place}
+pub use Rattle.ym_core.specs.Position.{done_at}
+pub use Rattle.ym_core.specs.Scan.{controls_in}
+pub use Rattle.ym_core.specs.declared.position.Position.{Position}
 pub use Rattle.ym_core.specs.declared.state.SendState.{SendState}
 pub use Rattle.ym_link.specs.ReceiverRefines.{IsBatch, bytes_of}
 pub use Rattle.ym_link.specs.Sender.{IsSender, SenderParts, spoken}
 pub use Rattle.ym_link.specs.SenderRefines.{AllTold, Batch, IsSaid, batch_of, file_of, told_pieces}
-pub use Rattle.ym_line.specs.Completion.{AllWhole, AreGoing, HaveFinished, NoneRose, whole_rounds}
+pub use Rattle.ym_line.specs.Completion.{AllWhole, AreGoing, HaveFinished, NoneCounted, whole_rounds}
 pub use Rattle.ym_line.specs.Damage.{ShowsBack, arrives}
 pub use Rattle.ym_line.specs.Promise.{AreNew, ReportsCommitted}
 pub use Rattle.ym_line.specs.Rounds.{GoOn, Goes, IsTrace, Pair, RunGives, Stops, StopsIn, sent_by}

@@ -38,9 +38,9 @@ sent-bytes laws shape sources n files tells =
     (sym (take-map (λ f. known (bytes_of (file_of shape f))) n sources) ∙ (ap (take n) (all-bytes laws shape sources files tells) ∙ take-map (λ (f : FileParts). f.bytes) n sources))
 
 -- the first list is no longer
-prefix-long : {A : Type 0} → (front all : List A) → IsPrefix front all → length front ≤ length all
-prefix-long front all first =
-    let long : length front ≡ min (length front) (length all) = sym (ap length first) ∙ length-take (length front) all in
+prefix-long : {A : Type 0} → (prefix all : List A) → IsPrefix prefix all → length prefix ≤ length all
+prefix-long prefix all first =
+    let long : length prefix ≡ min (length prefix) (length all) = sym (ap length first) ∙ length-take (length prefix) all in
     omega (arith, long)
 
 pub commits-prefix : PlanLaws → (shape : Shape) (sources : List FileParts) (st : State) (pair : Pair) → All IsFile sources → AllTold sources →

@@ -4,7 +4,7 @@ use Rattle.std.proofs.lemmas.List.{length-map, length-take}
 use Rattle.ym_line.proofs.Names.{Shape, Confirm, frames_of, State, Turn, after_turns, done_at, Batch, AllTold, batch_of, FileParts, IsFile, Round, LineFault, Seen, Trace, AreNew, ReportsCommitted, Pair, GoOn, StopsIn, IsTrace, RunGives, AreTurns, CommitsFirst, FollowsMachine, PairRefines, RunsAsMachine, StopsWithMachine}
 use Rattle.ym_file.specs.Kept.{Told, TellsNone}
 use Rattle.ym_machine.specs.Machine.{start}
-use Rattle.ym_line.specs.Promise.{CommitsAPrefix, first_place}
+use Rattle.ym_line.specs.Promise.{CommitsAPrefix, first_position}
 use Rattle.ym_line.proofs.Stops.{Same, half-same, stopped-refines, unchanged}
 
 -- ---- What the laws say
@@ -51,7 +51,7 @@ fault-heard n (round ∷ rounds) old new fault (inr (inl (inr stopped))) = inr s
 fault-heard n (round ∷ rounds) old new fault (inr (inr went)) = inr went.2.there.keeps.files
 
 -- new ends that are as they were have committed nothing, and report nothing
-none-done : (sources : List FileParts) → done_at (length sources) (first_place sources) ≡ 0
+none-done : (sources : List FileParts) → done_at (length sources) (first_position sources) ≡ 0
 none-done [] = refl
 none-done (source ∷ sources) = refl
 

@@ -2,19 +2,19 @@
 use Rattle.std.proofs.Common.{◌≡◌, ◌∙◌, ◌≤◌, ℕ, List, [], ◌∷◌, length, Option, None, Some, IfSome, IsSome, All, false, refl, sym, ap}
 use Rattle.std.proofs.lemmas.List.{length-map}
 use Rattle.std.proofs.lemmas.List.Elements.{All-map}
-use Rattle.ym_line.proofs.Names.{MOST_FILES, HeaderParts, IsHeader, length_limit, IsPieces, pieces_of, Shape, Place, IsBatch, AllTold, batch_of, file_of, told_pieces, FileParts, IsFile, AreNew, Pair, PairRefines}
+use Rattle.ym_line.proofs.Names.{MOST_FILES, HeaderParts, IsHeader, length_limit, IsPieces, pieces_of, Shape, Position, IsBatch, AllTold, batch_of, file_of, told_pieces, FileParts, IsFile, AreNew, Pair, PairRefines}
 use Rattle.ym_file.specs.SourceFile.{counts_of}
 use Rattle.ym_machine.specs.Machine.{start}
 use Rattle.ym_machine.specs.declared.confirm.Confirm.{Confirm}
 use Rattle.ym_file.specs.Kept.{IsNew}
-use Rattle.ym_core.specs.Place.{first_of}
+use Rattle.ym_core.specs.Position.{first_of}
 use Rattle.ym_core.specs.Receiver.{Receiver, new_receiver}
 use Rattle.ym_core.specs.Standing.{new_standing}
-use Rattle.ym_core.specs.declared.place.Mode.TheVariants.{Waiting}
+use Rattle.ym_core.specs.declared.position.Mode.TheVariants.{Waiting}
 use Rattle.ym_core.specs.declared.standing.Standing.{Standing}
 use Rattle.ym_core.specs.declared.state.SendState.TheVariants.{Running}
 use Rattle.ym_link.specs.ReceiverRefines.{IsSent}
-use Rattle.ym_line.specs.Promise.{first_place}
+use Rattle.ym_line.specs.Promise.{first_position}
 
 -- a file that is cut by a plan is sent whole
 abbrev pub PlannedIsSent : Type 0
@@ -35,12 +35,12 @@ batch-is sent pieces shape sources files told few = record {
 }
 
 -- a batch begins at its first place
-first-is : (shape : Shape) (sources : List FileParts) → first_of (counts_of shape sources) ≡ first_place sources
+first-is : (shape : Shape) (sources : List FileParts) → first_of (counts_of shape sources) ≡ first_position sources
 first-is shape [] = refl
 first-is shape (source ∷ sources) = refl
 
-abbrev waiting_at : Place → Standing
-waiting_at place = record { place = place; mode = Waiting; retries = 0; state = Running; cancel_pending = false }
+abbrev waiting_at : Position → Standing
+waiting_at position = record { position = position; mode = Waiting; retries = 0; state = Running; cancel_pending = false }
 
 -- new ends are those that are made so
 pub new-refines : (pair : Pair) → AreNew pair →

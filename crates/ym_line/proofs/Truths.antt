@@ -1,10 +1,10 @@
--- Where no failure count rose over a run, none of its turns has a sink or a source that failed; and what is whole or bad in a list of rounds
+-- Where no failure was counted over a run, none of its turns has a sink or a source that failed; and what is whole or bad in a list of rounds
 -- is so in its turns.
 use Rattle.std.proofs.Common.{◌≡◌, ◌∙◌, ◌≤◌, ◌<◌, ◌&&◌, ℕ, ◌+◌, Bool, true, false, List, [], ◌∷◌, length, is_none, refl, ap, subst, inl, inr, arith}
 use Rattle.std.proofs.lemmas.Bool.{cases_eq}
 use Rattle.std.proofs.lemmas.List.{length-set, get_or-set_same, get_or-set_other}
-use Rattle.ym_line.proofs.Names.{Confirm, frames_of, State, Turn, NoFailure, after_turn, Batch, FileParts, file_at, no_file, Delivery, Whole, Round, Seen, NoneRose, AllWhole, whole_rounds, Pair, AreTurns, IsSourceTruth, came_of, is_whole, turn_of}
-use Rattle.ym_file.specs.Counts.{Rose}
+use Rattle.ym_line.proofs.Names.{Confirm, frames_of, State, Turn, NoFailure, after_turn, Batch, FileParts, file_at, no_file, Delivery, Whole, Round, Seen, NoneCounted, AllWhole, whole_rounds, Pair, AreTurns, IsSourceTruth, came_of, is_whole, turn_of}
+use Rattle.ym_file.specs.Counts.{Counted}
 use Rattle.ym_machine.specs.Run as machine
 use Rattle.ym_link.specs.ReceiverInto.{Tells}
 use Rattle.ym_link.specs.Sender.{FilledAt, FailedAt}
@@ -12,11 +12,11 @@ use Rattle.ym_line.specs.Completion.{both_whole, longest_bad_run}
 
 -- ---- Counts never fall
 
-pub rose-on : (a b c : ℕ) → Rose a b → b ≤ c → Rose a c
-rose-on a b c rose within = grind (arith, rose, within)
+pub counted-on : (a b c : ℕ) → Counted a b → b ≤ c → Counted a c
+counted-on a b c counted_failure within = grind (arith, counted_failure, within)
 
-rose-grew : (a b : ℕ) → Rose a b → a ≤ b
-rose-grew a b rose = grind (arith, rose)
+counted-grew : (a b : ℕ) → Counted a b → a ≤ b
+counted-grew a b counted_failure = grind (arith, counted_failure)
 
 pub tells-grew : (failed : Bool) (a b : ℕ) → Tells failed a b → a ≤ b
 tells-grew failed a b tells = grind (arith, tells)
@@ -26,7 +26,7 @@ failed-at at old new failed = ap (λ l. (file_at l at).failures) failed.after �
 
 failed-grew : (at : ℕ) (old new : List FileParts) → FailedAt at old new → (i : ℕ) → (file_at old i).failures ≤ (file_at new i).failures
 failed-grew at old new failed i = elim (cases_eq i at) [
-  | inl same ↦ let counts = failed-at at old new failed in let grew = rose-grew (file_at old at).failures failed.failures failed.rose in rw same (omega (arith, counts, grew))
+  | inl same ↦ let counts = failed-at at old new failed in let grew = counted-grew (file_at old at).failures failed.failures failed.counted_failure in rw same (omega (arith, counts, grew))
   | inr other ↦ let kept = ap (λ l. (file_at l i).failures) failed.after ∙ ap (λ (f : FileParts). f.failures) (get_or-set_other old at i _ no_file other) in omega (arith, kept)
 ]
 
@@ -64,28 +64,28 @@ turns-grew confirm files _ _ st old new _ went = absurd went
 
 -- ---- The truths
 
-pub sink-true : (failed : Bool) (a b c : ℕ) → Tells failed a b → b ≤ c → ¬ Rose a c → failed ≡ false
-sink-true true a b c rose grew none = absurd (none (rose-on a b c rose grew))
+pub sink-true : (failed : Bool) (a b c : ℕ) → Tells failed a b → b ≤ c → ¬ Counted a c → failed ≡ false
+sink-true true a b c counted_failure grew none = absurd (none (counted-on a b c counted_failure grew))
 sink-true false a b c same grew none = refl
 
-failed-rose : (at : ℕ) (old between new : List FileParts) → FailedAt at old between →
-    ((i : ℕ) → (file_at between i).failures ≤ (file_at new i).failures) → Rose (file_at old at).failures (file_at new at).failures
-failed-rose at old between new failed grew =
+failed-counted : (at : ℕ) (old between new : List FileParts) → FailedAt at old between →
+    ((i : ℕ) → (file_at between i).failures ≤ (file_at new i).failures) → Counted (file_at old at).failures (file_at new at).failures
+failed-counted at old between new failed grew =
     let counts = failed-at at old between failed in
-    rose-on (file_at old at).failures failed.failures (file_at new at).failures failed.rose (omega (arith, counts, grew at))
+    counted-on (file_at old at).failures failed.failures (file_at new at).failures failed.counted_failure (omega (arith, counts, grew at))
 
 pub source-true : (failed : Bool) (old between new : List FileParts) → IsSourceTruth failed old between →
     ((i : ℕ) → (file_at between i).failures ≤ (file_at new i).failures) →
-    ((i : ℕ) → i < length old → ¬ Rose (file_at old i).failures (file_at new i).failures) → failed ≡ false
-source-true true old between new truth grew none = absurd (none truth.0 truth.1.within (failed-rose truth.0 old between new truth.1 grew))
+    ((i : ℕ) → i < length old → ¬ Counted (file_at old i).failures (file_at new i).failures) → failed ≡ false
+source-true true old between new truth grew none = absurd (none truth.0 truth.1.within (failed-counted truth.0 old between new truth.1 grew))
 source-true false old between new truth grew none = refl
 
 -- a count that rose behind a turn rose over the run
-pub rose-behind : (a b c : ℕ) → a ≤ b → Rose b c → Rose a c
-rose-behind a b c grew rose = grind (arith, grew, rose)
+pub counted-behind : (a b c : ℕ) → a ≤ b → Counted b c → Counted a c
+counted-behind a b c grew counted_failure = grind (arith, grew, counted_failure)
 
 pub no-failure : (confirm : Confirm) (files : Batch) (rounds : List Round) (turns : List Turn) (st : State) (old new : Pair) (all : List Seen) →
-    AreTurns confirm files st rounds turns old all new → NoneRose old new → NoFailure turns
+    AreTurns confirm files st rounds turns old all new → NoneCounted old new → NoFailure turns
 no-failure confirm files [] [] st old new [] went none = tt
 no-failure confirm files (round ∷ rounds) (turn ∷ turns) st old new (seen ∷ all) went none =
     let between : Pair = went.0 in
@@ -97,8 +97,8 @@ no-failure confirm files (round ∷ rounds) (turn ∷ turns) st old new (seen �
       sink-true turn.sink_failed old.receiver.failures between.receiver.failures new.receiver.failures went.1.sink grew.sink none.sink,
       source-true turn.source_failed old.sender.files between.sender.files new.sender.files went.1.source grew.sources none.sources,
       no-failure confirm files rounds turns later between new all went.2 (record {
-        sink = λ rose. none.sink (rose-behind _ _ _ sink_grew rose);
-        sources = λ i below rose. none.sources i (subst (λ n. i < n) long below) (rose-behind _ _ _ (sources_grew i) rose);
+        sink = λ counted_failure. none.sink (counted-behind _ _ _ sink_grew counted_failure);
+        sources = λ i below counted_failure. none.sources i (subst (λ n. i < n) long below) (counted-behind _ _ _ (sources_grew i) counted_failure);
       }),
     )
 no-failure confirm files _ _ st old new _ went none = absurd went

@@ -14,8 +14,8 @@ use Rattle.ym_machine.specs.Machine.{Speech, Nothing, FrameAt, CanCan}
 use Rattle.ym_core.specs.Hearing.{heard_of, heard_at}
 use Rattle.ym_core.specs.declared.delivery.Heard.TheVariants as heard
 use Rattle.ym_link.specs.ReceiverRefines as receiver
-use Rattle.ym_core.specs.declared.place.Mode.{Mode}
-use Rattle.ym_core.specs.declared.place.Mode.TheVariants.{Sent}
+use Rattle.ym_core.specs.declared.position.Mode.{Mode}
+use Rattle.ym_core.specs.declared.position.Mode.TheVariants.{Sent}
 use Rattle.ym_core.specs.declared.state.SendState.TheVariants as sender
 use Rattle.ym_link.specs.Sender.{spoken_in}
 use Rattle.ym_line.specs.declared.delivery.Delivery.TheVariants.{Lost, Damaged}

@@ -3,7 +3,7 @@
 -- The burst is this profile's choice; after how many errors in a row an end gives up is the
 -- reference's ("XMODEM Protocol Overview").
 use Rattle.std.specs.Prelude.{◌≡◌, ◌≤◌, ◌<◌, ◌⊎◌, ℕ, ◌+◌, ◌&&◌, max, Bool, true, if◌then◌else◌, List, [], ◌∷◌, length, map, Some}
-use Rattle.ym_file.specs.Counts.{Rose}
+use Rattle.ym_file.specs.Counts.{Counted}
 use Rattle.ym_file.specs.Kept.{Told}
 use Rattle.ym_file.specs.SourceFile.{FileParts, file_at}
 use Rattle.ym_core.specs.declared.state.SendState.TheVariants as sender
@@ -43,12 +43,12 @@ longest_bad_run before (round ∷ rounds) =
 
 -- ---- What is promised of them
 
--- no failure count rose, neither the sink's nor that of any file's source
-pub record NoneRose (old new : Pair) : Type 0 where
-  pub sink : ¬ Rose old.receiver.failures new.receiver.failures
+-- no failure was counted, neither the sink's nor that of any file's source
+pub record NoneCounted (old new : Pair) : Type 0 where
+  pub sink : ¬ Counted old.receiver.failures new.receiver.failures
   pub sources : (i : ℕ) →
       i < length old.sender.files →
-      ¬ Rose (file_at old.sender.files i).failures (file_at new.sender.files i).failures
+      ¬ Counted (file_at old.sender.files i).failures (file_at new.sender.files i).failures
 
 -- how many whole rounds these ends need
 abbrev pub rounds_for : Pair → ℕ
@@ -75,8 +75,8 @@ pub record HaveFinished (batch : List FileParts) (trace : Trace) (pair : Pair) :
       pair.receiver.kept.told ≡ Some told →
       map (λ (bytes : List ℕ). Some bytes) told.files ≡ map (λ (f : FileParts). f.bytes) batch
 
--- new ends over whose rounds no failure count rose, and no bad run is longer than a burst
+-- new ends over whose rounds no failure was counted, and no bad run is longer than a burst
 pub record BringsShortBadRuns (rounds : List Round) (old new : Pair) : Type 0 where
   pub fresh : AreNew old
-  pub none : NoneRose old new
+  pub none : NoneCounted old new
   pub short : longest_bad_run 0 rounds ≤ BURST

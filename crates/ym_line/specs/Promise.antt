@@ -4,21 +4,21 @@
 -- That this is promised is this profile's choice.
 use Rattle.std.specs.Prelude.{◌≡◌, ◌≤◌, ℕ, false, List, [], ◌∷◌, length, map, take, All, Some, IsSome}
 use Rattle.ym_file.specs.Kept.{Told, IsNew}
-use Rattle.ym_core.specs.Place.{done_at}
+use Rattle.ym_core.specs.Position.{done_at}
 use Rattle.ym_core.specs.Receiver.{new_receiver}
 use Rattle.ym_file.specs.SourceFile.{FileParts}
-use Rattle.ym_core.specs.declared.place.Place.{Place}
-use Rattle.ym_core.specs.declared.place.Place.TheVariants.{Header, End}
-use Rattle.ym_core.specs.declared.place.Mode.TheVariants.{Waiting}
+use Rattle.ym_core.specs.declared.position.Position.{Position}
+use Rattle.ym_core.specs.declared.position.Position.TheVariants.{Header, End}
+use Rattle.ym_core.specs.declared.position.Mode.TheVariants.{Waiting}
 use Rattle.ym_core.specs.declared.state.SendState.TheVariants.{Running}
 use Rattle.ym_machine.specs.declared.limits.TheConstants.{MOST_FILES}
 use Rattle.ym_line.specs.Rounds.{Pair}
 use Rattle.ym_line.specs.declared.trace.Trace.{Trace}
 
 -- the place of the first frame
-abbrev pub first_place : List FileParts → Place
-first_place [] = End
-first_place (file ∷ files) = Header 0
+abbrev pub first_position : List FileParts → Position
+first_position [] = End
+first_position (file ∷ files) = Header 0
 
 -- New ends: a sender that waits at the first frame of a batch of no more files than one may have,
 -- whose sources tell their bytes, and a receiver that awaits its first header, into a sink that has
@@ -26,7 +26,7 @@ first_place (file ∷ files) = Header 0
 pub record AreNew (pair : Pair) : Type 0 where
   pub sender : pair.sender.standing ≡
       record {
-        place = first_place pair.sender.files;
+        position = first_position pair.sender.files;
         mode = Waiting;
         retries = 0;
         state = Running;
@@ -49,7 +49,7 @@ pub record CommitsAPrefix (batch : List FileParts) (pair : Pair) : Type 0 where
       map (λ (bytes : List ℕ). Some bytes) told.files ≡
       map (λ (f : FileParts). f.bytes) (take number batch)
   pub files_is : pair.receiver.receiver.files ≡ number
-  pub done : done_at (length pair.sender.files) pair.sender.standing.place ≤ number
+  pub done : done_at (length pair.sender.files) pair.sender.standing.position ≤ number
 
 -- A trace reports the number of files committed, and no more files as done.
 pub record ReportsCommitted (trace : Trace) (pair : Pair) : Type 0 where

@@ -6,11 +6,11 @@
 use Rattle.std.specs.Prelude.{◌≡◌, ◌⊎◌, ℕ, ◌+◌, List, [], ◌∷◌, length, Option, unwrap_or, Result, Ok, Err}
 use Rattle.ym_frame.specs.Control.{reply_bytes}
 use Rattle.ym_frame.specs.declared.control.Reply.{Reply}
-use Rattle.ym_file.specs.Counts.{Rose}
+use Rattle.ym_file.specs.Counts.{Counted}
 use Rattle.ym_core.specs.Hearing.{heard_of}
 use Rattle.ym_link.specs.ReceiverInto.{ReceiverParts}
 use Rattle.ym_link.specs.ReceiverInto as receiver
-use Rattle.ym_core.specs.Place.{done_at}
+use Rattle.ym_core.specs.Position.{done_at}
 use Rattle.ym_link.specs.Sender.{SenderParts, IsSender, spoken}
 use Rattle.ym_link.specs.Sender as sender
 use Rattle.ym_line.specs.Carried.{told_more}
@@ -68,7 +68,8 @@ pub record GoesThere (delivery : Delivery) (old : Pair) (reply : Reply) (new : P
 -- carry, or a growth.
 abbrev pub StopsHalf : ℕ → Type 0 → Type 0 → Pair → LineFault → Pair → Type 0
 StopsHalf n shows short old Carrier new =
-    shows × short × Rose old.failures new.failures × (new ≡ record old { failures = new.failures })
+    shows × short × Counted old.failures new.failures ×
+    (new ≡ record old { failures = new.failures })
 StopsHalf n shows short old Memory new = shows × short × (new ≡ old)
 StopsHalf n shows short old refused new = IsChecked n shows short (Err refused) × (new ≡ old)
 
@@ -150,7 +151,7 @@ StopsIn n (round ∷ rounds) old fault new =
 -- the trace of a run: its rounds, and both reports
 pub record IsTrace (rounds : List Round) (old : Pair) (trace : Trace) (new : Pair) : Type 0 where
   pub goes_on : GoOn rounds old trace.rounds.items new
-  pub done : trace.done ≡ done_at (length new.sender.files) new.sender.standing.place
+  pub done : trace.done ≡ done_at (length new.sender.files) new.sender.standing.position
   pub send : trace.send ≡ new.sender.standing.state
   pub files : trace.files ≡ new.receiver.receiver.files
   pub recv : trace.recv ≡ new.receiver.receiver.state

@@ -7,12 +7,12 @@ use Rattle.ym_machine.specs.Frames.{File, frames_of, IsPrefix}
 use Rattle.ym_machine.specs.Machine.{State, Invariant, said, receiver_step, committed, reported}
 use Rattle.ym_machine.specs.Run.{Turn, answer_of, after_turn, after_turns}
 use Rattle.ym_header.specs.Header.{HeaderParts}
-use Rattle.ym_core.specs.Reading.{controls_in}
+use Rattle.ym_core.specs.Scan.{controls_in}
 use Rattle.ym_link.specs.ReceiverInto.{Tells}
 use Rattle.ym_link.specs.ReceiverRefines.{IsBatch, ReceiverRefines, bytes_of}
 use Rattle.ym_link.specs.ReceiverRefines as receiver
 use Rattle.ym_link.specs.SenderRefines as sender
-use Rattle.ym_core.specs.Place.{done_at}
+use Rattle.ym_core.specs.Position.{done_at}
 use Rattle.ym_file.specs.Kept.{Told}
 use Rattle.ym_link.specs.Sender.{FilledAt, FailedAt, spoken}
 use Rattle.ym_file.specs.SourceFile.{FileParts}
@@ -177,7 +177,7 @@ pub record CommitsFirst (files : Batch) (st : State) (pair : Pair) : Type 0 wher
       pair.receiver.kept.told ≡ Some told → told.files ≡ map bytes_of (committed files st)
   pub first : IsPrefix (committed files st) files
   pub files_is : pair.receiver.receiver.files ≡ length (committed files st)
-  pub done_is : done_at (length pair.sender.files) pair.sender.standing.place ≡
+  pub done_is : done_at (length pair.sender.files) pair.sender.standing.position ≡
       length (reported files st)
   pub among : IsPrefix (reported files st) (committed files st)
   pub send_is : pair.sender.standing.state ≡ sender.state_of st.sender

@@ -1,7 +1,7 @@
 //! What hands bytes on between the two ends.
 
 ghost use Rattle.std.specs.Prelude.{◌≡◌, ◌≢◌, ℕ, List, Option, OnOk, OnErr, Err};
-ghost use Rattle.ym_file.specs.Counts.{Rose};
+ghost use Rattle.ym_file.specs.Counts.{Counted};
 ghost use Rattle.ym_line.specs.Carried.{told_more};
 ghost use Rattle.ym_line.specs.declared.delivery.Handed.{Handed};
 ghost use Rattle.ym_line.specs.declared.carrier.CarryFault.TheVariants.{Memory};
@@ -49,7 +49,7 @@ pub trait Carrier {
         ensures told { OnOk result (told self.new ≡ told_more way bytes.now (told self.old)) }
         ensures refused { OnErr result (told self.new ≡ told self.old) }
         ensures failed { result ≡ Err CarryFault.Device →
-            Rose (failures self.old) (failures self.new) }
+            Counted (failures self.old) (failures self.new) }
         ensures not_failed { result ≢ Err CarryFault.Device →
             failures self.new ≡ failures self.old };
 }

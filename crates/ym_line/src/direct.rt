@@ -1,7 +1,7 @@
 //! A carrier in memory.
 
 ghost use Rattle.std.specs.Prelude.{◌≡◌, ◌≢◌, ◌↔◌, ◌++◌, ◌∷◌, [], None, Some, OnOk, OnErr, Err, IsTrue};
-ghost use Rattle.ym_file.specs.Counts.{Rose, fails_next, counted, new_tally};
+ghost use Rattle.ym_file.specs.Counts.{Counted, fails_next, counted, new_tally};
 ghost use Rattle.ym_line.specs.Carried.{handed_on};
 
 use crate::carrier::{Carrier, CarryFault};
@@ -64,7 +64,8 @@ impl Direct {
         ensures fails { result ≡ fails_next self.old.tally }
         ensures after { self.new ≡
             record { handed = self.old.handed; tally = counted self.old.tally } }
-        ensures rose { IsTrue result → Rose self.old.tally.failures self.new.tally.failures }
+        ensures counted_failure { IsTrue result →
+            Counted self.old.tally.failures self.new.tally.failures }
     {
         let fails = self.failing == 1;
         self.failing = self.failing.saturating_sub(1);
@@ -91,7 +92,7 @@ impl Carrier for Direct {
             record { handed = self.old.handed; tally = counted self.old.tally }) }
         ensures fails { (result ≡ Err CarryFault.Device) ↔ IsTrue (fails_next self.old.tally) }
         ensures failed { result ≡ Err CarryFault.Device →
-            Rose self.old.tally.failures self.new.tally.failures }
+            Counted self.old.tally.failures self.new.tally.failures }
     {
         if self.fails() {
             return Err(CarryFault::Device);

@@ -10,13 +10,13 @@ ghost use Rattle.ym_machine.specs.Frames.{frames_of};
 ghost use Rattle.ym_machine.specs.Machine.{State, Invariant, KeepsReceiver, sender_step, start};
 ghost use Rattle.ym_machine.specs.ShortBursts.{IsFine};
 ghost use Rattle.ym_machine.specs.Run.{Turn, IsDamage, after_turn, after_turns, is_whole, lost};
-ghost use Rattle.ym_file.specs.Counts.{Rose};
+ghost use Rattle.ym_file.specs.Counts.{Counted};
 ghost use Rattle.ym_file.specs.Kept.{IsNew};
 ghost use Rattle.ym_file.specs.declared.plan.Shape.{Shape};
-ghost use Rattle.ym_core.specs.Reading.{controls_in};
+ghost use Rattle.ym_core.specs.Scan.{controls_in};
 ghost use Rattle.ym_core.specs.Receiver.{new_receiver};
 ghost use Rattle.ym_core.specs.Standing.{hears, new_standing};
-ghost use Rattle.ym_core.specs.declared.place.Place.{Place};
+ghost use Rattle.ym_core.specs.declared.position.Position.{Position};
 ghost use Rattle.ym_core.specs.declared.state.SendState.TheVariants as SendState;
 ghost use Rattle.ym_file.specs.SourceFile.{FileParts, IsFile, counts_of, file_at};
 ghost use Rattle.ym_link.specs.ReceiverInto.{Tells};
@@ -27,7 +27,7 @@ ghost use Rattle.ym_line.specs.declared.delivery.Round.{Round};
 ghost use Rattle.ym_line.specs.declared.fault.LineFault.{LineFault};
 ghost use Rattle.ym_line.specs.declared.trace.Seen.{Seen};
 ghost use Rattle.ym_line.specs.declared.trace.Trace.{Trace};
-ghost use Rattle.ym_line.specs.Completion.{AllWhole, AreGoing, BringsShortBadRuns, HaveFinished, NoneRose, both_whole, rounds_for, whole_rounds};
+ghost use Rattle.ym_line.specs.Completion.{AllWhole, AreGoing, BringsShortBadRuns, HaveFinished, NoneCounted, both_whole, rounds_for, whole_rounds};
 ghost use Rattle.ym_line.specs.Damage.{ShowsBack, arrives};
 ghost use Rattle.ym_line.specs.Promise.{AreNew, CommitsAPrefix, ReportsCommitted};
 ghost use Rattle.ym_line.specs.Rounds.{Pair, Goes, GoesThere, StopsIn, IsTrace, RunGives};
@@ -142,7 +142,7 @@ pub fn new_ends_commit_a_prefix()
     new_ends_stand();
 }
 
-/// Where damage comes in short bursts, and no failure count rose, a run of new ends goes on,
+/// Where damage comes in short bursts, and no failure was counted, a run of new ends goes on,
 /// finishes with as many whole rounds as the batch needs, and not sooner.
 pub fn short_bad_runs_complete()
     ensures going { (rounds : List Round) (old new : Pair) (trace : Trace) →
@@ -151,7 +151,7 @@ pub fn short_bad_runs_complete()
         IsTrace rounds old trace new → BringsShortBadRuns rounds old new →
         rounds_for old ≤ whole_rounds rounds → HaveFinished old.sender.files trace new }
     ensures sooner { (rounds : List Round) (old new : Pair) (trace : Trace) →
-        IsTrace rounds old trace new → AreNew old → NoneRose old new →
+        IsTrace rounds old trace new → AreNew old → NoneCounted old new →
         AllWhole rounds → length rounds < rounds_for old → trace.send ≢ SendState.Finished }
 {
     one_pieces();
@@ -198,7 +198,7 @@ pub fn nothing_comes_back_of_silence()
 /// never fall, no file comes or goes, and where none rose from the first to the last, nothing
 /// failed on the way.
 pub fn failure_counts_tell()
-    ensures filled { (failed : Bool) (fills : Option Place) (old new : List FileParts) →
+    ensures filled { (failed : Bool) (fills : Option Position) (old new : List FileParts) →
         IsFilled failed fills old new → IsSourceTruth failed old new }
     ensures long { (failed : Bool) (old new : List FileParts) →
         IsSourceTruth failed old new → length new ≡ length old }
@@ -208,8 +208,8 @@ pub fn failure_counts_tell()
     ensures source { (failed : Bool) (old between new : List FileParts) →
         IsSourceTruth failed old between →
         ((i : ℕ) → (file_at between i).failures ≤ (file_at new i).failures) →
-        ((i : ℕ) → i < length old → ¬ Rose (file_at old i).failures (file_at new i).failures) →
+        ((i : ℕ) → i < length old → ¬ Counted (file_at old i).failures (file_at new i).failures) →
         failed ≡ false }
     ensures sink { (failed : Bool) (a b c : ℕ) →
-        Tells failed a b → b ≤ c → ¬ Rose a c → failed ≡ false }
+        Tells failed a b → b ≤ c → ¬ Counted a c → failed ≡ false }
 {}

@@ -1,12 +1,12 @@
 //! Rounds of two deliveries between a sender and a receiver, and runs of them.
 
 ghost use Rattle.std.specs.Prelude.{◌≡◌, ◌≢◌, ◌≤◌, ◌<◌, Err, OnOk, OnErr, IfOk, IfErr, ◌∷◌, [], length};
-ghost use Rattle.ym_file.specs.Counts.{Rose};
+ghost use Rattle.ym_file.specs.Counts.{Counted};
 ghost use Rattle.ym_link.specs.ReceiverInto.{ReceiverParts};
 ghost use Rattle.ym_link.specs.Sender.{IsSender};
 ghost use Rattle.ym_core.specs.declared.state.SendState.TheVariants as SendState;
 ghost use Rattle.ym_line.specs.Carried.{told_more};
-ghost use Rattle.ym_line.specs.Completion.{AllWhole, AreGoing, BringsShortBadRuns, HaveFinished, NoneRose, rounds_for, whole_rounds};
+ghost use Rattle.ym_line.specs.Completion.{AllWhole, AreGoing, BringsShortBadRuns, HaveFinished, NoneCounted, rounds_for, whole_rounds};
 ghost use Rattle.ym_line.specs.Damage.{arrives};
 ghost use Rattle.ym_line.specs.Promise.{AreNew, CommitsAPrefix, ReportsCommitted};
 ghost use Rattle.ym_line.specs.Rounds.{Pair, pair_of, sent_by, ThereGives, BackGives, RoundGives, RunGives};
@@ -45,7 +45,7 @@ fn carry<C: Carrier>(
         told_more way (arrives delivery.now sent.now) (C.told carrier.old)) }
     ensures refused { OnErr result (C.told carrier.new ≡ C.told carrier.old) }
     ensures failed { result ≡ Err CarryFault.Device →
-        Rose (C.failures carrier.old) (C.failures carrier.new) }
+        Counted (C.failures carrier.old) (C.failures carrier.new) }
     ensures not_failed { result ≢ Err CarryFault.Device →
         C.failures carrier.new ≡ C.failures carrier.old }
 {
@@ -56,61 +56,73 @@ fn carry<C: Carrier>(
     }
 }
 
-/// The half of round `n` to the receiver, which gives its reply to what arrived.
-fn go_there<S: Source, K: Sink, C: Carrier>(
+/// A round, or a delivery of it, with the round's number.
+#[derive(Clone, Copy)]
+struct Numbered<'r, T> {
     n: usize,
+    it: &'r T,
+}
+
+/// The half of a round to the receiver, which gives its reply to what arrived.
+fn go_there<S: Source, K: Sink, C: Carrier>(
+    half: Numbered<'_, Delivery>,
     sender: &SenderFrom<S>,
     receiver: &mut ReceiverInto<K>,
-    delivery: &Delivery,
     carrier: &mut C,
     arrived: &mut Vec<u8>,
 ) -> Result<Reply, LineFault>
     ensures { let old : Pair = pair_of C.told C.failures sender.now receiver.old carrier.old in
         let new : Pair = pair_of C.told C.failures sender.now receiver.new carrier.new in
-        ThereGives n delivery.now old result new }
+        ThereGives half.entry.n half.entry.it.now old result new }
 {
+    let Numbered { n, it: delivery } = half;
     check_there(delivery, n)?;
     carry(carrier, Way::There, delivery, sent_by(sender), arrived)?;
     Ok(receiver.hear(&heard(arrived))?)
 }
 
-/// The half of round `n` to the sender, which hears what arrived of the reply.
+/// The half of a round to the sender, which hears what arrived of the reply.
 fn go_back<S: Source, C: Carrier>(
-    n: usize,
+    half: Numbered<'_, Delivery>,
     sender: &mut SenderFrom<S>,
     reply: Reply,
-    delivery: &Delivery,
     carrier: &mut C,
     arrived: &mut Vec<u8>,
 ) -> Result<(), LineFault>
     ensures { (receiver : ReceiverParts) →
         let old : Pair = pair_of C.told C.failures sender.old receiver carrier.old in
         let new : Pair = pair_of C.told C.failures sender.new receiver carrier.new in
-        BackGives n delivery.now reply old result new }
+        BackGives half.entry.n half.entry.it.now reply old result new }
 {
+    let Numbered { n, it: delivery } = half;
     check_back(delivery, reply, n)?;
     carry(carrier, Way::Back, delivery, reply.as_bytes(), arrived)?;
     sender.hear(arrived);
     Ok(())
 }
 
-/// Round `n`. What arrives is put in `arrived`, in place of what it held.
+/// One round. What arrives is put in `arrived`, in place of what it held.
 fn go_round<S: Source, K: Sink, C: Carrier>(
-    n: usize,
+    numbered: Numbered<'_, Round>,
     sender: &mut SenderFrom<S>,
     receiver: &mut ReceiverInto<K>,
-    round: &Round,
     carrier: &mut C,
     arrived: &mut Vec<u8>,
 ) -> Result<Seen, LineFault>
     ensures { let old : Pair = pair_of C.told C.failures sender.old receiver.old carrier.old in
         let new : Pair = pair_of C.told C.failures sender.new receiver.new carrier.new in
-        RoundGives n round.now old result new }
+        RoundGives numbered.entry.n numbered.entry.it.now old result new }
 {
     frame_found();
+    let Numbered { n, it: round } = numbered;
     let what = What::of_frame(sent_by(sender));
-    let reply = go_there(n, sender, receiver, &round.there, carrier, arrived)?;
-    go_back(n, sender, reply, &round.back, carrier, arrived)?;
+    let there = Numbered {
+        n,
+        it: &round.there,
+    };
+    let reply = go_there(there, sender, receiver, carrier, arrived)?;
+    let back = Numbered { n, it: &round.back };
+    go_back(back, sender, reply, carrier, arrived)?;
     Ok(Seen {
         what,
         there: How::of_delivery(&round.there),
@@ -135,7 +147,11 @@ fn go_all<S: Source, K: Sink, C: Carrier>(
     let mut arrived = Vec::new(alloc);
     for (i, round) in rounds.iter().enumerate() {
         seen.reserve(1)?;
-        seen.push_reserved(go_round(i + 1, sender, receiver, round, carrier, &mut arrived)?);
+        let numbered = Numbered {
+            n: i + 1,
+            it: round,
+        };
+        seen.push_reserved(go_round(numbered, sender, receiver, carrier, &mut arrived)?);
     }
     Ok(Trace {
         rounds: seen,
@@ -169,7 +185,8 @@ pub fn round<S: Source, K: Sink, C: Carrier>(
         } }
 {
     rounds_are_turns();
-    go_round(1, sender, receiver, round, carrier, &mut Vec::new(alloc))
+    let numbered = Numbered { n: 1, it: round };
+    go_round(numbered, sender, receiver, carrier, &mut Vec::new(alloc))
 }
 
 /// All rounds of a list, in order, also those after both ends have ended. A fault leaves what the
@@ -184,7 +201,7 @@ pub fn round<S: Source, K: Sink, C: Carrier>(
 /// - From new ends, whatever is lost or damaged and also where it met a fault, the files committed
 ///   are the first ones of the batch, each exact, and what the sender reports is among them
 ///   (`commits`, `reports`).
-/// - From new ends, where no failure count rose and no bad run is longer than `BURST` rounds,
+/// - From new ends, where no failure was counted and no bad run is longer than `BURST` rounds,
 ///   neither end gives up; with as many whole rounds as the batch needs, both finish; and with
 ///   whole rounds alone, they do not finish sooner (`neither_gives_up`, `both_finish`,
 ///   `not_sooner`).
@@ -212,7 +229,7 @@ pub fn run<S: Source, K: Sink, C: Carrier>(
           both_finish : BringsShortBadRuns rounds.now old new →
               rounds_for old ≤ whole_rounds rounds.now →
               IfOk result (λ trace. HaveFinished old.sender.files trace new);
-          not_sooner : AreNew old → NoneRose old new → AllWhole rounds.now →
+          not_sooner : AreNew old → NoneCounted old new → AllWhole rounds.now →
               length rounds.now < rounds_for old →
               IfOk result (λ trace. trace.send ≢ SendState.Finished);
         } }

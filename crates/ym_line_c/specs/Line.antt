@@ -1,5 +1,5 @@
 -- The machine that the numbers of a line stand for, its clock, and how far it is clear.
-use Rattle.ym_timing.specs.declared.clearing.Clearing.{Clearing}
+use Rattle.ym_timing.specs.declared.purge.Purge.{Purge}
 use Rattle.ym_timing.specs.declared.clock.Clock.{Clock}
 use Rattle.ym_timing.specs.declared.timing.Timing.{Timing}
 use Rattle.ym_line_c.specs.LineCodes.{flag_of, role_of, need_of, heed_of}
@@ -18,7 +18,7 @@ timing_of k = record {
   ear = ear_of k.ear;
   hold = hold_of k.hold;
   echoed = k.echoed;
-  front = record {
+  prefix = record {
     is_there = flag_of k.front_is_there;
     first = k.front_first;
     second = k.front_second;
@@ -31,8 +31,8 @@ timing_of k = record {
 abbrev pub clock_of : YmLine → Clock
 clock_of k = record { at = k.clock_at; behind = k.clock_behind }
 
-abbrev pub clearing_of : YmClearing → Clearing
-clearing_of k = record {
+abbrev pub purge_of : YmClearing → Purge
+purge_of k = record {
   need = need_of k.need;
   from = k.from;
   owed = k.owed;

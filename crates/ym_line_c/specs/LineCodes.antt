@@ -1,9 +1,9 @@
 -- What the numbers that C keeps stand for. Each stands for something.
 use Rattle.std.specs.Prelude.{ℕ, Bool, true, false, ◌==◌, if◌then◌else◌}
-use Rattle.ym_timing.specs.declared.clearing.Need.{Need}
-use Rattle.ym_timing.specs.declared.clearing.Need.TheVariants as need
-use Rattle.ym_timing.specs.declared.clearing.Heed.{Heed}
-use Rattle.ym_timing.specs.declared.clearing.Heed.TheVariants as heed
+use Rattle.ym_timing.specs.declared.purge.Need.{Need}
+use Rattle.ym_timing.specs.declared.purge.Need.TheVariants as need
+use Rattle.ym_timing.specs.declared.purge.Heed.{Heed}
+use Rattle.ym_timing.specs.declared.purge.Heed.TheVariants as heed
 use Rattle.ym_timing.specs.declared.ear.Echo.{Echo}
 use Rattle.ym_timing.specs.declared.ear.Echo.TheVariants as echo
 use Rattle.ym_timing.specs.declared.hold.FirstAck.{FirstAck}

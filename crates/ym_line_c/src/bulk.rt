@@ -5,7 +5,7 @@ ghost use Rattle.ym_line_c.specs.Bulk.{after_dropping, cleared_by};
 ghost use Rattle.ym_timing.specs.ByteRows.{after_bytes, bytes_of, heard_of};
 ghost use Rattle.ym_timing.specs.declared.role.Role.{Role};
 
-use ym_timing::{Clearing, Role, Say, Timing};
+use ym_timing::{Purge, Role, Say, Timing};
 
 /// The byte ACK.
 const ACK: u8 = 0x06;
@@ -92,17 +92,17 @@ pub fn hear_bytes(
 #[tactic(auto, using(crate::proofs::Folds::dropped_more, crate::proofs::Folds::cleared_more))]
 pub fn drop_bytes(
     timing: &mut Timing,
-    clearing: Clearing,
+    purge: Purge,
     bytes: &[u8],
     written: &[u8],
     now: u64,
-) -> Clearing
-    ensures new { timing.new ≡ after_dropping bytes.now clearing written.now now timing.old }
-    ensures clearing { result ≡ cleared_by bytes.now clearing written.now now timing.old }
+) -> Purge
+    ensures new { timing.new ≡ after_dropping bytes.now purge written.now now timing.old }
+    ensures purge { result ≡ cleared_by bytes.now purge written.now now timing.old }
 {
-    let mut clearing = clearing;
+    let mut purge = purge;
     for byte in bytes {
-        clearing = timing.dropped(clearing, *byte, written, now);
+        purge = timing.dropped(purge, *byte, written, now);
     }
-    clearing
+    purge
 }

@@ -1,10 +1,10 @@
 //! How far a line is clear, as plain numbers.
 
 ghost use Rattle.std.specs.Prelude.{◌≡◌};
-ghost use Rattle.ym_line_c.specs.Line.{clearing_of};
+ghost use Rattle.ym_line_c.specs.Line.{purge_of};
 
 use crate::codes::{code_of_flag, code_of_heed, code_of_need, flag_of, heed_of, need_of};
-use ym_timing::Clearing;
+use ym_timing::Purge;
 
 /// How far a line is clear.
 #[repr(C)]
@@ -28,10 +28,10 @@ pub struct YmClearing {
 
 impl YmClearing {
     /// What these numbers stand for.
-    pub fn load(&self) -> Clearing
-        ensures { result ≡ clearing_of self.now }
+    pub fn load(&self) -> Purge
+        ensures { result ≡ purge_of self.now }
     {
-        Clearing {
+        Purge {
             need: need_of(self.need),
             from: self.from,
             owed: self.owed,
@@ -43,15 +43,15 @@ impl YmClearing {
     }
 
     /// Keeps how far it is.
-    pub fn keep(&mut self, clearing: Clearing)
-        ensures { clearing_of self.new ≡ clearing }
+    pub fn keep(&mut self, purge: Purge)
+        ensures { purge_of self.new ≡ purge }
     {
-        self.from = clearing.from;
-        self.answered_at = clearing.answered_at;
-        self.end_at = clearing.end_at;
-        self.need = code_of_need(clearing.need);
-        self.owed = clearing.owed;
-        self.has_brought = code_of_flag(clearing.has_brought);
-        self.heed = code_of_heed(clearing.heed);
+        self.from = purge.from;
+        self.answered_at = purge.answered_at;
+        self.end_at = purge.end_at;
+        self.need = code_of_need(purge.need);
+        self.owed = purge.owed;
+        self.has_brought = code_of_flag(purge.has_brought);
+        self.heed = code_of_heed(purge.heed);
     }
 }

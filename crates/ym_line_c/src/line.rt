@@ -7,7 +7,7 @@ ghost use Rattle.ym_timing.specs.Timing.{new_timing};
 
 use crate::codes::{code_of_flag, code_of_role, flag_of, role_of};
 use crate::parts::{YmEar, YmHeard, YmHold, YmOut, YmPace, YmSent};
-use ym_timing::{Clock, Front, Role, Timing};
+use ym_timing::{Clock, Prefix, Role, Timing};
 
 /// What an end and its line have said of late, and when.
 #[repr(C)]
@@ -63,7 +63,7 @@ impl YmLine {
             ear: self.ear.load(),
             hold: self.hold.load(),
             echoed: self.echoed as usize,
-            front: Front {
+            prefix: Prefix {
                 is_there: flag_of(self.front_is_there),
                 first: self.front_first,
                 second: self.front_second,
@@ -88,9 +88,9 @@ impl YmLine {
         self.led_at = timing.led_at;
         self.echoed = timing.echoed as u64;
         self.role = code_of_role(timing.role);
-        self.front_is_there = code_of_flag(timing.front.is_there);
-        self.front_first = timing.front.first;
-        self.front_second = timing.front.second;
+        self.front_is_there = code_of_flag(timing.prefix.is_there);
+        self.front_first = timing.prefix.first;
+        self.front_second = timing.prefix.second;
         self.is_shaken = code_of_flag(timing.is_shaken);
         self.vain = timing.vain;
         self.has_cancel = code_of_flag(timing.has_cancel);

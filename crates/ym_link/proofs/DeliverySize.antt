@@ -23,8 +23,8 @@ module _ (ends : List ℕ → Bool) where
       let size = length-append had (b ∷ bs) in
       let room : ℕ = DELIVERY_LIMIT - length had in
       cond_both (nat_lt room (length (b ∷ bs))) _ _ (λ (t : Taken). IsShort t.delivery)
-      (λ e. let front = length-take-le room (b ∷ bs) (omega (arith, ltb-true room (length (b ∷ bs)) e)) in
-      all (had ++ take room (b ∷ bs)) (omega (arith, length-append had (take room (b ∷ bs)), front, short)))
+      (λ e. let prefix = length-take-le room (b ∷ bs) (omega (arith, ltb-true room (length (b ∷ bs)) e)) in
+      all (had ++ take room (b ∷ bs)) (omega (arith, length-append had (take room (b ∷ bs)), prefix, short)))
       (λ e. let within : length whole ≤ DELIVERY_LIMIT = omega (arith, size, ltb-false room (length (b ∷ bs)) e, short) in
       cond_both (ends whole) _ _ (λ (t : Taken). IsShort t.delivery) (λ e. all whole within)
       (λ e. cond_both (nat_le DELIVERY_LIMIT (length whole)) _ _ (λ (t : Taken). IsShort t.delivery) (λ e. all whole within) (λ e. short-from whole rest within)))

@@ -12,7 +12,7 @@ use Rattle.ym_core.specs.declared.state.RecvState.TheVariants as state
 use Rattle.ym_core.specs.Receiver.{hears, commits}
 use Rattle.ym_link.specs.ReceiverInto.{Takes}
 use Rattle.ym_link.specs.ReceiverRefines.{stage_of, state_of}
-use Rattle.ym_link.proofs.Positions.{Position, opening, piece, closing, ending}
+use Rattle.ym_link.proofs.Spots.{Spot, opening, piece, closing, ending}
 use Rattle.ym_link.proofs.TableRows as row
 use Rattle.ym_link.proofs.TableRows.{running_at, file_of}
 use Rattle.ym_link.proofs.Keeping.{keeps-same, keeps-begun, keeps-added, keeps-committed, taken_from, kept-length, open-begun, open-added, open-committed}
@@ -212,9 +212,9 @@ module _ (confirm : Confirm) (files : List (File HeaderParts)) (st : State) (kep
   -- ---- F[r]
 
   abbrev hearing : Option (File HeaderParts × ℕ) → Bool → Result Zero HeaderFault → Heard → Type 0
-  hearing place e zero h = Took (on (stage_of place e)) kept (hears (on (stage_of place e)) zero h) failed reply new
+  hearing position e zero h = Took (on (stage_of position e)) kept (hears (on (stage_of position e)) zero h) failed reply new
 
-  pub next-goes : (laws : ZeroLaws) (zero : Result Zero HeaderFault) → length files ≤ MOST_FILES → Position IsSent files st.taken → KeepsOpen (open_at files st.taken) kept
+  pub next-goes : (laws : ZeroLaws) (zero : Result Zero HeaderFault) → length files ≤ MOST_FILES → Spot IsSent files st.taken → KeepsOpen (open_at files st.taken) kept
       → (st.first_eot ≡ true → frame_at (frames_of files) st.taken ≡ Eot)
       → Means (receiver_at confirm files st) (heard.Item (item_of (frame_at (frames_of files) st.taken))) zero
       → hearing (open_at files st.taken) st.first_eot zero (heard.Item (item_of (frame_at (frames_of files) st.taken)))
@@ -238,7 +238,7 @@ module _ (confirm : Confirm) (files : List (File HeaderParts)) (st : State) (kep
 
   -- ---- F[r-1], and no frame
 
-  pub last-goes : (zero : Result Zero HeaderFault) (i : ℕ) → i + 1 ≡ st.taken → st.taken ≢ length (frames_of files) → Position IsSent files i → KeepsOpen (open_at files st.taken) kept
+  pub last-goes : (zero : Result Zero HeaderFault) (i : ℕ) → i + 1 ≡ st.taken → st.taken ≢ length (frames_of files) → Spot IsSent files i → KeepsOpen (open_at files st.taken) kept
       → hearing (open_at files st.taken) st.first_eot zero (heard.Item (item_of (frame_at (frames_of files) i)))
       → GoesTo (hears_last (frame_at (frames_of files) i) st)
   last-goes zero i last inner (opening file sent a b c d less) o t =
@@ -262,7 +262,7 @@ module _ (confirm : Confirm) (files : List (File HeaderParts)) (st : State) (kep
   pub first-bad-goes : (zero : Result Zero HeaderFault) → open_at files st.taken ≡ None → KeepsOpen (open_at files st.taken) kept → hearing (open_at files st.taken) st.first_eot zero heard.Bad → GoesTo (nothing_taken st Start)
   first-bad-goes zero here o t = stays-goes (on AwaitHeader) AwaitHeader Start o (sym (ap (λ p. stage_of p st.first_eot) here)) (subst (λ p. hearing p st.first_eot zero heard.Bad) here t)
 
-  pub bad-goes : (zero : Result Zero HeaderFault) (i : ℕ) → i + 1 ≡ st.taken → Position IsSent files i → KeepsOpen (open_at files st.taken) kept
+  pub bad-goes : (zero : Result Zero HeaderFault) (i : ℕ) → i + 1 ≡ st.taken → Spot IsSent files i → KeepsOpen (open_at files st.taken) kept
       → hearing (open_at files st.taken) st.first_eot zero heard.Bad → GoesTo (nothing_taken st (asks_again (frame_at (frames_of files) i)))
   bad-goes zero i last (opening file sent a b c d less) o t =
       let here : open_at files st.taken ≡ Some (file, 0) = ap (open_at files) (sym last) ∙ c in

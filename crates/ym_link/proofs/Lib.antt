@@ -1,11 +1,11 @@
 mod Names
-pub mod Courses
+pub mod Histories
 pub mod Follows
 pub mod Framed
 pub mod Keeping
 pub mod OneStep
 pub mod Planned
-pub mod Positions
+pub mod Spots
 pub mod ReceiverMoves
 pub mod Controls
 pub mod ReceiverDeliveries
@@ -15,7 +15,7 @@ pub mod Files
 pub mod Kept
 pub mod ReceiverStanding
 pub mod SenderSteps
-pub mod SenderPlaces
+pub mod SenderPositions
 pub mod SenderStanding
 pub mod DeliverySize
 pub mod SenderBound

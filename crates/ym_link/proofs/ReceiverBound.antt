@@ -54,14 +54,14 @@ pub hears-le : (r : ReceiverParts) (t : Tape) (out : Outcome) (run : Receives r 
 hears-le r t out run = let all = paced r t out run in omega (arith, all)
 
 -- The same of the deliveries that were heard, whatever the port tells.
-course-pace : (r : ReceiverParts) (hs : List Heard) (p : ℕ) (new : ReceiverParts) → ReceiverHears r hs p new → length hs + weight r ≤ weight new + GIVE_UP * p
-course-pace r hs p new (receiver_none _) = omega arith
-course-pace r hs p new (receiver_more _ before q between h reply _ hears is on large gives) =
-    let first = course-pace r before q between hears in
+history-pace : (r : ReceiverParts) (hs : List Heard) (p : ℕ) (new : ReceiverParts) → ReceiverHears r hs p new → length hs + weight r ≤ weight new + GIVE_UP * p
+history-pace r hs p new (receiver_none _) = omega arith
+history-pace r hs p new (receiver_more _ before q between h reply _ hears is on large gives) =
+    let first = history-pace r before q between hears in
     let one = step-pace between h reply new is on gives in
     let now : weight between ≡ between.receiver.retries = rw on refl in
     let long = length-append before (h ∷ []) in
     omega (arith, first, one, now, long)
 
-pub course-few : (r : ReceiverParts) (hs : List Heard) (p : ℕ) (new : ReceiverParts) → IsReceiver new → ReceiverHears r hs p new → length hs ≤ GIVE_UP * (p + 1)
-course-few r hs p new is hears = let paced = course-pace r hs p new hears in let most = weight-le new.receiver.state new.receiver.retries (λ _. is.retries) in omega (arith, paced, most)
+pub history-few : (r : ReceiverParts) (hs : List Heard) (p : ℕ) (new : ReceiverParts) → IsReceiver new → ReceiverHears r hs p new → length hs ≤ GIVE_UP * (p + 1)
+history-few r hs p new is hears = let paced = history-pace r hs p new hears in let most = weight-le new.receiver.state new.receiver.retries (λ _. is.retries) in omega (arith, paced, most)

@@ -13,8 +13,8 @@ use Rattle.ym_core.specs.declared.delivery.Heard.TheVariants as heard
 use Rattle.ym_core.specs.declared.state.RecvState.TheVariants as state
 use Rattle.ym_link.specs.ReceiveOver as receiving
 use Rattle.ym_link.specs.Bound.{blocks_in, steps_of, steps_at, accepted}
-use Rattle.ym_link.specs.Course.{ReceiverCourse}
-use Rattle.ym_link.proofs.ReceiverBound.{course-few}
+use Rattle.ym_link.specs.History.{ReceiverHistory}
+use Rattle.ym_link.proofs.ReceiverBound.{history-few}
 use Rattle.ym_link.proofs.ReceiverMoves.{Moves, again, opens, adds, confirms, closes, stops, moved}
 use Rattle.ym_link.proofs.TableRows.{differ}
 
@@ -29,12 +29,12 @@ bad-large broken = record { large = λ block h. cc }
 pick : (b : Bool) (x y : Result (Item × ℕ) Broken) → Large x → (b ≡ false → Large y) → Large (if b then x else y)
 pick b x y p q = cond_both b x y Large (λ e. p) q
 
-body-large : (size : ℕ) (bytes : List ℕ) (place : ℕ) → 128 ≤ size → size + 5 ≤ length bytes → Large (Ok (item.Block (record { number = place; body = body_of size bytes }), size + 5))
-body-large size bytes place some long = record {
+body-large : (size : ℕ) (bytes : List ℕ) (position : ℕ) → 128 ≤ size → size + 5 ≤ length bytes → Large (Ok (item.Block (record { number = position; body = body_of size bytes }), size + 5))
+body-large size bytes position some long = record {
   large = λ block h.
       let fits : size ≤ length (drop 3 bytes) = omega (arith, length-drop 3 bytes) in
       let sized : length (body_of size bytes) ≡ size = length-take-le size (drop 3 bytes) fits in
-      let is : record { number = place; body = body_of size bytes } ≡ block = cc in
+      let is : record { number = position; body = body_of size bytes } ≡ block = cc in
       rw (← is) (omega (arith, sized));
 }
 
@@ -117,17 +117,17 @@ accepted-le r is = by r.receiver.stage is.open_file
 
 -- ---- Whatever the port tells
 
-course-raises : (r : ReceiverParts) (hs : List Heard) (p : ℕ) (new : ReceiverParts) → ReceiverHears r hs p new → p + steps_at r ≤ steps_at new
-course-raises r hs p new (receiver_none _) = omega arith
-course-raises r hs p new (receiver_more _ before q between h reply _ hears is on large gives) =
-    let first = course-raises r before q between hears in
+history-raises : (r : ReceiverParts) (hs : List Heard) (p : ℕ) (new : ReceiverParts) → ReceiverHears r hs p new → p + steps_at r ≤ steps_at new
+history-raises r hs p new (receiver_none _) = omega arith
+history-raises r hs p new (receiver_more _ before q between h reply _ hears is on large gives) =
+    let first = history-raises r before q between hears in
     let one = step-raises between h reply new is on gives large in
     omega (arith, first, one)
 
-pub course-is : (r : ReceiverParts) (hs : List Heard) (p : ℕ) (new : ReceiverParts) → IsReceiver new → ReceiverHears r hs p new → ReceiverCourse r hs new
-course-is r hs p new is hears = record {
+pub history-is : (r : ReceiverParts) (hs : List Heard) (p : ℕ) (new : ReceiverParts) → IsReceiver new → ReceiverHears r hs p new → ReceiverHistory r hs new
+history-is r hs p new is hears = record {
   progress = p;
   hears = hears;
-  few = course-few r hs p new is hears;
-  steps = let raised = course-raises r hs p new hears in let most = accepted-le new is in omega (arith, raised, most);
+  few = history-few r hs p new is hears;
+  steps = let raised = history-raises r hs p new hears in let most = accepted-le new is in omega (arith, raised, most);
 }

@@ -12,7 +12,7 @@ use Rattle.ym_core.specs.declared.delivery.Heard.TheVariants as heard
 use Rattle.ym_core.specs.declared.state.RecvState.TheVariants as state
 use Rattle.ym_core.specs.Receiver.{hears, new_receiver, finished_reply}
 use Rattle.ym_link.specs.ReceiverRefines.{IsBatch, heard_as, IsNextOrLast, state_of, heard_there, Follows}
-use Rattle.ym_link.proofs.Positions.{PlaceLaws, position, none-first}
+use Rattle.ym_link.proofs.Spots.{PositionLaws, spot, none-first}
 use Rattle.ym_link.proofs.TableRows.{yes, differ}
 use Rattle.ym_link.proofs.Follows.{ZeroLaws, Took, took, quiet, next-goes, last-goes, cancelled-goes, first-bad-goes, bad-goes}
 
@@ -30,18 +30,18 @@ module _ (confirm : Confirm) (files : List (File HeaderParts)) (st : State) (m :
   next-or-last false = tt
   next-or-last true = by st.sender st.sent st.cancel_pending refl
     where
-      place : st.sender ≡ SenderEnd.Running → (st.acknowledged < length (frames_of files)) × ((st.acknowledged ≡ st.taken) ⊎ (st.acknowledged + 1 ≡ st.taken))
-      place runs = (before-end runs, elim m.counters.ahead [ inl e ↦ inl (sym e) | inr e ↦ inr (sym e) ])
+      position : st.sender ≡ SenderEnd.Running → (st.acknowledged < length (frames_of files)) × ((st.acknowledged ≡ st.taken) ⊎ (st.acknowledged + 1 ≡ st.taken))
+      position runs = (before-end runs, elim m.counters.ahead [ inl e ↦ inl (sym e) | inr e ↦ inr (sym e) ])
 
       by : (end : SenderEnd) (sent cancel_pending : Bool) → st.sender ≡ end → IsNextOrLast (frames_of files) (machine.heard true (said_by end sent cancel_pending st.acknowledged)) st.taken
-      by SenderEnd.Running true cancel_pending e = place e
+      by SenderEnd.Running true cancel_pending e = position e
       by SenderEnd.NoReply sent true e = tt
       by SenderEnd.SourceFailed sent true e = tt
       by _ sent cancel_pending e = tt
 
   -- ---- Where it goes
 
-  module _ (laws : PlaceLaws) (zeros : ZeroLaws) (batch : IsBatch files) (old : ReceiverParts) (s : ReceiverRefines confirm files st old.receiver old.kept)
+  module _ (laws : PositionLaws) (zeros : ZeroLaws) (batch : IsBatch files) (old : ReceiverParts) (s : ReceiverRefines confirm files st old.receiver old.kept)
       (meaning : Result Zero HeaderFault) (failed : Bool) (reply : Reply) (new : ReceiverParts) where
     abbrev frames : List (Frame HeaderParts)
     frames = frames_of files
@@ -54,15 +54,15 @@ module _ (confirm : Confirm) (files : List (File HeaderParts)) (st : State) (m :
       where
         by : (r : ℕ) → st.taken ≡ r → Goes confirm files (nothing_taken st (asks_again (frame_before frames r))) reply new
         by zero e = first-bad-goes confirm files st old.kept s.keeps runs failed reply new meaning (ap (open_at files) e ∙ none-first files) (s.keeps_open runs) t
-        by (suc i) e = bad-goes confirm files st old.kept s.keeps runs failed reply new meaning i (omega (arith, e)) (position laws IsSent files batch.sent i (let w = m.counters.within in omega (arith, e, w))) (s.keeps_open runs) t
+        by (suc i) e = bad-goes confirm files st old.kept s.keeps runs failed reply new meaning i (omega (arith, e)) (spot laws IsSent files batch.sent i (let w = m.counters.within in omega (arith, e, w))) (s.keeps_open runs) t
     running-goes runs (At i) next means t =
         let inner : st.taken ≢ length frames = λ e. let done = m.counters.receiver_done.0 e in cc in
         let w = m.counters.within in
         elim next.1 [
           | inl e ↦ rw (e, yes st.taken) (next-goes confirm files st old.kept s.keeps runs failed reply new zeros meaning batch.few
-              (position laws IsSent files batch.sent st.taken (omega (arith, w, inner))) (s.keeps_open runs) (λ x. (m.counters.first_eot x).3) (rw e at means) (rw e at t))
+              (spot laws IsSent files batch.sent st.taken (omega (arith, w, inner))) (s.keeps_open runs) (λ x. (m.counters.first_eot x).3) (rw e at means) (rw e at t))
           | inr e ↦ rw (differ i st.taken (omega (arith, e)))
-              (last-goes confirm files st old.kept s.keeps runs failed reply new meaning i e inner (position laws IsSent files batch.sent i next.0) (s.keeps_open runs) t)
+              (last-goes confirm files st old.kept s.keeps runs failed reply new meaning i e inner (spot laws IsSent files batch.sent i next.0) (s.keeps_open runs) t)
         ]
 
     -- an ended receiver stays as it is
@@ -91,7 +91,7 @@ module _ (confirm : Confirm) (files : List (File HeaderParts)) (st : State) (m :
     sound-goes ReceiverEnd.Finished e sound next means t = finished-goes e sound next t
     sound-goes end e sound next means t = ended-goes (state_of end) (s.state_is ∙ ap state_of e) sound Silence refl t
 
-pub follows : (laws : PlaceLaws) (zeros : ZeroLaws) (confirm : Confirm) (files : List (File HeaderParts)) (whole : Bool) (st : State) (old : ReceiverParts) (reply : Reply) (new : ReceiverParts)
+pub follows : (laws : PositionLaws) (zeros : ZeroLaws) (confirm : Confirm) (files : List (File HeaderParts)) (whole : Bool) (st : State) (old : ReceiverParts) (reply : Reply) (new : ReceiverParts)
     → IsBatch files → Invariant confirm (frames_of files) st → ReceiverRefines confirm files st old.receiver old.kept → HearsGives old (heard_there files whole st) (Ok reply) new → Follows confirm files whole st old reply new
 follows laws zeros confirm files whole st old reply new batch m s gives =
     let takes = gives.2.1 in (

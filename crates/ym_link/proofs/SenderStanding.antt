@@ -4,14 +4,14 @@ use Rattle.std.specs.Prelude.{All, IfSome, IsSome, slice_set}
 use Rattle.std.specs.List.{AllZip}
 use Rattle.std.proofs.lemmas.List.{length-map, length-replicate}
 use Rattle.std.proofs.lemmas.List.Elements.{All-head, All-tail}
-use Rattle.ym_link.proofs.Names.{IsFrame, Item, HeaderParts, text, raised, Shape, piece_at, EotFrame, frames_of, frame_at, body_at, count_within, State, SenderEnd, start, said_by, sender_step, IsRemnant, Place, Block, FileParts, IsFile, file_at, blocks_of, counts_of, first_of, done_at, IsItemAt, IsFrameAt, controls_in, hears, SenderParts, IsSender, IsStep, IsFilled, counts, spoken, item_of, Batch, counts_in, place_from, place_at, state_of, mode_of, cancel_pending_of}
+use Rattle.ym_link.proofs.Names.{IsFrame, Item, HeaderParts, text, raised, Shape, piece_at, EotFrame, frames_of, frame_at, body_at, count_within, State, SenderEnd, start, said_by, sender_step, IsRemnant, Position, Block, FileParts, IsFile, file_at, blocks_of, counts_of, first_of, done_at, IsItemAt, IsFrameAt, controls_in, hears, SenderParts, IsSender, IsStep, IsFilled, counts, spoken, item_of, Batch, counts_in, position_from, position_at, state_of, mode_of, cancel_pending_of}
 use Rattle.ym_frame.specs.declared.frame.Item.TheVariants as item
 use Rattle.ym_file.specs.Plan.{pieces_of, count_of}
 use Rattle.ym_machine.specs.State.{said}
 use Rattle.ym_core.specs.Standing.{new_standing}
 use Rattle.ym_link.specs.Sender.{spoken_in}
 use Rattle.ym_link.specs.SenderRefines.{IsFileOf, told_pieces, batch_of, SenderRefines, IsSaid, AllTold}
-use Rattle.ym_link.proofs.SenderPlaces.{below, equal, above, ordered, place_block, place_eot, place_rest, in_blocks, behind_blocks, body_is, counts_length, done_is}
+use Rattle.ym_link.proofs.SenderPositions.{below, equal, above, ordered, position_block, position_eot, position_rest, in_blocks, behind_blocks, body_is, counts_length, done_is}
 use Rattle.ym_link.proofs.SenderSteps.{half_back}
 
 abbrev Are : Shape → List FileParts → Batch → Type 0
@@ -31,7 +31,7 @@ set_are shape (source ∷ sources) (file ∷ files) zero n m are = (record { hea
 set_are shape (source ∷ sources) (file ∷ files) (suc i) n m are = (are.0, set_are shape sources files i n m are.1)
 set_are shape _ _ i n m are = absurd are
 
-still_are : (shape : Shape) (failed : Bool) (fills : Option Place) (old new : List FileParts) (files : Batch) → IsFilled failed fills old new → Are shape old files → Are shape new files
+still_are : (shape : Shape) (failed : Bool) (fills : Option Position) (old new : List FileParts) (files : Batch) → IsFilled failed fills old new → Are shape old files → Are shape new files
 still_are shape false (Some (Block file k)) old new files filled are = rw filled.after (set_are shape old files file (file_at old file).failures (raised (file_at old file).fills) are)
 still_are shape false _ old new files filled are = rw filled are
 still_are shape true (Some (Block file k)) old new files filled are = rw filled.after (set_are shape old files file filled.failures (raised (file_at old file).fills) are)
@@ -54,7 +54,7 @@ told_body shape n body pieces None told are is = absurd cc
 told_body shape n body pieces (Some all) told are is = rw (is, are, body_is) (ap (λ i. get_or (pieces_of shape all) i []) (omega arith))
 
 item_from : (shape : Shape) (all : List FileParts) (i : ℕ) (sources : List FileParts) (files : Batch) (n : ℕ) (it : Item) → ((j : ℕ) → file_at all (i + j) ≡ file_at sources j) → Are shape sources files
-    → AllTold sources → IsItemAt shape all (place_from i files n) it → it ≡ item_of (frame_at (frames_of files) n)
+    → AllTold sources → IsItemAt shape all (position_from i files n) it → it ≡ item_of (frame_at (frames_of files) n)
 item_from shape all i [] [] zero it here are told is = is
 item_from shape all i [] [] (suc n) it here are told is = is
 item_from shape all i (source ∷ sources) (file ∷ files) zero it here are told is =
@@ -64,23 +64,23 @@ item_from shape all i (source ∷ sources) (file ∷ files) (suc n) it here are 
     let first : file_at all i ≡ source = ap (file_at all) (omega arith) ∙ here 0 in
     elim (ordered n (length file.pieces)) [
       | below h ↦
-          let block = rw (place_block i file files n h) at is in
+          let block = rw (position_block i file files n h) at is in
           let of = rw first at block.2 in
           let number : block.0.number ≡ (1 + n) % 256 = of.number ∙ ap (λ k. k % 256) (omega arith) in
           let body = told_body shape n block.0.body file.pieces source.bytes (All-head (λ (f : FileParts). IsSome f.bytes) source sources told) are.0.pieces of.body in
           rw (in_blocks 1 n file.pieces (EotFrame ∷ frames_of files) h, block.1, ← number, ← body) refl
-      | equal h ↦ rw (behind_blocks 1 0 n file.pieces (EotFrame ∷ frames_of files) (omega (arith, h))) (rw (place_eot i file files n h) at is)
+      | equal h ↦ rw (behind_blocks 1 0 n file.pieces (EotFrame ∷ frames_of files) (omega (arith, h))) (rw (position_eot i file files n h) at is)
       | above m h ↦
           let told = All-tail (λ (f : FileParts). IsSome f.bytes) source sources told in
-          rw (behind_blocks 1 (suc m) n file.pieces (EotFrame ∷ frames_of files) (omega (arith, h))) (item_from shape all (i + 1) sources files m it rest are.1 told (rw (place_rest i file files n m h) at is))
+          rw (behind_blocks 1 (suc m) n file.pieces (EotFrame ∷ frames_of files) (omega (arith, h))) (item_from shape all (i + 1) sources files m it rest are.1 told (rw (position_rest i file files n m h) at is))
     ]
 item_from shape all i _ _ n it here are told is = absurd are
 
 pub says : (files : Batch) (st : State) (s : SenderParts) → SenderRefines files st s → IsSender s → AllTold s.files → IsSaid files (said st) (spoken s)
 says files st s refines sender told = rw (refines.standing.state, refines.standing.cancel_pending) (by st.sender refl st.sent refl st.cancel_pending)
   where
-    frame : IsFrameAt s.shape s.files s.standing.place s.frame → IsFrame (item_of (frame_at (frames_of files) st.acknowledged)) s.frame
-    frame at = rw (← item_from s.shape s.files 0 s.files files st.acknowledged at.item (λ j. ap (file_at s.files) (omega arith)) refines.batch told (rw refines.standing.place at at.there)) at.frame
+    frame : IsFrameAt s.shape s.files s.standing.position s.frame → IsFrame (item_of (frame_at (frames_of files) st.acknowledged)) s.frame
+    frame at = rw (← item_from s.shape s.files 0 s.files files st.acknowledged at.item (λ j. ap (file_at s.files) (omega arith)) refines.batch told (rw refines.standing.position at at.there)) at.frame
 
     by : (e : SenderEnd) → st.sender ≡ e → (sent : Bool) → st.sent ≡ sent → (f : Bool) → IsSaid files (said_by e sent f st.acknowledged) (spoken_in (state_of e) s.standing.mode (cancel_pending_of e f) s.frame)
     by SenderEnd.Running is true sent f =
@@ -95,21 +95,21 @@ says files st s refines sender told = rw (refines.standing.state, refines.standi
 
 -- ---- A new sender
 
-first_is : (files : Batch) → first_of (counts_in files) ≡ place_at files 0
+first_is : (files : Batch) → first_of (counts_in files) ≡ position_at files 0
 first_is [] = refl
 first_is (file ∷ files) = refl
 
 pub starts : (shape : Shape) (sources : List FileParts) (files : Batch) (frame : List ℕ) → Are shape sources files
     → SenderRefines files start (record { standing = new_standing (counts_of shape sources); shape = shape; files = sources; frame = frame })
-starts shape sources files frame are = record { standing = record { state = refl; cancel_pending = refl; place = rw (counts_are shape sources files are) (first_is files); mode = λ _. refl; retries = λ _. refl }; batch = are }
+starts shape sources files frame are = record { standing = record { state = refl; cancel_pending = refl; position = rw (counts_are shape sources files are) (first_is files); mode = λ _. refl; retries = λ _. refl }; batch = are }
 
 -- ---- What is done
 
-pub done_refines : (files : Batch) (st : State) (s : SenderParts) → SenderRefines files st s → done_at (length s.files) s.standing.place ≡ count_within files st.acknowledged
+pub done_refines : (files : Batch) (st : State) (s : SenderParts) → SenderRefines files st s → done_at (length s.files) s.standing.position ≡ count_within files st.acknowledged
 done_refines files st s refines =
     let lengths : length s.files ≡ length files =
     sym (length-map s.files (blocks_of s.shape)) ∙ (ap length (counts_are s.shape s.files files refines.batch) ∙ counts_length files) in
-    rw (lengths, refines.standing.place) (done_is files st.acknowledged)
+    rw (lengths, refines.standing.position) (done_is files st.acknowledged)
 
 -- ---- The machine's batch of a sender's files
 

@@ -1,7 +1,7 @@
 -- What a step asks of a sink, and what the sink makes of it.
 use Rattle.std.specs.Prelude.{ℕ, ◌≡◌, ◌<◌, ◌≤◌, length, None, Result, Ok, Err}
 use Rattle.ym_file.specs.Kept.{Kept, room, IsCoveredFile}
-use Rattle.ym_file.specs.Counts.{Rose}
+use Rattle.ym_file.specs.Counts.{Counted}
 use Rattle.ym_file.specs.declared.sink.SinkFault.{SinkFault}
 use Rattle.ym_file.specs.declared.sink.SinkFault.TheVariants.{Failed, Memory}
 use Rattle.ym_core.specs.declared.ask.Ask.{Ask}
@@ -28,6 +28,6 @@ abbrev pub CallGives : Ask → Kept → ℕ → Result Unit SinkFault → Kept �
 CallGives ask old failures (Ok done) new after =
     (new ≡ called (call_of ask) old) × (after ≡ failures)
 CallGives ask old failures (Err Failed) new after =
-    (new ≡ old) × Rose failures after × IsCall (call_of ask)
+    (new ≡ old) × Counted failures after × IsCall (call_of ask)
 CallGives ask old failures (Err Memory) new after =
     (new ≡ old) × (after ≡ failures) × Grows (call_of ask)

@@ -7,12 +7,12 @@ use Rattle.ym_core.specs.declared.stage.Stage.TheVariants.{AwaitHeader, InFile}
 use Rattle.ym_core.specs.declared.state.RecvState.{RecvState}
 use Rattle.ym_core.specs.declared.state.RecvState.TheVariants as state
 use Rattle.ym_core.specs.Receiver.{Receiver}
-use Rattle.ym_core.specs.Place.{count_at}
+use Rattle.ym_core.specs.Position.{count_at}
 use Rattle.ym_link.specs.Sender.{SenderParts, counts}
-use Rattle.ym_core.specs.declared.place.Place.{Place}
-use Rattle.ym_core.specs.declared.place.Place.TheVariants.{Header, Block, Eot, End}
-use Rattle.ym_core.specs.declared.place.Mode.{Mode}
-use Rattle.ym_core.specs.declared.place.Mode.TheVariants.{Waiting, Sent}
+use Rattle.ym_core.specs.declared.position.Position.{Position}
+use Rattle.ym_core.specs.declared.position.Position.TheVariants.{Header, Block, Eot, End}
+use Rattle.ym_core.specs.declared.position.Mode.{Mode}
+use Rattle.ym_core.specs.declared.position.Mode.TheVariants.{Waiting, Sent}
 use Rattle.ym_core.specs.declared.standing.Standing.{Standing}
 use Rattle.ym_core.specs.declared.state.SendState.{SendState}
 use Rattle.ym_core.specs.declared.state.SendState.TheVariants.{Running}
@@ -48,8 +48,8 @@ unfoldable pub frames_in : List ℕ → ℕ
 frames_in [] = 1
 frames_in (retries ∷ more) = retries + 2 + frames_in more
 
--- how many frames there are from a place on
-abbrev pub frames_from : List ℕ → Place → ℕ
+-- how many frames there are from a position on
+abbrev pub frames_from : List ℕ → Position → ℕ
 frames_from counts (Header file) = count_at counts file + 2 + frames_in (drop (file + 1) counts)
 frames_from counts (Block file k) =
     count_at counts file - k + 2 + frames_in (drop (file + 1) counts)
@@ -58,13 +58,13 @@ frames_from counts End = 1
 
 -- how many steps of progress a sender has left at most: two for each frame, one of them where it
 -- waits for C
-abbrev pub sender_steps : List ℕ → Place → Mode → ℕ
-sender_steps counts place Waiting = 2 * frames_from counts place
-sender_steps counts place Sent = 2 * frames_from counts place - 1
+abbrev pub sender_steps : List ℕ → Position → Mode → ℕ
+sender_steps counts position Waiting = 2 * frames_from counts position
+sender_steps counts position Sent = 2 * frames_from counts position - 1
 
 abbrev pub deliveries_in : SendState → List ℕ → Standing → ℕ
 deliveries_in Running counts s =
-    GIVE_UP * sender_steps counts s.place s.mode + (GIVE_UP - s.retries)
+    GIVE_UP * sender_steps counts s.position s.mode + (GIVE_UP - s.retries)
 deliveries_in _ counts s = 0
 
 -- how many deliveries a sender takes at most until it has ended

@@ -10,7 +10,7 @@ pub mod Deliveries
 pub mod ReceiveOver
 pub mod SendOver
 pub mod Bound
-pub mod Course
+pub mod History
 pub mod DeliveryExamples
 pub mod ReceiverRefines
 pub mod Sender

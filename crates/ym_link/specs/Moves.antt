@@ -5,12 +5,12 @@
 use Rattle.std.specs.Prelude.{◌≡◌, ◌⊎◌, ℕ, Bool, List, ◌∷◌, All}
 use Rattle.ym_frame.specs.declared.control.Control.{Control}
 use Rattle.ym_frame.specs.declared.control.Control.TheVariants.{Ack, Can}
-use Rattle.ym_core.specs.Place.{next_of}
+use Rattle.ym_core.specs.Position.{next_of}
 use Rattle.ym_core.specs.Standing.{hears}
-use Rattle.ym_core.specs.declared.place.Mode.{Mode}
-use Rattle.ym_core.specs.declared.place.Mode.TheVariants.{Sent}
-use Rattle.ym_core.specs.declared.place.Place.{Place}
-use Rattle.ym_core.specs.declared.place.Place.TheVariants.{End}
+use Rattle.ym_core.specs.declared.position.Mode.{Mode}
+use Rattle.ym_core.specs.declared.position.Mode.TheVariants.{Sent}
+use Rattle.ym_core.specs.declared.position.Position.{Position}
+use Rattle.ym_core.specs.declared.position.Position.TheVariants.{End}
 use Rattle.ym_core.specs.declared.standing.SendStep.{SendStep}
 use Rattle.ym_core.specs.declared.standing.Standing.{Standing}
 use Rattle.ym_core.specs.declared.state.SendState.TheVariants.{Running, Finished}
@@ -18,9 +18,9 @@ use Rattle.ym_file.specs.SourceFile.{IsFile}
 use Rattle.ym_link.specs.Sender.{SenderParts, IsStep, counts}
 
 -- another frame stands behind it
-abbrev pub IsBefore : Place → Type 0
+abbrev pub IsBefore : Position → Type 0
 IsBefore End = ⊥
-IsBefore place = Unit {0}
+IsBefore position = Unit {0}
 
 -- the first control that says something is an ACK: a CAN alone in front of it says nothing
 abbrev pub SaysAck : List Control → Type 0
@@ -28,31 +28,32 @@ SaysAck (Ack ∷ more) = Unit {0}
 SaysAck (Can ∷ Ack ∷ more) = Unit {0}
 SaysAck _ = ⊥
 
--- the place stays, or it is the next one, behind an ACK of what was sent
-abbrev pub Moves : List ℕ → Place → Mode → List Control → Place → Type 0
-Moves counts place mode cs new =
-    (new ≡ place) ⊎ ((mode ≡ Sent) × IsBefore place × SaysAck cs × (new ≡ next_of counts place))
+-- the position stays, or it is the next one, behind an ACK of what was sent
+abbrev pub Moves : List ℕ → Position → Mode → List Control → Position → Type 0
+Moves counts position mode cs new =
+    (new ≡ position) ⊎
+    ((mode ≡ Sent) × IsBefore position × SaysAck cs × (new ≡ next_of counts position))
 
 -- a delivery at which a sender finishes
-pub record FinishesAt (s : Standing) (cs : List Control) (new : Place) : Type 0 where
-  pub place : s.place ≡ End
+pub record FinishesAt (s : Standing) (cs : List Control) (new : Position) : Type 0 where
+  pub position : s.position ≡ End
   pub after : new ≡ End
   pub mode : s.mode ≡ Sent
   pub ack : SaysAck cs
 
 -- ---- What the laws say
 
-abbrev pub GoesOnePlace : Type 0
-GoesOnePlace =
+abbrev pub GoesOnePosition : Type 0
+GoesOnePosition =
     (s : SenderParts) (cs : List Control) (failed : Bool) (new : SenderParts) →
     s.standing.state ≡ Running → IsStep s (hears (counts s) s.standing cs) failed new →
-    Moves (counts s) s.standing.place s.standing.mode cs new.standing.place
+    Moves (counts s) s.standing.position s.standing.mode cs new.standing.position
 
 abbrev pub FinishesLast : Type 0
 FinishesLast =
     (s : SenderParts) (cs : List Control) (failed : Bool) (new : SenderParts) →
     s.standing.state ≡ Running → IsStep s (hears (counts s) s.standing cs) failed new →
-    new.standing.state ≡ Finished → FinishesAt s.standing cs new.standing.place
+    new.standing.state ≡ Finished → FinishesAt s.standing cs new.standing.position
 
 -- how many blocks each file has stays, and each file stays within its limits
 abbrev pub KeepsCounts : Type 0

@@ -7,7 +7,7 @@ use Rattle.ym_header.specs.Header.{HeaderParts}
 use Rattle.ym_header.specs.declared.fault.HeaderFault.{HeaderFault}
 use Rattle.ym_header.specs.declared.limits.TheConstants.{MOST_LENGTH}
 use Rattle.ym_header.specs.declared.reading.Zero.{Zero}
-use Rattle.ym_file.specs.Counts.{Rose}
+use Rattle.ym_file.specs.Counts.{Counted}
 use Rattle.ym_file.specs.Kept.{Kept, begun, added, committed}
 use Rattle.ym_machine.specs.declared.confirm.Confirm.{Confirm}
 use Rattle.ym_core.specs.declared.delivery.Heard.{Heard}
@@ -54,7 +54,7 @@ outcome false r step = step
 
 -- a failure count tells whether the sink failed
 abbrev pub Tells : Bool → ℕ → ℕ → Type 0
-Tells true old new = Rose old new
+Tells true old new = Counted old new
 Tells false old new = new ≡ old
 
 -- a step was taken, with the truth whether the sink failed in it

@@ -69,9 +69,9 @@ cut_event used event.Quiet = event.Quiet
 cut_event used event.Closed = event.Closed
 cut_event used event.Fault = event.Fault
 
-abbrev pub cut_front : ℕ → List Event → List Event
-cut_front used [] = []
-cut_front used (e ∷ rest) = cut_event used e ∷ rest
+abbrev pub cut_prefix : ℕ → List Event → List Event
+cut_prefix used [] = []
+cut_prefix used (e ∷ rest) = cut_event used e ∷ rest
 
 abbrev pub coming_of : ℕ → ℕ → List Event → List Event
-coming_of used next events = cut_front used (drop next events)
+coming_of used next events = cut_prefix used (drop next events)

@@ -2,7 +2,7 @@
 use Rattle.std.specs.Prelude.{◌≡◌, ◌≢◌, ℕ, Bool, true, List, [], Option, None, Some, Result, Ok, Err}
 use Rattle.ym_link.specs.Port.{Tape, after_write}
 use Rattle.ym_link.specs.Delivery.{Taken, taken}
-use Rattle.ym_core.specs.Reading.{controls_in}
+use Rattle.ym_core.specs.Scan.{controls_in}
 use Rattle.ym_core.specs.Standing.{is_settled}
 use Rattle.ym_link.specs.Sender.{SenderParts, IsSender, Hears, counts, spoken}
 use Rattle.ym_link.specs.declared.end_fault.EndFault.{EndFault}

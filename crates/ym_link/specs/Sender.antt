@@ -1,17 +1,17 @@
 -- A sender as contracts see it: where it stands, its files and its frame.
 use Rattle.std.specs.Prelude.{◌≡◌, ℕ, ◌<◌, length, Bool, true, false, List, [], ◌∷◌, slice_set, All, Option, None, Some}
-use Rattle.ym_file.specs.Counts.{Rose}
+use Rattle.ym_file.specs.Counts.{Counted}
 use Rattle.ym_file.specs.declared.plan.Shape.{Shape}
 use Rattle.ym_file.specs.SourceFile.{FileParts, IsFile, file_at, filled, counts_of}
-use Rattle.ym_core.specs.Place.{IsPlace}
+use Rattle.ym_core.specs.Position.{IsPosition}
 use Rattle.ym_link.specs.FrameAt.{IsFrameAt}
-use Rattle.ym_core.specs.Reading.{controls_in, reads}
-use Rattle.ym_core.specs.declared.reading.Reading.{Reading}
+use Rattle.ym_core.specs.Scan.{controls_in, reads}
+use Rattle.ym_core.specs.declared.scan.Scan.{Scan}
 use Rattle.ym_core.specs.Standing.{hears, after_fill}
-use Rattle.ym_core.specs.declared.place.Place.{Place}
-use Rattle.ym_core.specs.declared.place.Place.TheVariants.{Block}
-use Rattle.ym_core.specs.declared.place.Mode.{Mode}
-use Rattle.ym_core.specs.declared.place.Mode.TheVariants.{Sent}
+use Rattle.ym_core.specs.declared.position.Position.{Position}
+use Rattle.ym_core.specs.declared.position.Position.TheVariants.{Block}
+use Rattle.ym_core.specs.declared.position.Mode.{Mode}
+use Rattle.ym_core.specs.declared.position.Mode.TheVariants.{Sent}
 use Rattle.ym_core.specs.declared.standing.Standing.{Standing}
 use Rattle.ym_core.specs.declared.standing.SendStep.{SendStep as Step}
 use Rattle.ym_core.specs.declared.state.SendState.{SendState}
@@ -27,12 +27,12 @@ pub record FilledAt (file : ℕ) (old new : List FileParts) : Type 0 where
 pub record FailedAt (file : ℕ) (old new : List FileParts) : Type 0 where
   pub within : file < length old
   pub failures : ℕ
-  pub rose : Rose (file_at old file).failures failures
+  pub counted_failure : Counted (file_at old file).failures failures
   pub after : new ≡ slice_set old file (record (filled (file_at old file)) { failures = failures })
 
--- What filling a place's frame, which failed or not, does to the files. Only a data block is filled
--- from its source, and its source is asked once.
-abbrev pub IsFilled : Bool → Option Place → List FileParts → List FileParts → Type 0
+-- What filling a position's frame, which failed or not, does to the files. Only a data block is
+-- filled from its source, and its source is asked once.
+abbrev pub IsFilled : Bool → Option Position → List FileParts → List FileParts → Type 0
 IsFilled false (Some (Block file k)) old new = FilledAt file old new
 IsFilled true (Some (Block file k)) old new = FailedAt file old new
 IsFilled false fills old new = new ≡ old
@@ -47,10 +47,10 @@ pub record SenderParts : Type 0 where
 abbrev pub counts : SenderParts → List ℕ
 counts s = counts_of s.shape s.files
 
--- the frame held is that of the place filled, else it is still the same
-abbrev pub IsHeld : Option Place → SenderParts → List ℕ → Type 0
+-- the frame held is that of the position filled, else it is still the same
+abbrev pub IsHeld : Option Position → SenderParts → List ℕ → Type 0
 IsHeld None new old = new.frame ≡ old
-IsHeld (Some place) new old = IsFrameAt new.shape new.files place new.frame
+IsHeld (Some position) new old = IsFrameAt new.shape new.files position new.frame
 
 -- what a delivery does to a sender, where its source failed at it or not
 pub record IsStep (old : SenderParts) (taken : Step) (failed : Bool)
@@ -66,10 +66,10 @@ Hears old bytes new =
     (failed : Bool) × IsStep old (hears (counts old) old.standing (controls_in bytes)) failed new
 
 -- what a running sender reads in a delivery
-pub record IsReading (s : SenderParts) (bytes : List ℕ) (read : Reading) : Type 0 where
+pub record IsScan (s : SenderParts) (bytes : List ℕ) (read : Scan) : Type 0 where
   pub runs : s.standing.state ≡ Running
-  pub exact : read ≡ reads (counts s) s.standing.place s.standing.mode (controls_in bytes)
-  pub place : IsPlace (counts s) read.place
+  pub exact : read ≡ reads (counts s) s.standing.position s.standing.mode (controls_in bytes)
+  pub position : IsPosition (counts s) read.position
 
 -- what is to be sent: the frame held, CAN CAN, or nothing
 abbrev pub spoken_in : SendState → Mode → Bool → List ℕ → Option (List ℕ)
@@ -84,7 +84,7 @@ spoken s = spoken_in s.standing.state s.standing.mode s.standing.cancel_pending 
 -- What each sender keeps to: while it runs and has sent, it holds the frame of its place.
 pub record IsSender (s : SenderParts) : Type 0 where
   pub files : All IsFile s.files
-  pub place : IsPlace (counts s) s.standing.place
+  pub position : IsPosition (counts s) s.standing.position
   pub retries : s.standing.state ≡ Running → s.standing.retries < GIVE_UP
   pub frame : s.standing.state ≡ Running → s.standing.mode ≡ Sent →
-      IsFrameAt s.shape s.files s.standing.place s.frame
+      IsFrameAt s.shape s.files s.standing.position s.frame

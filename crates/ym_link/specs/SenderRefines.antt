@@ -10,10 +10,10 @@ use Rattle.ym_machine.specs.State.{State, SenderEnd, Speech, Nothing, FrameAt, C
 use Rattle.ym_file.specs.SourceFile.{FileParts, blocks_of}
 use Rattle.ym_link.specs.ReceiverRefines.{item_of}
 use Rattle.ym_link.specs.Sender.{SenderParts}
-use Rattle.ym_core.specs.declared.place.Place.{Place}
-use Rattle.ym_core.specs.declared.place.Place.TheVariants.{Header, Block, Eot, End}
-use Rattle.ym_core.specs.declared.place.Mode.{Mode}
-use Rattle.ym_core.specs.declared.place.Mode.TheVariants.{Waiting, Sent}
+use Rattle.ym_core.specs.declared.position.Position.{Position}
+use Rattle.ym_core.specs.declared.position.Position.TheVariants.{Header, Block, Eot, End}
+use Rattle.ym_core.specs.declared.position.Mode.{Mode}
+use Rattle.ym_core.specs.declared.position.Mode.TheVariants.{Waiting, Sent}
 use Rattle.ym_core.specs.declared.standing.Standing.{Standing}
 use Rattle.ym_core.specs.declared.state.SendState.{SendState}
 use Rattle.ym_core.specs.declared.state.SendState.TheVariants as state
@@ -45,7 +45,7 @@ file_of shape source = record {
 abbrev pub batch_of : Shape → List FileParts → Batch
 batch_of shape sources = map (file_of shape) sources
 
--- ---- The place
+-- ---- The position
 
 -- how many data blocks each file has
 abbrev pub counts_in : Batch → List ℕ
@@ -54,16 +54,16 @@ counts_in (file ∷ files) = length file.pieces ∷ counts_in files
 
 -- the place of F[n], where the first file of the list has number i; behind the list it is the end
 -- block's
-abbrev pub place_from : ℕ → Batch → ℕ → Place
-place_from i [] n = End
-place_from i (file ∷ files) zero = Header i
-place_from i (file ∷ files) (suc n) =
+abbrev pub position_from : ℕ → Batch → ℕ → Position
+position_from i [] n = End
+position_from i (file ∷ files) zero = Header i
+position_from i (file ∷ files) (suc n) =
     if nat_lt n (length file.pieces) then Block i (n + 1) else
     if n == length file.pieces then Eot i else
-    place_from (i + 1) files (n - (length file.pieces + 1))
+    position_from (i + 1) files (n - (length file.pieces + 1))
 
-abbrev pub place_at : Batch → ℕ → Place
-place_at files n = place_from 0 files n
+abbrev pub position_at : Batch → ℕ → Position
+position_at files n = position_from 0 files n
 
 -- ---- How it stands
 
@@ -88,7 +88,7 @@ cancel_pending_of _ cancel_pending = false
 pub record RefinesAt (files : Batch) (st : State) (s : Standing) : Type 0 where
   pub state : s.state ≡ state_of st.sender
   pub cancel_pending : s.cancel_pending ≡ cancel_pending_of st.sender st.cancel_pending
-  pub place : s.place ≡ place_at files st.acknowledged
+  pub position : s.position ≡ position_at files st.acknowledged
   pub mode : st.sender ≡ SenderEnd.Running → s.mode ≡ mode_of st.sent
   pub retries : st.sender ≡ SenderEnd.Running → s.retries ≡ st.sender_retries
 

@@ -1,8 +1,8 @@
 //! A delivery, as it is read from a port for the end that hears it.
 
 ghost use Rattle.std.specs.Prelude.{◌≡◌, ◌≢◌, ◌≤◌, ◌⊎◌, ℕ, List, [], Ok, Err, IfOk, MatchOption, false, take};
-ghost use Rattle.ym_file.specs.Counts.{Rose};
-ghost use Rattle.ym_link.specs.Course.{ReadOnce};
+ghost use Rattle.ym_file.specs.Counts.{Counted};
+ghost use Rattle.ym_link.specs.History.{ReadOnce};
 ghost use Rattle.ym_link.specs.Delivery.{taken, bytes_read};
 ghost use Rattle.ym_link.specs.Port.{Tape};
 ghost use Rattle.ym_link.specs.declared.port.Wait.{Wait as Asked};
@@ -54,7 +54,7 @@ pub(crate) fn take_delivery<P: Port, L: Listener>(
     ensures asked { (w : List Asked) →
         P.asked port.new w → (v : List Asked) × P.asked port.old v × ReadOnce v w }
     ensures device { result ≡ Err EndFault.Device →
-        Rose (P.failures port.old) (P.failures port.new) }
+        Counted (P.failures port.old) (P.failures port.new) }
     ensures memory { result ≢ Err EndFault.Memory }
     ensures calm { result ≢ Err EndFault.Device → P.failures port.new ≡ P.failures port.old }
 {

@@ -28,7 +28,7 @@ impl Model for EventQueue {
 }
 
 /// Copies the front of a piece, as much as there is room for, and says what a read of it gets.
-fn copy_front(piece: &[u8], buf: &mut [u8]) -> Got
+fn copy_prefix(piece: &[u8], buf: &mut [u8]) -> Got
     requires { 0 < length buf.old }
     ensures count { (n : ℕ) → result ≡ Got.Bytes n → (0 < n) × (n ≤ length buf.old) }
     ensures seen { (rest : List Coming) → seen_of (Ok result) buf.new
@@ -70,7 +70,7 @@ impl EventQueue {
         let answer = match event {
             Event::Piece(bytes) => {
                 let rest = bytes.as_slice().get(self.used..).unwrap_or(&[]);
-                let got = copy_front(rest, buf);
+                let got = copy_prefix(rest, buf);
                 if buf.len() < rest.len() {
                     self.used += buf.len();
                     return Ok(got);

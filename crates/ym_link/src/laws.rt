@@ -12,6 +12,6 @@ pub use receiver::{
     a_standing_receiver_follows_the_machine,
 };
 pub use sender::{
-    a_delivery_goes_one_place, a_sender_follows_the_machine, a_settled_delivery_stays,
+    a_delivery_goes_one_position, a_sender_follows_the_machine, a_settled_delivery_stays,
     a_step_keeps_the_batch, progress_is_a_change, what_came_back_is_of_the_reply,
 };

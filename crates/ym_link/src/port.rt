@@ -2,7 +2,7 @@
 
 ghost use Rattle.std.specs.Prelude.{◌≡◌, ◌<◌, ◌≤◌, ℕ, List, [], ◌∷◌, ◌++◌, Ok, OnOk, OnErr, length, is_ok};
 ghost use Rattle.ym_link.specs.Port.{Tape, seen_of, read_gives, read_leaves, after_write};
-ghost use Rattle.ym_file.specs.Counts.{Rose};
+ghost use Rattle.ym_file.specs.Counts.{Counted};
 ghost use Rattle.ym_link.specs.declared.port.Wait.{Wait as Asked};
 
 /// How many bytes a delivery has at most.
@@ -56,7 +56,7 @@ pub trait Port {
         ensures asked { (w : List Asked) →
             asked self.new w → (v : List Asked) × asked self.old v × (w ≡ v ++ wait ∷ []) }
         ensures ok { OnOk result (failures self.new ≡ failures self.old) }
-        ensures failed { OnErr result (Rose (failures self.old) (failures self.new)) };
+        ensures failed { OnErr result (Counted (failures self.old) (failures self.new)) };
 
     /// Writes all the bytes, or fails, and then none of them counts as written.
     fn write(&mut self, bytes: &[u8]) -> Result<(), PortFault>
@@ -65,5 +65,5 @@ pub trait Port {
             (t : Tape) × tells self.old t × (u ≡ after_write (is_ok result) t bytes.now) }
         ensures asked { (w : List Asked) → asked self.new w → asked self.old w }
         ensures ok { OnOk result (failures self.new ≡ failures self.old) }
-        ensures failed { OnErr result (Rose (failures self.old) (failures self.new)) };
+        ensures failed { OnErr result (Counted (failures self.old) (failures self.new)) };
 }

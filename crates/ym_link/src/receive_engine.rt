@@ -3,11 +3,11 @@
 ghost use Rattle.std.specs.Prelude.{◌≡◌, ◌≢◌, ◌≤◌, ◌+◌, ◌⊎◌, ℕ, List, Ok, Err, MatchOption, is_ok, true, false, length};
 ghost use Rattle.ym_frame.specs.Control.{reply_bytes};
 ghost use Rattle.ym_frame.specs.declared.control.Reply.TheVariants.{Silence};
-ghost use Rattle.ym_file.specs.Counts.{Rose};
+ghost use Rattle.ym_file.specs.Counts.{Counted};
 ghost use Rattle.ym_link.specs.Port.{Tape, after_write};
 ghost use Rattle.ym_core.specs.HeardRef.{owned_heard};
 ghost use Rattle.ym_core.specs.Hearing.{heard_of};
-ghost use Rattle.ym_link.specs.Course.{Asks, IsLarge, ReceiverCourse};
+ghost use Rattle.ym_link.specs.History.{Asks, IsLarge, ReceiverHistory};
 ghost use Rattle.ym_link.specs.ReceiverInto.{IsReceiver};
 ghost use Rattle.ym_link.specs.ReceiveOver.{Receives, has_item, IsFound};
 ghost use Rattle.ym_core.specs.declared.state.RecvState.TheVariants as state;
@@ -64,7 +64,7 @@ fn write_reply<P: Port>(port: &mut P, reply: Reply) -> Result<(), EndFault>
     ensures device { (e : EndFault) →
         result ≡ Err e →
         (e ≡ EndFault.Device) × (reply ≢ Silence) ×
-        Rose (P.failures port.old) (P.failures port.new) }
+        Counted (P.failures port.old) (P.failures port.new) }
     ensures calm { is_ok result ≡ true → P.failures port.new ≡ P.failures port.old }
 {
     match reply {
@@ -87,14 +87,14 @@ pub fn receive_over<P: Port, K: Sink>(
     ensures told { (u : Tape) → P.tells port.new u →
         (t : Tape) × P.tells port.old t ×
         Receives receiver.old t (record { receiver = receiver.new; tape = u; answer = result }) }
-    ensures course { (deliveries : List HeardValue)
-        × ReceiverCourse receiver.old deliveries receiver.new
+    ensures history { (deliveries : List HeardValue)
+        × ReceiverHistory receiver.old deliveries receiver.new
         × ((w : List Asked) → P.asked port.new w
         → (v : List Asked) × P.asked port.old v × (begun : ℕ) × (begun ≤ length deliveries + 1)
         × Asks begun v w) }
     ensures receiver { IsReceiver receiver.new }
     ensures device { result ≡ Err EndFault.Device →
-        Rose (P.failures port.old) (P.failures port.new) }
+        Counted (P.failures port.old) (P.failures port.new) }
     ensures ended { is_ok result ≡ true → receiver.new.receiver.state ≢ state.Running }
     ensures left { receiver.old.receiver.state ≢ state.Running →
         (result ≡ Ok tt) × (receiver.new ≡ receiver.old) × (port.new ≡ port.old) }

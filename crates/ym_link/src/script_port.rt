@@ -1,7 +1,7 @@
 //! A port that plays a list of events, and keeps what is written.
 
 ghost use Rattle.std.specs.Prelude.{◌≡◌, ◌<◌, ◌≤◌, ◌⊎◌, ℕ, List, [], ◌∷◌, ◌++◌, IsTrue, IsErr, OnOk, OnErr, length, Some, None, MatchOption, Ok, is_ok};
-ghost use Rattle.ym_file.specs.Counts.{Rose, fails_next};
+ghost use Rattle.ym_file.specs.Counts.{Counted, fails_next};
 ghost use Rattle.ym_link.specs.Port.{seen_of, read_gives};
 ghost use Rattle.ym_link.specs.declared.port.Wait.{Wait as Asked};
 
@@ -84,7 +84,7 @@ impl ScriptPort {
         ensures kept { OnOk result ((v : List Asked) × (self.old.waits ≡ Some v) ×
             (self.new ≡ record self.old { waits = Some (v ++ wait ∷ []) })) }
         ensures lost { OnErr result (self.new ≡ after_losing self.old) }
-        ensures failed { OnErr result (Rose self.old.tally.failures self.new.tally.failures) }
+        ensures failed { OnErr result (Counted self.old.tally.failures self.new.tally.failures) }
     {
         if self.keeps_waits && self.waits.push(wait).is_ok() {
             return Ok(());
@@ -101,7 +101,7 @@ impl ScriptPort {
         ensures count { (n : ℕ) → result ≡ Ok (Got.Bytes n) → (0 < n) × (n ≤ length buf.old) }
         ensures seen { seen_of result buf.new ≡ read_gives (length buf.old) self.old.coming }
         ensures after { self.new ≡ after_read (is_ok result) (length buf.old) self.old }
-        ensures failed { OnErr result (Rose self.old.tally.failures self.new.tally.failures) }
+        ensures failed { OnErr result (Counted self.old.tally.failures self.new.tally.failures) }
     {
         let answer = self.coming.take(buf);
         if answer.is_err() {
@@ -148,7 +148,7 @@ impl Port for ScriptPort {
             record (after_read (is_ok result) (length buf.old) self.old) { waits = Some w }) }
         ensures lost { self.new.waits ≡ None → IsErr result × (self.new ≡ after_losing self.old) }
         ensures ok { OnOk result (self.new.tally ≡ self.old.tally) }
-        ensures failed { OnErr result (Rose self.old.tally.failures self.new.tally.failures) }
+        ensures failed { OnErr result (Counted self.old.tally.failures self.new.tally.failures) }
     {
         self.keep(wait)?;
         self.take(buf)
@@ -160,7 +160,7 @@ impl Port for ScriptPort {
             IsErr result × (self.new ≡ after_failing self.old) }
         ensures refused { OnErr result (IsTrue (fails_next self.old.tally) ⊎
             (self.new ≡ after_refusing self.old)) }
-        ensures failed { OnErr result (Rose self.old.tally.failures self.new.tally.failures) }
+        ensures failed { OnErr result (Counted self.old.tally.failures self.new.tally.failures) }
     {
         let is_failing = self.failing == 1;
         self.failing = self.failing.saturating_sub(1);

@@ -1,9 +1,9 @@
 //! A sender over a port.
 
 ghost use Rattle.std.specs.Prelude.{◌≡◌, ◌≢◌, ◌≤◌, ◌+◌, ℕ, List, Ok, Err, None, is_ok, true, length};
-ghost use Rattle.ym_file.specs.Counts.{Rose};
+ghost use Rattle.ym_file.specs.Counts.{Counted};
 ghost use Rattle.ym_link.specs.Port.{Tape, after_write};
-ghost use Rattle.ym_link.specs.Course.{Asks, SenderCourse};
+ghost use Rattle.ym_link.specs.History.{Asks, SenderHistory};
 ghost use Rattle.ym_link.specs.SendOver.{Sends, written_for};
 ghost use Rattle.ym_link.specs.Sender.{IsSender, spoken};
 ghost use Rattle.ym_core.specs.declared.state.SendState.TheVariants as state;
@@ -26,7 +26,7 @@ fn write_frame<P: Port, S: Source>(port: &mut P, sender: &SenderFrom<S>) -> Resu
     ensures device { (e : EndFault) →
         result ≡ Err e →
         (e ≡ EndFault.Device) × (spoken sender.now ≢ None) ×
-        Rose (P.failures port.old) (P.failures port.new) }
+        Counted (P.failures port.old) (P.failures port.new) }
     ensures calm { is_ok result ≡ true → P.failures port.new ≡ P.failures port.old }
     ensures sender { IsSender sender.now }
 {
@@ -50,12 +50,12 @@ pub fn send_over<P: Port, S: Source>(
     ensures told { sender.old.standing.state ≡ state.Running → (u : Tape) → P.tells port.new u →
         (t : Tape) × P.tells port.old t ×
         Sends sender.old t (record { sender = sender.new; tape = u; answer = result }) }
-    ensures course { (deliveries : List (List ℕ)) × SenderCourse sender.old deliveries sender.new
+    ensures history { (deliveries : List (List ℕ)) × SenderHistory sender.old deliveries sender.new
         × ((w : List Asked) → P.asked port.new w
         → (v : List Asked) × P.asked port.old v × (begun : ℕ) × (begun ≤ length deliveries + 1)
         × Asks begun v w) }
     ensures device { result ≡ Err EndFault.Device →
-        Rose (P.failures port.old) (P.failures port.new) }
+        Counted (P.failures port.old) (P.failures port.new) }
     ensures memory { result ≢ Err EndFault.Memory }
     ensures ended { is_ok result ≡ true → sender.new.standing.state ≢ state.Running }
     ensures left { sender.old.standing.state ≢ state.Running →

@@ -5,7 +5,7 @@ ghost use Rattle.ym_frame.specs.Frame.{IsFrame};
 ghost use Rattle.ym_frame.specs.declared.frame.Item.TheVariants as FrameItem;
 ghost use Rattle.ym_header.specs.Text.{text, end_text};
 ghost use Rattle.ym_file.specs.SourceFile.{IsFile, counts_of};
-ghost use Rattle.ym_core.specs.Place.{IsPlace, done_at};
+ghost use Rattle.ym_core.specs.Position.{IsPosition, done_at};
 ghost use Rattle.ym_link.specs.FrameAt.{IsFrameAt};
 ghost use Rattle.ym_link.specs.Sender.{IsFilled};
 ghost use Rattle.ym_machine.specs.declared.limits.TheConstants.{MOST_FILES};
@@ -13,7 +13,7 @@ ghost use Rattle.ym_machine.specs.declared.limits.TheConstants.{MOST_FILES};
 use crate::delivery::Listener;
 use crate::shaped_batch::ShapedBatch;
 use std::marker::Model;
-use ym_core::{Mode, Place, Reading, SendState, SendStep, Standing, first_place, read_delivery};
+use ym_core::{Mode, Position, Scan, SendState, SendStep, Standing, first_position, read_delivery};
 use ym_file::{MemSource, Shape, Source, SourceFault, SourceFile};
 use ym_frame::{Item, Reply, encode};
 use ym_header::{Header, write, write_end};
@@ -125,38 +125,38 @@ fn copy_end(buffer: &mut [u8; 1029]) -> usize
     copy_frame(&Item::Block(write_end()), buffer)
 }
 
-/// Writes the frame of a place to the front of a buffer, and answers the frame's length: at most
+/// Writes the frame of a position to the front of a buffer, and answers the frame's length: at most
 /// 1029 bytes. The body of a data block goes from its source right to its place in the frame, and
 /// the source is asked for it once. After a failure of the source nothing is said of the buffer's
 /// bytes.
 fn frame_at<S: Source>(
     files: &mut Vec<SourceFile<S>>,
     shape: Shape,
-    place: Place,
+    position: Position,
     buffer: &mut [u8; 1029],
 ) -> Result<usize, SourceFault>
-    requires { IsPlace (counts_of shape files.old.items) place }
+    requires { IsPosition (counts_of shape files.old.items) position }
     ensures frame { IfOk result (λ len.
-        IsFrameAt shape files.new.items place (take len buffer.new)) }
+        IsFrameAt shape files.new.items position (take len buffer.new)) }
     ensures length { IfOk result (λ len. len ≤ 1029) }
     ensures buffer { length buffer.new ≡ 1029 }
-    ensures ok { OnOk result (IsFilled false (Some place) files.old.items files.new.items) }
-    ensures failed { OnErr result (IsFilled true (Some place) files.old.items files.new.items) }
+    ensures ok { OnOk result (IsFilled false (Some position) files.old.items files.new.items) }
+    ensures failed { OnErr result (IsFilled true (Some position) files.old.items files.new.items) }
 {
-    match place {
-        Place::Header { file } => Ok(copy_header(files[file].header(), buffer)),
-        Place::Block { file, number } => {
+    match position {
+        Position::Header { file } => Ok(copy_header(files[file].header(), buffer)),
+        Position::Block { file, number } => {
             let one = &mut files[file];
             one.frame(shape, number, buffer)
         }
-        Place::Eot { .. } => Ok(copy_eot(buffer)),
-        Place::End => Ok(copy_end(buffer)),
+        Position::Eot { .. } => Ok(copy_eot(buffer)),
+        Position::End => Ok(copy_end(buffer)),
     }
 }
 
 impl<S: Source> SenderFrom<S> {
-    ghost use Rattle.ym_link.specs.Sender.{Hears, IsReading, IsSender, spoken, counts};
-    ghost use Rattle.ym_core.specs.Reading.{controls_in};
+    ghost use Rattle.ym_link.specs.Sender.{Hears, IsScan, IsSender, spoken, counts};
+    ghost use Rattle.ym_core.specs.Scan.{controls_in};
     ghost use Rattle.ym_core.specs.Standing.{hears, is_settled, new_standing};
 
     /// A sender of a batch of at most 65,535 files, waiting at its first frame.
@@ -172,7 +172,7 @@ impl<S: Source> SenderFrom<S> {
             return Err(BatchFault::TooMany(batch));
         }
         look_at(&batch);
-        let first = first_place(&ShapedBatch {
+        let first = first_position(&ShapedBatch {
             files: &batch,
             shape,
         });
@@ -191,9 +191,9 @@ impl<S: Source> SenderFrom<S> {
     pub fn frame(&self) -> Option<&[u8]>
         ensures spoken { MatchOption result (spoken self.now ≡ None) (λ bytes.
             spoken self.now ≡ Some bytes.now) }
-        ensures place { IfSome result (λ bytes.
+        ensures position { IfSome result (λ bytes.
             self.now.standing.state ≡ SendState.Running →
-            IsFrameAt self.now.shape self.now.files self.now.standing.place bytes.now) }
+            IsFrameAt self.now.shape self.now.files self.now.standing.position bytes.now) }
         ensures sender { IsSender self.now }
     {
         let standing = self.standing;
@@ -223,14 +223,14 @@ impl<S: Source> SenderFrom<S> {
     }
 
     /// The same, where it may have been found already what the sender reads in the delivery.
-    pub(crate) fn hear_found(&mut self, found: Option<Reading>, bytes: &[u8])
-        requires { IfSome found (IsReading self.old bytes.now) }
+    pub(crate) fn hear_found(&mut self, found: Option<Scan>, bytes: &[u8])
+        requires { IfSome found (IsScan self.old bytes.now) }
         ensures { Hears self.old bytes.now self.new }
     {
         let step = self.step_at(found, bytes);
         self.standing = step.standing;
-        if let Some(place) = step.fills {
-            match frame_at(&mut self.batch, self.shape, place, &mut self.buffer) {
+        if let Some(position) = step.fills {
+            match frame_at(&mut self.batch, self.shape, position, &mut self.buffer) {
                 Ok(len) => self.len = len,
                 Err(SourceFault) => self.standing = step.standing.source_failed(),
             }
@@ -238,13 +238,13 @@ impl<S: Source> SenderFrom<S> {
     }
 
     /// What a delivery leads to: by what was found in it, else by its bytes.
-    fn step_at(&self, found: Option<Reading>, bytes: &[u8]) -> SendStep
-        requires { IfSome found (IsReading self.now bytes.now) }
+    fn step_at(&self, found: Option<Scan>, bytes: &[u8]) -> SendStep
+        requires { IfSome found (IsScan self.now bytes.now) }
         ensures step { result ≡ hears (counts self.now) self.now.standing (controls_in bytes.now) }
-        ensures within { IsPlace (counts self.now) result.standing.place }
+        ensures within { IsPosition (counts self.now) result.standing.position }
     {
         match found {
-            Some(read) => self.standing.after_reading(read),
+            Some(read) => self.standing.after_scan(read),
             None => self.standing.after(&self.shaped(), bytes),
         }
     }
@@ -261,9 +261,9 @@ impl<S: Source> SenderFrom<S> {
 
     /// How many files are done: those whose EOT was acknowledged. No end takes this back.
     pub fn done(&self) -> usize
-        ensures { result ≡ done_at (length self.now.files) self.now.standing.place }
+        ensures { result ≡ done_at (length self.now.files) self.now.standing.position }
     {
-        self.standing.place.done(self.batch.len())
+        self.standing.position.done(self.batch.len())
     }
 
     /// How it has ended.
@@ -276,22 +276,22 @@ impl<S: Source> SenderFrom<S> {
 
 impl<S: Source> Listener for SenderFrom<S> {
     ghost use Rattle.std.specs.Prelude.{◌≡◌};
-    ghost use Rattle.ym_link.specs.Sender.{IsReading};
+    ghost use Rattle.ym_link.specs.Sender.{IsScan};
     ghost use Rattle.ym_link.specs.SendOver.{settles};
     ghost use Rattle.ym_core.specs.declared.state.SendState.TheVariants.{Running};
 
-    type Found = Reading;
+    type Found = Scan;
 
     ghost listens = { λ s. s.standing.state ≡ Running };
 
     ghost ends = { settles };
 
-    ghost finds = { IsReading };
+    ghost finds = { IsScan };
 
     /// What it reads in these bytes, where more of them cannot change what `hear` does with them.
-    fn found_in(&self, bytes: &[u8]) -> Option<Reading> {
+    fn found_in(&self, bytes: &[u8]) -> Option<Scan> {
         let standing = self.standing;
-        let read = read_delivery(&self.shaped(), standing.place, standing.mode, bytes);
+        let read = read_delivery(&self.shaped(), standing.position, standing.mode, bytes);
         if read.stop.is_some() {
             Some(read)
         } else {

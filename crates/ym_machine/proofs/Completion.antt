@@ -1,7 +1,7 @@
 -- both ends finish, and no sooner than the batch needs
 use Rattle.std.proofs.Common.{ℕ, ◌+◌, ◌-◌, ◌<◌, ◌≤◌, ◌≡◌, ◌≢◌, List, [], ◌∷◌, length, Bool, true, ap, ◌∙◌, inl, inr, arith, cond}
 use Rattle.ym_machine.proofs.Names.{Confirm, BURST, EndsOnce, File, Frame, files_within, frames_of, ReceiverEnd, SenderEnd, State, start, IsDamage, NoFailure, Turn, after_turn, after_turns, is_whole, longest_bad_run, IsGoing, rounds_remaining, rounds_needed, Invariant}
-use Rattle.ym_machine.proofs.Places.{all-within, frames-end}
+use Rattle.ym_machine.proofs.Positions.{all-within, frames-end}
 use Rattle.ym_machine.proofs.Remaining.{left-done, left-some, left-start}
 use Rattle.ym_machine.proofs.Rounds.{sender-is, turn-left, turn-lowered}
 use Rattle.ym_machine.proofs.ShortBursts.{got-all, one-fine, start-fine, turns-fine, whole-fine}

@@ -3,7 +3,7 @@ use Rattle.std.proofs.Common.{ℕ, ◌+◌, ◌<◌, ◌≡◌, ◌≢◌, List,
 use Rattle.ym_machine.proofs.Names.{Control, Confirm, EndsOnce, Eot, Frame, Piece, frame_at, frame_before, ReceiverEnd, SenderEnd, State, start, Answer, KeepsSender, asks_again, controls, is_within, receiver_step, IsDamage, IsTurnDamage, Turn, after_turn, after_turns, came_back, CallsForStart, CountersAgree, Invariant, SenderBroke}
 use Rattle.ym_frame.specs.declared.control.Control.TheVariants as control
 use Rattle.ym_machine.proofs.Keeps.{there-keeps}
-use Rattle.ym_machine.proofs.Places.{more_behind, none_behind}
+use Rattle.ym_machine.proofs.Positions.{more_behind, none_behind}
 use Rattle.ym_machine.proofs.ReceiverSteps.{IsEcho, IsFault, ReceiverStep, receiver-step}
 use Rattle.ym_machine.proofs.SenderSteps.{IsAcknowledged, Onward, SenderStep, sender-step}
 
@@ -62,14 +62,14 @@ module _ {H : Type 0} (frames : List (Frame H)) (confirm : Confirm) (ends : Ends
     no-first at w = let x : st.taken ≡ st.acknowledged = (m.first_eot w).2 in omega arith
 
     -- where a sender that goes on is
-    pub onward : {place : ℕ} → st.sender ≡ SenderEnd.Running → Onward frames came st place → (st.taken ≡ place) × (place < length frames) × (st.first_eot ≡ true → ⊥)
+    pub onward : {position : ℕ} → st.sender ≡ SenderEnd.Running → Onward frames came st position → (st.taken ≡ position) × (position < length frames) × (st.first_eot ≡ true → ⊥)
     onward running (Onward.first unsent asked) = ((m.waiting unsent).0, below m running, λ w. let x : st.sent ≡ true = (m.first_eot w).1 in cc)
     onward running (Onward.next is other) = (taken_is is running, more_behind frames st.acknowledged ends (below m running) other, no-first (taken_is is running))
 
     sender-stopped : (end : SenderEnd) (retries : ℕ) (cancel_pending : Bool) → st.sender ≡ SenderEnd.Running → end ≢ SenderEnd.Running → end ≢ SenderEnd.Finished → CountersAgree confirm frames (record st { sender_retries = retries; sender = end; cancel_pending = cancel_pending })
     sender-stopped end retries cancel_pending running ended other = let less = below m running in grind (arith, m, less, ended, other)
 
-    sent-on : {place : ℕ} (end : SenderEnd) (cancel_pending : Bool) → st.sender ≡ SenderEnd.Running → end ≢ SenderEnd.Finished → Onward frames came st place → CountersAgree confirm frames (record st { acknowledged = place; sent = true; sender_retries = 0; sender = end; cancel_pending = cancel_pending })
+    sent-on : {position : ℕ} (end : SenderEnd) (cancel_pending : Bool) → st.sender ≡ SenderEnd.Running → end ≢ SenderEnd.Finished → Onward frames came st position → CountersAgree confirm frames (record st { acknowledged = position; sent = true; sender_retries = 0; sender = end; cancel_pending = cancel_pending })
     sent-on end cancel_pending running other on = let o = onward running on in grind (arith, m, o, other)
 
     back-counters : {new : State} → SenderStep frames source came st new → CountersAgree confirm frames new

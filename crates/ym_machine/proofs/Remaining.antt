@@ -5,7 +5,7 @@ use Rattle.std.proofs.lemmas.List.Sums.{sum_by-cons}
 use Rattle.ym_machine.proofs.Names.{Control, Confirm, Twice, EndBlock, EndsOnce, Eot, File, Frame, Piece, frame_at, frame_before, frames_of, numbered_from, ReceiverEnd, SenderEnd, State, start, Answer, asks_again, controls, holds_start, ReceiverGoes, rounds_remaining, rounds_needed, CallsForStart, CountersAgree}
 use Rattle.ym_frame.specs.declared.control.Control.TheVariants as control
 use Rattle.ym_machine.proofs.MachineStates.{below, onward}
-use Rattle.ym_machine.proofs.Places.{none_behind}
+use Rattle.ym_machine.proofs.Positions.{none_behind}
 use Rattle.ym_machine.proofs.ReceiverSteps.{IsEcho, IsFault, IsFresh, ReceiverStep, confirmation}
 use Rattle.ym_machine.proofs.SenderSteps.{Onward, SenderStep, helps}
 use Rattle.ym_machine.specs.ShortBursts.{SenderIdle}
@@ -116,17 +116,17 @@ worth forward = 1
 worth _ = 0
 
 module _ {H : Type 0} (frames : List (Frame H)) (confirm : Confirm) (ends : EndsOnce frames) (source : Bool) (came : List Control) (st : State) (m : CountersAgree confirm frames st) (told : (rest : List Control) → came ≡ control.Ack ∷ rest → st.sender ≡ SenderEnd.Running → (st.sent ≡ true) × (st.taken ≡ st.acknowledged + 1)) (running : st.sender ≡ SenderEnd.Running) where
-  on-left : {place : ℕ} → Onward frames came st place → left_in confirm frames st ≡ weights_from confirm frames place + 1
+  on-left : {position : ℕ} → Onward frames came st position → left_in confirm frames st ≡ weights_from confirm frames position + 1
   on-left (Onward.first unsent asked) = waiting-left confirm frames st.sent st.taken st.acknowledged st.first_eot unsent
   on-left (Onward.next is other) = again-left confirm frames st.sent st.taken st.acknowledged st.first_eot is.sent (told _ is.came_is running).1
 
-  sent-left : {place : ℕ} (end : SenderEnd) (cancel_pending : Bool) → end ≢ SenderEnd.Finished → Onward frames came st place
-      → rounds_remaining confirm frames (record st { acknowledged = place; sent = true; sender_retries = 0; sender = end; cancel_pending = cancel_pending }) + 1 ≡ left_in confirm frames st
-  sent-left {place} end cancel_pending other on =
-      let l = left-is confirm frames (record st { acknowledged = place; sent = true; sender_retries = 0; sender = end; cancel_pending = cancel_pending }) other in
+  sent-left : {position : ℕ} (end : SenderEnd) (cancel_pending : Bool) → end ≢ SenderEnd.Finished → Onward frames came st position
+      → rounds_remaining confirm frames (record st { acknowledged = position; sent = true; sender_retries = 0; sender = end; cancel_pending = cancel_pending }) + 1 ≡ left_in confirm frames st
+  sent-left {position} end cancel_pending other on =
+      let l = left-is confirm frames (record st { acknowledged = position; sent = true; sender_retries = 0; sender = end; cancel_pending = cancel_pending }) other in
       let o = onward frames confirm ends source came st m told running on in
       let old = on-left on in
-      let fresh = fresh-left confirm frames true st.taken place st.first_eot refl o.0 in
+      let fresh = fresh-left confirm frames true st.taken position st.first_eot refl o.0 in
       grind (arith, o, l, old, fresh)
 
   pub back-left : {new : State} (step : SenderStep frames source came st new) → rounds_remaining confirm frames new + worth (kind step) ≡ left_in confirm frames st
@@ -201,7 +201,7 @@ module _ {H : Type 0} (frames : List (Frame H)) (source : Bool) (came : List Con
   helped-forward h (SenderStep.is_cancelled r cans) = let x = h.helped in grind (arith, x, cans)
   helped-forward h _ = refl
 
-  on-no-nak : st.sent ≡ true → came ≡ control.Nak ∷ [] → {place : ℕ} → Onward frames came st place → ⊥
+  on-no-nak : st.sent ≡ true → came ≡ control.Nak ∷ [] → {position : ℕ} → Onward frames came st position → ⊥
   on-no-nak sent is (Onward.first unsent asked) = cc
   on-no-nak sent is (Onward.next a other) = let x = a.came_is in cc
 

@@ -18,7 +18,7 @@ pub record IsAcknowledged (came rest : List Control) (st : State) : Type 0 where
   pub sent : st.sent ≡ true
   pub came_is : came ≡ control.Ack ∷ rest
 
--- the frame at this place is to be sent: it was waited for, or the frame before it is acknowledged
+-- the frame at this position is to be sent: it was waited for, or the frame before it is acknowledged
 pub data Onward {H : Type 0} (frames : List (Frame H)) (came : List Control) (st : State) : ℕ → Type 0 where
   first : st.sent ≡ false → holds_start came ≡ true → Onward frames came st st.acknowledged
   next : {rest : List Control} → IsAcknowledged came rest st → frame_at frames st.acknowledged ≢ EndBlock → Onward frames came st (st.acknowledged + 1)
@@ -28,8 +28,8 @@ pub data SenderStep {H : Type 0} (frames : List (Frame H)) (source : Bool) (came
   retries : st.sender ≡ SenderEnd.Running → helps st.sent came ≡ false → st.sender_retries + 1 < GIVE_UP → SenderStep frames source came st (record st { sender_retries = st.sender_retries + 1 })
   gives_up : st.sender ≡ SenderEnd.Running → helps st.sent came ≡ false → GIVE_UP ≤ st.sender_retries + 1 → SenderStep frames source came st (record st { sender_retries = st.sender_retries + 1; sender = SenderEnd.NoReply; cancel_pending = true })
   waits : {rest : List Control} → st.sender ≡ SenderEnd.Running → IsAcknowledged came rest st → holds_start rest ≡ false → frame_at frames st.acknowledged ≢ EndBlock → CallsForStart (frame_at frames st.acknowledged) → SenderStep frames source came st (record st { acknowledged = st.acknowledged + 1; sent = false; sender_retries = 0 })
-  sends_it : {place : ℕ} → st.sender ≡ SenderEnd.Running → Onward frames came st place → SenderStep frames source came st (record st { acknowledged = place; sent = true; sender_retries = 0 })
-  breaks : {place : ℕ} → st.sender ≡ SenderEnd.Running → Onward frames came st place → source ≡ true → IsPiece (frame_at frames place) → SenderStep frames source came st (record st { acknowledged = place; sent = true; sender_retries = 0; sender = SenderEnd.SourceFailed; cancel_pending = true })
+  sends_it : {position : ℕ} → st.sender ≡ SenderEnd.Running → Onward frames came st position → SenderStep frames source came st (record st { acknowledged = position; sent = true; sender_retries = 0 })
+  breaks : {position : ℕ} → st.sender ≡ SenderEnd.Running → Onward frames came st position → source ≡ true → IsPiece (frame_at frames position) → SenderStep frames source came st (record st { acknowledged = position; sent = true; sender_retries = 0; sender = SenderEnd.SourceFailed; cancel_pending = true })
   finishes : {rest : List Control} → st.sender ≡ SenderEnd.Running → IsAcknowledged came rest st → frame_at frames st.acknowledged ≡ EndBlock → SenderStep frames source came st (record st { acknowledged = st.acknowledged + 1; sender = SenderEnd.Finished })
   is_cancelled : st.sender ≡ SenderEnd.Running → came ≡ control.Can ∷ control.Can ∷ [] → SenderStep frames source came st (record st { sender = SenderEnd.Cancelled })
 
@@ -40,9 +40,9 @@ module _ {H : Type 0} (frames : List (Frame H)) (source : Bool) (came : List Con
   missed : st.sender ≡ SenderEnd.Running → helps st.sent came ≡ false → Steps (nothing_gained st)
   missed running vain = on_cond Steps (nat_lt (st.sender_retries + 1) GIVE_UP) _ _ (λ e. retries running vain (grind (arith, nat_tests))) (λ e. gives_up running vain (grind (arith, nat_tests)))
 
-  sent_on : st.sender ≡ SenderEnd.Running → (place : ℕ) → Onward frames came st place → (failed : Bool) → source ≡ failed → (frame : Frame H) → frame_at frames place ≡ frame → Steps (sends failed frame place st)
-  sent_on running place on true s (Piece number body) e = breaks running on s (subst IsPiece (sym e) tt)
-  sent_on running place on _ s _ e = sends_it running on
+  sent_on : st.sender ≡ SenderEnd.Running → (position : ℕ) → Onward frames came st position → (failed : Bool) → source ≡ failed → (frame : Frame H) → frame_at frames position ≡ frame → Steps (sends failed frame position st)
+  sent_on running position on true s (Piece number body) e = breaks running on s (subst IsPiece (sym e) tt)
+  sent_on running position on _ s _ e = sends_it running on
 
   on : st.sender ≡ SenderEnd.Running → {rest : List Control} → IsAcknowledged came rest st → {frame : Frame H} → frame_at frames st.acknowledged ≡ frame → frame ≢ EndBlock
       → Steps (sends source (frame_at frames (st.acknowledged + 1)) (st.acknowledged + 1) st)

@@ -47,7 +47,7 @@ module _ {H : Type 0} (frames : List (Frame H)) (confirm : Confirm) (ends : Ends
   going : IsGoing st
   going = (subst SenderGoes (sym running) tt, f.goes)
 
-  onward-idle : {place : ℕ} → Onward frames came st place → ReceiverIdle st
+  onward-idle : {position : ℕ} → Onward frames came st position → ReceiverIdle st
   onward-idle (Onward.first unsent asked) = inl unsent
   onward-idle (Onward.next is other) = inr (told _ is.came_is running).1
 

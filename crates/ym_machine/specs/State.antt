@@ -51,9 +51,9 @@ pub data Speech : Type 0 where
 -- the frame where it stands, once it has sent it; CAN CAN after it gave up or its source failed,
 -- once
 abbrev pub said_by : SenderEnd → Bool → Bool → ℕ → Speech
-said_by SenderEnd.Running true cancel_pending place = FrameAt place
-said_by SenderEnd.NoReply sent true place = CanCan
-said_by SenderEnd.SourceFailed sent true place = CanCan
+said_by SenderEnd.Running true cancel_pending position = FrameAt position
+said_by SenderEnd.NoReply sent true position = CanCan
+said_by SenderEnd.SourceFailed sent true position = CanCan
 said_by _ _ _ _ = Nothing
 
 abbrev pub said : State → Speech

@@ -16,13 +16,13 @@ use Rattle.ym_machine.specs.State.{SenderEnd, ReceiverEnd, State, Speech, FrameA
 
 -- what the receiver hears
 pub data Sound : Type 0 where
-  At : ℕ → Sound  -- the frame at this place
+  At : ℕ → Sound  -- the frame at this position
   Can : Sound
   Bad : Sound  -- no frame
 
 -- of what the sender said, where the delivery is whole or not
 abbrev pub heard : Bool → Speech → Sound
-heard true (FrameAt place) = At place
+heard true (FrameAt position) = At position
 heard true CanCan = Can
 heard _ _ = Bad
 
@@ -131,17 +131,18 @@ nothing_gained st =
       cancel_pending = true;
     }
 
--- the frame at a place becomes the sent one; a data block is filled from the source, which may fail
+-- the frame at a position becomes the sent one; a data block is filled from the source, which may
+-- fail
 abbrev pub sends : {H : Type 0} → Bool → Frame H → ℕ → State → State
-sends true (Piece number body) place st =
+sends true (Piece number body) position st =
     record st {
-      acknowledged = place;
+      acknowledged = position;
       sent = true;
       sender_retries = 0;
       sender = SenderEnd.SourceFailed;
       cancel_pending = true;
     }
-sends _ _ place st = record st { acknowledged = place; sent = true; sender_retries = 0 }
+sends _ _ position st = record st { acknowledged = position; sent = true; sender_retries = 0 }
 
 -- F[s] is acknowledged: behind a data block the next frame is sent at once, behind a block 0 or an
 -- EOT where a C follows

@@ -115,7 +115,7 @@ pub fn committed_is_reported_or_one_more<B: Batch>()
 /// Where the invariant holds, what the receiver hears is the frame that it takes next, or the one
 /// that it took last, which is then not the end block while it runs.
 pub fn heard_is_next_or_last<B: Batch>()
-    ensures place { (files : List (File B.Header)) (confirm : Confirm) (st : State) (i : ℕ) →
+    ensures position { (files : List (File B.Header)) (confirm : Confirm) (st : State) (i : ℕ) →
         Invariant confirm (frames_of files) st → said st ≡ FrameAt i →
         (i ≡ st.acknowledged) × (i < length (frames_of files)) }
     ensures next_or_last { (files : List (File B.Header)) (confirm : Confirm) (st : State) (i : ℕ) →
@@ -158,24 +158,24 @@ pub fn a_receiver_asks_for_what_it_awaits<B: Batch>()
 
 /// A run of some turns and then of others is one run.
 pub fn a_run_goes_on<B: Batch>()
-    ensures states { (frames : List (Frame B.Header)) (confirm : Confirm) (front rest : List Turn)
+    ensures states { (frames : List (Frame B.Header)) (confirm : Confirm) (prefix rest : List Turn)
         (st : State) →
-        after_turns frames confirm (front ++ rest) st ≡
-        after_turns frames confirm rest (after_turns frames confirm front st) }
-    ensures trace { (frames : List (Frame B.Header)) (confirm : Confirm) (front rest : List Turn)
+        after_turns frames confirm (prefix ++ rest) st ≡
+        after_turns frames confirm rest (after_turns frames confirm prefix st) }
+    ensures trace { (frames : List (Frame B.Header)) (confirm : Confirm) (prefix rest : List Turn)
         (st : State) →
-        entries_of frames confirm (front ++ rest) st ≡
-        entries_of frames confirm front st ++
-        entries_of frames confirm rest (after_turns frames confirm front st) }
-    ensures damage { (frames : List (Frame B.Header)) (confirm : Confirm) (front rest : List Turn)
+        entries_of frames confirm (prefix ++ rest) st ≡
+        entries_of frames confirm prefix st ++
+        entries_of frames confirm rest (after_turns frames confirm prefix st) }
+    ensures damage { (frames : List (Frame B.Header)) (confirm : Confirm) (prefix rest : List Turn)
         (st : State) →
-        IsDamage frames confirm front st →
-        IsDamage frames confirm rest (after_turns frames confirm front st) →
-        IsDamage frames confirm (front ++ rest) st }
+        IsDamage frames confirm prefix st →
+        IsDamage frames confirm rest (after_turns frames confirm prefix st) →
+        IsDamage frames confirm (prefix ++ rest) st }
 {}
 
 /// What stands at each place of the list of frames, file by file.
-pub fn places_of_a_batch<B: Batch>()
+pub fn positions_of_a_batch<B: Batch>()
     ensures block_zero { (file : File B.Header) (files : List (File B.Header)) →
         frame_at (frames_of (file ∷ files)) 0 ≡ BlockZero file.header }
     ensures piece { (file : File B.Header) (files : List (File B.Header)) (n : ℕ) →

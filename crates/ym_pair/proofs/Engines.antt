@@ -3,7 +3,7 @@ use Rattle.std.proofs.Common.{◌≡◌, ◌∙◌, ◌⊎◌, inl, inr, ℕ, Bo
 use Rattle.ym_pair.proofs.Names.{Reply, Shape, Confirm, frames_of, State, start, committed, reported, after_turn, Heard, controls_in, hears, ReceiverParts, HearsGives, SenderParts, IsSender, IsStep, counts, Batch, FileParts, IsFile, AreNew, Pair, Goes, sent_by, seen_of, PairRefines, CommitsFirst, Delivery, Lost, Round, Spoke, Answered, ArrivesThere, ArrivesBack, SenderAlone, PairUp, ends, up_to_start}
 use Rattle.ym_machine.specs.Frames.{count_within, files_within, IsPrefix}
 use Rattle.ym_machine.specs.Machine.{Invariant, KeepsReceiver, sender_step}
-use Rattle.ym_core.specs.Place.{done_at}
+use Rattle.ym_core.specs.Position.{done_at}
 use Rattle.ym_link.specs.ReceiverRefines.{KeepsFirst}
 use Rattle.ym_link.specs.ReceiverRefines as receiver
 use Rattle.ym_link.specs.SenderRefines.{SenderRefines, AllTold, batch_of}
@@ -27,7 +27,7 @@ pub record Laws : Type 0 where
       Invariant confirm (frames_of files) (sender_step (frames_of files) failed [] st) × AllTold new.files
       × SenderRefines files (sender_step (frames_of files) failed [] st) new × KeepsReceiver st (sender_step (frames_of files) failed [] st)
   pub new_stand : (pair : Pair) → AreNew pair → All IsFile pair.sender.files → PairRefines pair.receiver.receiver.confirm (batch_of pair.sender.shape pair.sender.files) start pair
-  pub done : (files : Batch) (st : State) (sender : SenderParts) → SenderRefines files st sender → done_at (length sender.files) sender.standing.place ≡ count_within files st.acknowledged
+  pub done : (files : Batch) (st : State) (sender : SenderParts) → SenderRefines files st sender → done_at (length sender.files) sender.standing.position ≡ count_within files st.acknowledged
   pub counted : (files : Batch) (n : ℕ) → length (files_within files n) ≡ count_within files n
   pub committed_first : (files : Batch) (st : State) → IsPrefix (committed files st) files
   pub reported_within : (files : Batch) (confirm : Confirm) (st : State) → Invariant confirm (frames_of files) st → IsPrefix (reported files st) (committed files st)

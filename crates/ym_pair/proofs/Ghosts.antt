@@ -1,9 +1,9 @@
 -- A sender and one that is like it but for more retries: they hear alike, until that one gives up.
 use Rattle.std.proofs.Common.{◌≡◌, ◌≢◌, ◌∙◌, ◌+◌, ◌<◌, ◌≤◌, ◌⊎◌, inl, inr, ℕ, Bool, true, false, nat_lt, List, [], Option, None, Some, refl, sym, ap, subst, arith}
 use Rattle.std.proofs.lemmas.Bool.{cond_both, ltb-true, ltb-false}
-use Rattle.ym_pair.proofs.Names.{Control, GIVE_UP, reads, missed, read_through, after_reading, after_fill, hears, hears_in, Mode, Waiting, Sent, Place, Reading, Stop, Again, Finishes, Standing, Running, SenderParts, IsStep, IsFilled, counts}
+use Rattle.ym_pair.proofs.Names.{Control, GIVE_UP, reads, missed, read_through, after_scan, after_fill, hears, hears_in, Mode, Waiting, Sent, Position, Scan, Stop, Again, Finishes, Standing, Running, SenderParts, IsStep, IsFilled, counts}
 use Rattle.ym_core.specs.Standing.{step}
-use Rattle.ym_core.specs.declared.reading.Stop.TheVariants.{Sends, Cancels}
+use Rattle.ym_core.specs.declared.scan.Stop.TheVariants.{Sends, Cancels}
 use Rattle.ym_core.specs.declared.standing.SendStep.{SendStep as Step}
 use Rattle.ym_core.specs.declared.state.SendState.TheVariants.{NoReply}
 use Rattle.ym_link.specs.Sender.{IsHeld}
@@ -59,38 +59,38 @@ missed-alike failed s m few = elim (missed-is (with_retries m s)) [
   | inr over ↦ subst (λ x. Alike failed x (missed s)) (sym over.1) (step-gone failed _ (missed s) refl)
 ]
 
-through-alike : (failed : Bool) (s : Standing) (m : ℕ) (place : Place) (old new : Mode) → s.retries ≤ m → Alike failed (read_through (with_retries m s) place old new) (read_through s place old new)
-through-alike failed s m place Sent Sent few = missed-alike failed s m few
-through-alike failed s m place Waiting Waiting few = missed-alike failed s m few
-through-alike failed s m place _ _ few = step-alike failed _ _ (same-like _)
+through-alike : (failed : Bool) (s : Standing) (m : ℕ) (position : Position) (old new : Mode) → s.retries ≤ m → Alike failed (read_through (with_retries m s) position old new) (read_through s position old new)
+through-alike failed s m position Sent Sent few = missed-alike failed s m few
+through-alike failed s m position Waiting Waiting few = missed-alike failed s m few
+through-alike failed s m position _ _ few = step-alike failed _ _ (same-like _)
 
-reading-alike : (failed : Bool) (s : Standing) (m : ℕ) (place : Place) (mode : Mode) (stop : Option Stop) → s.retries ≤ m → Alike failed (after_reading (with_retries m s) place mode stop) (after_reading s place mode stop)
-reading-alike failed s m place mode None few = through-alike failed s m place s.mode mode few
-reading-alike failed s m place mode (Some Again) few = missed-alike failed s m few
-reading-alike failed s m place mode (Some Sends) few = λ other. same-like _
-reading-alike failed s m place mode (Some Finishes) few = step-alike failed _ _ (m, few, refl)
-reading-alike failed s m place mode (Some Cancels) few = step-alike failed _ _ (m, few, refl)
+scan-alike : (failed : Bool) (s : Standing) (m : ℕ) (position : Position) (mode : Mode) (stop : Option Stop) → s.retries ≤ m → Alike failed (after_scan (with_retries m s) position mode stop) (after_scan s position mode stop)
+scan-alike failed s m position mode None few = through-alike failed s m position s.mode mode few
+scan-alike failed s m position mode (Some Again) few = missed-alike failed s m few
+scan-alike failed s m position mode (Some Sends) few = λ other. same-like _
+scan-alike failed s m position mode (Some Finishes) few = step-alike failed _ _ (m, few, refl)
+scan-alike failed s m position mode (Some Cancels) few = step-alike failed _ _ (m, few, refl)
 
 hears-alike : (failed : Bool) (counts : List ℕ) (s : Standing) (m : ℕ) (cs : List Control) → s.retries ≤ m → s.state ≡ Running → Alike failed (hears counts (with_retries m s) cs) (hears counts s cs)
 hears-alike failed counts s m cs few on =
-    let r : Reading = reads counts s.place s.mode cs in
-    subst (λ now. Alike failed (hears_in now counts (with_retries m s) cs) (hears_in now counts s cs)) (sym on) (reading-alike failed s m r.place r.mode r.stop few)
+    let r : Scan = reads counts s.position s.mode cs in
+    subst (λ now. Alike failed (hears_in now counts (with_retries m s) cs) (hears_in now counts s cs)) (sym on) (scan-alike failed s m r.position r.mode r.stop few)
 
 -- the same frame is filled
-through-fills : (s : Standing) (m : ℕ) (place : Place) (old new : Mode) → (read_through (with_retries m s) place old new).fills ≡ (read_through s place old new).fills
-through-fills s m place Sent Sent = missed-fills (with_retries m s) ∙ sym (missed-fills s)
-through-fills s m place Waiting Waiting = missed-fills (with_retries m s) ∙ sym (missed-fills s)
-through-fills s m place _ _ = refl
+through-fills : (s : Standing) (m : ℕ) (position : Position) (old new : Mode) → (read_through (with_retries m s) position old new).fills ≡ (read_through s position old new).fills
+through-fills s m position Sent Sent = missed-fills (with_retries m s) ∙ sym (missed-fills s)
+through-fills s m position Waiting Waiting = missed-fills (with_retries m s) ∙ sym (missed-fills s)
+through-fills s m position _ _ = refl
 
-reading-fills : (s : Standing) (m : ℕ) (place : Place) (mode : Mode) (stop : Option Stop) → (after_reading (with_retries m s) place mode stop).fills ≡ (after_reading s place mode stop).fills
-reading-fills s m place mode None = through-fills s m place s.mode mode
-reading-fills s m place mode (Some Again) = missed-fills (with_retries m s) ∙ sym (missed-fills s)
-reading-fills s m place mode (Some _) = refl
+scan-fills : (s : Standing) (m : ℕ) (position : Position) (mode : Mode) (stop : Option Stop) → (after_scan (with_retries m s) position mode stop).fills ≡ (after_scan s position mode stop).fills
+scan-fills s m position mode None = through-fills s m position s.mode mode
+scan-fills s m position mode (Some Again) = missed-fills (with_retries m s) ∙ sym (missed-fills s)
+scan-fills s m position mode (Some _) = refl
 
 hears-fills : (counts : List ℕ) (s : Standing) (m : ℕ) (cs : List Control) → s.state ≡ Running → (hears counts (with_retries m s) cs).fills ≡ (hears counts s cs).fills
 hears-fills counts s m cs on =
-    let r : Reading = reads counts s.place s.mode cs in
-    subst (λ now. (hears_in now counts (with_retries m s) cs).fills ≡ (hears_in now counts s cs).fills) (sym on) (reading-fills s m r.place r.mode r.stop)
+    let r : Scan = reads counts s.position s.mode cs in
+    subst (λ now. (hears_in now counts (with_retries m s) cs).fills ≡ (hears_in now counts s cs).fills) (sym on) (scan-fills s m r.position r.mode r.stop)
 
 -- ---- Senders
 
@@ -105,9 +105,9 @@ pub record Comes (m : ℕ) (s : SenderParts) (cs : List Control) (next : SenderP
   pub files : new.files ≡ next.files
   pub goes_on : new.standing.state ≢ NoReply → (n : ℕ) × (next.standing.retries ≤ n) × (new ≡ ghost n next)
 
-held-same : (fills : Option Place) (standing : Standing) (next : SenderParts) (frame : List ℕ) → IsHeld fills next frame → IsHeld fills (record next { standing = standing }) frame
+held-same : (fills : Option Position) (standing : Standing) (next : SenderParts) (frame : List ℕ) → IsHeld fills next frame → IsHeld fills (record next { standing = standing }) frame
 held-same None standing next frame held = held
-held-same (Some place) standing next frame held = held
+held-same (Some position) standing next frame held = held
 
 -- at the sender's own delivery
 pub comes-along : (m : ℕ) (s : SenderParts) (cs : List Control) (next : SenderParts) → s.standing.retries ≤ m → s.standing.state ≡ Running → HearsControls s cs next → Comes m s cs next
@@ -137,7 +137,7 @@ comes-along m s cs next few on heard =
 quiet-retries : (counts : List ℕ) (s : Standing) → s.state ≡ Running → hears counts s [] ≡ missed s
 quiet-retries counts s on = subst (λ now. hears_in now counts s [] ≡ missed s) (sym on) (by s.mode)
   where
-    by : (mode : Mode) → read_through s s.place mode mode ≡ missed s
+    by : (mode : Mode) → read_through s s.position mode mode ≡ missed s
     by Sent = refl
     by Waiting = refl
 

@@ -2,9 +2,9 @@ mod Names
 pub mod Acknowledged
 pub mod Engines
 pub mod Finishing
-pub mod Fronts
+pub mod Prefixes
 pub mod Ghosts
-pub mod PlacesBefore
+pub mod PositionsBefore
 pub mod OnTheTape
 pub mod Paired
 pub mod SenderLaws

@@ -1,7 +1,7 @@
 -- The runs of two engines, step by step: a round in which their deliveries pair up is a round of the pair.
 use Rattle.std.proofs.Common.{◌≡◌, ◌≢◌, ◌∙◌, ◌⊎◌, ◌+◌, inl, inr, nat_lt, ℕ, Bool, true, false, List, [], ◌∷◌, ◌++◌, length, Option, None, Some, Result, Ok, Err, unwrap_or, refl, sym, ap, subst, arith}
 use Rattle.std.proofs.lemmas.Bool.{cond_both, ltb-true}
-use Rattle.ym_pair.proofs.Names.{Confirm, Batch, State, Receiver, verdict_of, Control, Ack, Can, Reply, Silence, Item, IsPlace, count_at, next_of, controls_in, reads, after_reading, hears, hears_in, Heard, Bad, Mode, Waiting, Sent, Place, Header, Block, Eot, End, Reading, Standing, SendState, SenderHears, sender_none, sender_more, ReceiverHears, receiver_none, receiver_more, Tape, ReceiverParts, HearsGives, SenderParts, IsSender, IsStep, counts, spoken, written_for, Goes, sent_by, seen_of, Delivery, Lost, Spoke, Answered, spoke_in, spoke_along, last_words, answered_in, ArrivesThere, ArrivesBack, ends, up_to_start}
+use Rattle.ym_pair.proofs.Names.{Confirm, Batch, State, Receiver, verdict_of, Control, Ack, Can, Reply, Silence, Item, IsPosition, count_at, next_of, controls_in, reads, after_scan, hears, hears_in, Heard, Bad, Mode, Waiting, Sent, Position, Header, Block, Eot, End, Scan, Standing, SendState, SenderHears, sender_none, sender_more, ReceiverHears, receiver_none, receiver_more, Tape, ReceiverParts, HearsGives, SenderParts, IsSender, IsStep, counts, spoken, written_for, Goes, sent_by, seen_of, Delivery, Lost, Spoke, Answered, spoke_in, spoke_along, last_words, answered_in, ArrivesThere, ArrivesBack, ends, up_to_start}
 use Rattle.ym_frame.specs.Control.{reply_bytes}
 use Rattle.ym_frame.specs.Frame.{IsBytes, IsVerdict, HasFrame}
 use Rattle.ym_frame.specs.declared.control.Control.TheVariants.{Nak}
@@ -24,20 +24,20 @@ use Rattle.ym_pair.proofs.SenderLaws.{SenderLaws}
 
 -- ---- Nothing is read behind the first C
 
-reads-up : (counts : List ℕ) (place : Place) (mode : Mode) (cs : List Control) → reads counts place mode cs ≡ reads counts place mode (up_to_start cs)
-reads-up counts place Waiting (Nak ∷ cs) = reads-up counts place Waiting cs
+reads-up : (counts : List ℕ) (position : Position) (mode : Mode) (cs : List Control) → reads counts position mode cs ≡ reads counts position mode (up_to_start cs)
+reads-up counts position Waiting (Nak ∷ cs) = reads-up counts position Waiting cs
 reads-up counts (Header file) Sent (Ack ∷ cs) = reads-up counts (next_of counts (Header file)) Waiting cs
 reads-up counts (Eot file) Sent (Ack ∷ cs) = reads-up counts (next_of counts (Eot file)) Waiting cs
-reads-up counts place Waiting (Ack ∷ cs) = reads-up counts place Waiting cs
-reads-up counts place mode (Can ∷ Ack ∷ cs) = reads-up counts place mode (Ack ∷ cs)
-reads-up counts place Waiting (Can ∷ Nak ∷ cs) = reads-up counts place Waiting (Nak ∷ cs)
-reads-up counts place mode _ = refl
+reads-up counts position Waiting (Ack ∷ cs) = reads-up counts position Waiting cs
+reads-up counts position mode (Can ∷ Ack ∷ cs) = reads-up counts position mode (Ack ∷ cs)
+reads-up counts position Waiting (Can ∷ Nak ∷ cs) = reads-up counts position Waiting (Nak ∷ cs)
+reads-up counts position mode _ = refl
 
 hears-up : (counts : List ℕ) (s : Standing) (cs : List Control) → hears counts s cs ≡ hears counts s (up_to_start cs)
 hears-up counts s cs = by s.state
   where
     by : (now : SendState) → hears_in now counts s cs ≡ hears_in now counts s (up_to_start cs)
-    by send_state.Running = ap (λ (r : Reading). after_reading s r.place r.mode r.stop) (reads-up counts s.place s.mode cs)
+    by send_state.Running = ap (λ (r : Scan). after_scan s r.position r.mode r.stop) (reads-up counts s.position s.mode cs)
     by _ = refl
 
 -- ---- The runs as steps
@@ -80,7 +80,7 @@ answers r t out (receiving.unwritten _ _ h reply new is on some gives spoken) = 
 answers r t out (receiving.heard _ _ h reply new _ is on some gives later) = (new, reply, on, gives, inl refl, answers new _ out later)
 answers r t out _ = refl
 
--- along a course
+-- along a history
 speaks-more : (s between new : SenderParts) (spoke : List Spoke) (one : Spoke) → SpeaksTo s spoke between → IsSender between → between.standing.state ≡ send_state.Running → one.wrote ≡ sent_by between →
     HearsControls between (up_to_start (controls_in one.came)) new → SpeaksTo s (spoke ++ one ∷ []) new
 speaks-more s between new [] one speaks is on wrote heard =
@@ -125,17 +125,17 @@ answers-all r t out _ ok = absurd (cc)
 
 -- ---- A sender that has ended
 
-next-place : (counts : List ℕ) (place : Place) → IsPlace counts place → IsPlace counts (next_of counts place)
-next-place counts (Header file) within =
-    cond_both (nat_lt 0 (count_at counts file)) (Block file 1) (Eot file) (IsPlace counts) (λ e. let some = ltb-true 0 (count_at counts file) e in (within, omega arith, omega (arith, some))) (λ e. within)
-next-place counts (Block file k) within =
-    cond_both (nat_lt k (count_at counts file)) (Block file (k + 1)) (Eot file) (IsPlace counts) (λ e. let some = ltb-true k (count_at counts file) e in (within.0, omega arith, omega (arith, some))) (λ e. within.0)
-next-place counts (Eot file) within = cond_both (nat_lt (file + 1) (length counts)) (Header (file + 1)) End (IsPlace counts) (λ e. ltb-true (file + 1) (length counts) e) (λ e. tt)
-next-place counts End within = tt
+next-position : (counts : List ℕ) (position : Position) → IsPosition counts position → IsPosition counts (next_of counts position)
+next-position counts (Header file) within =
+    cond_both (nat_lt 0 (count_at counts file)) (Block file 1) (Eot file) (IsPosition counts) (λ e. let some = ltb-true 0 (count_at counts file) e in (within, omega arith, omega (arith, some))) (λ e. within)
+next-position counts (Block file k) within =
+    cond_both (nat_lt k (count_at counts file)) (Block file (k + 1)) (Eot file) (IsPosition counts) (λ e. let some = ltb-true k (count_at counts file) e in (within.0, omega arith, omega (arith, some))) (λ e. within.0)
+next-position counts (Eot file) within = cond_both (nat_lt (file + 1) (length counts)) (Header (file + 1)) End (IsPosition counts) (λ e. ltb-true (file + 1) (length counts) e) (λ e. tt)
+next-position counts End within = tt
 
-moved-place : (counts : List ℕ) (place new : Place) (mode : Mode) (cs : List Control) → IsPlace counts place → Moves counts place mode cs new → IsPlace counts new
-moved-place counts place new mode cs within (inl same) = rw same within
-moved-place counts place new mode cs within (inr moved) = rw moved.3 (next-place counts place within)
+moved-position : (counts : List ℕ) (position new : Position) (mode : Mode) (cs : List Control) → IsPosition counts position → Moves counts position mode cs new → IsPosition counts new
+moved-position counts position new mode cs within (inl same) = rw same within
+moved-position counts position new mode cs within (inr moved) = rw moved.3 (next-position counts position within)
 
 -- it keeps to what each sender keeps to
 ended-is : SenderLaws → (s new : SenderParts) (cs : List Control) → IsSender s → s.standing.state ≡ send_state.Running → HearsControls s cs new → new.standing.state ≢ send_state.Running → IsSender new
@@ -143,7 +143,7 @@ ended-is laws s new cs is on heard over =
     let counted : counts new ≡ counts s = laws.counts s _ heard.0 new heard.1 in
     record {
       files = laws.files s _ heard.0 new heard.1 is.files;
-      place = subst (λ c. IsPlace c new.standing.place) (sym counted) (moved-place (counts s) s.standing.place new.standing.place s.standing.mode cs is.place (laws.goes s cs heard.0 new on heard.1));
+      position = subst (λ c. IsPosition c new.standing.position) (sym counted) (moved-position (counts s) s.standing.position new.standing.position s.standing.mode cs is.position (laws.goes s cs heard.0 new on heard.1));
       retries = λ runs. absurd (over runs);
       frame = λ runs. absurd (over runs);
     }

@@ -1,8 +1,8 @@
 -- What the laws say of a sender's steps.
-use Rattle.ym_link.specs.Moves.{GoesOnePlace, FinishesLast, KeepsCounts, KeepsFiles}
+use Rattle.ym_link.specs.Moves.{GoesOnePosition, FinishesLast, KeepsCounts, KeepsFiles}
 
 pub record SenderLaws : Type 0 where
-  pub goes : GoesOnePlace
+  pub goes : GoesOnePosition
   pub finishes : FinishesLast
   pub counts : KeepsCounts
   pub files : KeepsFiles

@@ -39,7 +39,7 @@ first_eots false = []
 first_eots true = item.Eot ∷ []
 
 -- the open file was begun by this block 0, and has these data blocks so far, and perhaps a first EOT
-pub record IsOpen (confirm : Confirm) (items front : List Item) (open_file : OpenFile) (kept : Kept) (file : FileHeard) : Type 0 where
+pub record IsOpen (confirm : Confirm) (items prefix : List Item) (open_file : OpenFile) (kept : Kept) (file : FileHeard) : Type 0 where
   pub reads : Reads length_limit file.zero (File file.header)
   pub opened : kept.opened ≡ Some file.header
   pub size : open_file.length ≡ file.header.length
@@ -47,11 +47,11 @@ pub record IsOpen (confirm : Confirm) (items front : List Item) (open_file : Ope
   pub bytes : (told : Told) → kept.told ≡ Some told → told.open_bytes ≡ bytes_heard file
   pub blocks : open_file.taken < open_file.length → open_file.blocks ≡ length file.bodies
   pub first : open_file.first_eot ≡ true → (confirm ≡ Twice) × (open_file.length ≤ open_file.taken)
-  pub items_are : items ≡ front ++ (block 0 file.zero ∷ (blocks_from 1 file.bodies ++ first_eots open_file.first_eot))
+  pub items_are : items ≡ prefix ++ (block 0 file.zero ∷ (blocks_from 1 file.bodies ++ first_eots open_file.first_eot))
 
 abbrev pub OpenHolds : Confirm → List Item → List Item → Stage → Kept → Type 0
-OpenHolds confirm items front AwaitHeader kept = items ≡ front
-OpenHolds confirm items front (InFile open_file) kept = (file : FileHeard) × IsOpen confirm items front open_file kept file
+OpenHolds confirm items prefix AwaitHeader kept = items ≡ prefix
+OpenHolds confirm items prefix (InFile open_file) kept = (file : FileHeard) × IsOpen confirm items prefix open_file kept file
 
 -- these items spell the committed files, and behind them what is there of the open one
 pub record Holds (confirm : Confirm) (items : List Item) (stage : Stage) (kept : Kept) : Type 0 where

@@ -21,11 +21,11 @@ among-more h [] items all heard_as among = among-skip h items all among
 among-more h (i ∷ []) items all heard_as among = inl (heard_as, among)
 among-more h (i ∷ j ∷ first) items all heard_as among = absurd heard_as
 
-among-front : (front more : List Item) (all : List Heard) → AreAmong (front ++ more) all → AreAmong front all
-among-front [] more all among = tt
-among-front (i ∷ front) more [] among = absurd among
-among-front (i ∷ front) more (h ∷ all) (inl here) = inl (here.0, among-front front more all here.1)
-among-front (i ∷ front) more (h ∷ all) (inr later) = inr (among-front (i ∷ front) more all later)
+among-prefix : (prefix more : List Item) (all : List Heard) → AreAmong (prefix ++ more) all → AreAmong prefix all
+among-prefix [] more all among = tt
+among-prefix (i ∷ prefix) more [] among = absurd among
+among-prefix (i ∷ prefix) more (h ∷ all) (inl here) = inl (here.0, among-prefix prefix more all here.1)
+among-prefix (i ∷ prefix) more (h ∷ all) (inr later) = inr (among-prefix (i ∷ prefix) more all later)
 
 record Spelt (confirm : Confirm) (items : List Item) (all : List Heard) (new : ReceiverParts) : Type 0 where
   more : List Item
@@ -51,7 +51,7 @@ run-spelt r t out (receiving.heard _ _ h reply new _ is on some gives later) con
     }
 run-spelt r t out _ confirm items same holds = record { more = []; among = tt; holds = nothing confirm items heard.Bad r.kept r.receiver.stage holds }
 
--- the same along a course, whose last delivery stands last
+-- the same along a history, whose last delivery stands last
 among-snoc : (h : Heard) (items more : List Item) (all : List Heard) → AreAmong items all → IsHeardAs h more → AreAmong (items ++ more) (all ++ h ∷ [])
 among-snoc h [] [] all among heard_as = tt
 among-snoc h [] (i ∷ []) [] among heard_as = inl (heard_as, tt)
@@ -67,11 +67,11 @@ record SpeltAlong (confirm : Confirm) (all : List Heard) (new : ReceiverParts) :
   among : AreAmong items all
   holds : Holds confirm items new.receiver.stage new.kept
 
-course-spelt : (r : ReceiverParts) (all : List Heard) (progress : ℕ) (new : ReceiverParts) (hears : ReceiverHears r all progress new) (confirm : Confirm) → r.receiver.confirm ≡ confirm →
+history-spelt : (r : ReceiverParts) (all : List Heard) (progress : ℕ) (new : ReceiverParts) (hears : ReceiverHears r all progress new) (confirm : Confirm) → r.receiver.confirm ≡ confirm →
     Holds confirm [] r.receiver.stage r.kept → SpeltAlong confirm all new
-course-spelt r all progress new (receiver_none _) confirm same holds = record { confirm_is = same; items = []; among = tt; holds = holds }
-course-spelt r all progress new (receiver_more _ before steps between h reply _ hears is on large gives) confirm same holds =
-    let so_far : SpeltAlong confirm before between = course-spelt r before steps between hears confirm same holds in
+history-spelt r all progress new (receiver_none _) confirm same holds = record { confirm_is = same; items = []; among = tt; holds = holds }
+history-spelt r all progress new (receiver_more _ before steps between h reply _ hears is on large gives) confirm same holds =
+    let so_far : SpeltAlong confirm before between = history-spelt r before steps between hears confirm same holds in
     let behind : Behind confirm so_far.items h new = hears-holds confirm so_far.items between h reply new is on so_far.confirm_is so_far.holds gives in
     record {
       confirm_is = behind.confirm_is;
@@ -81,9 +81,9 @@ course-spelt r all progress new (receiver_more _ before steps between h reply _ 
     }
 
 -- the items of the committed files are in front
-front-among : (confirm : Confirm) (items front : List Item) (stage : Stage) (kept : Kept) (all : List Heard) → OpenHolds confirm items front stage kept → AreAmong items all → AreAmong front all
-front-among confirm items front AwaitHeader kept all in_hand among = subst (λ x. AreAmong x all) in_hand among
-front-among confirm items front (InFile file) kept all in_hand among = among-front front _ all (subst (λ x. AreAmong x all) in_hand.1.items_are among)
+prefix-among : (confirm : Confirm) (items prefix : List Item) (stage : Stage) (kept : Kept) (all : List Heard) → OpenHolds confirm items prefix stage kept → AreAmong items all → AreAmong prefix all
+prefix-among confirm items prefix AwaitHeader kept all in_hand among = subst (λ x. AreAmong x all) in_hand among
+prefix-among confirm items prefix (InFile file) kept all in_hand among = among-prefix prefix _ all (subst (λ x. AreAmong x all) in_hand.1.items_are among)
 
 -- a new receiver has nothing yet
 starts : (r : ReceiverParts) → r.receiver ≡ new_receiver r.receiver.confirm → IsNew r.kept → Holds r.receiver.confirm [] r.receiver.stage r.kept
@@ -101,7 +101,7 @@ held-commits : (confirm : Confirm) (items : List Item) (all : List Heard) (stage
 held-commits confirm items all stage kept among holds = record {
   files = holds.files;
   spelled = holds.spelled;
-  among = front-among confirm items (spelling confirm holds.files) stage kept all holds.in_hand among;
+  among = prefix-among confirm items (spelling confirm holds.files) stage kept all holds.in_hand among;
   headers = holds.headers;
   bytes = holds.bytes;
 }
@@ -113,8 +113,8 @@ commits-heard r t out run fresh new =
     let spelt : Spelt confirm [] (heard_in r t out run) out.receiver = run-spelt r t out run confirm [] refl (starts r fresh new) in
     held-commits confirm spelt.more (heard_in r t out run) out.receiver.receiver.stage out.receiver.kept spelt.among spelt.holds
 
-pub course-commits : (r new : ReceiverParts) (all : List Heard) (progress : ℕ) (hears : ReceiverHears r all progress new) → r.receiver ≡ new_receiver r.receiver.confirm → IsNew r.kept →
+pub history-commits : (r new : ReceiverParts) (all : List Heard) (progress : ℕ) (hears : ReceiverHears r all progress new) → r.receiver ≡ new_receiver r.receiver.confirm → IsNew r.kept →
     CommitsTheHeard r.receiver.confirm all new.kept
-course-commits r new all progress hears fresh kept =
-    let spelt = course-spelt r all progress new hears r.receiver.confirm refl (starts r fresh kept) in
+history-commits r new all progress hears fresh kept =
+    let spelt = history-spelt r all progress new hears r.receiver.confirm refl (starts r fresh kept) in
     held-commits r.receiver.confirm spelt.items all new.receiver.stage new.kept spelt.among spelt.holds

@@ -11,12 +11,12 @@ use Rattle.ym_file.specs.Kept.{Kept, Told}
 use Rattle.ym_file.specs.declared.plan.Shape.{Shape}
 use Rattle.ym_machine.specs.declared.confirm.Confirm.{Confirm}
 use Rattle.ym_machine.specs.declared.confirm.Confirm.TheVariants.{Twice, Once}
-use Rattle.ym_core.specs.Place.{count_at}
-use Rattle.ym_core.specs.Reading.{controls_in}
+use Rattle.ym_core.specs.Position.{count_at}
+use Rattle.ym_core.specs.Scan.{controls_in}
 use Rattle.ym_core.specs.declared.delivery.Heard.{Heard}
 use Rattle.ym_core.specs.declared.delivery.Heard.TheVariants.{Item as Heard_item}
-use Rattle.ym_core.specs.declared.place.Place.{Place}
-use Rattle.ym_core.specs.declared.place.Place.TheVariants as place
+use Rattle.ym_core.specs.declared.position.Position.{Position}
+use Rattle.ym_core.specs.declared.position.Position.TheVariants as position
 use Rattle.ym_link.specs.FrameAt.{IsFrameAt}
 use Rattle.ym_link.specs.Moves.{SaysAck}
 use Rattle.ym_file.specs.SourceFile.{FileParts}
@@ -85,40 +85,42 @@ pub record CommitsTheHeard (confirm : Confirm) (heard : List Heard) (kept : Kept
 
 -- ---- A sender
 
--- The frames of these places of a batch were acknowledged, in this order, whatever came between:
+-- The frames of these positions of a batch were acknowledged, in this order, whatever came between:
 -- for each there is a delivery of its own in which an ACK was read while exactly that frame was
 -- what had been written last.
-abbrev pub AreAcknowledged : Shape → List FileParts → List Place → List Spoke → Type 0
+abbrev pub AreAcknowledged : Shape → List FileParts → List Position → List Spoke → Type 0
 AreAcknowledged shape files [] all = Unit {0}
-AreAcknowledged shape files (place ∷ places) [] = ⊥
-AreAcknowledged shape files (place ∷ places) (one ∷ all) =
-    (IsFrameAt shape files place one.wrote × SaysAck (controls_in one.came) ×
-    AreAcknowledged shape files places all) ⊎
-    AreAcknowledged shape files (place ∷ places) all
+AreAcknowledged shape files (position ∷ positions) [] = ⊥
+AreAcknowledged shape files (position ∷ positions) (one ∷ all) =
+    (IsFrameAt shape files position one.wrote × SaysAck (controls_in one.came) ×
+    AreAcknowledged shape files positions all) ⊎
+    AreAcknowledged shape files (position ∷ positions) all
 
--- the places of the first so many data blocks of a file
-abbrev pub block_places : ℕ → ℕ → List Place
-block_places file zero = []
-block_places file (suc n) = block_places file n ++ place.Block file (suc n) ∷ []
+-- the positions of the first so many data blocks of a file
+abbrev pub block_positions : ℕ → ℕ → List Position
+block_positions file zero = []
+block_positions file (suc n) = block_positions file n ++ position.Block file (suc n) ∷ []
 
 -- of all frames of a file that has so many data blocks: its block 0, they, and its EOT
-abbrev pub file_places : ℕ → ℕ → List Place
-file_places file count = place.Header file ∷ (block_places file count ++ place.Eot file ∷ [])
+abbrev pub file_positions : ℕ → ℕ → List Position
+file_positions file count =
+    position.Header file ∷ (block_positions file count ++ position.Eot file ∷ [])
 
 -- of all frames of the first so many files
-abbrev pub files_places : List ℕ → ℕ → List Place
-files_places counts zero = []
-files_places counts (suc n) = files_places counts n ++ file_places n (count_at counts n)
+abbrev pub files_positions : List ℕ → ℕ → List Position
+files_positions counts zero = []
+files_positions counts (suc n) = files_positions counts n ++ file_positions n (count_at counts n)
 
 -- of all frames of a batch: those of its files, and the end block
-abbrev pub batch_places : List ℕ → List Place
-batch_places counts = files_places counts (length counts) ++ place.End ∷ []
+abbrev pub batch_positions : List ℕ → List Position
+batch_positions counts = files_positions counts (length counts) ++ position.End ∷ []
 
--- of all frames before this place
-abbrev pub places_before : List ℕ → Place → List Place
-places_before counts (place.Header file) = files_places counts file
-places_before counts (place.Block file k) =
-    files_places counts file ++ (place.Header file ∷ block_places file (k - 1))
-places_before counts (place.Eot file) =
-    files_places counts file ++ (place.Header file ∷ block_places file (count_at counts file))
-places_before counts place.End = files_places counts (length counts)
+-- of all frames before this position
+abbrev pub positions_before : List ℕ → Position → List Position
+positions_before counts (position.Header file) = files_positions counts file
+positions_before counts (position.Block file k) =
+    files_positions counts file ++ (position.Header file ∷ block_positions file (k - 1))
+positions_before counts (position.Eot file) =
+    files_positions counts file ++
+    (position.Header file ∷ block_positions file (count_at counts file))
+positions_before counts position.End = files_positions counts (length counts)

@@ -6,7 +6,7 @@ use Rattle.ym_frame.specs.Control.{reply_bytes}
 use Rattle.ym_frame.specs.declared.control.Reply.{Reply}
 use Rattle.ym_frame.specs.declared.control.Reply.TheVariants.{Silence}
 use Rattle.ym_core.specs.declared.delivery.Heard.{Heard}
-use Rattle.ym_link.specs.Course.{SenderHears, sender_none, sender_more, ReceiverHears, receiver_none, receiver_more}
+use Rattle.ym_link.specs.History.{SenderHears, sender_none, sender_more, ReceiverHears, receiver_none, receiver_more}
 use Rattle.ym_link.specs.Delivery.{taken}
 use Rattle.ym_link.specs.Port.{Tape}
 use Rattle.ym_link.specs.ReceiveOver.{has_item}
@@ -42,7 +42,7 @@ last_words s t out (sending.unread _ _ f is on none) = written_for (spoken s)
 last_words s t out (sending.heard _ _ bytes new _ is on some gives later) =
     last_words new _ out later
 
--- The same along a course, which is known of every port: at each delivery the sender had this to
+-- The same along a history, which is known of every port: at each delivery the sender had this to
 -- say.
 abbrev pub spoke_along : (s : SenderParts) (deliveries : List (List ℕ)) (progress : ℕ)
     (new : SenderParts) →
@@ -71,7 +71,7 @@ answered_in r t out (receiving.unwritten _ _ h reply new is on some gives spoken
 answered_in r t out (receiving.heard _ _ h reply new _ is on some gives later) =
     record { heard = h; wrote = reply } ∷ answered_in new _ out later
 
--- The same along a course, which is known of every port: at each delivery the receiver had this to
+-- The same along a history, which is known of every port: at each delivery the receiver had this to
 -- reply.
 abbrev pub answered_along : (r : ReceiverParts) (deliveries : List Heard) (progress : ℕ)
     (new : ReceiverParts) →

@@ -12,12 +12,12 @@ use Rattle.ym_frame.specs.declared.control.Reply.{Reply}
 use Rattle.ym_frame.specs.declared.control.Reply.TheVariants.{Silence}
 use Rattle.ym_file.specs.Kept.{Told}
 use Rattle.ym_core.specs.Hearing.{heard_of}
-use Rattle.ym_core.specs.Place.{done_at}
-use Rattle.ym_core.specs.Reading.{controls_in}
+use Rattle.ym_core.specs.Position.{done_at}
+use Rattle.ym_core.specs.Scan.{controls_in}
 use Rattle.ym_core.specs.declared.delivery.Heard.{Heard}
 use Rattle.ym_core.specs.declared.state.SendState.TheVariants as sender
 use Rattle.ym_core.specs.declared.state.RecvState.TheVariants as receiver
-use Rattle.ym_link.specs.Course.{SenderHears, ReceiverHears}
+use Rattle.ym_link.specs.History.{SenderHears, ReceiverHears}
 use Rattle.ym_link.specs.Port.{Tape}
 use Rattle.ym_link.specs.ReceiveOver as receiving
 use Rattle.ym_link.specs.ReceiverInto.{ReceiverParts}
@@ -135,7 +135,7 @@ ends s r = record { sender = s; receiver = r; told = None; failures = 0 }
 pub record HaveBothFinished (batch : List FileParts) (pair : Pair) : Type 0 where
   pub send : pair.sender.standing.state ≡ sender.Finished
   pub recv : pair.receiver.receiver.state ≡ receiver.Finished
-  pub done : done_at (length pair.sender.files) pair.sender.standing.place ≡ length batch
+  pub done : done_at (length pair.sender.files) pair.sender.standing.position ≡ length batch
   pub files : pair.receiver.receiver.files ≡ length batch
   pub headers : pair.receiver.kept.headers ≡ map (λ (f : FileParts). f.header) batch
   pub bytes : (told : Told) →

@@ -3,19 +3,19 @@
 
 ghost use Rattle.std.specs.Prelude.{◌≡◌, ◌≤◌, ℕ, List, length, is_ok, true};
 ghost use Rattle.ym_file.specs.Kept.{IsNew};
-ghost use Rattle.ym_core.specs.Place.{done_at};
+ghost use Rattle.ym_core.specs.Position.{done_at};
 ghost use Rattle.ym_core.specs.Receiver.{new_receiver};
 ghost use Rattle.ym_core.specs.Standing.{new_standing};
 ghost use Rattle.ym_core.specs.declared.delivery.Heard.{Heard};
 ghost use Rattle.ym_core.specs.declared.state.SendState.TheVariants as state;
-ghost use Rattle.ym_link.specs.Course.{SenderHears, ReceiverHears};
+ghost use Rattle.ym_link.specs.History.{SenderHears, ReceiverHears};
 ghost use Rattle.ym_link.specs.Port.{Tape};
 ghost use Rattle.ym_link.specs.ReceiveOver as receiving;
 ghost use Rattle.ym_link.specs.Sender.{counts};
 ghost use Rattle.ym_link.specs.SendOver as sending;
-ghost use Rattle.ym_pair.specs.AnyPeer.{CommitsTheHeard, AreAcknowledged, batch_places, files_places};
+ghost use Rattle.ym_pair.specs.AnyPeer.{CommitsTheHeard, AreAcknowledged, batch_positions, files_positions};
 ghost use Rattle.ym_machine.specs.declared.limits.TheConstants.{BURST};
-ghost use Rattle.ym_line.specs.Completion.{NoneRose, longest_bad_run};
+ghost use Rattle.ym_line.specs.Completion.{NoneCounted, longest_bad_run};
 ghost use Rattle.ym_line.specs.Promise.{AreNew, CommitsAPrefix};
 ghost use Rattle.ym_line.specs.declared.delivery.Round.{Round};
 ghost use Rattle.ym_pair.specs.Pairing.{AreCalls, CallsPairUp, HaveBothFinished, ends};
@@ -65,14 +65,14 @@ pub fn send_to_any_peer<P: Port, S: Source>(
         (deliveries : List (List ℕ)) × (progress : ℕ)
         × (hears : SenderHears sender.old deliveries progress sender.new)
         × AreAcknowledged sender.old.shape sender.old.files
-        (files_places (counts sender.old)
-        (done_at (length sender.old.files) sender.new.standing.place))
+        (files_positions (counts sender.old)
+        (done_at (length sender.old.files) sender.new.standing.position))
         (spoke_along sender.old deliveries progress sender.new hears) }
     ensures finished { sender.old.standing ≡ new_standing (counts sender.old) →
         sender.new.standing.state ≡ state.Finished →
         (deliveries : List (List ℕ)) × (progress : ℕ)
         × (hears : SenderHears sender.old deliveries progress sender.new)
-        × AreAcknowledged sender.old.shape sender.old.files (batch_places (counts sender.old))
+        × AreAcknowledged sender.old.shape sender.old.files (batch_positions (counts sender.old))
         (spoke_along sender.old deliveries progress sender.new hears) }
     ensures told { sender.old.standing ≡ new_standing (counts sender.old) → (u : Tape) →
         P.tells port.new u →
@@ -83,8 +83,8 @@ pub fn send_to_any_peer<P: Port, S: Source>(
           answer = result;
         }))
         × AreAcknowledged sender.old.shape sender.old.files
-        (files_places (counts sender.old)
-        (done_at (length sender.old.files) sender.new.standing.place))
+        (files_positions (counts sender.old)
+        (done_at (length sender.old.files) sender.new.standing.position))
         (spoke_in sender.old t _ run) }
 {
     a_sender_was_acknowledged();
@@ -94,7 +94,7 @@ pub fn send_to_any_peer<P: Port, S: Source>(
 
 /// A call of each engine, each over a port of its own, as two processes make them at the two ends
 /// of one line. Where their deliveries pair up, new ends commit a prefix of the batch, however each
-/// call returns, and complete where both return well, no failure count rose and no bad run is
+/// call returns, and complete where both return well, no failure was counted and no bad run is
 /// longer than a burst.
 pub fn send_and_receive<P: Port, S: Source, Q: Port, K: Sink>(
     near: &mut P,
@@ -102,7 +102,7 @@ pub fn send_and_receive<P: Port, S: Source, Q: Port, K: Sink>(
     far: &mut Q,
     receiver: &mut ReceiverInto<K>,
 ) -> (Result<(), EndFault>, Result<(), EndFault>)
-    ensures course { AreNew (ends sender.old receiver.old) →
+    ensures history { AreNew (ends sender.old receiver.old) →
         AreCalls sender.old sender.new receiver.old receiver.new }
     ensures prefix { AreNew (ends sender.old receiver.old) →
         (calls : AreCalls sender.old sender.new receiver.old receiver.new) (rounds : List Round) →
@@ -110,7 +110,7 @@ pub fn send_and_receive<P: Port, S: Source, Q: Port, K: Sink>(
         CommitsAPrefix sender.old.files (ends sender.new receiver.new) }
     ensures complete { AreNew (ends sender.old receiver.old) → is_ok result.0 ≡ true →
         is_ok result.1 ≡ true →
-        NoneRose (ends sender.old receiver.old) (ends sender.new receiver.new) →
+        NoneCounted (ends sender.old receiver.old) (ends sender.new receiver.new) →
         (calls : AreCalls sender.old sender.new receiver.old receiver.new) (rounds : List Round) →
         CallsPairUp sender.old sender.new receiver.old receiver.new calls rounds →
         longest_bad_run 0 rounds ≤ BURST →

@@ -2,7 +2,7 @@
 -- failures.
 use Rattle.std.specs.Prelude.{◌≡◌, ◌≤◌, ◌+◌, ◌++◌, ◌⊎◌, ℕ, [], ◌∷◌, List, Option, Some, Result, Ok, Err, codes, length, take, string_bytes}
 use Rattle.std.specs.Io.KnownBytes.{Appends}
-use Rattle.ym_file.specs.Counts.{Rose}
+use Rattle.ym_file.specs.Counts.{Counted}
 use Rattle.ym_line.specs.declared.delivery.Handed.{Handed}
 use Rattle.ym_line.specs.declared.fault.LineFault.TheVariants as round
 use Rattle.ym_play.specs.FaultText.{play_text}
@@ -56,7 +56,7 @@ abbrev pub ScriptGives : Option (List ℕ) → Scene → Result Played SessionFa
 ScriptGives remaining old (Ok played) new =
     (new.reads_failed ≡ old.reads_failed) × IsPlayOf remaining old (Ok played) new
 ScriptGives remaining old (Err session.Device) new =
-    Rose old.reads_failed new.reads_failed × (new.told ≡ old.told) ×
+    Counted old.reads_failed new.reads_failed × (new.told ≡ old.told) ×
     (new.carries_failed ≡ old.carries_failed)
 ScriptGives remaining old (Err (session.Play (play.Script line why))) new =
     (new.reads_failed ≡ old.reads_failed) × IsPlayOf remaining old (Err (play.Script line why)) new
@@ -70,7 +70,7 @@ abbrev pub TellsFault : SessionFault → Scene → ℕ → Scene → Type 0
 TellsFault fault old status new =
     ((status ≡ fault_status fault) × Appends old.err new.err (session_line fault)
     × (new.err_failed ≡ old.err_failed))
-    ⊎ ((status ≡ 3) × Rose old.err_failed new.err_failed)
+    ⊎ ((status ≡ 3) × Counted old.err_failed new.err_failed)
 
 abbrev pub IsUnwritten : Scene → Scene → Type 0
 IsUnwritten old new = (new.out ≡ old.out) × (new.out_failed ≡ old.out_failed)
@@ -82,7 +82,7 @@ AnswerIsTold (Ok played) old status new =
     ((status ≡ played.status) × Appends old.out new.out (string_bytes played.text)
     × (new.out_failed ≡ old.out_failed)
     × (new.err ≡ old.err) × (new.err_failed ≡ old.err_failed))
-    ⊎ (Rose old.out_failed new.out_failed × TellsFault session.Device old status new)
+    ⊎ (Counted old.out_failed new.out_failed × TellsFault session.Device old status new)
 AnswerIsTold (Err fault) old status new = IsUnwritten old new × TellsFault fault old status new
 
 -- a session over these streams and this carrier
@@ -95,8 +95,8 @@ SessionEnds remaining old status new =
 -- failed, or memory ran out, which err then says
 abbrev pub HasFailed : Option (List ℕ) → Scene → Scene → Type 0
 HasFailed remaining old new =
-    Rose old.reads_failed new.reads_failed
-    ⊎ (Rose old.out_failed new.out_failed ⊎ (Rose old.err_failed new.err_failed
+    Counted old.reads_failed new.reads_failed
+    ⊎ (Counted old.out_failed new.out_failed ⊎ (Counted old.err_failed new.err_failed
     ⊎ (IsUnwritten old new
     × (IsPlayOf remaining old (Err (play.Line round.Carrier)) new
     ⊎ Appends old.err new.err (session_line (session.Play play.Memory))))))

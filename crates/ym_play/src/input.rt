@@ -1,7 +1,7 @@
 //! How a script is taken from a reader.
 
 ghost use Rattle.std.specs.Prelude.{◌≡◌, ◌≢◌, ◌+◌, Err, IfOk};
-ghost use Rattle.ym_file.specs.Counts.{Rose};
+ghost use Rattle.ym_file.specs.Counts.{Counted};
 ghost use Rattle.ym_play.specs.SessionOver.{IsTaken, IsReadWithin};
 ghost use Rattle.ym_play.specs.declared.limits.TheConstants.{MOST_SCRIPT_BYTES};
 
@@ -31,7 +31,7 @@ pub(crate) fn take_script<I: Input>(alloc: Global, input: &mut I) -> Result<Vec<
     ensures within { IsReadWithin (MOST_SCRIPT_BYTES + 1) (I.remaining input.old)
         (I.remaining input.new) }
     ensures device { result ≡ Err InputFault.Device →
-        Rose (I.failures input.old) (I.failures input.new) }
+        Counted (I.failures input.old) (I.failures input.new) }
     ensures calm { result ≢ Err InputFault.Device → I.failures input.new ≡ I.failures input.old }
 {
     let mut bytes = Vec::new(alloc);

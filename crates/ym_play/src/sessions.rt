@@ -2,7 +2,7 @@
 
 ghost use Rattle.std.specs.Prelude.{◌≡◌, ◌≢◌, ◌≤◌, ◌⊎◌, ◌+◌, ℕ, List, Some, IfOk};
 ghost use Rattle.std.specs.Io.KnownBytes.{Appends};
-ghost use Rattle.ym_file.specs.Counts.{Rose};
+ghost use Rattle.ym_file.specs.Counts.{Counted};
 ghost use Rattle.ym_play.specs.Session.{fault_status, SessionGives};
 ghost use Rattle.ym_play.specs.SessionOver.{Scene, ScriptGives, SessionEnds, HasFailed, IsReadWithin, session_text, session_line};
 ghost use Rattle.ym_play.specs.declared.limits.TheConstants.{MOST_SCRIPT_BYTES};
@@ -103,7 +103,7 @@ fn tell<E: Output>(err: &mut E, fault: SessionFault) -> u8
     ensures { ((result ≡ fault_status fault)
         × Appends (E.contents err.old) (E.contents err.new) (session_line fault)
         × (E.failures err.new ≡ E.failures err.old))
-        ⊎ ((result ≡ 3) × Rose (E.failures err.old) (E.failures err.new)) }
+        ⊎ ((result ≡ 3) × Counted (E.failures err.old) (E.failures err.new)) }
 {
     match err.put_line(fault) {
         Ok(()) => fault.status(),

@@ -22,7 +22,7 @@ use Rattle.ym_port.specs.declared.deed.Deed.{Deed}
 use Rattle.ym_port.specs.declared.deed.Deed.TheVariants.{Looked, Waited, Wrote}
 use Rattle.ym_port.specs.declared.line.Line.{Line}
 use Rattle.ym_timing.specs.Clears.{clear_at}
-use Rattle.ym_timing.specs.declared.clearing.Clearing.{Clearing}
+use Rattle.ym_timing.specs.declared.purge.Purge.{Purge}
 use Rattle.ym_timing.specs.declared.timing.Expected.{Expected}
 
 -- ---- What is written
@@ -80,16 +80,16 @@ reads-quiet (suc n) w start room l t =
     (after_read (table.ends_at w start l - l.clock.at) room t)
     ∙ waited-quiet (table.ends_at w start l - l.clock.at) room t)
 
-pub clear-step-quiet : (seen : Seen) (c : Clearing) (end : ℕ) (l : Line) (t : Tape)
+pub clear-step-quiet : (seen : Seen) (c : Purge) (end : ℕ) (l : Line) (t : Tape)
     → written_of (clear_step seen c end l t).tape.done ≡ written_of t.done
 clear-step-quiet (Data bytes) c end l t = looked-quiet t
 clear-step-quiet Silence c end l t = looked-quiet t
 clear-step-quiet End c end l t = refl
 clear-step-quiet Failed c end l t = refl
 
-pub clear-on-quiet : (on : Clearing → Line → Tape → Cleared)
-    → ((c : Clearing) (l : Line) (t : Tape) → written_of (on c l t).tape.done ≡ written_of t.done)
-    → (a : Result Clearing PortFault) (l : Line) (t : Tape)
+pub clear-on-quiet : (on : Purge → Line → Tape → Cleared)
+    → ((c : Purge) (l : Line) (t : Tape) → written_of (on c l t).tape.done ≡ written_of t.done)
+    → (a : Result Purge PortFault) (l : Line) (t : Tape)
     → written_of (clear_on on a l t).tape.done ≡ written_of t.done
 clear-on-quiet on quiet (Ok c) l t = quiet c l t
 clear-on-quiet on quiet (Err e) l t = refl
@@ -100,7 +100,7 @@ pub either-cleared : (b : Bool) (x y : Cleared) (t : Tape) → written_of x.tape
 either-cleared true x y t one two = one
 either-cleared false x y t one two = two
 
-pub cleared-quiet : (n : ℕ) (c : Clearing) (l : Line) (t : Tape)
+pub cleared-quiet : (n : ℕ) (c : Purge) (l : Line) (t : Tape)
     → written_of (cleared n c l t).tape.done ≡ written_of t.done
 unfolding cleared
 cleared-quiet zero c l t = refl
@@ -192,7 +192,7 @@ wrote-made true bytes u s t quiet wrote =
     ap (λ (x : List ℕ). tape_of u.coming x) e
 wrote-made false bytes u s t quiet wrote = ap (λ (x : List ℕ). tape_of u.coming x) (wrote ∙ quiet)
 
-pub write-passes : (a : Result Clearing PortFault) (bytes : List ℕ) (l new : Line)
+pub write-passes : (a : Result Purge PortFault) (bytes : List ℕ) (l new : Line)
     (result : Result Unit PortFault) (u : port.Tape) (p t : Tape)
     → (table.clears_for bytes l t).answer ≡ a
     → WritesAs a bytes (table.clears_for bytes l t).line (table.clears_for bytes l t).tape result new p

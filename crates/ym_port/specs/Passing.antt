@@ -9,7 +9,7 @@ use Rattle.ym_port.specs.Wire.{Tape, after_write}
 use Rattle.ym_port.specs.declared.deed.Deed.{Deed}
 use Rattle.ym_port.specs.declared.deed.Deed.TheVariants.{Looked, Waited, Wrote}
 use Rattle.ym_port.specs.declared.line.Line.{Line}
-use Rattle.ym_timing.specs.declared.clearing.Clearing.{Clearing}
+use Rattle.ym_timing.specs.declared.purge.Purge.{Purge}
 
 -- the bytes that were written
 abbrev pub bytes_in : Deed → List ℕ
@@ -28,7 +28,7 @@ pub data Passes : Line → Tape → List Event → Type 0 where
   reads : (l : Line) (t : Tape) (heard : List Event) (w : Wait) (room : ℕ)
       → Passes (table.read_of w room l t).line (table.read_of w room l t).tape heard
       → Passes l t (event_of (table.read_of w room l t).seen ∷ heard)
-  writes : (l : Line) (t : Tape) (heard : List Event) (bytes : List ℕ) (c : Clearing) (made : Bool)
+  writes : (l : Line) (t : Tape) (heard : List Event) (bytes : List ℕ) (c : Purge) (made : Bool)
       → (table.clears_for bytes l t).answer ≡ Ok c
       → Passes (table.writes bytes c (table.clears_for bytes l t).line)
       (after_write made (table.clears_for bytes l t).tape bytes) heard

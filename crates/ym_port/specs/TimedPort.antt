@@ -19,7 +19,7 @@ use Rattle.ym_timing.specs.Pace as pace
 use Rattle.ym_timing.specs.Times.{new_clock, told, waited, later}
 use Rattle.ym_timing.specs.Timing.{new_timing, is_acked, until, vain_of, after_byte, after_vain}
 use Rattle.ym_timing.specs.Writing.{wrote}
-use Rattle.ym_timing.specs.declared.clearing.Clearing.{Clearing}
+use Rattle.ym_timing.specs.declared.purge.Purge.{Purge}
 use Rattle.ym_timing.specs.declared.ear.Echo.{Echo}
 use Rattle.ym_timing.specs.declared.ear.Echo.TheVariants.{Goes}
 use Rattle.ym_timing.specs.declared.pace.Pace.{Pace}
@@ -68,7 +68,7 @@ abbrev pub takes : List ℕ → Line → Line
 takes bytes l = record l { timing = after_bytes bytes l.written l.clock.at l.timing }
 
 abbrev pub goes : Echo → Bool
-goes (Goes place) = true
+goes (Goes position) = true
 goes _ = false
 
 -- three bytes of the block that was written last came back, or one of the reply
@@ -233,37 +233,37 @@ read_of w room l t =
 
 -- bytes are dropped while the line clears
 pub record Dropped : Type 0 where
-  pub clearing : Clearing
+  pub purge : Purge
   pub timing : Timing
 
 abbrev pub dropped : List ℕ → List ℕ → ℕ → Dropped → Dropped
 dropped [] written now d = d
 dropped (b ∷ bytes) written now d = dropped bytes written now (record {
-  clearing = clears.dropped d.clearing b written now d.timing;
-  timing = clears.after_dropped d.clearing b written now d.timing;
+  purge = clears.dropped d.purge b written now d.timing;
+  timing = clears.after_dropped d.purge b written now d.timing;
 })
 
-abbrev pub dropped_of : Clearing → List ℕ → Line → Dropped
+abbrev pub dropped_of : Purge → List ℕ → Line → Dropped
 dropped_of c bytes l =
-    dropped bytes l.written l.clock.at (record { clearing = c; timing = l.timing })
+    dropped bytes l.written l.clock.at (record { purge = c; timing = l.timing })
 
-abbrev pub drops_byte : Clearing → ℕ → Line → Line
+abbrev pub drops_byte : Purge → ℕ → Line → Line
 drops_byte c byte l =
     record l { timing = clears.after_dropped c byte l.written l.clock.at l.timing }
 
-abbrev pub dropping : Clearing → List ℕ → Line → Clearing
-dropping c bytes l = (dropped_of c bytes l).clearing
+abbrev pub dropping : Purge → List ℕ → Line → Purge
+dropping c bytes l = (dropped_of c bytes l).purge
 
-abbrev pub after_dropping : Clearing → List ℕ → Line → Line
+abbrev pub after_dropping : Purge → List ℕ → Line → Line
 after_dropping c bytes l = record l { timing = (dropped_of c bytes l).timing }
 
 -- how far the line is clear, or that it failed
 pub record Cleared : Type 0 where
-  pub answer : Result Clearing PortFault
+  pub answer : Result Purge PortFault
   pub line : Line
   pub tape : Tape
 
-abbrev pub clear_step : Seen → Clearing → ℕ → Line → Tape → Cleared
+abbrev pub clear_step : Seen → Purge → ℕ → Line → Tape → Cleared
 clear_step (Data bytes) c end l t = record {
   answer = Ok (dropping c bytes (looked (moment_of t) l));
   line = after_dropping c bytes (looked (moment_of t) l);
@@ -279,32 +279,32 @@ clear_step End c end l t =
 clear_step Failed c end l t = record { answer = Err record {}; line = l; tape = t }
 
 -- one read of it, which waits until it is clear
-abbrev pub clear_once : Clearing → Line → Tape → Cleared
+abbrev pub clear_once : Purge → Line → Tape → Cleared
 clear_once c l t =
     clear_step (read_gives CLEAR_PIECE t.coming) c (clears.clear_at c l.timing) l
     (after_read (clears.clear_at c l.timing - l.clock.at) CLEAR_PIECE t)
 
-abbrev pub is_clear : Clearing → Line → Bool
+abbrev pub is_clear : Purge → Line → Bool
 is_clear c l = l.is_closed || nat_le (clears.clear_at c l.timing) l.clock.at
 
-abbrev pub clear_on : (Clearing → Line → Tape → Cleared) → Result Clearing PortFault → Line → Tape
+abbrev pub clear_on : (Purge → Line → Tape → Cleared) → Result Purge PortFault → Line → Tape
     → Cleared
 clear_on on (Ok c) l t = on c l t
 clear_on on (Err e) l t = record { answer = Err e; line = l; tape = t }
 
-abbrev pub over : Clearing → Line → Tape → Cleared
+abbrev pub over : Purge → Line → Tape → Cleared
 over c l t = record { answer = Ok c; line = l; tape = t }
 
 -- the line is let clear, by so many reads at most
-unfoldable pub cleared : ℕ → Clearing → Line → Tape → Cleared
+unfoldable pub cleared : ℕ → Purge → Line → Tape → Cleared
 cleared zero c l t = over c l t
 cleared (suc more) c l t =
     if is_clear c l then over c l t
     else clear_on (cleared more) (clear_once c l t).answer (clear_once c l t).line
     (clear_once c l t).tape
 
--- these bytes are written, behind this clearing
-abbrev pub writes : List ℕ → Clearing → Line → Line
+-- these bytes are written, behind this purge
+abbrev pub writes : List ℕ → Purge → Line → Line
 writes bytes c l = record l {
   timing = wrote bytes c l.clock.at l.timing;
   written = take LONGEST_FRAME bytes;
@@ -312,7 +312,7 @@ writes bytes c l = record l {
 
 -- What a write comes to: where the line fails while it clears, nothing is written.
 abbrev pub WritesAs :
-    Result Clearing PortFault → List ℕ → Line → Tape → Result Unit PortFault → Line → Tape → Type 0
+    Result Purge PortFault → List ℕ → Line → Tape → Result Unit PortFault → Line → Tape → Type 0
 WritesAs (Ok c) bytes l t result new u =
     (new ≡ writes bytes c l) × (u ≡ after_write (is_ok result) t bytes)
 WritesAs (Err e) bytes l t result new u = (new ≡ l) × (result ≡ Err e) × (u ≡ t)
@@ -323,5 +323,5 @@ Writes bytes s result new u = WritesAs s.answer bytes s.line s.tape result new u
 -- the clock is asked once, and then the line clears, where it has to
 abbrev pub clears_for : List ℕ → Line → Tape → Cleared
 clears_for bytes l t =
-    cleared MOST_READS (clears.clearing bytes (looked (moment_of t) l).clock.at l.timing)
+    cleared MOST_READS (clears.purge bytes (looked (moment_of t) l).clock.at l.timing)
     (looked (moment_of t) l) (after_moment t)

@@ -2,7 +2,7 @@
 
 ghost use Rattle.std.specs.Prelude.{◌≡◌, ◌≢◌, ◌<◌, ◌≤◌, ◌++◌, ◌∷◌, [], ℕ, Ok, Err, IfOk, OnOk};
 ghost use Rattle.std.specs.Prelude.{OnErr, length, is_ok};
-ghost use Rattle.ym_file.specs.Counts.{Rose};
+ghost use Rattle.ym_file.specs.Counts.{Counted};
 ghost use Rattle.ym_link.specs.Delivery.{taken};
 ghost use Rattle.ym_link.specs.Port.{Tape, seen_of, read_gives, read_leaves, after_write};
 ghost use Rattle.ym_link.specs.ReceiveOver.{has_item};
@@ -26,7 +26,7 @@ fn gather<P: Port>(port: &mut P, buf: &mut [u8]) -> Result<usize, EndFault>
         × (table.gathered result buf.new ≡ (taken has_item [] t.coming).delivery)
         × (u ≡ record t { coming = (taken has_item [] t.coming).rest }) }
     ensures device { result ≡ Err EndFault.Device
-        → Rose (P.failures port.old) (P.failures port.new) }
+        → Counted (P.failures port.old) (P.failures port.new) }
     ensures memory { result ≢ Err EndFault.Memory }
     ensures calm { result ≢ Err EndFault.Device → P.failures port.new ≡ P.failures port.old }
 {
@@ -94,7 +94,8 @@ impl<P: Port + Drop> InStep<P> {
             ≡ table.gives (seen_of result buf.new) self.new.turn u.coming) }
         ensures waits { self.new.waits ≡ self.old.waits }
         ensures ok { OnOk result (P.failures self.new.port ≡ P.failures self.old.port) }
-        ensures failed { OnErr result (Rose (P.failures self.old.port) (P.failures self.new.port)) }
+        ensures failed { OnErr result (Counted
+            (P.failures self.old.port) (P.failures self.new.port)) }
     {
         match gather(&mut self.port, buf) {
             Ok(0) => Ok(Got::Quiet),
@@ -117,7 +118,8 @@ impl<P: Port + Drop> InStep<P> {
             ≡ table.gives (seen_of result buf.new) self.new.turn u.coming) }
         ensures waits { self.new.waits ≡ self.old.waits }
         ensures ok { OnOk result (P.failures self.new.port ≡ P.failures self.old.port) }
-        ensures failed { OnErr result (Rose (P.failures self.old.port) (P.failures self.new.port)) }
+        ensures failed { OnErr result (Counted
+            (P.failures self.old.port) (P.failures self.new.port)) }
     {
         if self.turn.is_over {
             self.turn.is_over = false;
@@ -155,7 +157,8 @@ impl<P: Port + Drop> Port for InStep<P> {
             × (seen_of result buf.new ≡ read_gives (length buf.old) x.coming)
             × (u ≡ record x { coming = read_leaves (length buf.old) x.coming }) }
         ensures ok { OnOk result (P.failures self.new.port ≡ P.failures self.old.port) }
-        ensures failed { OnErr result (Rose (P.failures self.old.port) (P.failures self.new.port)) }
+        ensures failed { OnErr result (Counted
+            (P.failures self.old.port) (P.failures self.new.port)) }
     {
         self.waits = self.waits.then(&wait);
         self.read_next(wait, buf)
@@ -173,7 +176,8 @@ impl<P: Port + Drop> Port for InStep<P> {
             × Passes self.old.turn t.coming x.coming)
             × (u ≡ after_write (is_ok result) x bytes.now) }
         ensures ok { OnOk result (P.failures self.new.port ≡ P.failures self.old.port) }
-        ensures failed { OnErr result (Rose (P.failures self.old.port) (P.failures self.new.port)) }
+        ensures failed { OnErr result (Counted
+            (P.failures self.old.port) (P.failures self.new.port)) }
     {
         self.turn.reply(bytes);
         self.port.write(bytes)

@@ -9,7 +9,7 @@ ghost use Rattle.ym_port.specs.TimedPort.{cancel};
 ghost use Rattle.ym_port.specs.declared.line.TheConstants.{PIECE};
 
 use crate::written::Written;
-use ym_timing::{Clearing, Clock, Echo, Expected, Kind, Role, Say, Timing, Vain, cancels};
+use ym_timing::{Clock, Echo, Expected, Kind, Purge, Role, Say, Timing, Vain, cancels};
 
 /// The byte ACK.
 pub const ACK: u8 = 0x06;
@@ -274,40 +274,40 @@ impl Line {
 
     /// Whether the line is clear, or will not get clearer.
     #[inline]
-    pub fn is_clear(&self, clearing: Clearing) -> bool
-        ensures { result ≡ table.is_clear clearing self.now }
+    pub fn is_clear(&self, purge: Purge) -> bool
+        ensures { result ≡ table.is_clear purge self.now }
     {
-        self.is_closed || self.timing.clear_at(clearing) <= self.clock.at
+        self.is_closed || self.timing.clear_at(purge) <= self.clock.at
     }
 
     /// Drops a byte that came while the line cleared.
-    fn drop_byte(&mut self, clearing: Clearing, byte: u8) -> Clearing
-        ensures line { self.new ≡ table.drops_byte clearing byte self.old }
-        ensures clearing { result
-            ≡ dropped clearing byte self.old.written self.old.clock.at self.old.timing }
+    fn drop_byte(&mut self, purge: Purge, byte: u8) -> Purge
+        ensures line { self.new ≡ table.drops_byte purge byte self.old }
+        ensures purge { result
+            ≡ dropped purge byte self.old.written self.old.clock.at self.old.timing }
     {
         self.timing
-            .dropped(clearing, byte, self.written.as_slice(), self.clock.at)
+            .dropped(purge, byte, self.written.as_slice(), self.clock.at)
     }
 
     /// Drops bytes that came while the line cleared.
-    pub fn drop_all(&mut self, clearing: Clearing, bytes: &[u8]) -> Clearing
-        ensures line { self.new ≡ table.after_dropping clearing bytes.now self.old }
-        ensures clearing { result ≡ table.dropping clearing bytes.now self.old }
+    pub fn drop_all(&mut self, purge: Purge, bytes: &[u8]) -> Purge
+        ensures line { self.new ≡ table.after_dropping purge bytes.now self.old }
+        ensures purge { result ≡ table.dropping purge bytes.now self.old }
     {
-        let mut left = clearing;
+        let mut left = purge;
         for byte in bytes {
             left = self.drop_byte(left, *byte);
         }
         left
     }
 
-    /// Takes that these bytes are written, behind this clearing.
+    /// Takes that these bytes are written, behind this purge.
     #[inline]
-    pub fn write(&mut self, bytes: &[u8], clearing: Clearing)
-        ensures { self.new ≡ table.writes bytes.now clearing self.old }
+    pub fn write(&mut self, bytes: &[u8], purge: Purge)
+        ensures { self.new ≡ table.writes bytes.now purge self.old }
     {
-        self.timing.wrote(bytes, clearing, self.clock.at);
+        self.timing.wrote(bytes, purge, self.clock.at);
         self.written.keep(bytes);
     }
 }
@@ -349,9 +349,9 @@ fn shift(buf: &mut [u8], by: usize, count: usize)
     requires by { by ≤ count }
     requires count { count ≤ length buf.old }
     ensures same { length buf.new ≡ length buf.old }
-    ensures front { take (count - by) buf.new ≡ drop by (take count buf.old) }
+    ensures prefix { take (count - by) buf.new ≡ drop by (take count buf.old) }
 {
-    for place in 0..count - by {
-        buf[place] = buf[place + by];
+    for position in 0..count - by {
+        buf[position] = buf[position + by];
     }
 }

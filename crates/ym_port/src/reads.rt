@@ -1,7 +1,7 @@
 //! One wait: the reads of the line below that it is made of, and what of them is to be heard.
 
 ghost use Rattle.std.specs.Prelude.{◌≡◌, ◌<◌, ◌≤◌, ℕ, Ok, Some, OnOk, OnErr, length, take};
-ghost use Rattle.ym_file.specs.Counts.{Rose};
+ghost use Rattle.ym_file.specs.Counts.{Counted};
 ghost use Rattle.ym_link.specs.Port.{seen_of};
 ghost use Rattle.ym_port.specs.declared.line.TheConstants.{MOST_READS};
 ghost use Rattle.ym_port.specs.TimedPort as table;
@@ -138,7 +138,7 @@ fn read_once<W: Wire>(
         ≡ record { answer = table.answer_of result buf.new; line = line.new; tape = u }) }
     ensures role { line.new.timing.role ≡ line.old.timing.role }
     ensures ok { OnOk result (W.failures wire.new ≡ W.failures wire.old) }
-    ensures failed { OnErr result (Rose (W.failures wire.old) (W.failures wire.new)) }
+    ensures failed { OnErr result (Counted (W.failures wire.old) (W.failures wire.new)) }
 {
     let until = line.until(wait, start);
     let millis = until.saturating_sub(line.clock.at);
@@ -167,7 +167,7 @@ pub fn read_on<W: Wire>(
         (table.room_for line.old.timing.role (length buf.old)) line.old t
         ≡ table.gives (seen_of result buf.new) line.new u) }
     ensures ok { OnOk result (W.failures wire.new ≡ W.failures wire.old) }
-    ensures failed { OnErr result (Rose (W.failures wire.old) (W.failures wire.new)) }
+    ensures failed { OnErr result (Counted (W.failures wire.old) (W.failures wire.new)) }
 {
     for _done in 0..MOST_READS {
         match read_once(wire, line, wait, start, buf) {

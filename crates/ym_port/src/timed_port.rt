@@ -1,7 +1,7 @@
 //! A port over a line with a clock, by the rule of `ym_timing`.
 
 ghost use Rattle.std.specs.Prelude.{◌≡◌, ◌<◌, ◌≤◌, ◌++◌, ◌∷◌, [], ℕ, Ok, OnOk, OnErr, length, is_ok};
-ghost use Rattle.ym_file.specs.Counts.{Rose};
+ghost use Rattle.ym_file.specs.Counts.{Counted};
 ghost use Rattle.ym_link.specs.Port.{Tape as PortTape, Data, after_write};
 ghost use Rattle.ym_link.specs.Port.{seen_of, read_gives, read_leaves};
 ghost use Rattle.ym_port.specs.TimedPort as table;
@@ -15,7 +15,7 @@ use crate::waits::Waits;
 use crate::wire::Wire;
 use ym_link::{Got, Port, PortFault, Wait};
 use ym_timing as timing;
-use ym_timing::{Clearing, Role, Trust};
+use ym_timing::{Purge, Role, Trust};
 
 /// A port over a line with a clock. It keeps the rule of `ym_timing`: how long reads wait, what of
 /// that which comes is heard, and when the line clears before a write. It tells the waits that its
@@ -84,7 +84,8 @@ impl<W: Wire + Drop> TimedPort<W> {
             ≡ table.gives (seen_of result buf.new) self.new.line u) }
         ensures waits { self.new.waits ≡ self.old.waits }
         ensures ok { OnOk result (W.failures self.new.wire ≡ W.failures self.old.wire) }
-        ensures failed { OnErr result (Rose (W.failures self.old.wire) (W.failures self.new.wire)) }
+        ensures failed { OnErr result (Counted
+            (W.failures self.old.wire) (W.failures self.new.wire)) }
     {
         match wait {
             Wait::Within => {
@@ -122,7 +123,8 @@ impl<W: Wire + Drop> TimedPort<W> {
             ≡ table.gives (seen_of result buf.new) self.new.line u) }
         ensures waits { self.new.waits ≡ self.old.waits }
         ensures ok { OnOk result (W.failures self.new.wire ≡ W.failures self.old.wire) }
-        ensures failed { OnErr result (Rose (W.failures self.old.wire) (W.failures self.new.wire)) }
+        ensures failed { OnErr result (Counted
+            (W.failures self.old.wire) (W.failures self.new.wire)) }
     {
         if self.has_no_room(buf.len()) {
             return Ok(Got::Quiet);
@@ -138,21 +140,22 @@ impl<W: Wire + Drop> TimedPort<W> {
 
     /// Lets the line clear, where it has to before these bytes are written.
     #[inline(always)]
-    fn clear_for(&mut self, bytes: &[u8]) -> Result<Clearing, PortFault>
+    fn clear_for(&mut self, bytes: &[u8]) -> Result<Purge, PortFault>
         ensures exact { (u : Tape) → W.tells self.new.wire u → (t : Tape) × W.tells self.old.wire t
             × (table.clears_for bytes.now self.old.line t
             ≡ record { answer = result; line = self.new.line; tape = u }) }
         ensures waits { self.new.waits ≡ self.old.waits }
         ensures ok { OnOk result (W.failures self.new.wire ≡ W.failures self.old.wire) }
-        ensures failed { OnErr result (Rose (W.failures self.old.wire) (W.failures self.new.wire)) }
+        ensures failed { OnErr result (Counted
+            (W.failures self.old.wire) (W.failures self.new.wire)) }
     {
         let now = self.wire.moment();
         self.line.look(now);
-        let clearing = self.line.timing.clearing(bytes, self.line.clock.at);
-        if self.line.is_clear(clearing) {
-            return Ok(clearing);
+        let purge = self.line.timing.purge(bytes, self.line.clock.at);
+        if self.line.is_clear(purge) {
+            return Ok(purge);
         }
-        let_clear(&mut self.wire, &mut self.line, clearing)
+        let_clear(&mut self.wire, &mut self.line, purge)
     }
 
     /// Writes bytes behind what the line has to clear of.
@@ -163,11 +166,12 @@ impl<W: Wire + Drop> TimedPort<W> {
             result self.new.line u }
         ensures waits { self.new.waits ≡ self.old.waits }
         ensures ok { OnOk result (W.failures self.new.wire ≡ W.failures self.old.wire) }
-        ensures failed { OnErr result (Rose (W.failures self.old.wire) (W.failures self.new.wire)) }
+        ensures failed { OnErr result (Counted
+            (W.failures self.old.wire) (W.failures self.new.wire)) }
     {
         match self.clear_for(bytes) {
-            Ok(clearing) => {
-                self.line.write(bytes, clearing);
+            Ok(purge) => {
+                self.line.write(bytes, purge);
                 self.wire.write(bytes)
             }
             Err(fault) => Err(fault),
@@ -201,7 +205,8 @@ impl<W: Wire + Drop> Port for TimedPort<W> {
             × (seen_of result buf.new ≡ read_gives (length buf.old) x.coming)
             × (u ≡ record x { coming = read_leaves (length buf.old) x.coming }) }
         ensures ok { OnOk result (W.failures self.new.wire ≡ W.failures self.old.wire) }
-        ensures failed { OnErr result (Rose (W.failures self.old.wire) (W.failures self.new.wire)) }
+        ensures failed { OnErr result (Counted
+            (W.failures self.old.wire) (W.failures self.new.wire)) }
     {
         self.waits = self.waits.then(&wait);
         self.read_next(wait, buf)
@@ -218,7 +223,8 @@ impl<W: Wire + Drop> Port for TimedPort<W> {
             × (x.written ≡ written_of t.done) × Passes self.old.line t x.coming)
             × (u ≡ after_write (is_ok result) x bytes.now) }
         ensures ok { OnOk result (W.failures self.new.wire ≡ W.failures self.old.wire) }
-        ensures failed { OnErr result (Rose (W.failures self.old.wire) (W.failures self.new.wire)) }
+        ensures failed { OnErr result (Counted
+            (W.failures self.old.wire) (W.failures self.new.wire)) }
     {
         self.write_next(bytes)
     }

@@ -1,7 +1,7 @@
 //! What the port asks of a line with a clock, and what that answers.
 
 ghost use Rattle.std.specs.Prelude.{◌≡◌, ◌<◌, ◌≤◌, ℕ, Ok, OnOk, OnErr, length, is_ok};
-ghost use Rattle.ym_file.specs.Counts.{Rose};
+ghost use Rattle.ym_file.specs.Counts.{Counted};
 ghost use Rattle.ym_link.specs.Port.{seen_of, read_gives};
 ghost use Rattle.ym_port.specs.Wire.{Tape, moment_of, after_moment, after_read, after_write};
 
@@ -31,12 +31,12 @@ pub trait Wire {
             × (seen_of result buf.new ≡ read_gives (length buf.old) t.coming)
             × (u ≡ after_read millis (length buf.old) t) }
         ensures ok { OnOk result (failures self.new ≡ failures self.old) }
-        ensures failed { OnErr result (Rose (failures self.old) (failures self.new)) };
+        ensures failed { OnErr result (Counted (failures self.old) (failures self.new)) };
 
     /// Writes all the bytes, or fails, and then none of them counts as written.
     fn write(&mut self, bytes: &[u8]) -> Result<(), PortFault>
         ensures told { (u : Tape) → tells self.new u → (t : Tape) × tells self.old t
             × (u ≡ after_write (is_ok result) t bytes.now) }
         ensures ok { OnOk result (failures self.new ≡ failures self.old) }
-        ensures failed { OnErr result (Rose (failures self.old) (failures self.new)) };
+        ensures failed { OnErr result (Counted (failures self.old) (failures self.new)) };
 }

@@ -25,7 +25,7 @@ batch confirm old new before after failed new_failed ended closed out answer new
       closed = closed;
       begins = begins;
       into_new = into_new;
-      course = (runs.course.0, runs.course.1, rw same at (runs.course.2 is_new));
+      history = (runs.history.0, runs.history.1, rw same at (runs.history.2 is_new));
       over = runs.over;
       tells = tells;
     }

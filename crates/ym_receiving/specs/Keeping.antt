@@ -1,6 +1,6 @@
 -- What `receive --keep` prints and answers: a session for each connection, one after another.
 use Rattle.std.specs.Prelude.{◌≡◌, ◌≤◌, ◌+◌, ◌-◌, ◌^◌, ◌⊎◌, ℕ, Bool, true, false, Result, Ok, Err}
-use Rattle.ym_file.specs.Counts.{Rose}
+use Rattle.ym_file.specs.Counts.{Counted}
 use Rattle.ym_machine.specs.declared.confirm.Confirm.{Confirm}
 use Rattle.ym_streams.specs.declared.streams.StreamFault.{StreamFault}
 use Rattle.ym_answer.specs.Lines.{line}
@@ -39,7 +39,7 @@ pub record NoneComes (confirm : Confirm) (taken failed new_failed : ℕ) (out er
   pub why : CommandFault
   pub of_host : IsHostFault why
   pub answer_is : answer ≡ Err why
-  pub rose : Rose failed new_failed
+  pub counted_failure : Counted failed new_failed
   pub sessions : Sessions confirm taken out err new_out new_err
 
 -- the line of the last session's fault could not be written

@@ -1,6 +1,6 @@
 -- What `receive` prints and answers.
 use Rattle.std.specs.Prelude.{◌≡◌, ◌≢◌, ◌⊎◌, ℕ, true, is_ok, List, Result, Ok, Err, None}
-use Rattle.ym_file.specs.Counts.{Rose}
+use Rattle.ym_file.specs.Counts.{Counted}
 use Rattle.ym_file.specs.Kept.{Kept, IsNew}
 use Rattle.ym_file.specs.declared.sink.SinkFault.{SinkFault}
 use Rattle.ym_file.specs.declared.sink.SinkFault.TheVariants as sink
@@ -9,7 +9,7 @@ use Rattle.ym_core.specs.Receiver.{new_receiver}
 use Rattle.ym_core.specs.declared.delivery.Heard.{Heard}
 use Rattle.ym_core.specs.declared.state.RecvState.{RecvState}
 use Rattle.ym_core.specs.declared.state.RecvState.TheVariants as state
-use Rattle.ym_link.specs.Course.{ReceiverCourse}
+use Rattle.ym_link.specs.History.{ReceiverHistory}
 use Rattle.ym_link.specs.Port.{Tape}
 use Rattle.ym_link.specs.ReceiveOver.{Outcome, Receives}
 use Rattle.ym_link.specs.ReceiverInto.{ReceiverParts}
@@ -44,9 +44,9 @@ pub record ReceiverRuns (before after : Tape → Type 0) (old : ReceiverParts)
       → (t : Tape) × before t × (run : Receives old t (receiver_end new u ended))
       × (IsNewReceiver old → CommitsTheHeard old.receiver.confirm
       (heard_in old t (receiver_end new u ended) run) new.kept)
-  pub course : (deliveries : List Heard) × ReceiverCourse old deliveries new
+  pub history : (deliveries : List Heard) × ReceiverHistory old deliveries new
       × (IsNewReceiver old → CommitsTheHeard old.receiver.confirm deliveries new.kept)
-  pub device : ended ≡ Err end.Device → Rose failed new_failed
+  pub device : ended ≡ Err end.Device → Counted failed new_failed
   pub over : is_ok ended ≡ true → new.receiver.state ≢ state.Running
 
 -- the sink has let go of its open file; the files that it committed stay
@@ -55,7 +55,8 @@ pub record Closes (old : Kept) (failed : ℕ) (closed : Result Unit SinkFault) (
   pub opened : new.opened ≡ None
   pub headers : new.headers ≡ old.headers
   pub ok : is_ok closed ≡ true → new_failed ≡ failed
-  pub failed_rose : (e : SinkFault) → closed ≡ Err e → (e ≡ sink.Failed) × Rose failed new_failed
+  pub failed_counted : (e : SinkFault) → closed ≡ Err e →
+      (e ≡ sink.Failed) × Counted failed new_failed
 
 -- the engine's fault; else that of closing the sink; else that of the output; else what the
 -- receiver's end says
@@ -95,7 +96,7 @@ pub record ReceivesBatch (confirm : Confirm) (out : Page) (answer : Result ℕ C
   pub closed : Result Unit SinkFault
   pub begins : old.receiver ≡ new_receiver confirm
   pub into_new : IsNew old.kept
-  pub course : (deliveries : List Heard) × ReceiverCourse old deliveries new
+  pub history : (deliveries : List Heard) × ReceiverHistory old deliveries new
       × CommitsTheHeard confirm deliveries new.kept
   pub over : is_ok ended ≡ true → new.receiver.state ≢ state.Running
   pub tells : TellsReceiver ended closed new out answer new_out

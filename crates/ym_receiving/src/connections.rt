@@ -1,7 +1,7 @@
 //! The connections that `receive` takes.
 
 ghost use Rattle.std.specs.Prelude.{◌≡◌, ◌<◌, ◌+◌, ◌-◌, ◌^◌, ℕ, OnOk, OnErr, IfOk};
-ghost use Rattle.ym_file.specs.Counts.{Rose};
+ghost use Rattle.ym_file.specs.Counts.{Counted};
 
 use std::io;
 use std::io::Write;
@@ -23,7 +23,7 @@ pub trait Connections {
         ensures ok { OnOk result ((taken self.new ≡ taken self.old + 1)
             × (failures self.new ≡ failures self.old)) }
         ensures failed { OnErr result ((taken self.new ≡ taken self.old)
-            × Rose (failures self.old) (failures self.new)) };
+            × Counted (failures self.old) (failures self.new)) };
 }
 
 /// A listener, with how many connections it has given and how often it failed.
@@ -86,7 +86,7 @@ pub(crate) fn take_told<C: Connections, E: Write + Drop>(
     ensures ok { OnOk result ((C.taken connections.new ≡ C.taken connections.old + 1)
         × (C.failures connections.new ≡ C.failures connections.old)) }
     ensures failed { OnErr result ((C.taken connections.new ≡ C.taken connections.old)
-        × Rose (C.failures connections.old) (C.failures connections.new)) }
+        × Counted (C.failures connections.old) (C.failures connections.new)) }
 {
     let stream = connections.take()?;
     teller.tell(LineMessage::Connected);

@@ -6,7 +6,7 @@ ghost use Rattle.ym_receiving.specs.Receiving.{ReceiveGives};
 ghost use Rattle.ym_answer.specs.Page.{page};
 
 use crate::connections::{Connections, listen, take_told};
-use crate::receiving::{Order, look_at, receive_through};
+use crate::receiving::{Order, Recorded, look_at, receive_through};
 use std::alloc::AllocGlobal;
 use std::fs::{File, Files};
 use std::io::Write;
@@ -25,8 +25,7 @@ use ym_teller::Teller;
 fn hold_session<R, O, F, E>(
     rt: &R,
     stream: TcpStream,
-    order: Order<'_>,
-    records: &mut Records<'_>,
+    asked: Recorded<'_, '_, '_>,
     outputs: &mut Outputs<O, F>,
     teller: &mut Teller<E>,
 ) -> Result<(), StreamFault>
@@ -35,15 +34,15 @@ where
     O: Output,
     F: Output,
     E: Write + Drop,
-    ensures { HoldsSession order.entry.confirm
+    ensures { HoldsSession asked.entry.order.confirm
         (page (O.contents outputs.old.out) (O.failures outputs.old.out))
         (page (F.contents outputs.old.err) (F.failures outputs.old.err)) result
         (page (O.contents outputs.new.out) (O.failures outputs.new.out))
         (page (F.contents outputs.new.err) (F.failures outputs.new.err)) }
 {
-    records.begin(rt, rt.alloc(), teller);
+    asked.records.begin(rt, rt.alloc(), teller);
     let wire = SocketWire::new(rt, stream, Role::Receiver);
-    match receive_through(rt, wire, order, records, &mut outputs.out, teller) {
+    match receive_through(rt, wire, asked, &mut outputs.out, teller) {
         Ok(_) => Ok(()),
         Err(fault) => {
             outputs.err.put_line(fault)?;
@@ -89,7 +88,8 @@ where
     let order = intake.order;
     for _session in 0..u64::MAX {
         let stream = take_told(&mut intake.connections, teller)?;
-        hold_session(rt, stream, order, &mut intake.records, outputs, teller)?;
+        let records = &mut intake.records;
+        hold_session(rt, stream, Recorded { order, records }, outputs, teller)?;
     }
     Ok(0)
 }
@@ -115,7 +115,8 @@ where
     let order = intake.order;
     let stream = take_told(&mut intake.connections, teller)?;
     let wire = SocketWire::new(rt, stream, Role::Receiver);
-    receive_through(rt, wire, order, &mut intake.records, out, teller)
+    let records = &mut intake.records;
+    receive_through(rt, wire, Recorded { order, records }, out, teller)
 }
 
 /// Receives files from connections of which none was taken yet, and none has failed, as it is asked

@@ -2,7 +2,7 @@
 
 ghost use Rattle.std.specs.Prelude.{◌≡◌, ◌≢◌, ◌≤◌, ℕ, Result, OnOk, OnErr, IfOk};
 ghost use Rattle.std.specs.Io.KnownBytes.{Appends};
-ghost use Rattle.ym_file.specs.Counts.{Rose};
+ghost use Rattle.ym_file.specs.Counts.{Counted};
 ghost use Rattle.ym_file.specs.Kept.{IsNew};
 ghost use Rattle.ym_file.specs.declared.sink.SinkFault.{SinkFault as Shut};
 ghost use Rattle.ym_folder.specs.DirSink.{kept_of};
@@ -184,12 +184,19 @@ where
     receive_on(rt, port, order, out, teller)
 }
 
+/// What a receiver is asked for, and what is recorded of it.
+pub(crate) struct Recorded<'o, 'r, 'p> {
+    /// What it is asked for.
+    pub order: Order<'o>,
+    /// What passes is put there, where that is wanted.
+    pub records: &'r mut Records<'p>,
+}
+
 /// The same over a line that is recorded where that is wanted.
 pub(crate) fn receive_through<R, W, O, E>(
     rt: &R,
     wire: W,
-    order: Order<'_>,
-    records: &mut Records<'_>,
+    asked: Recorded<'_, '_, '_>,
     out: &mut O,
     teller: &mut Teller<E>,
 ) -> Result<u8, CommandFault>
@@ -198,10 +205,11 @@ where
     W: ToldWire + Drop,
     O: Output,
     E: Write + Drop,
-    ensures { SessionGives order.entry.confirm
+    ensures { SessionGives asked.entry.order.confirm
         (page (O.contents out.old) (O.failures out.old)) result
         (page (O.contents out.new) (O.failures out.new)) }
 {
+    let Recorded { order, records } = asked;
     let wire = RecordedWire::new(wire, rt, Role::Receiver, &mut records.recorder);
     let answer = receive_at(rt, wire, order, out, teller);
     records.end(matches!(answer, Ok(0)), teller);
@@ -313,12 +321,17 @@ fn end_of<E: Write + Drop, C: Clock + Drop>(
     (last, named, lately)
 }
 
+/// The port that a receiver hears, and the sink that takes its files.
+struct Ends<P, K> {
+    port: P,
+    sink: K,
+}
+
 /// Receives the files that come over a port of the program's own into a new sink, as
 /// [`receive_on`] does into a folder.
 fn receive_into<R, P, K, O, E>(
     rt: &R,
-    port: P,
-    sink: K,
+    ends: Ends<P, K>,
     order: Order<'_>,
     out: &mut O,
     teller: &mut Teller<E>,
@@ -329,11 +342,12 @@ where
     K: Store + Explains + Drop,
     O: Output,
     E: Write + Drop,
-    requires { IsNew (K.kept sink) }
+    requires { IsNew (K.kept ends.sink) }
     ensures { ReceivesBatch order.entry.confirm
         (page (O.contents out.old) (O.failures out.old)) result
         (page (O.contents out.new) (O.failures out.new)) }
 {
+    let Ends { port, sink } = ends;
     let alloc = rt.alloc();
     let looked = Looked {
         alloc,
@@ -376,5 +390,5 @@ where
         (page (O.contents out.new) (O.failures out.new)) }
 {
     let sink = open_sink(rt, rt.alloc(), order)?;
-    receive_into(rt, port, sink, order, out, teller)
+    receive_into(rt, Ends { port, sink }, order, out, teller)
 }

@@ -3,7 +3,7 @@
 ghost use Rattle.ym_answer.specs.Page.{page};
 ghost use Rattle.ym_receiving.specs.Receiving.{ReceiveGives};
 
-use crate::receiving::{Order, look_at, receive_through};
+use crate::receiving::{Order, Recorded, look_at, receive_through};
 use std::alloc::AllocGlobal;
 use std::fs::{File, Files};
 use std::io;
@@ -39,13 +39,13 @@ where
         Some(path) => {
             let file = open_line(rt, path, teller)?;
             let wire = TtyWire::new(rt, &file, &file, true, Role::Receiver);
-            receive_through(rt, wire, order, records, out, teller)
+            receive_through(rt, wire, Recorded { order, records }, out, teller)
         }
         None => {
             let reader = rt.reader();
             let is_terminal = reader.is_terminal();
             let wire = TtyWire::new(rt, reader, io::writer(rt), is_terminal, Role::Receiver);
-            receive_through(rt, wire, order, records, out, teller)
+            receive_through(rt, wire, Recorded { order, records }, out, teller)
         }
     }
 }

@@ -10,9 +10,9 @@ use Rattle.ym_told.specs.declared.way.Direction.TheVariants.{There, Back}
 use Rattle.ym_capture.specs.RecordText.{line_of}
 
 -- the piece that is held back, if one is: its moment, its way and its bytes
-abbrev pub held_line : Option (ℕ × Direction) → List ℕ → List ℕ
-held_line None bytes = []
-held_line (Some held) bytes = line_of held.0 held.1 bytes
+abbrev pub buffered_line : Option (ℕ × Direction) → List ℕ → List ℕ
+buffered_line None bytes = []
+buffered_line (Some buffered) bytes = line_of buffered.0 buffered.1 bytes
 
 -- A record goes on by this text: what its file took, and behind that what waits, are all of it, in
 -- order. Or a write failed, and it ends there. Where none is made none begins.

@@ -2,7 +2,7 @@
 
 ghost use Rattle.std.specs.Prelude.{◌≡◌, ℕ, List, Option, None, OnOk, OnErr};
 ghost use Rattle.std.specs.Io.KnownBytes.{append_known};
-ghost use Rattle.ym_folder.specs.WriteBehind.{GrowsByFront};
+ghost use Rattle.ym_folder.specs.WriteBehind.{GrowsByPrefix};
 
 use std::fs::File;
 use std::io;
@@ -16,7 +16,7 @@ pub trait Append {
     /// Puts bytes behind those that it took. Where that fails a front of them may have been taken.
     fn append(&mut self, bytes: &[u8]) -> io::Result<()>
         ensures all { OnOk result (taken self.new ≡ append_known (taken self.old) bytes.now) }
-        ensures front { OnErr result (GrowsByFront (taken self.old) (taken self.new) bytes.now) };
+        ensures prefix { OnErr result (GrowsByPrefix (taken self.old) (taken self.new) bytes.now) };
 }
 
 /// A file of the system.

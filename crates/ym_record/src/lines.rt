@@ -3,8 +3,8 @@
 ghost use Rattle.std.specs.Prelude.{◌≡◌, ◌++◌, [], OnOk, OnErr, IfOk};
 ghost use Rattle.std.specs.Io.KnownBytes.{append_known};
 ghost use Rattle.ym_capture.specs.RecordText.{line_of};
-ghost use Rattle.ym_folder.specs.WriteBehind.{GrowsByFront};
-ghost use Rattle.ym_record.specs.RecordGrowth.{held_line};
+ghost use Rattle.ym_folder.specs.WriteBehind.{GrowsByPrefix};
+ghost use Rattle.ym_record.specs.RecordGrowth.{buffered_line};
 
 use crate::append::Append;
 use std::alloc::{AllocError, Global};
@@ -26,29 +26,29 @@ const PIECE: usize = 2048;
 pub(crate) struct Lines {
     text: Vec<u8>,
     /// The moment and the way of the piece that passed last, where it has no line yet.
-    held: Option<(u64, Direction)>,
+    buffered: Option<(u64, Direction)>,
     /// Its bytes.
     piece: Vec<u8>,
 }
 
 impl Model for Lines {
     ghost use Rattle.std.specs.Prelude.{ℕ, List, ◌++◌};
-    ghost use Rattle.ym_record.specs.RecordGrowth.{held_line};
+    ghost use Rattle.ym_record.specs.RecordGrowth.{buffered_line};
 
     ghost Value = { List ℕ };
 
-    ghost view = { λ l. l.text.items ++ held_line l.held l.piece.items };
+    ghost view = { λ l. l.text.items ++ buffered_line l.buffered l.piece.items };
 }
 
 /// Puts the line of the piece that is held, if one is, behind a text.
 fn settle(
     text: &mut Vec<u8>,
-    held: Option<(u64, Direction)>,
+    buffered: Option<(u64, Direction)>,
     piece: &[u8],
 ) -> Result<(), AllocError>
-    ensures { OnOk result (text.new.items ≡ text.old.items ++ held_line held piece.now) }
+    ensures { OnOk result (text.new.items ≡ text.old.items ++ buffered_line buffered piece.now) }
 {
-    match held {
+    match buffered {
         Some((micros, way)) => push_line(text, micros, way, piece),
         None => Ok(()),
     }
@@ -61,7 +61,7 @@ impl Lines {
     {
         Lines {
             text: Vec::new(alloc),
-            held: None,
+            buffered: None,
             piece: Vec::new(alloc),
         }
     }
@@ -72,7 +72,7 @@ impl Lines {
     {
         Ok(Lines {
             text: Vec::with_capacity(alloc, TEXT)?,
-            held: None,
+            buffered: None,
             piece: Vec::with_capacity(alloc, PIECE)?,
         })
     }
@@ -86,11 +86,11 @@ impl Lines {
     ) -> Result<(), AllocError>
         ensures { OnOk result (self.new ≡ self.old ++ line_of micros way bytes.now) }
     {
-        settle(&mut self.text, self.held, self.piece.as_slice())?;
-        self.held = None;
+        settle(&mut self.text, self.buffered, self.piece.as_slice())?;
+        self.buffered = None;
         self.piece.clear();
         self.piece.extend_from_slice(bytes)?;
-        self.held = Some((micros, way));
+        self.buffered = Some((micros, way));
         Ok(())
     }
 
@@ -98,10 +98,10 @@ impl Lines {
     pub(crate) fn write_to<A: Append>(&mut self, to: &mut A) -> io::Result<()>
         ensures written { OnOk result (A.taken to.new ≡ append_known (A.taken to.old) self.old) }
         ensures none_wait { OnOk result (self.new ≡ []) }
-        ensures front { OnErr result (GrowsByFront (A.taken to.old) (A.taken to.new) self.old) }
+        ensures prefix { OnErr result (GrowsByPrefix (A.taken to.old) (A.taken to.new) self.old) }
     {
-        settle(&mut self.text, self.held, self.piece.as_slice())?;
-        self.held = None;
+        settle(&mut self.text, self.buffered, self.piece.as_slice())?;
+        self.buffered = None;
         to.append(self.text.as_slice())?;
         self.text.clear();
         Ok(())

@@ -2,7 +2,7 @@
 
 ghost use Rattle.std.specs.Prelude.{◌≡◌, ◌<◌, ◌≤◌, ℕ, [], Ok, OnOk, OnErr, length, take, is_ok};
 ghost use Rattle.std.specs.Prelude.{option_map};
-ghost use Rattle.ym_file.specs.Counts.{Rose};
+ghost use Rattle.ym_file.specs.Counts.{Counted};
 ghost use Rattle.ym_link.specs.Port.{seen_of, read_gives};
 ghost use Rattle.ym_port.specs.Wire.{Tape, after_read, after_write};
 ghost use Rattle.ym_record.specs.RecordGrowth.{GoesOnBy, read_way, written_way};
@@ -157,7 +157,8 @@ impl<'r, W: Wire + Drop, C: Clock + Drop, A: Append + Drop> Wire for RecordedWir
             × (seen_of result buf.new ≡ read_gives (length buf.old) t.coming)
             × (u ≡ after_read millis (length buf.old) t) }
         ensures ok { OnOk result (W.failures self.new.wire ≡ W.failures self.old.wire) }
-        ensures failed { OnErr result (Rose (W.failures self.old.wire) (W.failures self.new.wire)) }
+        ensures failed { OnErr result (Counted
+            (W.failures self.old.wire) (W.failures self.new.wire)) }
         // What was read stands in the record.
         ensures recorded { (n : ℕ) → result ≡ Ok (Got.Bytes n) → (micros : ℕ)
             × GoesOnBy (line_of micros (read_way self.old.role) (take n buf.new))
@@ -176,7 +177,8 @@ impl<'r, W: Wire + Drop, C: Clock + Drop, A: Append + Drop> Wire for RecordedWir
         ensures told { (u : Tape) → W.tells self.new.wire u → (t : Tape) × W.tells self.old.wire t
             × (u ≡ after_write (is_ok result) t bytes.now) }
         ensures ok { OnOk result (W.failures self.new.wire ≡ W.failures self.old.wire) }
-        ensures failed { OnErr result (Rose (W.failures self.old.wire) (W.failures self.new.wire)) }
+        ensures failed { OnErr result (Counted
+            (W.failures self.old.wire) (W.failures self.new.wire)) }
         // What was written stands in the record.
         ensures recorded { OnOk result ((micros : ℕ)
             × GoesOnBy (line_of micros (written_way self.old.role) bytes.now)

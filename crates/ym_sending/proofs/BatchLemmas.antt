@@ -47,7 +47,7 @@ looked_at_more count paths files path file h within is name stamp fits =
 pub refuses : (count : ℕ) (paths : List (List ℕ)) (files : List FileParts) (path : List ℕ) (why : CommandFault) → LookedAt count paths files
     → count < length paths → path ≡ slice_index_or paths count [] → MayRefuse (last_part path) why → RefusesFile paths why
 refuses count paths files path why h within is refused =
-    record { place = count; within = within; before = h.named; refused = rw is at refused }
+    record { position = count; within = within; before = h.named; refused = rw is at refused }
 
 -- there are as many files as paths
 pub too_many : (paths : List (List ℕ)) (files : List FileParts) (why : CommandFault) → IsBatch paths files

@@ -3,13 +3,13 @@ use Rattle.std.specs.Prelude.{◌≡◌, ◌≢◌, ◌<◌, ◌⊎◌, ℕ, tru
 use Rattle.std.specs.Path.{path_file_name}
 use Rattle.ym_header.specs.Header.{HeaderParts, IsName}
 use Rattle.ym_header.specs.declared.stamp.Stamp.TheVariants.{Nothing}
-use Rattle.ym_file.specs.Counts.{Rose}
+use Rattle.ym_file.specs.Counts.{Counted}
 use Rattle.ym_file.specs.declared.plan.Shape.{Shape}
-use Rattle.ym_core.specs.Place.{done_at}
+use Rattle.ym_core.specs.Position.{done_at}
 use Rattle.ym_core.specs.Standing.{new_standing}
 use Rattle.ym_core.specs.declared.state.SendState.{SendState}
 use Rattle.ym_core.specs.declared.state.SendState.TheVariants as state
-use Rattle.ym_link.specs.Course.{SenderCourse}
+use Rattle.ym_link.specs.History.{SenderHistory}
 use Rattle.ym_link.specs.Port.{Tape}
 use Rattle.ym_link.specs.Sender.{SenderParts, counts}
 use Rattle.ym_link.specs.SendOver.{Outcome, Sends}
@@ -18,7 +18,7 @@ use Rattle.ym_link.specs.declared.end_fault.EndFault.{EndFault}
 use Rattle.ym_link.specs.declared.end_fault.EndFault.TheVariants as end
 use Rattle.ym_machine.specs.declared.limits.TheConstants.{MOST_FILES}
 use Rattle.ym_streams.specs.declared.streams.StreamFault.{StreamFault}
-use Rattle.ym_pair.specs.AnyPeer.{AreAcknowledged, files_places}
+use Rattle.ym_pair.specs.AnyPeer.{AreAcknowledged, files_positions}
 use Rattle.ym_pair.specs.Logs.{Spoke, spoke_in, spoke_along}
 use Rattle.ym_answer.specs.Lines.{sender_line}
 use Rattle.ym_answer.specs.Page.{Page, Prints}
@@ -55,10 +55,10 @@ MayRefuse name fault.Memory = Unit {0}
 
 -- the first file that is not sent, and why: those before it have names that a header may have
 pub record RefusesFile (paths : List (List ℕ)) (why : CommandFault) : Type 0 where
-  pub place : ℕ
-  pub within : place < length paths
-  pub before : (j : ℕ) → j < place → IsName (last_part (slice_index_or paths j []))
-  pub refused : MayRefuse (last_part (slice_index_or paths place [])) why
+  pub position : ℕ
+  pub within : position < length paths
+  pub before : (j : ℕ) → j < position → IsName (last_part (slice_index_or paths j []))
+  pub refused : MayRefuse (last_part (slice_index_or paths position [])) why
 
 -- why nothing was sent, the first that applies: a file of the batch, the number of files, or the
 -- connection
@@ -79,7 +79,7 @@ pub record IsNewSender (shape : Shape) (paths : List (List ℕ)) (s : SenderPart
 abbrev pub AcknowledgesFiles : SenderParts → SenderParts → List Spoke → Type 0
 AcknowledgesFiles old new spoke =
     AreAcknowledged old.shape old.files
-    (files_places (counts old) (done_at (length new.files) new.standing.place)) spoke
+    (files_positions (counts old) (done_at (length new.files) new.standing.position)) spoke
 
 -- how a call left the sender and the port, and what it answered
 abbrev pub sender_end : SenderParts → Tape → Result Unit EndFault → Outcome
@@ -94,10 +94,10 @@ pub record SenderRuns (before after : Tape → Type 0) (old : SenderParts) (fail
       → (t : Tape) × before t × (run : Sends old t (sender_end new u ended))
       × (old.standing ≡ new_standing (counts old)
       → AcknowledgesFiles old new (spoke_in old t (sender_end new u ended) run))
-  pub course : (deliveries : List (List ℕ)) × (heard : SenderCourse old deliveries new)
+  pub history : (deliveries : List (List ℕ)) × (heard : SenderHistory old deliveries new)
       × (old.standing ≡ new_standing (counts old)
       → AcknowledgesFiles old new (spoke_along old deliveries heard.progress new heard.hears))
-  pub device : ended ≡ Err end.Device → Rose failed new_failed
+  pub device : ended ≡ Err end.Device → Counted failed new_failed
   pub memory : ended ≢ Err end.Memory
   pub over : is_ok ended ≡ true → new.standing.state ≢ state.Running
 
@@ -113,7 +113,7 @@ pub record TellsSender (ended : Result Unit EndFault) (s : SenderParts) (out : P
     (answer : Result ℕ CommandFault) (new_out : Page) : Type 0 where
   pub printed : Result Unit StreamFault
   pub prints : Prints out
-      (sender_line (done_at (length s.files) s.standing.place) s.standing.state) printed new_out
+      (sender_line (done_at (length s.files) s.standing.position) s.standing.state) printed new_out
   pub answer_is : answer ≡ send_gives ended printed s.standing.state
 
 -- A sender ran over some port, and its line is printed: the frames of the files that the line
@@ -121,7 +121,7 @@ pub record TellsSender (ended : Result Unit EndFault) (s : SenderParts) (out : P
 pub record SendsOn (old new : SenderParts) (out : Page) (answer : Result ℕ CommandFault)
     (new_out : Page) : Type 0 where
   pub ended : Result Unit EndFault
-  pub course : (deliveries : List (List ℕ)) × (heard : SenderCourse old deliveries new)
+  pub history : (deliveries : List (List ℕ)) × (heard : SenderHistory old deliveries new)
       × (old.standing ≡ new_standing (counts old)
       → AcknowledgesFiles old new (spoke_along old deliveries heard.progress new heard.hears))
   pub memory : ended ≢ Err end.Memory

@@ -7,17 +7,13 @@ use std::alloc::Global;
 use std::cell::RefCell;
 use std::io::Write;
 use std::time::Clock;
+use ym_frame::{SOH, STX};
 use ym_header::Header;
 use ym_link::Wait;
 use ym_text::{Awaited, Coming, EchoMessage, FileMessage, Lately};
 
-/// The first byte of a block.
-const SHORT: u8 = 0x01;
-
-const LONG: u8 = 0x02;
-
 /// So many bytes of a delivery are kept: a block's front, and a name.
-const FRONT_BYTES: usize = 260;
+const PREFIX_BYTES: usize = 260;
 
 /// The text up to the first 00 of a block's body, where it is text.
 fn name_in(body: &[u8]) -> Option<&str> {
@@ -35,7 +31,7 @@ pub struct Receiving<'t, E: Write + Drop, C: Clock + Drop> {
     /// The name of the file that the sink was last given, where there was memory for it.
     last: Option<String>,
     /// The first bytes of the delivery that came last.
-    front: Vec<u8>,
+    prefix: Vec<u8>,
     /// What it waits for.
     awaited: Awaited,
     /// How often it has written since that file was begun, the file's blocks, and its bytes.
@@ -52,7 +48,7 @@ impl<'t, E: Write + Drop, C: Clock + Drop> Receiving<'t, E, C> {
             meter,
             besides,
             last: None,
-            front: Vec::new(alloc),
+            prefix: Vec::new(alloc),
             awaited: Awaited::Sender,
             replies: 0,
             blocks: 0,
@@ -69,17 +65,15 @@ impl<'t, E: Write + Drop, C: Clock + Drop> Receiving<'t, E, C> {
 
     /// The name in the delivery that came last, where that is a block 0, and its name is text.
     pub fn named(&self) -> Option<String> {
-        match self.front.as_slice() {
-            [SHORT | LONG, 0, 0xff, body @ ..] => {
-                String::from_str(self.alloc, name_in(body)?).ok()
-            }
+        match self.prefix.as_slice() {
+            [SOH | STX, 0, 0xff, body @ ..] => { String::from_str(self.alloc, name_in(body)?).ok() }
             _ => None,
         }
     }
 
     /// A delivery is waited for.
     fn wait(&mut self) {
-        self.front.clear();
+        self.prefix.clear();
         let awaited = self.awaited;
         self.meter.wait(awaited);
     }
@@ -87,11 +81,11 @@ impl<'t, E: Write + Drop, C: Clock + Drop> Receiving<'t, E, C> {
     /// These bytes came.
     fn hear(&mut self, bytes: &[u8]) {
         self.meter.hear(bytes);
-        let room = FRONT_BYTES.saturating_sub(self.front.len());
+        let room = PREFIX_BYTES.saturating_sub(self.prefix.len());
         let _ = self
-            .front
+            .prefix
             .extend_from_slice(&bytes[..room.min(bytes.len())]);
-        if let [SHORT | LONG, number, check, ..] = self.front.as_slice() {
+        if let [SOH | STX, number, check, ..] = self.prefix.as_slice() {
             if *number == !*check {
                 self.meter.meet(*number == 1);
             }

@@ -3,7 +3,7 @@
 ghost use Rattle.std.specs.Prelude.{◌≡◌, ◌≤◌, ◌^◌, ◌-◌, ℕ, List, Option, OnOk, OnErr, IfOk, IfSome, length};
 ghost use Rattle.std.specs.Io.KnownBytes.{ReadConsumes, Appends};
 ghost use Rattle.std.specs.Fmt.{with_newline};
-ghost use Rattle.ym_file.specs.Counts.{Rose};
+ghost use Rattle.ym_file.specs.Counts.{Counted};
 
 use std::fmt::Display;
 use std::io::{Read, Write};
@@ -26,7 +26,7 @@ pub trait Input {
         ensures count { IfOk result (λ n. n ≤ length buf.new) }
         ensures bytes { ReadConsumes (remaining self.old) (remaining self.new) result buf.new }
         ensures ok { OnOk result (failures self.new ≡ failures self.old) }
-        ensures failed { OnErr result (Rose (failures self.old) (failures self.new)) };
+        ensures failed { OnErr result (Counted (failures self.old) (failures self.new)) };
 }
 
 /// Where the text of a command goes, or the line of its fault.
@@ -41,21 +41,21 @@ pub trait Output {
     fn put(&mut self, bytes: &[u8]) -> Result<(), StreamFault>
         ensures bytes { OnOk result (Appends (contents self.old) (contents self.new) bytes.now) }
         ensures ok { OnOk result (failures self.new ≡ failures self.old) }
-        ensures failed { OnErr result (Rose (failures self.old) (failures self.new)) };
+        ensures failed { OnErr result (Counted (failures self.old) (failures self.new)) };
 
     /// The same of a text. It takes no memory.
     fn put_text<D: Display + Drop>(&mut self, text: D) -> Result<(), StreamFault>
         ensures bytes { OnOk result
             (IfSome (D.output text) (Appends (contents self.old) (contents self.new))) }
         ensures ok { OnOk result (failures self.new ≡ failures self.old) }
-        ensures failed { OnErr result (Rose (failures self.old) (failures self.new)) };
+        ensures failed { OnErr result (Counted (failures self.old) (failures self.new)) };
 
     /// The same of a text and the end of its line.
     fn put_line<D: Display + Drop>(&mut self, text: D) -> Result<(), StreamFault>
         ensures bytes { OnOk result (IfSome (with_newline (D.output text))
             (Appends (contents self.old) (contents self.new))) }
         ensures ok { OnOk result (failures self.new ≡ failures self.old) }
-        ensures failed { OnErr result (Rose (failures self.old) (failures self.new)) };
+        ensures failed { OnErr result (Counted (failures self.old) (failures self.new)) };
 }
 
 /// A reader of the standard library does not say how often it failed: its count is taken to stand

@@ -21,12 +21,18 @@ abbrev pub silence_of : Peer → Sight → ℕ → Cause
 silence_of other seen.Nothing seconds = cause.Absent other seconds
 silence_of other _ seconds = cause.Ceased other seconds
 
--- nothing comes any more; a prompt is shown once, and whoever asked was there
+-- what receivers send comes
+abbrev pub prompt_of : Peer → Cause → Cause
+prompt_of peer.Receiver why = why
+prompt_of peer.Sender why = cause.NoSender
+
+-- Nothing comes any more. A prompt is shown once, and whoever asked was there. A receiver that asks
+-- a receiver may not be heard: what it sends is what an echo would bring.
 abbrev pub quiet_of : Peer → Sight → Came → ℕ → Cause
 quiet_of other before came.Nothing seconds = silence_of other before seconds
 quiet_of other before came.Other seconds = silence_of other before seconds
 quiet_of other before came.Text seconds = cause.Text
-quiet_of other before _ seconds = cause.Ceased other seconds
+quiet_of other before _ seconds = prompt_of other (cause.Ceased other seconds)
 
 -- NAK comes: before it has asked by C, a receiver of XMODEM asks so
 abbrev pub asked_of : Sight → Cause
@@ -37,11 +43,6 @@ asked_of _ = cause.Refuses
 abbrev pub noise_of : Sight → Cause
 noise_of seen.Nothing = cause.Noise
 noise_of _ = cause.Damage
-
--- what receivers send comes
-abbrev pub prompt_of : Peer → Cause → Cause
-prompt_of peer.Receiver why = why
-prompt_of peer.Sender why = cause.NoSender
 
 abbrev pub heard_of : Peer → Sight → Came → ℕ → Cause
 heard_of other before came.Nothing seconds = silence_of other before seconds

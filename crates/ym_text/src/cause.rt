@@ -156,6 +156,16 @@ fn silence(peer: Peer, seen: Sight, seconds: u64) -> Cause
     }
 }
 
+/// Why what receivers send comes from this end.
+fn prompts(peer: Peer, cause: Cause) -> Cause
+    ensures { result ≡ prompt_of peer cause }
+{
+    match peer {
+        Peer::Receiver => cause,
+        Peer::Sender => Cause::NoSender,
+    }
+}
+
 /// Why nothing comes any more behind what came.
 fn quiet(peer: Peer, seen: Sight, came: Came, seconds: u64) -> Cause
     ensures { result ≡ quiet_of peer seen came seconds }
@@ -163,7 +173,7 @@ fn quiet(peer: Peer, seen: Sight, came: Came, seconds: u64) -> Cause
     match came {
         Came::Nothing | Came::Other => silence(peer, seen, seconds),
         Came::Text => Cause::Text,
-        _ => Cause::Ceased(peer, seconds),
+        _ => prompts(peer, Cause::Ceased(peer, seconds)),
     }
 }
 
@@ -184,16 +194,6 @@ fn noise(seen: Sight) -> Cause
     match seen {
         Sight::Nothing => Cause::Noise,
         _ => Cause::Damage,
-    }
-}
-
-/// Why what receivers send comes from this end.
-fn prompts(peer: Peer, cause: Cause) -> Cause
-    ensures { result ≡ prompt_of peer cause }
-{
-    match peer {
-        Peer::Receiver => cause,
-        Peer::Sender => Cause::NoSender,
     }
 }
 

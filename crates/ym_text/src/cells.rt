@@ -12,7 +12,7 @@ use unicode_width::UnicodeWidthStr;
 const NAME_CELLS: usize = 12;
 
 /// The front of a text, as much of it as takes at most so many cells of a terminal.
-pub(crate) fn front(text: &str, cells: usize) -> &str
+pub(crate) fn prefix(text: &str, cells: usize) -> &str
     ensures { str_width false (chars result.now) ≤ cells }
 {
     let mut kept = "";
@@ -68,7 +68,7 @@ pub fn progress_line(
     let name_cells = shown.as_str().width().min(NAME_CELLS);
     let told = told_in(alloc, progress, name_cells, columns)?;
     let room = columns.saturating_sub(told.as_str().width());
-    let name = front(shown.as_str(), room);
+    let name = prefix(shown.as_str(), room);
     let line = format!(in alloc; "{name}{told}")?;
-    String::from_str(alloc, front(line.as_str(), columns))
+    String::from_str(alloc, prefix(line.as_str(), columns))
 }

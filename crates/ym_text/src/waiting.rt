@@ -4,7 +4,7 @@ ghost use Rattle.std.specs.Prelude.{◌≡◌, ◌≤◌, Some, IfOk, false, cha
 ghost use Rattle.unicode_width.specs.Width.{str_width};
 ghost use Rattle.ym_text.specs.Waiting.{waiting_text};
 
-use crate::cells::front;
+use crate::cells::prefix;
 use std::alloc::{AllocError, Global};
 use std::fmt;
 use unicode_width::UnicodeWidthStr;
@@ -76,7 +76,7 @@ pub fn waiting_line(alloc: Global, waiting: Waiting, columns: usize) -> Result<S
             ..waiting
         };
         let line = format!(in alloc; "{short}")?;
-        return String::from_str(alloc, front(line.as_str(), columns));
+        return String::from_str(alloc, prefix(line.as_str(), columns));
     }
-    String::from_str(alloc, front(line.as_str(), columns))
+    String::from_str(alloc, prefix(line.as_str(), columns))
 }

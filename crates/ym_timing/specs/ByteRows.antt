@@ -1,6 +1,6 @@
 -- What an end hears of a row of bytes, and a write behind which nothing was dropped (this profile).
 use Rattle.std.specs.Prelude.{ℕ, List, [], ◌∷◌, ◌++◌}
-use Rattle.ym_timing.specs.Clears.{clearing}
+use Rattle.ym_timing.specs.Clears.{purge}
 use Rattle.ym_timing.specs.Timing.{said, after_byte}
 use Rattle.ym_timing.specs.Writing.{wrote}
 use Rattle.ym_timing.specs.declared.hold.Say.{Say}
@@ -27,4 +27,4 @@ after_bytes (byte ∷ bytes) written now t =
 
 -- a write at this moment
 abbrev pub writes : List ℕ → ℕ → Timing → Timing
-writes bytes now t = wrote bytes (clearing bytes now t) now t
+writes bytes now t = wrote bytes (purge bytes now t) now t

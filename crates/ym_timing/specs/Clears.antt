@@ -10,11 +10,11 @@ use Rattle.ym_timing.specs.Arrivals.{is_noise}
 use Rattle.ym_timing.specs.Pace.{bound}
 use Rattle.ym_timing.specs.Sent.{next, is_same}
 use Rattle.ym_timing.specs.Times.{later}
-use Rattle.ym_timing.specs.declared.clearing.Clearing.{Clearing}
-use Rattle.ym_timing.specs.declared.clearing.Heed.{Heed}
-use Rattle.ym_timing.specs.declared.clearing.Heed.TheVariants as heed
-use Rattle.ym_timing.specs.declared.clearing.Need.{Need}
-use Rattle.ym_timing.specs.declared.clearing.Need.TheVariants as need
+use Rattle.ym_timing.specs.declared.purge.Purge.{Purge}
+use Rattle.ym_timing.specs.declared.purge.Heed.{Heed}
+use Rattle.ym_timing.specs.declared.purge.Heed.TheVariants as heed
+use Rattle.ym_timing.specs.declared.purge.Need.{Need}
+use Rattle.ym_timing.specs.declared.purge.Need.TheVariants as need
 use Rattle.ym_timing.specs.declared.limits.TheConstants.{APART, FAR, HALVINGS, HELD_UP, LONGEST}
 use Rattle.ym_timing.specs.declared.limits.TheConstants.{MOMENT, RECEIVER_QUIET, SENDER_QUIET}
 use Rattle.ym_timing.specs.declared.out.Owed.{Owed}
@@ -49,8 +49,8 @@ is_unsure now t = is_noise t.heard || was_held_up now t
 -- what was heard is another frame than the one before
 abbrev pub is_new_frame : Timing → Bool
 is_new_frame t =
-    not (t.front.is_there && nat_eq t.front.first t.heard.first
-    && nat_eq t.front.second t.heard.second)
+    not (t.prefix.is_there && nat_eq t.prefix.first t.heard.first
+    && nat_eq t.prefix.second t.heard.second)
 
 -- Where it is the line that answers wait for, a frame came to a receiver once more, sooner behind
 -- its last write than half of what an answer is known to take. So it answers the write before that,
@@ -91,8 +91,8 @@ counted_by Receiver n t = t.heard.last
 abbrev pub counted_from : Need → Timing → ℕ
 counted_from n t = counted_by t.role n t
 
-abbrev pub clearing : List ℕ → ℕ → Timing → Clearing
-clearing bytes now t = record {
+abbrev pub purge : List ℕ → ℕ → Timing → Purge
+purge bytes now t = record {
   need = need_of (next t.sent bytes) now t;
   from = if was_held_up now t then now else counted_from (need_of (next t.sent bytes) now t) t;
   owed = t.out.copies - 1;
@@ -141,17 +141,17 @@ counts_answers Sender kind.Data = true
 counts_answers Sender kind.Opening = true
 counts_answers _ _ = false
 
-abbrev pub is_answered : Clearing → Timing → Bool
+abbrev pub is_answered : Purge → Timing → Bool
 is_answered c t = counts_answers t.role t.sent.kind && (c.has_brought && nat_eq c.owed 0)
 
-abbrev pub until_by : Need → Clearing → Timing → ℕ
+abbrev pub until_by : Need → Purge → Timing → ℕ
 until_by need.Nothing c t = 0
 until_by need.Quiet c t = later c.from (quiet_of t.role)
 until_by need.Late c t = late_until c.from t
 until_by need.Several c t = if is_answered c t then 0 else several_until c.from t
 
 -- CAN CAN ends it at once
-abbrev pub clear_at : Clearing → Timing → ℕ
+abbrev pub clear_at : Purge → Timing → ℕ
 clear_at c t = min (if t.has_cancel then 0 else until_by c.need c t) c.end_at
 
 -- ---- What is dropped
@@ -171,7 +171,7 @@ ends byte heed.Can = nat_eq byte 0x18
 ends byte heed.Open = false
 ends byte heed.Other = false
 
-abbrev pub brings : Bool → Bool → ℕ → Clearing → Clearing
+abbrev pub brings : Bool → Bool → ℕ → Purge → Purge
 brings counts answers now c = record c {
   from = if counts then now else c.from;
   owed = if answers && nat_lt c.answered_at now then c.owed - 1 else c.owed;
@@ -179,7 +179,7 @@ brings counts answers now c = record c {
   has_brought = true;
 }
 
-abbrev pub heeds_in : Role → ℕ → Clearing → Clearing
+abbrev pub heeds_in : Role → ℕ → Purge → Purge
 heeds_in role byte c = record c { heed = heeds role byte c.heed }
 
 abbrev pub counts_all : Role → Need → Bool
@@ -200,18 +200,18 @@ with_ear Receiver byte written now t = t
 abbrev pub is_heard : ℕ → List ℕ → ℕ → Timing → Bool
 is_heard byte written now t = heard_by t.role byte written now t
 
-abbrev pub brought : Bool → Clearing → ℕ → ℕ → Timing → Clearing
+abbrev pub brought : Bool → Purge → ℕ → ℕ → Timing → Purge
 brought heard c byte now t =
     brings (heard && nat_eq byte 0x06 || counts_all t.role c.need) (heard && nat_eq byte 0x06) now c
 
 -- a byte that is dropped, where this was written last
-abbrev pub dropped : Clearing → ℕ → List ℕ → ℕ → Timing → Clearing
+abbrev pub dropped : Purge → ℕ → List ℕ → ℕ → Timing → Purge
 dropped c byte written now t =
     if is_heard byte written now t
     then heeds_in t.role byte (brought true c byte now t)
     else brought false c byte now t
 
-abbrev pub after_dropped : Clearing → ℕ → List ℕ → ℕ → Timing → Timing
+abbrev pub after_dropped : Purge → ℕ → List ℕ → ℕ → Timing → Timing
 after_dropped c byte written now t =
     if is_heard byte written now t
     then record (with_ear t.role byte written now t) {
@@ -230,5 +230,5 @@ vain_by need.Quiet has_brought times = times
 vain_by need.Late has_brought times = if has_brought then 0 else one_more times
 vain_by need.Several has_brought times = if has_brought then 0 else one_more times
 
-abbrev pub vain_after : ℕ → Clearing → ℕ
+abbrev pub vain_after : ℕ → Purge → ℕ
 vain_after times c = vain_by c.need c.has_brought times

@@ -34,7 +34,7 @@ new_timing role = record {
   ear = new_ear;
   hold = new_hold;
   echoed = 0;
-  front = record { is_there = false; first = 0; second = 0 };
+  prefix = record { is_there = false; first = 0; second = 0 };
   is_shaken = false;
   vain = 0;
   has_cancel = false;

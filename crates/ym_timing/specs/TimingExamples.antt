@@ -1,6 +1,6 @@
 -- Lines, computed. A block is shortened to its head and two more bytes.
 use Rattle.std.specs.Prelude.{◌≡◌, ℕ, List, [], ◌∷◌, ◌++◌, true, refl}
-use Rattle.ym_timing.specs.Clears.{clearing, clear_at}
+use Rattle.ym_timing.specs.Clears.{purge, clear_at}
 use Rattle.ym_timing.specs.Out.{again, one, late}
 use Rattle.ym_timing.specs.Pace.{bound}
 use Rattle.ym_timing.specs.ByteRows.{heard_of, after_bytes, writes}
@@ -55,7 +55,7 @@ quick-pace : quick.pace ≡ record { slowest = 12; trust = Sure }
 quick-pace = refl
 
 -- each write was answered: nothing is let clear, and nothing waits
-quick-clear : clear_at (clearing block_3 1036 (after_bytes ack block_2 1036 quick))
+quick-clear : clear_at (purge block_3 1036 (after_bytes ack block_2 1036 quick))
     (after_bytes ack block_2 1036 quick) ≡ 0
 quick-clear = refl
 
@@ -68,7 +68,7 @@ asked = writes block_2 3100 (after_bytes start block_2 3100 quick)
 asked-out : asked.out ≡ one 3100
 asked-out = refl
 
-asked-clear : clear_at (clearing block_3 3112 (after_bytes ack block_2 3112 asked))
+asked-clear : clear_at (purge block_3 3112 (after_bytes ack block_2 3112 asked))
     (after_bytes ack block_2 3112 asked) ≡ 0
 asked-clear = refl
 
@@ -83,7 +83,7 @@ asked_late-out = refl
 abbrev answered_late : Timing
 answered_late = after_bytes ack block_2 5286 asked_late
 
-asked_late-clear : clear_at (clearing block_3 5286 answered_late) answered_late ≡ 5498
+asked_late-clear : clear_at (purge block_3 5286 answered_late) answered_late ≡ 5498
 asked_late-clear = refl
 
 asked_late-vain : (writes block_3 5498 answered_late).vain ≡ 1
@@ -112,7 +112,7 @@ abbrev opened : Timing
 opened = after_bytes start opening 10024 (after_bytes ack opening 5774 (writes opening 5762
     (after_bytes start opening 5762 (writes opening 1000 (new_timing Sender)))))
 
-opened-clear : clear_at (clearing block_1 10024 opened) opened ≡ 12536
+opened-clear : clear_at (purge block_1 10024 opened) opened ≡ 12536
 opened-clear = refl
 
 -- Where block 0 came whole at once, its C comes 4250 behind its ACK too. A C that comes 100 behind
@@ -179,7 +179,7 @@ first_of_rb-out = refl
 abbrev led_on_by_rb : Timing
 led_on_by_rb = after_bytes ack_start opening 3072 first_of_rb
 
-led_on_by_rb-clear : clear_at (clearing block_1 3072 led_on_by_rb) led_on_by_rb ≡ 0
+led_on_by_rb-clear : clear_at (purge block_1 3072 led_on_by_rb) led_on_by_rb ≡ 0
 led_on_by_rb-clear = refl
 
 abbrev first_acked : Timing
@@ -226,7 +226,7 @@ abbrev far_ended : Timing
 far_ended = after_bytes ack_start eot 21000 (writes eot 17000 (after_bytes nak eot 17000
     (writes eot 13000 (after_bytes ack block_1 13000 far))))
 
-far_ended-clear : clear_at (clearing opening 21000 far_ended) far_ended ≡ 23250
+far_ended-clear : clear_at (purge opening 21000 far_ended) far_ended ≡ 23250
 far_ended-clear = refl
 
 -- ---- An answer that was stuck
@@ -239,17 +239,17 @@ stuck = writes nak 23250 (writes ack 17000 (after_bytes block_1 ack_start 17000
     (new_timing Receiver))))))
 
 -- block 1 comes again 250 behind its NAK, and is no answer to that: nothing has to clear
-stuck-crossed : clear_at (clearing ack 23500 (after_bytes block_1 nak 23500 stuck))
+stuck-crossed : clear_at (purge ack 23500 (after_bytes block_1 nak 23500 stuck))
     (after_bytes block_1 nak 23500 stuck) ≡ 0
 stuck-crossed = refl
 
 -- 2000 behind it and later it may be that: what else was written because of it is let come first
-stuck-clear : clear_at (clearing ack 25250 (after_bytes block_1 nak 25250 stuck))
+stuck-clear : clear_at (purge ack 25250 (after_bytes block_1 nak 25250 stuck))
     (after_bytes block_1 nak 25250 stuck) ≡ 29500
 stuck-clear = refl
 
 -- and so it is where another block comes, however soon
-stuck-other : clear_at (clearing ack 23500 (after_bytes block_2 nak 23500 stuck))
+stuck-other : clear_at (purge ack 23500 (after_bytes block_2 nak 23500 stuck))
     (after_bytes block_2 nak 23500 stuck) ≡ 29500
 stuck-other = refl
 
@@ -260,7 +260,7 @@ near = writes nak 12169 (writes ack 9169 (after_bytes block_1 ack_start 9169
     (writes ack_start 9100 (after_bytes opening start 9100 (writes start 9000
     (new_timing Receiver))))))
 
-near-clear : clear_at (clearing ack 12181 (after_bytes block_1 nak 12181 near))
+near-clear : clear_at (purge ack 12181 (after_bytes block_1 nak 12181 near))
     (after_bytes block_1 nak 12181 near) ≡ 13181
 near-clear = refl
 
@@ -273,7 +273,7 @@ late_start =
     (new_timing Receiver))))
 
 -- its peer may answer each of them, three seconds apart and a jitter
-late_start-clear : clear_at (clearing ack_start 20000 late_start) late_start ≡ 25000
+late_start-clear : clear_at (purge ack_start 20000 late_start) late_start ≡ 25000
 late_start-clear = refl
 
 late_start-pace : (writes ack_start 25000 late_start).pace
@@ -287,7 +287,7 @@ late_start-falls : (writes ack 25012 (after_bytes block_1 ack_start 25012
 late_start-falls = refl
 
 -- block 0 again, a second behind a NAK: how long answers take is not known for sure
-late_start-again : clear_at (clearing ack 52000
+late_start-again : clear_at (purge ack 52000
     (after_bytes opening nak 52000 (writes nak 51000 (writes ack_start 25000 late_start))))
     (after_bytes opening nak 52000 (writes nak 51000 (writes ack_start 25000 late_start)))
     ≡ 76750

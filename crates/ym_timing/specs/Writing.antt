@@ -13,9 +13,9 @@ use Rattle.ym_timing.specs.Out.{one, late, again}
 use Rattle.ym_timing.specs.Pace.{bound, doubtful, sure, wait}
 use Rattle.ym_timing.specs.Sent.{next, is_same}
 use Rattle.ym_timing.specs.Times.{later}
-use Rattle.ym_timing.specs.declared.clearing.Clearing.{Clearing}
-use Rattle.ym_timing.specs.declared.clearing.Need.{Need}
-use Rattle.ym_timing.specs.declared.clearing.Need.TheVariants as need
+use Rattle.ym_timing.specs.declared.purge.Purge.{Purge}
+use Rattle.ym_timing.specs.declared.purge.Need.{Need}
+use Rattle.ym_timing.specs.declared.purge.Need.TheVariants as need
 use Rattle.ym_timing.specs.declared.limits.TheConstants.{FRAGMENT, LIKELY, PATIENCE}
 use Rattle.ym_timing.specs.declared.limits.TheConstants.{SENDER_QUIET, SOON, UNASKED}
 use Rattle.ym_timing.specs.declared.out.Out.{Out}
@@ -29,7 +29,7 @@ use Rattle.ym_timing.specs.declared.role.Role.TheVariants.{Sender, Receiver}
 use Rattle.ym_timing.specs.declared.sent.Kind.{Kind}
 use Rattle.ym_timing.specs.declared.sent.Kind.TheVariants as kind
 use Rattle.ym_timing.specs.declared.sent.Sent.{Sent}
-use Rattle.ym_timing.specs.declared.timing.Front.{Front}
+use Rattle.ym_timing.specs.declared.timing.Prefix.{Prefix}
 use Rattle.ym_timing.specs.declared.timing.Timing.{Timing}
 
 -- ---- How long answers take
@@ -41,14 +41,14 @@ vain_by need.Late has_brought = not has_brought
 vain_by need.Several has_brought = not has_brought
 
 -- answers were awaited while the line cleared, and none came
-abbrev pub was_vain : Clearing → Bool
+abbrev pub was_vain : Purge → Bool
 was_vain c = vain_by c.need c.has_brought
 
 abbrev pub cleared_by : Need → Bool
 cleared_by need.Nothing = false
 cleared_by _ = true
 
-abbrev pub has_cleared : Clearing → Bool
+abbrev pub has_cleared : Purge → Bool
 has_cleared c = cleared_by c.need
 
 abbrev pub is_other : Role → Timing → Bool
@@ -88,12 +88,12 @@ stored_by _ _ _ t = false
 abbrev pub has_stored : Timing → Bool
 has_stored t = stored_by t.role t.sent.kind t.pace.trust t
 
-abbrev pub vain_in : Role → Clearing → Bool
+abbrev pub vain_in : Role → Purge → Bool
 vain_in Sender c = was_vain c
 vain_in Receiver c = false
 
 -- where a sender's line brought nothing while it cleared, the answer was that of the last write
-abbrev pub was_the_last : Clearing → Timing → Bool
+abbrev pub was_the_last : Purge → Timing → Bool
 was_the_last c t = vain_in t.role c
 
 -- where an answer to several may have come, the sample is a doubtful one
@@ -109,7 +109,7 @@ pace_of is_last took t = if is_last then sure took t.pace else sample t.out.owed
 abbrev pub answered_from : Bool → Timing → ℕ
 answered_from is_last t = if is_last then t.out.last_at else t.out.first_at
 
-abbrev pub pace_after : Clearing → Timing → Pace
+abbrev pub pace_after : Purge → Timing → Pace
 pace_after c t = pace_of (was_the_last c t) (took (answered_from (was_the_last c t) t) t) t
 
 -- ---- Whose answers may be under way
@@ -132,7 +132,7 @@ abbrev pub is_soon : Timing → Bool
 is_soon t = asked_within (soon t) t
 
 abbrev pub prompted_by : Role → Owed → Timing → Bool
-prompted_by Receiver o t = t.front.is_there && nat_le FRAGMENT t.heard.count
+prompted_by Receiver o t = t.prefix.is_there && nat_le FRAGMENT t.heard.count
 prompted_by Sender owed.One t = is_soon t
 prompted_by Sender owed.Late t = is_soon t
 prompted_by Sender owed.Likely t = false
@@ -181,18 +181,18 @@ out_by _ taken now t = if taken || is_prompted t then one now else unanswered no
 abbrev pub out_after : Bool → ℕ → Timing → Out
 out_after taken now t = out_by t.out.owed taken now t
 
-abbrev pub front_by : Role → Bool → Timing → Front
-front_by Receiver taken t =
+abbrev pub prefix_by : Role → Bool → Timing → Prefix
+prefix_by Receiver taken t =
     if taken then record {
       is_there = true;
       first = t.heard.first;
       second =
           t.heard.second;
-    } else t.front
-front_by Sender taken t = t.front
+    } else t.prefix
+prefix_by Sender taken t = t.prefix
 
-abbrev pub front_after : Bool → Timing → Front
-front_after taken t = front_by t.role taken t
+abbrev pub prefix_after : Bool → Timing → Prefix
+prefix_after taken t = prefix_by t.role taken t
 
 -- ---- What an answer may be taken for
 
@@ -201,7 +201,7 @@ is_data kind.Data = true
 is_data _ = false
 
 -- the line had to clear since the last data block
-abbrev pub is_shaken_after : Bool → Clearing → Timing → Bool
+abbrev pub is_shaken_after : Bool → Purge → Timing → Bool
 is_shaken_after is_repeat c t =
     if is_repeat then t.is_shaken else (has_cleared c || (t.is_shaken && not (is_data t.sent.kind)))
 
@@ -224,7 +224,7 @@ is_doubted n taken shaken t = by t.out.owed
 
 -- ---- The write
 
-abbrev pub wrote_next : Sent → Clearing → ℕ → Timing → Timing
+abbrev pub wrote_next : Sent → Purge → ℕ → Timing → Timing
 wrote_next n c now t = record {
   role = t.role;
   pace = if leads_on (is_taken n t) t then pace_after c t else t.pace;
@@ -236,12 +236,12 @@ wrote_next n c now t = record {
   hold = hold.wrote (is_opening n) (is_same t.sent n)
       (is_doubted n (is_taken n t) (is_shaken_after (is_same t.sent n) c t) t) now t.hold;
   echoed = 0;
-  front = front_after (is_taken n t) t;
+  prefix = prefix_after (is_taken n t) t;
   is_shaken = is_shaken_after (is_same t.sent n) c t;
   vain = vain_after t.vain c;
   has_cancel = t.has_cancel;
 }
 
--- these bytes were written, behind this clearing
-abbrev pub wrote : List ℕ → Clearing → ℕ → Timing → Timing
+-- these bytes were written, behind this purge
+abbrev pub wrote : List ℕ → Purge → ℕ → Timing → Timing
 wrote bytes c now t = wrote_next (next t.sent bytes) c now t

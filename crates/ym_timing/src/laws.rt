@@ -2,7 +2,7 @@
 
 ghost use Rattle.std.specs.Prelude.{◌≡◌, ◌≤◌, ◌<◌, ◌-◌, ◌+◌, ◌^◌, ℕ, Bool, List, length, true};
 ghost use Rattle.std.specs.Prelude.{false};
-ghost use Rattle.ym_timing.specs.Clears.{clearing, clear_at, is_unsure, apart_until, late_until};
+ghost use Rattle.ym_timing.specs.Clears.{purge, clear_at, is_unsure, apart_until, late_until};
 ghost use Rattle.ym_timing.specs.Clears.{several_until};
 ghost use Rattle.ym_timing.specs.Ear.{is_first, rested};
 ghost use Rattle.ym_timing.specs.Echoes.{block_of, IsDropped};
@@ -26,7 +26,7 @@ ghost use Rattle.ym_timing.specs.declared.timing.Timing.{Timing};
 pub fn nothing_waits_where_nothing_went_wrong()
     ensures { (t : Timing) (bytes : List ℕ) (now : ℕ) → t.out.owed ≡ Owed.One
         → is_unsure now t ≡ false
-        → clear_at (clearing bytes now t) t ≡ 0 }
+        → clear_at (purge bytes now t) t ≡ 0 }
 {}
 
 /// No answer is thought to take less than the last one took, and none is overdue before that.

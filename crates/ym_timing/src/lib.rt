@@ -4,7 +4,6 @@
 
 mod arrivals;
 mod cancel;
-mod clearing;
 mod clock;
 mod ear;
 mod hold;
@@ -12,6 +11,7 @@ pub mod laws;
 mod limits;
 mod out;
 mod pace;
+mod purge;
 mod role;
 mod sent;
 mod timing;
@@ -19,7 +19,6 @@ mod writing;
 
 pub use arrivals::Arrivals;
 pub use cancel::{Cans, Opening, cancels};
-pub use clearing::{Clearing, Heed, Need};
 pub use clock::Clock;
 pub use ear::{Ear, Echo, Listened};
 pub use hold::{FirstAck, Hold, Said, Say};
@@ -30,6 +29,7 @@ pub use limits::{
 };
 pub use out::{Out, Owed};
 pub use pace::{Pace, Trust};
+pub use purge::{Heed, Need, Purge};
 pub use role::Role;
 pub use sent::{Kind, Sent};
-pub use timing::{Expected, Front, Timing, Vain};
+pub use timing::{Expected, Prefix, Timing, Vain};

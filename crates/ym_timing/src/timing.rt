@@ -17,7 +17,7 @@ use crate::sent::{Kind, Sent};
 
 /// The frame that a receiver heard last.
 #[derive(Clone, Copy)]
-pub struct Front {
+pub struct Prefix {
     /// Whether it heard any.
     pub is_there: bool,
     /// Its first byte.
@@ -68,7 +68,7 @@ pub struct Timing {
     /// How many bytes of the last reply came back to a receiver.
     pub echoed: usize,
     /// The frame that a receiver heard last.
-    pub front: Front,
+    pub prefix: Prefix,
     /// Whether the line had to clear since the last data block.
     pub is_shaken: bool,
     /// How often in a row a line was let clear and nothing came.
@@ -92,7 +92,7 @@ impl Timing {
             ear: Ear::new(),
             hold: Hold::new(),
             echoed: 0,
-            front: Front {
+            prefix: Prefix {
                 is_there: false,
                 first: 0,
                 second: 0,

@@ -5,29 +5,29 @@ ghost use Rattle.std.specs.Prelude.{◌≡◌};
 ghost use Rattle.ym_timing.specs.Writing as table;
 
 use crate::arrivals::Arrivals;
-use crate::clearing::{Clearing, Need, vain_after};
 use crate::limits::{FRAGMENT, LIKELY, PATIENCE, SENDER_QUIET, SOON, UNASKED};
 use crate::out::{Out, Owed};
 use crate::pace::{Pace, Trust};
+use crate::purge::{Need, Purge, vain_after};
 use crate::role::Role;
 use crate::sent::{Kind, Sent};
-use crate::timing::{Front, Timing};
+use crate::timing::{Prefix, Timing};
 
 /// Whether it was let clear because answers were awaited, and nothing came.
-fn was_vain(clearing: Clearing) -> bool
-    ensures { result ≡ table.was_vain clearing }
+fn was_vain(purge: Purge) -> bool
+    ensures { result ≡ table.was_vain purge }
 {
-    match clearing.need {
+    match purge.need {
         Need::Nothing | Need::Quiet => false,
-        Need::Late | Need::Several => !clearing.has_brought,
+        Need::Late | Need::Several => !purge.has_brought,
     }
 }
 
 /// Whether the line had to clear.
-fn has_cleared(clearing: Clearing) -> bool
-    ensures { result ≡ table.has_cleared clearing }
+fn has_cleared(purge: Purge) -> bool
+    ensures { result ≡ table.has_cleared purge }
 {
-    match clearing.need {
+    match purge.need {
         Need::Nothing => false,
         Need::Quiet | Need::Late | Need::Several => true,
     }
@@ -79,11 +79,11 @@ impl Timing {
 
     /// Whether a sender let the line clear because answers were awaited, and none came: then the
     /// answer was that of the last write.
-    fn was_the_last(&self, clearing: Clearing) -> bool
-        ensures { result ≡ table.was_the_last clearing self.now }
+    fn was_the_last(&self, purge: Purge) -> bool
+        ensures { result ≡ table.was_the_last purge self.now }
     {
         match self.role {
-            Role::Sender => was_vain(clearing),
+            Role::Sender => was_vain(purge),
             Role::Receiver => false,
         }
     }
@@ -100,10 +100,10 @@ impl Timing {
     }
 
     /// What an answer says of how long answers take.
-    fn pace_after(&self, clearing: Clearing) -> Pace
-        ensures { result ≡ table.pace_after clearing self.now }
+    fn pace_after(&self, purge: Purge) -> Pace
+        ensures { result ≡ table.pace_after purge self.now }
     {
-        let is_last = self.was_the_last(clearing);
+        let is_last = self.was_the_last(purge);
         let written_at = if is_last {
             self.out.last_at
         } else {
@@ -136,7 +136,7 @@ impl Timing {
         ensures { result ≡ table.is_prompted self.now }
     {
         match (self.role, self.out.owed) {
-            (Role::Receiver, _) => self.front.is_there && FRAGMENT <= self.heard.count,
+            (Role::Receiver, _) => self.prefix.is_there && FRAGMENT <= self.heard.count,
             (Role::Sender, Owed::One) | (Role::Sender, Owed::Late) => {
                 self.asked_within(self.soon())
             }
@@ -180,22 +180,22 @@ impl Timing {
     }
 
     /// The frame that a receiver heard last.
-    fn front_after(&self, is_taken: bool) -> Front
-        ensures { result ≡ table.front_after is_taken self.now }
+    fn prefix_after(&self, is_taken: bool) -> Prefix
+        ensures { result ≡ table.prefix_after is_taken self.now }
     {
         match self.role {
-            Role::Receiver if is_taken => Front {
+            Role::Receiver if is_taken => Prefix {
                 is_there: true,
                 first: self.heard.first,
                 second: self.heard.second,
             },
-            _ => self.front,
+            _ => self.prefix,
         }
     }
 
     /// Whether the line had to clear since the last data block.
-    fn is_shaken_after(&self, is_repeat: bool, clearing: Clearing) -> bool
-        ensures { result ≡ table.is_shaken_after is_repeat clearing self.now }
+    fn is_shaken_after(&self, is_repeat: bool, purge: Purge) -> bool
+        ensures { result ≡ table.is_shaken_after is_repeat purge self.now }
     {
         let is_calm = match self.sent.kind {
             Kind::Data => true,
@@ -204,7 +204,7 @@ impl Timing {
         if is_repeat {
             self.is_shaken
         } else {
-            has_cleared(clearing) || (self.is_shaken && !is_calm)
+            has_cleared(purge) || (self.is_shaken && !is_calm)
         }
     }
 
@@ -219,17 +219,17 @@ impl Timing {
         }
     }
 
-    /// Takes that these bytes were written, behind this clearing.
-    pub fn wrote(&mut self, bytes: &[u8], clearing: Clearing, now: u64)
-        ensures { self.new ≡ table.wrote bytes.now clearing now self.old }
+    /// Takes that these bytes were written, behind this purge.
+    pub fn wrote(&mut self, bytes: &[u8], purge: Purge, now: u64)
+        ensures { self.new ≡ table.wrote bytes.now purge now self.old }
     {
         let next = self.sent.then(bytes);
         let is_repeat = self.sent.is(next);
         let is_taken = self.is_taken(next);
-        let is_shaken = self.is_shaken_after(is_repeat, clearing);
+        let is_shaken = self.is_shaken_after(is_repeat, purge);
         let is_doubted = self.is_doubted(next, is_taken, is_shaken);
         let pace = if self.leads_on(is_taken) {
-            self.pace_after(clearing)
+            self.pace_after(purge)
         } else {
             self.pace
         };
@@ -249,9 +249,9 @@ impl Timing {
                 .hold
                 .wrote(is_opening(next), is_repeat, is_doubted, now),
             echoed: 0,
-            front: self.front_after(is_taken),
+            prefix: self.prefix_after(is_taken),
             is_shaken,
-            vain: vain_after(self.vain, clearing),
+            vain: vain_after(self.vain, purge),
             has_cancel: self.has_cancel,
         };
     }

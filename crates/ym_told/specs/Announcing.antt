@@ -14,8 +14,8 @@ use Rattle.ym_explain.specs.declared.sent.SentLine.{SentLine}
 use Rattle.ym_explain.specs.declared.sent.SentLine.TheVariants as line
 use Rattle.ym_explain.specs.declared.told.FrameKind.{FrameKind}
 use Rattle.ym_explain.specs.declared.told.FrameKind.TheVariants as kind
-use Rattle.ym_told.specs.declared.front.HeldFront.{HeldFront}
-use Rattle.ym_told.specs.declared.front.HeldFront.TheVariants as front
+use Rattle.ym_told.specs.declared.prefix.BufferedPrefix.{BufferedPrefix}
+use Rattle.ym_told.specs.declared.prefix.BufferedPrefix.TheVariants as prefix
 use Rattle.ym_told.specs.declared.stated.Announced.{Announced}
 use Rattle.ym_told.specs.declared.stated.Announced.TheVariants as announced
 use Rattle.ym_told.specs.declared.stated.Stated.{Stated}
@@ -93,17 +93,17 @@ names_in (line.Damage broken short) = false
 names_in line.Junk = false
 
 -- the front is the block 0 of a file
-abbrev pub names_file : HeldFront → Bool
-names_file (front.Sent told) = names_in told.line
-names_file (front.Run used) = false
-names_file front.Zmodem = false
-names_file (front.Cut used) = false
-names_file (front.Answer line) = false
+abbrev pub names_file : BufferedPrefix → Bool
+names_file (prefix.Sent told) = names_in told.line
+names_file (prefix.Run used) = false
+names_file prefix.Zmodem = false
+names_file (prefix.Cut used) = false
+names_file (prefix.Answer line) = false
 
 abbrev pub IsAnnouncedIf : Bool → List ℕ → Announced → Type 0
 IsAnnouncedIf true bytes file = IsFileIn (verdict_of bytes) file
 IsAnnouncedIf false bytes file = file ≡ announced.Nothing
 
 -- a front announces the file of its block 0, and any other announces none
-abbrev pub IsAnnounced : HeldFront → List ℕ → Announced → Type 0
-IsAnnounced front bytes file = IsAnnouncedIf (names_file front) bytes file
+abbrev pub IsAnnounced : BufferedPrefix → List ℕ → Announced → Type 0
+IsAnnounced prefix bytes file = IsAnnouncedIf (names_file prefix) bytes file

@@ -19,10 +19,10 @@ use Rattle.ym_explain.specs.declared.talk.Fate.{Fate}
 use Rattle.ym_explain.specs.declared.talk.Fate.TheVariants as fate
 use Rattle.ym_explain.specs.declared.told.FrameKind.{FrameKind}
 use Rattle.ym_explain.specs.declared.told.FrameKind.TheVariants as kind
-use Rattle.ym_explain.specs.declared.told.SendPlace.{SendPlace}
-use Rattle.ym_explain.specs.declared.told.SendPlace.TheVariants as place
-use Rattle.ym_told.specs.declared.front.HeldFront.{HeldFront}
-use Rattle.ym_told.specs.declared.front.HeldFront.TheVariants as front
+use Rattle.ym_explain.specs.declared.told.SendPosition.{SendPosition}
+use Rattle.ym_explain.specs.declared.told.SendPosition.TheVariants as position
+use Rattle.ym_told.specs.declared.prefix.BufferedPrefix.{BufferedPrefix}
+use Rattle.ym_told.specs.declared.prefix.BufferedPrefix.TheVariants as prefix
 use Rattle.ym_told.specs.declared.standing.BothStanding.{BothStanding}
 use Rattle.ym_told.specs.declared.way.Direction.{Direction}
 use Rattle.ym_told.specs.declared.way.Direction.TheVariants as way
@@ -31,7 +31,7 @@ use Rattle.ym_told.specs.declared.stated.Stated.TheVariants.{Length, NoRoom, Not
 
 abbrev pub at_start : BothStanding
 at_start = record {
-  place = place.Before;
+  position = position.Before;
   fate = fate.Start;
   signs = nothing_seen;
   left = 0;
@@ -73,11 +73,11 @@ fate_of now kind.End = fate.Out
 fate_of now kind.Copy = fate.Out
 fate_of now kind.OutOfTurn = fate.Out
 
-abbrev pub behind_frame : BothStanding → Whole → FrameKind → SendPlace → Stated → BothStanding
-behind_frame at whole kind place stated = record (counted at whole kind stated) {
-  place = place;
+abbrev pub behind_frame : BothStanding → Whole → FrameKind → SendPosition → Stated → BothStanding
+behind_frame at whole kind position stated = record (counted at whole kind stated) {
+  position = position;
   fate = fate_of at.fate kind;
-  signs = noted (counted at whole kind stated).signs (sign_of at.place (line.Frame whole kind));
+  signs = noted (counted at whole kind stated).signs (sign_of at.position (line.Frame whole kind));
   parted = at.parted || is_parting (footing_of at.fate kind);
 }
 
@@ -85,7 +85,7 @@ behind_frame at whole kind place stated = record (counted at whole kind stated) 
 abbrev pub behind_damage : BothStanding → SentLine → BothStanding
 behind_damage at told = record at {
   fate = fate.Damaged;
-  signs = noted at.signs (sign_of at.place told);
+  signs = noted at.signs (sign_of at.position told);
 }
 
 -- With its third byte the complement came, and it agreed: the frame was not damaged until it ended.
@@ -110,7 +110,7 @@ abbrev pub owes : BothStanding → Bool
 owes at = nat_lt 0 at.signs.out
 
 abbrev pub runs_ahead : BothStanding → AnswerLine → Bool
-runs_ahead at (answer.Answer control) = is_ahead (meaning_of at.place at.fate (owes at) control)
+runs_ahead at (answer.Answer control) = is_ahead (meaning_of at.position at.fate (owes at) control)
 runs_ahead at answer.Cancel = false
 runs_ahead at (answer.Echo used) = false
 runs_ahead at answer.Junk = false
@@ -131,15 +131,18 @@ abbrev pub behind_run : BothStanding → Direction → List ℕ → BothStanding
 behind_run at way.There bytes = record at { signs = noted at.signs sign.Junk }
 behind_run at way.Back bytes = record at { signs = with_answer_junk at.signs bytes }
 
-abbrev pub behind_line : BothStanding → SentLine → SendPlace → Stated → BothStanding
-behind_line at (line.Frame whole kind) place stated = behind_frame at whole kind place stated
-behind_line at (line.Damage broken short) place stated = behind_damage at (line.Damage broken short)
-behind_line at line.Junk place stated = behind_damage at line.Junk
+abbrev pub behind_line : BothStanding → SentLine → SendPosition → Stated → BothStanding
+behind_line at (line.Frame whole kind) position stated =
+    behind_frame at whole kind position stated
+behind_line at (line.Damage broken short) position stated =
+    behind_damage at (line.Damage broken short)
+behind_line at line.Junk position stated = behind_damage at line.Junk
 
 -- behind a front of this way, with these bytes, which states so much of its file
-abbrev pub behind_front : BothStanding → Direction → HeldFront → List ℕ → Stated → BothStanding
-behind_front at way (front.Run used) bytes stated = behind_run at way bytes
-behind_front at way front.Zmodem bytes stated = record at { signs = noted at.signs sign.Zmodem }
-behind_front at way (front.Cut used) bytes stated = behind_cut at used
-behind_front at way (front.Sent told) bytes stated = behind_line at told.line told.place stated
-behind_front at way (front.Answer line) bytes stated = behind_answer at line
+abbrev pub behind_prefix :
+    BothStanding → Direction → BufferedPrefix → List ℕ → Stated → BothStanding
+behind_prefix at way (prefix.Run used) bytes stated = behind_run at way bytes
+behind_prefix at way prefix.Zmodem bytes stated = record at { signs = noted at.signs sign.Zmodem }
+behind_prefix at way (prefix.Cut used) bytes stated = behind_cut at used
+behind_prefix at way (prefix.Sent told) bytes stated = behind_line at told.line told.position stated
+behind_prefix at way (prefix.Answer line) bytes stated = behind_answer at line

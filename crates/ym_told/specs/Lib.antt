@@ -5,4 +5,4 @@ pub mod LineWords
 pub mod RunText
 pub mod Runs
 pub mod Scenes
-pub mod TellFront
+pub mod TellPrefix

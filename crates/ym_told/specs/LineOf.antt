@@ -9,8 +9,8 @@ use Rattle.ym_explain.specs.declared.sent.SentLine.{SentLine}
 use Rattle.ym_explain.specs.declared.sent.SentLine.TheVariants as sent
 use Rattle.ym_explain.specs.declared.sent.SentTold.{SentTold}
 use Rattle.ym_explain.specs.declared.told.FrameKind.{FrameKind}
-use Rattle.ym_told.specs.declared.front.HeldFront.{HeldFront}
-use Rattle.ym_told.specs.declared.front.HeldFront.TheVariants as front
+use Rattle.ym_told.specs.declared.prefix.BufferedPrefix.{BufferedPrefix}
+use Rattle.ym_told.specs.declared.prefix.BufferedPrefix.TheVariants as prefix
 use Rattle.ym_told.specs.declared.line.Telling.{Telling}
 use Rattle.ym_told.specs.declared.line.Telling.TheVariants as line
 use Rattle.ym_told.specs.BothStand.{owes}
@@ -35,12 +35,12 @@ line_answered at answer.Junk = None
 line_answered at answer.Cancel = Some line.ReceiverCancel
 line_answered at (answer.Echo used) = Some (line.Echo used)
 line_answered at (answer.Answer control) =
-    Some (line.Answer control (meaning_of at.place at.fate (owes at) control))
+    Some (line.Answer control (meaning_of at.position at.fate (owes at) control))
 
 -- a run has no line of its own
-abbrev pub line_told : BothStanding → HeldFront → ℕ → Option Telling
-line_told at (front.Run used) number = None
-line_told at front.Zmodem number = Some line.Zmodem
-line_told at (front.Cut used) number = Some (line.Cut used)
-line_told at (front.Sent told) number = line_sent at told number
-line_told at (front.Answer line) number = line_answered at line
+abbrev pub line_told : BothStanding → BufferedPrefix → ℕ → Option Telling
+line_told at (prefix.Run used) number = None
+line_told at prefix.Zmodem number = Some line.Zmodem
+line_told at (prefix.Cut used) number = Some (line.Cut used)
+line_told at (prefix.Sent told) number = line_sent at told number
+line_told at (prefix.Answer line) number = line_answered at line

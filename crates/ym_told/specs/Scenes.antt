@@ -4,9 +4,9 @@ use Rattle.ym_told.specs.Announcing.{stated_by, announced_words}
 use Rattle.ym_told.specs.LineWords.{told_words}
 use Rattle.ym_told.specs.LineOf.{line_told}
 use Rattle.ym_told.specs.RunText.{no_run, run_behind, part_words, end_words}
-use Rattle.ym_told.specs.BothStand.{at_start, behind_front}
-use Rattle.ym_told.specs.declared.front.HeldFront.{HeldFront}
-use Rattle.ym_told.specs.declared.front.HeldFront.TheVariants as front
+use Rattle.ym_told.specs.BothStand.{at_start, behind_prefix}
+use Rattle.ym_told.specs.declared.prefix.BufferedPrefix.{BufferedPrefix}
+use Rattle.ym_told.specs.declared.prefix.BufferedPrefix.TheVariants as prefix
 use Rattle.ym_told.specs.declared.line.Telling.{Telling}
 use Rattle.ym_told.specs.declared.run.Run.{Run}
 use Rattle.ym_told.specs.declared.scene.Scene.{Scene}
@@ -27,21 +27,21 @@ words_with (Some line) scene way bytes file = line_words_in scene way line file
 words_with None scene way bytes file = part_words scene.run scene.moment way bytes
 
 -- what tells a front of this way, with these bytes, which announces a file or not
-abbrev pub scene_words : Scene → Direction → HeldFront → List ℕ → Announced → List ℕ
-scene_words scene way front bytes file =
-    words_with (line_told scene.standing front (slice_index bytes 1)) scene way bytes file
+abbrev pub scene_words : Scene → Direction → BufferedPrefix → List ℕ → Announced → List ℕ
+scene_words scene way prefix bytes file =
+    words_with (line_told scene.standing prefix (slice_index bytes 1)) scene way bytes file
 
 -- a run goes on, and anything else ends it
-abbrev pub run_after : Run → Direction → HeldFront → List ℕ → Run
-run_after run way (front.Run used) bytes = run_behind run way bytes
-run_after run way front.Zmodem bytes = no_run
-run_after run way (front.Cut used) bytes = no_run
-run_after run way (front.Sent told) bytes = no_run
-run_after run way (front.Answer line) bytes = no_run
+abbrev pub run_after : Run → Direction → BufferedPrefix → List ℕ → Run
+run_after run way (prefix.Run used) bytes = run_behind run way bytes
+run_after run way prefix.Zmodem bytes = no_run
+run_after run way (prefix.Cut used) bytes = no_run
+run_after run way (prefix.Sent told) bytes = no_run
+run_after run way (prefix.Answer line) bytes = no_run
 
-abbrev pub scene_behind : Scene → Direction → HeldFront → List ℕ → Announced → Scene
-scene_behind scene way front bytes file = record {
-  standing = behind_front scene.standing way front bytes (stated_by file);
-  run = run_after scene.run way front bytes;
+abbrev pub scene_behind : Scene → Direction → BufferedPrefix → List ℕ → Announced → Scene
+scene_behind scene way prefix bytes file = record {
+  standing = behind_prefix scene.standing way prefix bytes (stated_by file);
+  run = run_after scene.run way prefix bytes;
   moment = scene.moment;
 }

@@ -2,9 +2,9 @@
 //! ends stand behind it. It reads no file and writes none.
 #![tactic(auto)]
 
-mod front;
 mod line;
 mod moment;
+mod prefix;
 mod run;
 mod runs;
 mod scene;
@@ -13,9 +13,9 @@ mod stated;
 mod way;
 mod words;
 
-pub use front::{ENOUGH, HeldFront, Settle, front_back, front_there};
 pub use line::{Telling, line_of};
 pub use moment::CaptureMoment;
+pub use prefix::{BufferedPrefix, ENOUGH, Settle, prefix_back, prefix_there};
 pub use run::{Run, RunEnd, SHOWN};
 pub use scene::{Dated, Scene};
 pub use standing::BothStanding;

@@ -4,7 +4,7 @@ ghost use Rattle.std.specs.Prelude.{◌≡◌, Some};
 ghost use Rattle.ym_told.specs.LineWords.{line_words, short_words};
 ghost use Rattle.ym_told.specs.LineOf.{line_told, line_sent, line_answered};
 
-use crate::front::HeldFront;
+use crate::prefix::BufferedPrefix;
 use crate::standing::BothStanding;
 use crate::words::{ControlWords, FootingWords, KindWords, MeaningWords};
 use std::fmt;
@@ -127,15 +127,15 @@ impl fmt::Display for Telling {
 
 /// The line that tells a front, where both ends stand so: a run has none of its own. The number is
 /// that of a block.
-pub fn line_of(standing: &BothStanding, front: HeldFront, number: u8) -> Option<Telling>
-    ensures { result ≡ line_told standing.now front number }
+pub fn line_of(standing: &BothStanding, prefix: BufferedPrefix, number: u8) -> Option<Telling>
+    ensures { result ≡ line_told standing.now prefix number }
 {
-    match front {
-        HeldFront::Run(_) => None,
-        HeldFront::Zmodem => Some(Telling::Zmodem),
-        HeldFront::Cut(used) => Some(Telling::Cut { used }),
-        HeldFront::Sent(told) => sent_line(standing, told, number),
-        HeldFront::Answer(line) => answer_line(standing, line),
+    match prefix {
+        BufferedPrefix::Run(_) => None,
+        BufferedPrefix::Zmodem => Some(Telling::Zmodem),
+        BufferedPrefix::Cut(used) => Some(Telling::Cut { used }),
+        BufferedPrefix::Sent(told) => sent_line(standing, told, number),
+        BufferedPrefix::Answer(line) => answer_line(standing, line),
     }
 }
 
@@ -177,7 +177,7 @@ fn answer_line(standing: &BothStanding, line: AnswerLine) -> Option<Telling>
         AnswerLine::Echo { used } => Some(Telling::Echo { used }),
         AnswerLine::Answer(control) => Some(Telling::Answer {
             control,
-            meaning: meaning_of(standing.place, standing.fate, standing.owes(), control),
+            meaning: meaning_of(standing.position, standing.fate, standing.owes(), control),
         }),
     }
 }

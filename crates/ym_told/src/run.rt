@@ -4,7 +4,7 @@ ghost use Rattle.std.specs.Prelude.{◌≡◌, IfOk, string_bytes};
 ghost use Rattle.ym_told.specs.RunText.{no_run, run_behind, goes_on, is_in_text, part_words, end_words};
 
 use crate::moment::CaptureMoment;
-use crate::runs::{front_of, is_printable, shown};
+use crate::runs::{is_printable, prefix_of, shown};
 use crate::way::Direction;
 use std::alloc::{AllocError, Global};
 use std::fmt;
@@ -86,11 +86,11 @@ impl Run {
     {
         if self.continues(way) {
             let room = SHOWN.saturating_sub(self.shown);
-            return shown(alloc, front_of(bytes, room));
+            return shown(alloc, prefix_of(bytes, room));
         }
         let end = RunEnd(self);
-        let front = shown(alloc, front_of(bytes, SHOWN))?;
-        format!(in alloc; "{end}{at}{way}no frame: {front}")
+        let prefix = shown(alloc, prefix_of(bytes, SHOWN))?;
+        format!(in alloc; "{end}{at}{way}no frame: {prefix}")
     }
 }
 

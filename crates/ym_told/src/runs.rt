@@ -78,7 +78,7 @@ pub(crate) fn answer_run_len(in_text: bool, bytes: &[u8]) -> usize
 
 /// So many bytes at the front, or all where there are fewer.
 #[tactic(auto, using(std::proofs::lemmas::List::take_min))]
-pub(crate) fn front_of(bytes: &[u8], most: usize) -> &[u8]
+pub(crate) fn prefix_of(bytes: &[u8], most: usize) -> &[u8]
     ensures { result.now ≡ take most bytes.entry.now }
 {
     &bytes[..most.min(bytes.len())]

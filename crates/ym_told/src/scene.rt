@@ -3,9 +3,9 @@
 ghost use Rattle.std.specs.Prelude.{◌≡◌, IfOk, string_bytes};
 ghost use Rattle.ym_told.specs.Scenes.{first_scene, scene_behind, scene_words, line_words_in, run_after};
 
-use crate::front::HeldFront;
 use crate::line::{Telling, line_of};
 use crate::moment::CaptureMoment;
+use crate::prefix::BufferedPrefix;
 use crate::run::{Run, RunEnd};
 use crate::standing::BothStanding;
 use crate::stated::Stretch;
@@ -69,11 +69,11 @@ impl Scene {
         stretch: &Stretch<'_>,
     ) -> Result<String, AllocError>
         ensures { IfOk result (λ text. string_bytes text
-            ≡ scene_words self.now way stretch.entry.now.front stretch.entry.now.bytes.now
+            ≡ scene_words self.now way stretch.entry.now.prefix stretch.entry.now.bytes.now
             stretch.entry.now.file) }
     {
         let number = stretch.bytes.get(1).copied().unwrap_or(0);
-        match line_of(&self.standing, stretch.front, number) {
+        match line_of(&self.standing, stretch.prefix, number) {
             None => self.run.part(alloc, self.moment, way, stretch.bytes),
             Some(line) => self.line_text(alloc, way, line, stretch),
         }
@@ -103,27 +103,29 @@ impl Scene {
     /// The scene behind this stretch of this way.
     pub fn behind(&self, way: Direction, stretch: &Stretch<'_>) -> Scene
         ensures { result
-            ≡ scene_behind self.now way stretch.entry.now.front stretch.entry.now.bytes.now
+            ≡ scene_behind self.now way stretch.entry.now.prefix stretch.entry.now.bytes.now
             stretch.entry.now.file }
     {
         let stated = stretch.file.stated();
         Scene {
             standing: self
                 .standing
-                .behind(way, stretch.front, stretch.bytes, stated),
-            run: self.run_after(way, stretch.front, stretch.bytes),
+                .behind(way, stretch.prefix, stretch.bytes, stated),
+            run: self.run_after(way, stretch.prefix, stretch.bytes),
             moment: self.moment,
         }
     }
 
     /// The run that was told last, behind a front with these bytes.
-    fn run_after(&self, way: Direction, front: HeldFront, bytes: &[u8]) -> Run
-        ensures { result ≡ run_after self.now.run way front bytes.now }
+    fn run_after(&self, way: Direction, prefix: BufferedPrefix, bytes: &[u8]) -> Run
+        ensures { result ≡ run_after self.now.run way prefix bytes.now }
     {
-        match front {
-            HeldFront::Run(_) => self.run.behind(way, bytes),
-            HeldFront::Zmodem | HeldFront::Cut(_) | HeldFront::Sent(_) | HeldFront::Answer(_) =>
-                Run::none(),
+        match prefix {
+            BufferedPrefix::Run(_) => self.run.behind(way, bytes),
+            BufferedPrefix::Zmodem
+            | BufferedPrefix::Cut(_)
+            | BufferedPrefix::Sent(_)
+            | BufferedPrefix::Answer(_) => Run::none(),
         }
     }
 }

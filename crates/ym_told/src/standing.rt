@@ -2,14 +2,14 @@
 
 ghost use Rattle.std.specs.Prelude.{◌≡◌};
 ghost use Rattle.ym_explain.specs.Noting.{noted};
-ghost use Rattle.ym_told.specs.BothStand.{at_start, behind_front, behind_run, behind_frame, behind_damage, behind_cut, behind_answer, counted, owes as owes_one};
+ghost use Rattle.ym_told.specs.BothStand.{at_start, behind_prefix, behind_run, behind_frame, behind_damage, behind_cut, behind_answer, counted, owes as owes_one};
 
-use crate::front::HeldFront;
+use crate::prefix::BufferedPrefix;
 use crate::stated::Stated;
 use crate::way::Direction;
 use ym_explain::{
-    AnswerLine, Fate, Footing, FrameKind, Meaning, SendPlace, SentLine, Sign, Signs, answer_sign,
-    fate_behind, follows, is_ahead, is_parting, meaning_of, sent_sign,
+    AnswerLine, Fate, Footing, FrameKind, Meaning, SendPosition, SentLine, Sign, Signs,
+    answer_sign, fate_behind, follows, is_ahead, is_parting, meaning_of, sent_sign,
 };
 use ym_frame::{Control, Whole};
 
@@ -17,7 +17,7 @@ use ym_frame::{Control, Whole};
 #[derive(Clone, Copy)]
 pub struct BothStanding {
     /// Where the sender stands, by its frames.
-    pub place: SendPlace,
+    pub position: SendPosition,
     /// What became of its last frame.
     pub fate: Fate,
     /// What was seen.
@@ -34,7 +34,7 @@ impl BothStanding {
         ensures { result ≡ at_start }
     {
         BothStanding {
-            place: SendPlace::Before,
+            position: SendPosition::Before,
             fate: Fate::Start,
             signs: Signs::new(),
             left: 0,
@@ -53,23 +53,23 @@ impl BothStanding {
     pub fn behind(
         self,
         way: Direction,
-        front: HeldFront,
+        prefix: BufferedPrefix,
         bytes: &[u8],
         stated: Stated,
     ) -> BothStanding
-        ensures { result ≡ behind_front self way front bytes.now stated }
+        ensures { result ≡ behind_prefix self way prefix bytes.now stated }
     {
-        match front {
-            HeldFront::Run(_) => self.behind_run(way, bytes),
-            HeldFront::Zmodem => self.seeing(Sign::Zmodem),
-            HeldFront::Cut(used) => self.behind_cut(used),
-            HeldFront::Sent(told) => match told.line {
+        match prefix {
+            BufferedPrefix::Run(_) => self.behind_run(way, bytes),
+            BufferedPrefix::Zmodem => self.seeing(Sign::Zmodem),
+            BufferedPrefix::Cut(used) => self.behind_cut(used),
+            BufferedPrefix::Sent(told) => match told.line {
                 SentLine::Frame { whole, kind } => {
-                    self.behind_frame(whole, kind, told.place, stated)
+                    self.behind_frame(whole, kind, told.position, stated)
                 }
                 SentLine::Damage { .. } | SentLine::Junk => self.behind_damage(told.line),
             },
-            HeldFront::Answer(line) => self.behind_answer(line),
+            BufferedPrefix::Answer(line) => self.behind_answer(line),
         }
     }
 
@@ -87,22 +87,22 @@ impl BothStanding {
         }
     }
 
-    /// Behind a whole frame of this kind, which leaves the sender at this place. A block 0 states
-    /// what it does.
+    /// Behind a whole frame of this kind, which leaves the sender at this position. A block 0
+    /// states what it does.
     fn behind_frame(
         self,
         whole: Whole,
         kind: FrameKind,
-        place: SendPlace,
+        position: SendPosition,
         stated: Stated,
     ) -> BothStanding
-        ensures { result ≡ behind_frame self whole kind place stated }
+        ensures { result ≡ behind_frame self whole kind position stated }
     {
         let mut behind = self.counted(whole, kind, stated);
         behind.signs = behind
             .signs
-            .note(sent_sign(self.place, SentLine::Frame { whole, kind }));
-        behind.place = place;
+            .note(sent_sign(self.position, SentLine::Frame { whole, kind }));
+        behind.position = position;
         behind.fate = match kind {
             FrameKind::Cancel => self.fate,
             _ => Fate::Out,
@@ -139,7 +139,7 @@ impl BothStanding {
         ensures { result ≡ behind_damage self line }
     {
         let mut behind = self;
-        behind.signs = self.signs.note(sent_sign(self.place, line));
+        behind.signs = self.signs.note(sent_sign(self.position, line));
         behind.fate = Fate::Damaged;
         behind
     }
@@ -168,7 +168,7 @@ impl BothStanding {
         if let AnswerLine::Answer(control) = line {
             behind.fate = fate_behind(self.fate, control);
             behind.parted = self.parted
-                || is_ahead(meaning_of(self.place, self.fate, self.owes(), control));
+                || is_ahead(meaning_of(self.position, self.fate, self.owes(), control));
         }
         behind
     }

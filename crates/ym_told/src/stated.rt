@@ -2,11 +2,11 @@
 
 ghost use Rattle.std.specs.Prelude.{◌≡◌, take};
 ghost use Rattle.ym_frame.specs.Frame.{verdict_of};
-ghost use Rattle.ym_told.specs.TellFront.{used_by};
+ghost use Rattle.ym_told.specs.TellPrefix.{used_by};
 ghost use Rattle.ym_told.specs.Announcing.{stated_by, announced_words, after_name, fills, is_digit as digit_byte, IsAnnounced, IsFileIn, names_file};
 
-use crate::front::HeldFront;
-use crate::runs::front_of;
+use crate::prefix::BufferedPrefix;
+use crate::runs::prefix_of;
 use std::fmt;
 use ym_explain::{FrameKind, SentLine};
 use ym_frame::{ItemRef, verdict};
@@ -108,9 +108,9 @@ fn is_digit(byte: u8) -> bool
 fn behind_zero(body: &[u8]) -> &[u8]
     ensures { result.now ≡ after_name body.entry.now }
 {
-    for (place, byte) in body.iter().enumerate() {
+    for (position, byte) in body.iter().enumerate() {
         if *byte == 0 {
-            return &body[place + 1..];
+            return &body[position + 1..];
         }
     }
     &body[body.len()..]
@@ -120,7 +120,7 @@ fn behind_zero(body: &[u8]) -> &[u8]
 #[derive(Drop)]
 pub struct Stretch<'a> {
     /// The front.
-    pub front: HeldFront,
+    pub prefix: BufferedPrefix,
     /// Its bytes.
     pub bytes: &'a [u8],
     /// What it announces.
@@ -129,18 +129,22 @@ pub struct Stretch<'a> {
 
 impl<'a> Stretch<'a> {
     /// This front of these bytes.
-    pub fn of(front: HeldFront, held: &'a [u8]) -> Stretch<'a>
-        ensures front { result.front ≡ front }
-        ensures bytes { result.bytes.now ≡ take (used_by front) held.entry.now }
-        ensures file { IsAnnounced front result.bytes.now result.file }
+    pub fn of(prefix: BufferedPrefix, buffered: &'a [u8]) -> Stretch<'a>
+        ensures prefix { result.prefix ≡ prefix }
+        ensures bytes { result.bytes.now ≡ take (used_by prefix) buffered.entry.now }
+        ensures file { IsAnnounced prefix result.bytes.now result.file }
     {
-        let bytes = front_of(held, front.used());
-        let file = if is_name(front) {
+        let bytes = prefix_of(buffered, prefix.used());
+        let file = if is_name(prefix) {
             file_in(bytes)
         } else {
             Announced::Nothing
         };
-        Stretch { front, bytes, file }
+        Stretch {
+            prefix,
+            bytes,
+            file,
+        }
     }
 }
 
@@ -159,14 +163,17 @@ fn file_in(bytes: &[u8]) -> Announced<'_>
 }
 
 /// Whether the front is the block 0 of a file.
-fn is_name(front: HeldFront) -> bool
-    ensures { result ≡ names_file front }
+fn is_name(prefix: BufferedPrefix) -> bool
+    ensures { result ≡ names_file prefix }
 {
-    match front {
-        HeldFront::Sent(told) => match told.line {
+    match prefix {
+        BufferedPrefix::Sent(told) => match told.line {
             SentLine::Frame { kind, .. } => kind == FrameKind::Name,
             SentLine::Damage { .. } | SentLine::Junk => false,
         },
-        HeldFront::Run(_) | HeldFront::Zmodem | HeldFront::Cut(_) | HeldFront::Answer(_) => false,
+        BufferedPrefix::Run(_)
+        | BufferedPrefix::Zmodem
+        | BufferedPrefix::Cut(_)
+        | BufferedPrefix::Answer(_) => false,
     }
 }

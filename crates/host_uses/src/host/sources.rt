@@ -150,7 +150,7 @@ fn goes(rt: &HostRuntime, name: &str, count: u32, asks: &[Ask<'_>]) -> bool {
 }
 
 /// The tail of a file, and then its front.
-static TAIL_AND_FRONT: [Ask; 3] = [
+static TAIL_AND_PREFIX: [Ask; 3] = [
     Ask::HasLength(200),
     Ask::Fills(128, 72, Want::Ends(128, 199)),
     Ask::Fills(0, 3, Want::All(&[0, 1, 2])),
@@ -158,7 +158,7 @@ static TAIL_AND_FRONT: [Ask; 3] = [
 
 #[test]
 fn a_source_reads_from_any_place(rt: HostRuntime) {
-    assert!(rt; goes(&rt, "source", 200, &TAIL_AND_FRONT));
+    assert!(rt; goes(&rt, "source", 200, &TAIL_AND_PREFIX));
 }
 
 /// A source reads ahead: what it has read it still has, and what it has not is missing where the

@@ -118,9 +118,9 @@ fn take_in_three<S: Sink>(sink: &mut S, header: Header, all: &[u8]) -> Result<()
     requires whole { length all.now ≡ 200000 }
     ensures { OnOk result (IsCoveredFile (S.kept sink.new)) }
 {
-    let (front, rest) = all.split_at(60_000);
+    let (prefix, rest) = all.split_at(60_000);
     sink.begin(header)?;
-    sink.add(front)?;
+    sink.add(prefix)?;
     add_rest(sink, rest)
 }
 
@@ -153,17 +153,23 @@ fn commits<D: Folder + Drop>(sink: &mut DirSink<D>) -> bool
     sink.commit().is_ok()
 }
 
+/// What is done in a folder while a file is open.
+#[derive(Clone, Copy)]
+struct Meanwhile<'a> {
+    dir: &'a PathBuf,
+    acts: &'a [Act<'a>],
+}
+
 /// Whether this could be done while a file was open, and whether the file was stored then.
 fn stores<D: Folder + Drop>(
     rt: &HostRuntime,
-    dir: &PathBuf,
     sink: &mut DirSink<D>,
     name: &str,
     bytes: &[u8],
-    acts: &[Act<'_>],
+    meanwhile: Meanwhile<'_>,
 ) -> Result<(bool, bool), SinkFault> {
     take_file(rt, sink, name, bytes)?;
-    Ok((all_hold(rt, dir, acts), commits(sink)))
+    Ok((all_hold(rt, meanwhile.dir, meanwhile.acts), commits(sink)))
 }
 
 /// Whether a file that lacks a byte is let go of without a fault, or with one, after this was done.
@@ -314,9 +320,9 @@ fn holds<D: Folder + Drop>(
     step: &Step<'_>,
 ) -> bool {
     match *step {
-        Step::Stores(name, bytes, acts) => stores(rt, dir, sink, name, bytes, acts)
+        Step::Stores(name, bytes, acts) => stores(rt, sink, name, bytes, Meanwhile { dir, acts })
             == Ok((true, true)),
-        Step::Fails(name, bytes, acts) => stores(rt, dir, sink, name, bytes, acts)
+        Step::Fails(name, bytes, acts) => stores(rt, sink, name, bytes, Meanwhile { dir, acts })
             == Ok((true, false)),
         Step::LetsGo(name, acts) => lets_go(rt, dir, sink, name, acts) == Ok(true),
         Step::Leaves(name, acts) => lets_go(rt, dir, sink, name, acts) == Ok(false),

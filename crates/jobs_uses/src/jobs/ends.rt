@@ -127,7 +127,7 @@ const ALL: &[&[u8]] = &[b"C", b"\x06", b"C", b"\x06C", b"\x06"];
 const NO_LAST: &[&[u8]] = &[b"C", b"\x06", b"C", b"\x06C"];
 
 /// The first two of them.
-const FRONT: &[&[u8]] = &[b"C", b"\x06"];
+const PREFIX: &[&[u8]] = &[b"C", b"\x06"];
 
 /// The other end cancels.
 const CANCELS: &[&[u8]] = &[b"\x18\x18"];
@@ -163,7 +163,7 @@ static SENT: [Sent; 4] = [
         "sender done 1 running\n",
     ),
     (
-        FRONT,
+        PREFIX,
         false,
         Err(CommandFault::Closed),
         "sender done 0 running\n",
@@ -179,7 +179,7 @@ fn a_sender_is_told(rt: HostRuntime) {
 /// The fault of the engine before that of the output, and that of the output before what the end
 /// says.
 static SENT_BROKEN: [Sent; 3] = [
-    (FRONT, true, Err(CommandFault::Closed), ""),
+    (PREFIX, true, Err(CommandFault::Closed), ""),
     (ALL, true, Err(CommandFault::Device), ""),
     (CANCELS, true, Err(CommandFault::Device), ""),
 ];
@@ -311,7 +311,7 @@ fn is_no_end_told(rt: &HostRuntime, frames: &Frames) -> bool {
 /// Whether it is told of a file that is open at the end.
 fn is_open_told(rt: &HostRuntime, frames: &Frames) -> bool {
     let want = faulty(CommandFault::Closed, "receiver files 0 running\n", 0);
-    receives(rt, "open", Scene::whole(&frames.front()), want)
+    receives(rt, "open", Scene::whole(&frames.prefix()), want)
 }
 
 #[test]
@@ -327,7 +327,7 @@ fn a_receiver_is_told(rt: HostRuntime) -> Result<(), Fail> {
 /// Whether the fault of the engine is told before that of the output.
 fn is_engine_told(rt: &HostRuntime, frames: &Frames) -> bool {
     let want = faulty(CommandFault::Closed, "", 0);
-    receives(rt, "engine", Scene::broken(&frames.front()), want)
+    receives(rt, "engine", Scene::broken(&frames.prefix()), want)
 }
 
 /// Whether the fault of the output is told, and what was stored stays.

@@ -59,7 +59,7 @@ impl Frames {
     }
 
     /// The first two of them.
-    pub(super) fn front(&self) -> [&[u8]; 2] {
+    pub(super) fn prefix(&self) -> [&[u8]; 2] {
         [&self.header, &self.data]
     }
 }

@@ -47,20 +47,27 @@ pub(super) fn session_of<R: Read, W: Write, E: Write>(
     session_by(alloc, input, out, err, &mut Direct::new(alloc))
 }
 
-/// Whether a session by this carrier ends with this status, this text on standard output and this
-/// one on standard error.
+/// How a session has to end: with this status, and this text on either output.
+#[derive(Clone, Copy)]
+pub(super) struct End<'a> {
+    pub status: u8,
+    pub out: &'a str,
+    pub err: &'a str,
+}
+
+/// Whether a session by this carrier ends so.
 pub(super) fn ends_by<R: Read, C: Carrier>(
     alloc: Global,
     input: &mut R,
     carrier: &mut C,
-    status: u8,
-    out: &str,
-    err: &str,
+    end: End<'_>,
 ) -> bool {
     let mut printed = Vec::new(alloc);
     let mut told = Vec::new(alloc);
     let ended = session_by(alloc, input, &mut printed, &mut told, carrier);
-    told.as_slice() == err.as_bytes() && printed.as_slice() == out.as_bytes() && ended == status
+    told.as_slice() == end.err.as_bytes()
+        && printed.as_slice() == end.out.as_bytes()
+        && ended == end.status
 }
 
 /// The same, by a carrier in memory.
@@ -71,5 +78,10 @@ pub(super) fn ends<R: Read>(
     out: &str,
     err: &str,
 ) -> bool {
-    ends_by(alloc, input, &mut Direct::new(alloc), status, out, err)
+    ends_by(
+        alloc,
+        input,
+        &mut Direct::new(alloc),
+        End { status, out, err },
+    )
 }

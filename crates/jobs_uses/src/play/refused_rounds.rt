@@ -1,6 +1,6 @@
 //! Rounds whose carrier fails, and its record.
 
-use super::calls::{ends_by, played_by};
+use super::calls::{End, ends_by, played_by};
 use super::fixtures::with_file;
 use std::alloc::Global;
 use std::test::Fail;
@@ -19,7 +19,12 @@ fn is_refused(alloc: Global, script: &[u8], at: u64) -> bool {
 fn ends_at(alloc: Global, script: &[u8], at: u64) -> bool {
     let mut input = script;
     let mut line = Direct::failing(alloc, at);
-    ends_by(alloc, &mut input, &mut line, 3, "", "fault: device\n")
+    let end = End {
+        status: 3,
+        out: "",
+        err: "fault: device\n",
+    };
+    ends_by(alloc, &mut input, &mut line, end)
 }
 
 /// Whether a script ends either way where a carry fails, there or back.

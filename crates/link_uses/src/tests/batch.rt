@@ -4,7 +4,7 @@
 ghost use Rattle.std.specs.Prelude.{◌≤◌};
 
 use std::alloc::{AllocError, Global};
-use ym_core::Place;
+use ym_core::Position;
 use ym_frame::{Block, FrameBuf, Item, encode};
 use ym_header::{Header, HeaderFault, Stamp, write, write_end};
 
@@ -42,12 +42,12 @@ pub fn header_of(alloc: Global, file: usize) -> Result<Header, HeaderFault> {
 }
 
 /// The frame of a place of the batch.
-pub fn frame_of(alloc: Global, place: Place) -> Result<FrameBuf, HeaderFault> {
-    let item = match place {
-        Place::Header { file } => Item::Block(write(&header_of(alloc, file)?)),
-        Place::Block { number, .. } => Item::Block(data_block(number)),
-        Place::Eot { .. } => Item::Eot,
-        Place::End => Item::Block(write_end()),
+pub fn frame_of(alloc: Global, position: Position) -> Result<FrameBuf, HeaderFault> {
+    let item = match position {
+        Position::Header { file } => Item::Block(write(&header_of(alloc, file)?)),
+        Position::Block { number, .. } => Item::Block(data_block(number)),
+        Position::Eot { .. } => Item::Eot,
+        Position::End => Item::Block(write_end()),
     };
     Ok(encode(&item))
 }

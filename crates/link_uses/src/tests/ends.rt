@@ -4,8 +4,8 @@ ghost use Rattle.std.specs.Prelude.{◌≡◌, List, ℕ, ◌∷◌, []};
 
 use std::test::Fail;
 use ym_core::{
-    Ask, BatchShape, Confirm, Heard, HeardRef, OpenFile, Place, ReceiverCore, RecvState, SendState,
-    Stage, Stand, Standing, Step, first_place, heard_in,
+    Ask, BatchShape, Confirm, Heard, HeardRef, OpenFile, Position, ReceiverCore, RecvState,
+    SendState, Stage, Stand, Standing, Step, first_position, heard_in,
 };
 use ym_frame::{Block, FrameBuf, Item, Reply, encode};
 use ym_header::{HeaderFault, HeaderRef, Stamp, write_body, write_end};
@@ -151,22 +151,22 @@ impl BatchShape for TwoFiles {
     }
 }
 
-/// Deliveries to a sender of both files, and the place that each of them has it fill.
-static BOTH_FILES: [(&[u8], Option<Place>); 9] = [
-    (b"C", Some(Place::Header { file: 0 })),
-    (b"\x06C", Some(Place::Block { file: 0, number: 1 })),
-    (b"\x06", Some(Place::Block { file: 0, number: 2 })),
+/// Deliveries to a sender of both files, and the position that each of them has it fill.
+static BOTH_FILES: [(&[u8], Option<Position>); 9] = [
+    (b"C", Some(Position::Header { file: 0 })),
+    (b"\x06C", Some(Position::Block { file: 0, number: 1 })),
+    (b"\x06", Some(Position::Block { file: 0, number: 2 })),
     (b"\x15", None),
-    (b"\x06", Some(Place::Eot { file: 0 })),
+    (b"\x06", Some(Position::Eot { file: 0 })),
     (b"\x15", None),
-    (b"\x06C", Some(Place::Header { file: 1 })),
-    (b"\x06C", Some(Place::Eot { file: 1 })),
-    (b"\x06C", Some(Place::End)),
+    (b"\x06C", Some(Position::Header { file: 1 })),
+    (b"\x06C", Some(Position::Eot { file: 1 })),
+    (b"\x06C", Some(Position::End)),
 ];
 
-/// Whether a sender of both files fills these places, and finishes at an ACK behind them.
-fn sends_both(deliveries: &[(&[u8], Option<Place>)]) -> bool {
-    let mut standing = Standing::new(first_place(&TwoFiles));
+/// Whether a sender of both files fills these positions, and finishes at an ACK behind them.
+fn sends_both(deliveries: &[(&[u8], Option<Position>)]) -> bool {
+    let mut standing = Standing::new(first_position(&TwoFiles));
     for (bytes, fills) in deliveries {
         let step = standing.after(&TwoFiles, bytes);
         if step.fills != *fills {
@@ -174,7 +174,7 @@ fn sends_both(deliveries: &[(&[u8], Option<Place>)]) -> bool {
         }
         standing = step.standing;
     }
-    standing.place.done(2) == 2
+    standing.position.done(2) == 2
         && !standing.settled(&TwoFiles, b"")
         && standing.settled(&TwoFiles, b"\x06")
         && standing.after(&TwoFiles, b"\x06").standing.state == SendState::Finished

@@ -8,7 +8,9 @@ use super::batch::{COUNTS, delivery, file_bytes, frame_of};
 use super::{has_frame, hear, sender_table, stands};
 use std::alloc::Global;
 use std::marker::Model;
-use ym_core::{BatchShape, Mode, Place, SendState, SendStep, Standing, first_place, next_place};
+use ym_core::{
+    BatchShape, Mode, Position, SendState, SendStep, Standing, first_position, next_position,
+};
 use ym_file::{Shape, Source};
 use ym_frame::control_of;
 use ym_header::Stamp;
@@ -46,7 +48,7 @@ struct Stood {
 
 impl Model for Stood {
     ghost use Rattle.std.specs.Prelude.{◌≡◌, ◌<◌, ◌∷◌, []};
-    ghost use Rattle.ym_core.specs.Place.{IsPlace};
+    ghost use Rattle.ym_core.specs.Position.{IsPosition};
     ghost use Rattle.ym_core.specs.declared.standing.Standing.{Standing};
     ghost use Rattle.ym_core.specs.declared.state.SendState.TheVariants.{Running};
 
@@ -54,7 +56,7 @@ impl Model for Stood {
 
     ghost view = { λ s. s.standing };
 
-    ghost invariant = { λ s. IsPlace (3 ∷ 0 ∷ []) s.standing.place
+    ghost invariant = { λ s. IsPosition (3 ∷ 0 ∷ []) s.standing.position
         × (s.standing.state ≡ Running → s.standing.retries < 10) };
 }
 
@@ -62,7 +64,7 @@ impl Stood {
     /// Waiting at this frame.
     fn at(frame: usize) -> Stood {
         let mut stood = Stood {
-            standing: Standing::new(first_place(&Counted)),
+            standing: Standing::new(first_position(&Counted)),
         };
         for _ in 0..frame {
             stood.skip();
@@ -72,7 +74,7 @@ impl Stood {
 
     /// Puts it at the next frame of the batch, as if it were new.
     fn skip(&mut self) {
-        self.standing = Standing::new(next_place(&Counted, self.standing.place));
+        self.standing = Standing::new(next_position(&Counted, self.standing.position));
     }
 
     /// Whether a delivery of at most two control bytes does to it what the table says.
@@ -115,7 +117,7 @@ fn compare_standing(frame: usize, mode: Mode, retries: usize) -> bool {
 }
 
 #[test]
-fn every_place_to_stand(rt: HostRuntime) {
+fn every_position_to_stand(rt: HostRuntime) {
     for frame in 0..FRAMES {
         for mode in [Mode::Waiting, Mode::Sent] {
             for retries in [0, 9, 10, 11] {
@@ -161,9 +163,9 @@ fn sender_at(alloc: Global, frame: usize, mode: Mode) -> Option<Sender> {
     Some(sender)
 }
 
-/// Whether a sender has the frame of this place to be sent.
-fn sends(alloc: Global, sender: &Sender, place: Place) -> bool {
-    match frame_of(alloc, place) {
+/// Whether a sender has the frame of this position to be sent.
+fn sends(alloc: Global, sender: &Sender, position: Position) -> bool {
+    match frame_of(alloc, position) {
         Ok(frame) => has_frame(sender, Some(frame.as_bytes())),
         Err(_) => false,
     }
@@ -172,11 +174,11 @@ fn sends(alloc: Global, sender: &Sender, place: Place) -> bool {
 /// Whether a sender shows that it stands there.
 fn shows(alloc: Global, sender: &Sender, standing: Standing) -> bool {
     let has_spoken = match (standing.state, standing.mode) {
-        (SendState::Running, Mode::Sent) => sends(alloc, sender, standing.place),
+        (SendState::Running, Mode::Sent) => sends(alloc, sender, standing.position),
         _ if standing.cancel_pending => has_frame(sender, Some(&[0x18, 0x18])),
         _ => has_frame(sender, None),
     };
-    has_spoken && stands(sender, standing.state, standing.place.done(COUNTS.len()))
+    has_spoken && stands(sender, standing.state, standing.position.done(COUNTS.len()))
 }
 
 /// Whether a delivery of at most two control bytes does to a sender that stands there what the

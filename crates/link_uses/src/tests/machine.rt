@@ -23,7 +23,7 @@ fn laws_hold_of_names() {
     laws::acknowledged_is_taken::<Names>();
     laws::a_receiver_asks_for_what_it_awaits::<Names>();
     laws::a_run_goes_on::<Names>();
-    laws::places_of_a_batch::<Names>();
+    laws::positions_of_a_batch::<Names>();
     laws::files_within_a_batch::<Names>();
     laws::what_comes_back();
     laws::left_falls_by_whole_rounds::<Names>();

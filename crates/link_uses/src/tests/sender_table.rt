@@ -2,109 +2,113 @@
 
 ghost use Rattle.std.specs.Prelude.{◌≡◌, ◌<◌, [], ◌∷◌};
 ghost use Rattle.std.specs.List.{cons_option};
-ghost use Rattle.ym_core.specs.Place as places;
-ghost use Rattle.ym_core.specs.Reading as reading;
+ghost use Rattle.ym_core.specs.Position as positions;
+ghost use Rattle.ym_core.specs.Scan as scan;
 ghost use Rattle.ym_core.specs.Standing as table;
 
-use ym_core::{Mode, Place, Reading, SendState, SendStep as Step, Standing, Stop};
+use ym_core::{Mode, Position, Scan, SendState, SendStep as Step, Standing, Stop};
 use ym_frame::Control;
 
-/// The place behind a place, of a batch of files of so many data blocks.
-fn next_of(counts: &[u64], place: Place) -> Place
-    ensures { result ≡ places.next_of counts.now place }
+/// The position behind a position, of a batch of files of so many data blocks.
+fn next_of(counts: &[u64], position: Position) -> Position
+    ensures { result ≡ positions.next_of counts.now position }
 {
-    match place {
-        Place::Header { file } => {
+    match position {
+        Position::Header { file } => {
             if counts.get(file).copied().unwrap_or(0) > 0 {
-                Place::Block { file, number: 1 }
+                Position::Block { file, number: 1 }
             } else {
-                Place::Eot { file }
+                Position::Eot { file }
             }
         }
-        Place::Block { file, number } => {
+        Position::Block { file, number } => {
             if counts.get(file).copied().unwrap_or(0) > number {
-                Place::Block {
+                Position::Block {
                     file,
                     number: number + 1,
                 }
             } else {
-                Place::Eot { file }
+                Position::Eot { file }
             }
         }
-        Place::Eot { file } => {
+        Position::Eot { file } => {
             if file < counts.len() && file + 1 < counts.len() {
-                Place::Header { file: file + 1 }
+                Position::Header { file: file + 1 }
             } else {
-                Place::End
+                Position::End
             }
         }
-        Place::End => Place::End,
+        Position::End => Position::End,
     }
 }
 
 /// What one control byte does.
-fn read_control(counts: &[u64], mode: Mode, control: Control, place: Place) -> Reading
-    ensures { result ≡ reading.reads_control counts.now mode control place }
+fn read_control(counts: &[u64], mode: Mode, control: Control, position: Position) -> Scan
+    ensures { result ≡ scan.reads_control counts.now mode control position }
 {
-    let next = next_of(counts, place);
-    let (place, mode, stop) = match (mode, control, place) {
-        (Mode::Sent, Control::Ack, Place::Block { .. }) => (next, Mode::Sent, Some(Stop::Sends)),
-        (Mode::Sent, Control::Ack, Place::Header { .. }) => (next, Mode::Waiting, None),
-        (Mode::Sent, Control::Ack, Place::Eot { .. }) => (next, Mode::Waiting, None),
-        (Mode::Sent, Control::Ack, Place::End) => (place, Mode::Sent, Some(Stop::Finishes)),
-        (Mode::Sent, Control::Nak, _) => (place, Mode::Sent, Some(Stop::Again)),
-        (Mode::Sent, Control::Start, _) => (place, Mode::Sent, Some(Stop::Again)),
-        (Mode::Waiting, Control::Start, _) => (place, Mode::Sent, Some(Stop::Sends)),
-        (Mode::Waiting, Control::Ack, _) => (place, Mode::Waiting, None),
-        (Mode::Waiting, Control::Nak, _) => (place, Mode::Waiting, None),
-        (_, Control::Can, _) => (place, mode, None),
+    let next = next_of(counts, position);
+    let (position, mode, stop) = match (mode, control, position) {
+        (Mode::Sent, Control::Ack, Position::Block { .. }) => (next, Mode::Sent, Some(Stop::Sends)),
+        (Mode::Sent, Control::Ack, Position::Header { .. }) => (next, Mode::Waiting, None),
+        (Mode::Sent, Control::Ack, Position::Eot { .. }) => (next, Mode::Waiting, None),
+        (Mode::Sent, Control::Ack, Position::End) => (position, Mode::Sent, Some(Stop::Finishes)),
+        (Mode::Sent, Control::Nak, _) => (position, Mode::Sent, Some(Stop::Again)),
+        (Mode::Sent, Control::Start, _) => (position, Mode::Sent, Some(Stop::Again)),
+        (Mode::Waiting, Control::Start, _) => (position, Mode::Sent, Some(Stop::Sends)),
+        (Mode::Waiting, Control::Ack, _) => (position, Mode::Waiting, None),
+        (Mode::Waiting, Control::Nak, _) => (position, Mode::Waiting, None),
+        (_, Control::Can, _) => (position, mode, None),
     };
-    Reading { place, mode, stop }
+    Scan {
+        position,
+        mode,
+        stop,
+    }
 }
 
 /// Reads two control bytes.
 #[tactic(auto, using(crate::proofs::TwoControls::two_controls))]
-fn reads_two(counts: &[u64], place: Place, mode: Mode, one: Control, other: Control) -> Reading
-    ensures { result ≡ reading.reads counts.now place mode (one ∷ other ∷ []) }
+fn reads_two(counts: &[u64], position: Position, mode: Mode, one: Control, other: Control) -> Scan
+    ensures { result ≡ scan.reads counts.now position mode (one ∷ other ∷ []) }
 {
     if one == Control::Can {
         if other == Control::Can {
-            return Reading {
-                place,
+            return Scan {
+                position,
                 mode,
                 stop: Some(Stop::Cancels),
             };
         }
-        return read_control(counts, mode, other, place);
+        return read_control(counts, mode, other, position);
     }
-    let read = read_control(counts, mode, one, place);
+    let read = read_control(counts, mode, one, position);
     if read.stop.is_some() {
         return read;
     }
-    read_control(counts, read.mode, other, read.place)
+    read_control(counts, read.mode, other, read.position)
 }
 
 /// Reads at most two control bytes.
 #[tactic(auto, using(crate::proofs::TwoControls::one_control))]
 fn reads(
     counts: &[u64],
-    place: Place,
+    position: Position,
     mode: Mode,
     first: Option<Control>,
     second: Option<Control>,
-) -> Reading
+) -> Scan
     ensures { result
-        ≡ reading.reads counts.now place mode (cons_option first (cons_option second [])) }
+        ≡ scan.reads counts.now position mode (cons_option first (cons_option second [])) }
 {
     match (first, second) {
-        (None, None) => Reading {
-            place,
+        (None, None) => Scan {
+            position,
             mode,
             stop: None,
         },
-        (Some(control), None) => read_control(counts, mode, control, place),
-        (None, Some(control)) => read_control(counts, mode, control, place),
-        (Some(one), Some(other)) => reads_two(counts, place, mode, one, other),
+        (Some(control), None) => read_control(counts, mode, control, position),
+        (None, Some(control)) => read_control(counts, mode, control, position),
+        (Some(one), Some(other)) => reads_two(counts, position, mode, one, other),
     }
 }
 
@@ -149,9 +153,13 @@ pub fn hears(
             fills: None,
         };
     }
-    let Reading { place, mode, stop } = reads(counts, standing.place, standing.mode, first, second);
+    let Scan {
+        position,
+        mode,
+        stop,
+    } = reads(counts, standing.position, standing.mode, first, second);
     let moved = Standing {
-        place,
+        position,
         mode,
         retries: 0,
         ..standing
@@ -165,7 +173,7 @@ pub fn hears(
         Some(Stop::Again) => missed(standing),
         Some(Stop::Sends) => Step {
             standing: moved,
-            fills: Some(place),
+            fills: Some(position),
         },
         Some(Stop::Finishes) => Step {
             standing: Standing {
@@ -176,7 +184,7 @@ pub fn hears(
         },
         Some(Stop::Cancels) => Step {
             standing: Standing {
-                place,
+                position,
                 mode,
                 state: SendState::Cancelled,
                 ..standing

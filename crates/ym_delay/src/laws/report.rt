@@ -1,7 +1,7 @@
 //! A session with a false report.
 
 ghost use Rattle.std.specs.Prelude.{[], ◌∷◌, ◌≡◌};
-ghost use Rattle.ym_core.specs.Place.{done_at};
+ghost use Rattle.ym_core.specs.Position.{done_at};
 ghost use Rattle.ym_core.specs.Receiver.{new_receiver};
 ghost use Rattle.ym_core.specs.Standing.{new_standing};
 ghost use Rattle.ym_machine.specs.declared.confirm.Confirm.TheVariants.{Twice};
@@ -31,7 +31,7 @@ pub fn a_millisecond_too_soon_loses_a_file()
     ensures answers { (batch : SmallBatch) →
         answers_of (hasty_receiver batch)
         ≡ receiver_says batch (new_receiver Twice) (hasty_heard batch) }
-    ensures reports { done_at 1 (sender_after (new_standing (1 ∷ [])) hasty_came).place ≡ 1 }
+    ensures reports { done_at 1 (sender_after (new_standing (1 ∷ [])) hasty_came).position ≡ 1 }
     ensures none { (batch : SmallBatch) →
         (receiver_after batch (new_receiver Twice) (hasty_heard batch)).files ≡ 0 }
 {

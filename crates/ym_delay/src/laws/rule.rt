@@ -11,7 +11,7 @@ ghost use Rattle.ym_timing.specs.declared.timing.Timing.{Timing};
 ghost use Rattle.ym_line.specs.Promise.{AreNew, CommitsAPrefix};
 ghost use Rattle.ym_pair.specs.Pairing.{ends};
 ghost use Rattle.ym_delay.specs.Cleared.{EndsWell, LetsClear};
-ghost use Rattle.ym_delay.specs.Courses.{AreCourses, CoursesAreTimed, said};
+ghost use Rattle.ym_delay.specs.Histories.{AreHistories, HistoriesAreTimed, said};
 ghost use Rattle.ym_delay.specs.Rule.{CopiesLate, HasSeenTheWay, IsSeen, KeepsRule, Reaches};
 ghost use Rattle.ym_delay.specs.Rule.{WaitsByRule};
 ghost use Rattle.ym_delay.specs.TimedLine.{AnsweredAt, SpokeAt, Times};
@@ -44,8 +44,9 @@ pub fn the_rule_lets_a_line_clear()
 /// goes by the rule and neither gave up at what it heard.
 pub fn batches_by_the_rule_commit_a_prefix()
     ensures { (times : Times) (s new : SenderParts) (r end : ReceiverParts)
-        (courses : AreCourses s new r end) (timed : CoursesAreTimed times s new r end courses) →
-        AreNew (ends s r) → IsSender new → EndsWell new (said s new r end courses) →
+        (histories : AreHistories s new r end)
+        (timed : HistoriesAreTimed times s new r end histories) →
+        AreNew (ends s r) → IsSender new → EndsWell new (said s new r end histories) →
         end.receiver.state ≢ receiver_is.TooManyErrors →
         KeepsRule times timed.spoke timed.answered →
         CommitsAPrefix s.files (ends new end) }

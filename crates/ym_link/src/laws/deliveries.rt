@@ -4,7 +4,7 @@ ghost use Rattle.std.specs.Prelude.{◌≡◌, ◌≤◌, ◌+◌, ◌*◌, Bool
 ghost use Rattle.ym_link.specs.declared.event.Event.{Event};
 ghost use Rattle.ym_link.specs.Delivery.{taken, reads_in};
 ghost use Rattle.ym_link.specs.Port.{Tape};
-ghost use Rattle.ym_core.specs.Place.{first_of};
+ghost use Rattle.ym_core.specs.Position.{first_of};
 ghost use Rattle.ym_link.specs.Sender.{SenderParts, counts};
 ghost use Rattle.ym_link.specs.SendOver as sending;
 ghost use Rattle.ym_link.specs.Deliveries.{frames_in, frames_from};
@@ -32,7 +32,7 @@ pub fn a_sender_hears_few_deliveries()
         sender_hears s t out run ≤ GIVE_UP * (sender_progress s t out run + 1) }
     ensures progress { (s : SenderParts) (t : Tape) (out : sending.Outcome)
         (run : sending.Sends s t out) →
-        sender_progress s t out run ≤ 2 * frames_from (counts s) s.standing.place }
+        sender_progress s t out run ≤ 2 * frames_from (counts s) s.standing.position }
     ensures batch { (blocks : List ℕ) → frames_from blocks (first_of blocks) ≡ frames_in blocks }
 {}
 

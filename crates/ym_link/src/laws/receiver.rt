@@ -23,7 +23,7 @@ ghost use Rattle.ym_link.specs.ReceiverRefines.{IsSent, IsBatch, bytes_of, Recei
 use ym_file::laws::{covered_by_the_last_piece, pieces_give_the_file};
 use ym_header::laws::{one_meaning, written_is_read};
 use ym_machine::Batch;
-use ym_machine::laws::{files_within_a_batch, places_of_a_batch};
+use ym_machine::laws::{files_within_a_batch, positions_of_a_batch};
 
 /// A body stands for one thing: the body that is written for a header for that header, and the body
 /// that ends a batch for the end.
@@ -70,7 +70,7 @@ pub fn a_standing_receiver_follows_the_machine()
         Follows confirm files whole st old reply new }
 {
     a_block_zero_means_one_thing();
-    places_of_a_batch::<Headers>();
+    positions_of_a_batch::<Headers>();
     files_within_a_batch::<Headers>();
 }
 

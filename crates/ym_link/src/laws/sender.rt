@@ -10,14 +10,14 @@ ghost use Rattle.ym_frame.specs.declared.control.Reply.{Reply};
 ghost use Rattle.ym_machine.specs.Steps.{sender_step, is_within, IsRemnant, controls as reply_controls};
 ghost use Rattle.ym_machine.specs.State.{State, start, said};
 ghost use Rattle.ym_file.specs.SourceFile.{FileParts, IsFile, counts_of};
-ghost use Rattle.ym_core.specs.Place.{done_at};
+ghost use Rattle.ym_core.specs.Position.{done_at};
 ghost use Rattle.ym_link.specs.Sender.{SenderParts, IsSender, IsStep, counts, spoken};
 ghost use Rattle.ym_core.specs.Standing.{new_standing};
 ghost use Rattle.ym_link.specs.SenderRefines.{Batch, IsFileOf, SenderRefines, IsSaid, AllTold, batch_of};
-ghost use Rattle.ym_link.specs.Moves.{GoesOnePlace, FinishesLast, KeepsCounts, KeepsFiles};
+ghost use Rattle.ym_link.specs.Moves.{GoesOnePosition, FinishesLast, KeepsCounts, KeepsFiles};
 ghost use Rattle.ym_core.specs.declared.standing.Standing.{Standing};
 ghost use Rattle.ym_core.specs.declared.state.SendState.TheVariants.{Running};
-ghost use Rattle.ym_core.specs.Reading.{controls_in};
+ghost use Rattle.ym_core.specs.Scan.{controls_in};
 ghost use Rattle.ym_core.specs.Standing.{hears, is_settled, IsSame};
 
 use ym_file::laws::one_pieces;
@@ -31,7 +31,7 @@ pub fn a_settled_delivery_stays()
         hears counts old (controls_in (bytes ++ more)) ≡ hears counts old (controls_in bytes)) }
 {}
 
-/// A sender that goes on has a new place or mode, and then counts from 0, or has the same and
+/// A sender that goes on has a new position or mode, and then counts from 0, or has the same and
 /// counts one more delivery without progress.
 pub fn progress_is_a_change()
     ensures { (counts : List ℕ) (old : Standing) (bytes : List ℕ) →
@@ -43,8 +43,8 @@ pub fn progress_is_a_change()
 
 /// A delivery leaves a sender that runs at its place, or takes it to the next one, behind an ACK of
 /// what it has sent; and it finishes at the end block alone, behind an ACK of that.
-pub fn a_delivery_goes_one_place()
-    ensures goes { GoesOnePlace }
+pub fn a_delivery_goes_one_position()
+    ensures goes { GoesOnePosition }
     ensures finishes { FinishesLast }
 {}
 
@@ -92,7 +92,8 @@ pub fn a_sender_follows_the_machine()
         IsSaid files (said st) (spoken sender) }
     ensures done { (files : Batch) (st : State) (sender : SenderParts) →
         SenderRefines files st sender →
-        done_at (length sender.files) sender.standing.place ≡ count_within files st.acknowledged }
+        done_at (length sender.files) sender.standing.position ≡
+        count_within files st.acknowledged }
 {
     one_pieces();
 }

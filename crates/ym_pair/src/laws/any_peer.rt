@@ -5,23 +5,23 @@ ghost use Rattle.ym_frame.specs.Frame.{BeginsWith, IsBytes, IsFrame};
 ghost use Rattle.ym_frame.specs.declared.frame.Item.{Item};
 ghost use Rattle.ym_file.specs.Kept.{IsNew};
 ghost use Rattle.ym_core.specs.Hearing.{heard_of};
-ghost use Rattle.ym_core.specs.Place.{done_at};
+ghost use Rattle.ym_core.specs.Position.{done_at};
 ghost use Rattle.ym_core.specs.Receiver.{new_receiver};
 ghost use Rattle.ym_core.specs.Standing.{new_standing};
 ghost use Rattle.ym_core.specs.declared.delivery.Heard.{Heard};
 ghost use Rattle.ym_core.specs.declared.delivery.Heard.TheVariants as heard_variant;
 ghost use Rattle.ym_core.specs.declared.state.SendState.TheVariants as sender_is;
-ghost use Rattle.ym_link.specs.Course.{ReceiverHears, SenderHears};
+ghost use Rattle.ym_link.specs.History.{ReceiverHears, SenderHears};
 ghost use Rattle.ym_link.specs.Port.{Tape};
 ghost use Rattle.ym_link.specs.ReceiveOver as receiving;
 ghost use Rattle.ym_link.specs.ReceiverInto.{ReceiverParts};
 ghost use Rattle.ym_link.specs.Sender.{SenderParts, counts};
 ghost use Rattle.ym_link.specs.SendOver as sending;
-ghost use Rattle.ym_pair.specs.AnyPeer.{CommitsTheHeard, AreAcknowledged, batch_places, files_places, places_before};
+ghost use Rattle.ym_pair.specs.AnyPeer.{CommitsTheHeard, AreAcknowledged, batch_positions, files_positions, positions_before};
 ghost use Rattle.ym_pair.specs.Logs.{Spoke, AreTaken, AreHeard, heard_in, spoke_in, last_words, answered_in, spoke_along, words_of, replies_of};
 
 use ym_frame::laws::{frame_found, one_verdict};
-use ym_link::laws::{a_delivery_goes_one_place, a_step_keeps_the_batch};
+use ym_link::laws::{a_delivery_goes_one_position, a_step_keeps_the_batch};
 
 /// A delivery is heard as an item exactly where it begins with that item's frame: for a block the
 /// check fits.
@@ -40,42 +40,42 @@ pub fn a_delivery_brings_its_frame()
 /// has committed were spelled by what it heard: in order, of each a block 0 that reads as its
 /// header, data blocks from number 1 on whose bodies, put together and cut at the length, are its
 /// bytes, and its EOT. Of a port that tells its events these are the deliveries that they make up;
-/// of every port, those of the call's course.
+/// of every port, those of the call's history.
 pub fn a_receiver_commits_what_it_heard()
     ensures told { (r : ReceiverParts) (t : Tape) (out : receiving.Outcome)
         (run : receiving.Receives r t out) →
         r.receiver ≡ new_receiver r.receiver.confirm → IsNew r.kept →
         CommitsTheHeard r.receiver.confirm (heard_in r t out run) out.receiver.kept }
-    ensures course { (r new : ReceiverParts) (deliveries : List Heard) (progress : ℕ)
+    ensures history { (r new : ReceiverParts) (deliveries : List Heard) (progress : ℕ)
         (hears : ReceiverHears r deliveries progress new) →
         r.receiver ≡ new_receiver r.receiver.confirm → IsNew r.kept →
         CommitsTheHeard r.receiver.confirm deliveries new.kept }
 {}
 
 /// Whatever comes to a new sender over a port, and however the call returns, each frame before the
-/// place where it stands was, in order, what it had written last when a delivery came in which an
-/// ACK was read; so was each frame of the files that it reports as done. Of a port that tells
-/// nothing this is known of what the sender had to say at each delivery of the call's course.
+/// position where it stands was, in order, what it had written last when a delivery came in which
+/// an ACK was read; so was each frame of the files that it reports as done. Of a port that tells
+/// nothing this is known of what the sender had to say at each delivery of the call's history.
 pub fn a_sender_was_acknowledged()
     ensures done { (s : SenderParts) (t : Tape) (out : sending.Outcome)
         (run : sending.Sends s t out) →
         s.standing ≡ new_standing (counts s) →
         AreAcknowledged s.shape s.files
-        (files_places (counts s) (done_at (length s.files) out.sender.standing.place))
+        (files_positions (counts s) (done_at (length s.files) out.sender.standing.position))
         (spoke_in s t out run) }
-    ensures place { (s : SenderParts) (t : Tape) (out : sending.Outcome)
+    ensures position { (s : SenderParts) (t : Tape) (out : sending.Outcome)
         (run : sending.Sends s t out) →
         s.standing ≡ new_standing (counts s) →
-        AreAcknowledged s.shape s.files (places_before (counts s) out.sender.standing.place)
+        AreAcknowledged s.shape s.files (positions_before (counts s) out.sender.standing.position)
         (spoke_in s t out run) }
-    ensures course { (s new : SenderParts) (deliveries : List (List ℕ)) (progress : ℕ)
+    ensures history { (s new : SenderParts) (deliveries : List (List ℕ)) (progress : ℕ)
         (hears : SenderHears s deliveries progress new) →
         s.standing ≡ new_standing (counts s) →
         AreAcknowledged s.shape s.files
-        (files_places (counts s) (done_at (length s.files) new.standing.place))
+        (files_positions (counts s) (done_at (length s.files) new.standing.position))
         (spoke_along s deliveries progress new hears) }
 {
-    a_delivery_goes_one_place();
+    a_delivery_goes_one_position();
     a_step_keeps_the_batch();
 }
 
@@ -85,14 +85,14 @@ pub fn a_finished_sender_was_acknowledged()
     ensures told { (s : SenderParts) (t : Tape) (out : sending.Outcome)
         (run : sending.Sends s t out) →
         s.standing ≡ new_standing (counts s) → out.sender.standing.state ≡ sender_is.Finished →
-        AreAcknowledged s.shape s.files (batch_places (counts s)) (spoke_in s t out run) }
-    ensures course { (s new : SenderParts) (deliveries : List (List ℕ)) (progress : ℕ)
+        AreAcknowledged s.shape s.files (batch_positions (counts s)) (spoke_in s t out run) }
+    ensures history { (s new : SenderParts) (deliveries : List (List ℕ)) (progress : ℕ)
         (hears : SenderHears s deliveries progress new) →
         s.standing ≡ new_standing (counts s) → new.standing.state ≡ sender_is.Finished →
-        AreAcknowledged s.shape s.files (batch_places (counts s))
+        AreAcknowledged s.shape s.files (batch_positions (counts s))
         (spoke_along s deliveries progress new hears) }
 {
-    a_delivery_goes_one_place();
+    a_delivery_goes_one_position();
     a_step_keeps_the_batch();
 }
 

@@ -3,7 +3,7 @@
 ghost use Rattle.std.specs.Prelude.{◌≡◌, ◌∷◌, [], List, codes};
 ghost use Rattle.ym_file.specs.declared.plan.Shape.{Shape};
 ghost use Rattle.ym_machine.specs.declared.confirm.Confirm.TheVariants.{Twice};
-ghost use Rattle.ym_core.specs.declared.place.Place.TheVariants.{Eot};
+ghost use Rattle.ym_core.specs.declared.position.Position.TheVariants.{Eot};
 ghost use Rattle.ym_file.specs.SourceFile.{FileParts};
 ghost use Rattle.ym_line.specs.Completion.{longest_bad_run};
 ghost use Rattle.ym_line.specs.declared.delivery.Delivery.TheVariants.{Whole, Lost};

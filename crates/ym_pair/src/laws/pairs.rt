@@ -9,7 +9,7 @@ ghost use Rattle.ym_link.specs.ReceiverInto.{ReceiverParts};
 ghost use Rattle.ym_link.specs.Sender.{SenderParts, IsSender};
 ghost use Rattle.ym_link.specs.SendOver as sending;
 ghost use Rattle.ym_machine.specs.declared.limits.TheConstants.{BURST};
-ghost use Rattle.ym_line.specs.Completion.{NoneRose, longest_bad_run};
+ghost use Rattle.ym_line.specs.Completion.{NoneCounted, longest_bad_run};
 ghost use Rattle.ym_line.specs.Promise.{AreNew, CommitsAPrefix};
 ghost use Rattle.ym_line.specs.declared.delivery.Round.{Round};
 ghost use Rattle.ym_pair.specs.Pairing.{RunsPairUp, AreCalls, CallsPairUp, HaveBothFinished, ends};
@@ -20,7 +20,7 @@ use ym_line::laws::{
     new_ends_stand, nothing_comes_back_of_silence, rounds_are_turns, turns_of_a_standing_pair,
 };
 use ym_link::laws::{
-    Headers, a_delivery_goes_one_place, a_sender_follows_the_machine, a_step_keeps_the_batch,
+    Headers, a_delivery_goes_one_position, a_sender_follows_the_machine, a_step_keeps_the_batch,
 };
 use ym_machine::laws::{
     committed_is_reported_or_one_more, files_within_a_batch, short_bursts_are_survived,
@@ -36,13 +36,13 @@ pub fn two_engines_commit_a_prefix()
         (receives : receiving.Receives r u end) (rounds : List Round) →
         AreNew (ends s r) → RunsPairUp s t out sends r u end receives rounds →
         CommitsAPrefix s.files (ends out.sender end.receiver) }
-    ensures course { (s new : SenderParts) (r end : ReceiverParts) (calls : AreCalls s new r end)
+    ensures history { (s new : SenderParts) (r end : ReceiverParts) (calls : AreCalls s new r end)
         (rounds : List Round) →
         AreNew (ends s r) → IsSender new → CallsPairUp s new r end calls rounds →
         CommitsAPrefix s.files (ends new end) }
 {
     one_verdict();
-    a_delivery_goes_one_place();
+    a_delivery_goes_one_position();
     a_step_keeps_the_batch();
     a_sender_follows_the_machine();
     committed_is_reported_or_one_more::<Headers>();
@@ -53,7 +53,7 @@ pub fn two_engines_commit_a_prefix()
     nothing_comes_back_of_silence();
 }
 
-/// Where moreover both calls return well, no failure count rose, and no bad run of the rounds is
+/// Where moreover both calls return well, no failure was counted, and no bad run of the rounds is
 /// longer than a burst, of four today, both ends have finished, and the whole batch is committed
 /// and reported.
 pub fn two_engines_complete()
@@ -62,17 +62,17 @@ pub fn two_engines_complete()
         (receives : receiving.Receives r u end) (rounds : List Round) →
         AreNew (ends s r) → RunsPairUp s t out sends r u end receives rounds → out.answer ≡ Ok tt →
         end.answer ≡ Ok tt →
-        NoneRose (ends s r) (ends out.sender end.receiver) → longest_bad_run 0 rounds ≤ BURST →
+        NoneCounted (ends s r) (ends out.sender end.receiver) → longest_bad_run 0 rounds ≤ BURST →
         HaveBothFinished s.files (ends out.sender end.receiver) }
-    ensures course { (s new : SenderParts) (r end : ReceiverParts) (calls : AreCalls s new r end)
+    ensures history { (s new : SenderParts) (r end : ReceiverParts) (calls : AreCalls s new r end)
         (rounds : List Round) →
         AreNew (ends s r) → IsSender new → CallsPairUp s new r end calls rounds →
         new.standing.state ≢ sender_is.Running → end.receiver.state ≢ receiver_is.Running →
-        NoneRose (ends s r) (ends new end) → longest_bad_run 0 rounds ≤ BURST →
+        NoneCounted (ends s r) (ends new end) → longest_bad_run 0 rounds ≤ BURST →
         HaveBothFinished s.files (ends new end) }
 {
     one_verdict();
-    a_delivery_goes_one_place();
+    a_delivery_goes_one_position();
     a_step_keeps_the_batch();
     rounds_are_turns();
     turns_of_a_standing_pair();

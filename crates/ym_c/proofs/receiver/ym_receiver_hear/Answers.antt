@@ -1,5 +1,5 @@
 use Rattle.std.proofs.Common.{◌≡◌, ◌∙◌}
-use Rattle.ym_c.proofs.Places.{placed}
+use Rattle.ym_c.proofs.Positions.{placed}
 use Rattle.ym_c.proofs.receiver.ym_receiver_hear.Goals as goal
 
 pub returns-clause-hears : goal.returns-clause-hears

@@ -6,7 +6,7 @@ use Rattle.ym_port.specs.declared.deed.Deed.TheVariants.{Looked}
 use Rattle.ym_port.specs.declared.line.Line.{Line}
 use Rattle.ym_timing.specs.Clears as clears
 use Rattle.ym_timing.specs.Times.{later}
-use Rattle.ym_timing.specs.declared.clearing.Clearing.{Clearing}
+use Rattle.ym_timing.specs.declared.purge.Purge.{Purge}
 use Rattle.ym_timing.specs.declared.role.Role.TheVariants.{Sender}
 use Rattle.ym_delay.specs.QuietReads.{IsOverAtOnce, IsSeveral, IsSpent, began}
 use Rattle.ym_delay.proofs.Clear.{Clears, clears-on}
@@ -14,24 +14,24 @@ use Rattle.ym_delay.proofs.Quiet.{either, longest}
 use Rattle.ym_delay.proofs.laws.a_cleared_line_was_quiet.Goals as goal
 
 module _ (bytes : List ℕ) (l : Line) (t : Tape) (sender : l.timing.role ≡ Sender) (several : IsSeveral bytes l t) (before : l.timing.heard.answered_at ≤ began l t) where
-  counted : clears.counted_from (clears.clearing bytes (began l t) l.timing).need l.timing ≡ l.timing.heard.answered_at
-  counted = ap (λ r. clears.counted_by r (clears.clearing bytes (began l t) l.timing).need l.timing) sender ∙ ap (λ n. clears.counted_by Sender n l.timing) several
+  counted : clears.counted_from (clears.purge bytes (began l t) l.timing).need l.timing ≡ l.timing.heard.answered_at
+  counted = ap (λ r. clears.counted_by r (clears.purge bytes (began l t) l.timing).need l.timing) sender ∙ ap (λ n. clears.counted_by Sender n l.timing) several
 
-  clearing-is : Clears l.timing.heard.answered_at (later (began l t) 60000) l.timing (clears.clearing bytes (began l t) l.timing) l.timing
-  clearing-is = record {
+  purge-is : Clears l.timing.heard.answered_at (later (began l t) 60000) l.timing (clears.purge bytes (began l t) l.timing) l.timing
+  purge-is = record {
     same = record { role = refl; pace = refl; out = refl };
     need = several;
     from = either (λ x. l.timing.heard.answered_at ≤ x) (clears.was_held_up (began l t) l.timing) (began l t) _ (λ _. before) (λ _. omega (arith, counted));
     end_is = refl;
   }
 
-  abbrev Clear : Cleared → Clearing → Type 0
+  abbrev Clear : Cleared → Purge → Type 0
   Clear e found = IsOverAtOnce found e.line ⊎ (IsSpent t e.tape ⊎ (min (clears.several_until l.timing.heard.answered_at l.timing) (later (began l t) 60000) ≤ e.line.clock.at))
 
-  clear : (found : Clearing) → (clears_for bytes l t).answer ≡ Ok found → Clear (clears_for bytes l t) found
+  clear : (found : Purge) → (clears_for bytes l t).answer ≡ Ok found → Clear (clears_for bytes l t) found
   clear found ok =
-      let ends = clears-on l.timing.heard.answered_at (later (began l t) 60000) l.timing MOST_READS found (clears.clearing bytes (began l t) l.timing) (looked (moment_of t) l) (after_moment t) (omega (arith, before)) before
-      clearing-is ok in
+      let ends = clears-on l.timing.heard.answered_at (later (began l t) 60000) l.timing MOST_READS found (clears.purge bytes (began l t) l.timing) (looked (moment_of t) l) (after_moment t) (omega (arith, before)) before
+      purge-is ok in
       elim ends.is [ inl now ↦ inl now | inr rest ↦ elim rest [ inl spent ↦ inr (inl (let one = longest Looked t.done in omega (arith, spent, one))) | inr quiet ↦ inr (inr quiet) ] ]
 
   -- 1.25 seconds in any case

@@ -7,8 +7,8 @@ returns-clause-within c oldest young = record { sender = omega (arith, young); r
 pub returns-clause-beyond : goal.returns-clause-beyond
 returns-clause-beyond c oldest old prompt = let limit = prompt.receiver in absurd (omega (arith, old, limit))
 
-pub returns-clause-clearing : goal.returns-clause-clearing
-returns-clause-clearing c oldest young = record { sender = omega (arith, young); receiver = omega (arith, young) }
+pub returns-clause-purge : goal.returns-clause-purge
+returns-clause-purge c oldest young = record { sender = omega (arith, young); receiver = omega (arith, young) }
 
-pub returns-clause-clearing_beyond : goal.returns-clause-clearing_beyond
-returns-clause-clearing_beyond c oldest old prompt = let limit = prompt.receiver in absurd (omega (arith, old, limit))
+pub returns-clause-purge_beyond : goal.returns-clause-purge_beyond
+returns-clause-purge_beyond c oldest old prompt = let limit = prompt.receiver in absurd (omega (arith, old, limit))

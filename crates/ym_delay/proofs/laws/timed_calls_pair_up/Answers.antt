@@ -1,6 +1,6 @@
 use Rattle.std.proofs.Common.{◌≡◌, ℕ, List, [], ◌∷◌, ◌++◌, refl, sym, ap, subst}
 use Rattle.ym_core.specs.declared.standing.Standing.{Standing}
-use Rattle.ym_link.specs.Course.{SenderHears, sender_none, sender_more}
+use Rattle.ym_link.specs.History.{SenderHears, sender_none, sender_more}
 use Rattle.ym_link.specs.Sender.{SenderParts}
 use Rattle.ym_link.specs.Sender as sender
 use Rattle.ym_link.specs.SendOver.{written_for}
@@ -13,13 +13,13 @@ abbrev Silent : List Spoke → Type 0
 Silent [] = Unit {0}
 Silent (one ∷ more) = one.wrote ≡ []
 
-silent-more : (front : List Spoke) (one : Spoke) → Silent front → (front ≡ [] → one.wrote ≡ []) → Silent (front ++ one ∷ [])
+silent-more : (prefix : List Spoke) (one : Spoke) → Silent prefix → (prefix ≡ [] → one.wrote ≡ []) → Silent (prefix ++ one ∷ [])
 silent-more [] one silent then = then refl
-silent-more (first ∷ front) one silent then = silent
+silent-more (first ∷ prefix) one silent then = silent
 
-never-none : (front : List Spoke) (one : Spoke) → front ++ one ∷ [] ≡ [] → ⊥
+never-none : (prefix : List Spoke) (one : Spoke) → prefix ++ one ∷ [] ≡ [] → ⊥
 never-none [] one none = cc
-never-none (first ∷ front) one none = cc
+never-none (first ∷ prefix) one none = cc
 
 -- a sender that has heard nothing is the first
 unheard : (s : SenderParts) (deliveries : List (List ℕ)) (progress : ℕ) (new : SenderParts) (hears : SenderHears s deliveries progress new) → spoke_along s deliveries progress new hears ≡ [] → new ≡ s

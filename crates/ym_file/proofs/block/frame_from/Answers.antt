@@ -10,6 +10,6 @@ pub returns-clause-body : goal.returns-clause-body
 returns-clause-body g c =
     let P : List ℕ → Type 0 = λ body. IsBlockFrame (c.args.k % 256) body c.write_frame.new.frame in
     let made : IfSome (g.S.Source.bytes c.args.source.now) (λ all. P (piece_at c.args.shape all c.args.k)) =
-    on_both (g.S.Source.bytes c.args.source.now) (λ all told made. subst P (sym (c.place_of-place.ensures.piece all told)) made)
+    on_both (g.S.Source.bytes c.args.source.now) (λ all told made. subst P (sym (c.position_of-position.ensures.piece all told)) made)
     c.length.ensures.told c.in_ok-write_frame.ensures.body in
     grind (arith, common_steps)

@@ -7,5 +7,5 @@ pub returns-clause-body : goal.returns-clause-body
 returns-clause-body g c =
     on_both (g.S.Source.bytes c.args.source.now) (λ all told body.
     body ∙ ap₂ padded c.requires.size
-    (take-filled c.args.place.size c.args.place.start c.length-length.result c.min-filled.result all told c.min-filled.ensures))
+    (take-filled c.args.position.size c.args.position.start c.length-length.result c.min-filled.result all told c.min-filled.ensures))
     c.length-length.ensures.told c.in_ok-read_padded.ensures.body

@@ -15,7 +15,7 @@ pub returns-then-count-eq0-clause-begins : goal.returns-then-count-eq0-clause-be
 returns-then-count-eq0-clause-begins g c = λ text e.
     let bytes = rw c.if-count-eq0.true at c.in_ok-count.ensures.bytes in
     let room : 0 < length c.read_some.new.buffer = grind (arith, common_steps) in
-    let short : length c.loop-one.front.items ≤ HEAD = grind (arith, common_steps) in
+    let short : length c.loop-one.prefix.items ≤ HEAD = grind (arith, common_steps) in
     begins_all _ _ _ _ (c.loop-one.invariant.told text e) bytes.0 (bytes.1 refl room) short
 
 pub returns-clause-begins : goal.returns-clause-begins

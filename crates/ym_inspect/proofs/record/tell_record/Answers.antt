@@ -9,7 +9,7 @@ returns-in_err-take-clause-line g c =
     if_err c.from_residual.result c.in_err-take.field-0.0 _ (search rules) (λ text b.
     let so = none_so_far (g.O.Output.contents c.args.out.now) _ _ _ new.inspection new.state new.piece in
     first_wrong _ _ c.in_err-take.field-0.0 text new.state new.number
-    (wrong_in_front _ c.args.front.now b.rest text _ b.split (c.in_err-take.ensures.line _ [] so)))
+    (wrong_in_front _ c.args.prefix.now b.rest text _ b.split (c.in_err-take.ensures.line _ [] so)))
 
 pub returns-in_err-read_all-clause-line : goal.returns-in_err-read_all-clause-line
 returns-in_err-read_all-clause-line g c =
@@ -18,7 +18,7 @@ returns-in_err-read_all-clause-line g c =
     let so = none_so_far (g.O.Output.contents c.args.out.now) _ _ _ new.inspection new.state new.piece in
     let took = c.in_ok-take.ensures.read (g.O.Output.contents c.args.out.now) [] so in
     first_wrong _ _ c.in_err-read_all.field-0.0 text new.state new.number
-    (wrong_behind _ c.args.front.now b.rest text _ _ b.split took.much_is
+    (wrong_behind _ c.args.prefix.now b.rest text _ _ b.split took.much_is
     (c.in_err-read_all.ensures.line b.rest _ took.read b.left_is took.so_far)))
 
 pub returns-clause-told : goal.returns-clause-told
@@ -34,7 +34,7 @@ returns-clause-told g c =
     let done = ends before goes.read goes.so_far last in
     record {
       read = goes.read;
-      says = says_so _ _ text _ new.state new.number (in_two _ c.args.front.now b.rest text _ _ b.split took.much_is goes.much_is) ∙ done.0;
+      says = says_so _ _ text _ new.state new.number (in_two _ c.args.prefix.now b.rest text _ _ b.split took.much_is goes.much_is) ∙ done.0;
       explains = done.1;
     })
 
@@ -46,5 +46,5 @@ returns-clause-line g c =
     let so = none_so_far before _ _ _ new.inspection new.state new.piece in
     let took = c.in_ok-take.ensures.read before [] so in
     let goes = c.in_ok-read_all.ensures.read b.rest before took.read b.left_is took.so_far in
-    λ n why is. says_so _ _ text _ new.state new.number (in_two _ c.args.front.now b.rest text _ _ b.split took.much_is goes.much_is)
+    λ n why is. says_so _ _ text _ new.state new.number (in_two _ c.args.prefix.now b.rest text _ _ b.split took.much_is goes.much_is)
     ∙ wrong goes.read n why is)

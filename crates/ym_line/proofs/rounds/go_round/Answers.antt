@@ -10,5 +10,5 @@ returns g c =
       between = between;
       there = c.in_ok-reply.ensures;
       back = c.in_ok-go_back.ensures c.go_there.new.receiver;
-      seen_is = seen-parts c.frame_found.ensures c.args.round.now c.args.sender.now c.in_ok-reply.reply c.of_frame-what.result c.of_delivery.result c.of_delivery-2.result c.sent_by.result.now c.of_frame-what.ensures.bytes c.sent_by.ensures.bytes c.sent_by.ensures.sender c.of_delivery.ensures c.of_delivery-2.ensures;
+      seen_is = seen-parts c.frame_found.ensures c.args.numbered.it.now c.args.sender.now c.in_ok-reply.reply c.of_frame-what.result c.of_delivery.result c.of_delivery-2.result c.sent_by.result.now c.of_frame-what.ensures.bytes c.sent_by.ensures.bytes c.sent_by.ensures.sender c.of_delivery.ensures c.of_delivery-2.ensures;
     }

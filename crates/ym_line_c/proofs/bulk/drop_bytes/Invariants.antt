@@ -4,6 +4,6 @@ use Rattle.ym_line_c.proofs.bulk.drop_bytes.Given as goal
 
 abbrev pub invariant-loop-byte : goal.invariant-loop-byte
 invariant-loop-byte l = record {
-  new : l.timing ≡ after_dropping (take l.byte-index l.bytes) l.fn.clearing l.written l.now l.fn.timing;
-  clearing : l.clearing ≡ cleared_by (take l.byte-index l.bytes) l.fn.clearing l.written l.now l.fn.timing;
+  new : l.timing ≡ after_dropping (take l.byte-index l.bytes) l.fn.purge l.written l.now l.fn.timing;
+  purge : l.purge ≡ cleared_by (take l.byte-index l.bytes) l.fn.purge l.written l.now l.fn.timing;
 }

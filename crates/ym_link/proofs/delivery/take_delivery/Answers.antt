@@ -5,7 +5,7 @@ use borrow.Rule.Slice.PartMut.{put_mid, same_len_mid}
 use Rattle.ym_link.proofs.Names.{Tape, Data, Failed, taken, DELIVERY_LIMIT}
 use Rattle.ym_link.specs.Port.{End, Silence}
 use Rattle.ym_link.specs.declared.end_fault.EndFault.TheVariants as fault
-use Rattle.ym_link.proofs.Courses.{reading-none, reading-more, reading-last, reading-full}
+use Rattle.ym_link.proofs.Histories.{scan-none, scan-more, scan-last, scan-full}
 use Rattle.ym_link.proofs.Taking.{onward, onward-full, way-out, read-into, read-out, after-read}
 use Rattle.ym_link.proofs.delivery.take_delivery.Goals as goal
 
@@ -62,26 +62,26 @@ loop-len-preserved g c =
       asked = λ w e.
           let got = c.read.ensures.asked w e in
           let inv = c.loop-len.invariant.asked got.0 got.1 in
-          (inv.0, inv.1, reading-more c.loop-len.len c.in-Ok-Bytes.n c.loop-len.wait inv.0 got.0 w inv.2 (search rules) got.2);
+          (inv.0, inv.1, scan-more c.loop-len.len c.in-Ok-Bytes.n c.loop-len.wait inv.0 got.0 w inv.2 (search rules) got.2);
       calm = search rules;
     }
 
 pub returns-in-Ok-Closed-clause-asked : goal.returns-in-Ok-Closed-clause-asked
-returns-in-Ok-Closed-clause-asked g c w e = reading-last c.loop-len.len c.loop-len.wait w c.loop-len.invariant.asked (c.read.ensures.asked w e) c.loop-len-test.true
+returns-in-Ok-Closed-clause-asked g c w e = scan-last c.loop-len.len c.loop-len.wait w c.loop-len.invariant.asked (c.read.ensures.asked w e) c.loop-len-test.true
 
 pub returns-in-Err-clause-asked : goal.returns-in-Err-clause-asked
-returns-in-Err-clause-asked g c w e = reading-last c.loop-len.len c.loop-len.wait w c.loop-len.invariant.asked (c.read.ensures.asked w e) c.loop-len-test.true
+returns-in-Err-clause-asked g c w e = scan-last c.loop-len.len c.loop-len.wait w c.loop-len.invariant.asked (c.read.ensures.asked w e) c.loop-len-test.true
 
 pub returns-in-Ok-Quiet-clause-asked : goal.returns-in-Ok-Quiet-clause-asked
-returns-in-Ok-Quiet-clause-asked g c w e = reading-last c.loop-len.len c.loop-len.wait w c.loop-len.invariant.asked (c.read.ensures.asked w e) c.loop-len-test.true
+returns-in-Ok-Quiet-clause-asked g c w e = scan-last c.loop-len.len c.loop-len.wait w c.loop-len.invariant.asked (c.read.ensures.asked w e) c.loop-len-test.true
 
 pub returns-in-Some-clause-asked : goal.returns-in-Some-clause-asked
-returns-in-Some-clause-asked g c w e = reading-last c.loop-len.len c.loop-len.wait w c.loop-len.invariant.asked (c.read.ensures.asked w e) c.loop-len-test.true
+returns-in-Some-clause-asked g c w e = scan-last c.loop-len.len c.loop-len.wait w c.loop-len.invariant.asked (c.read.ensures.asked w e) c.loop-len-test.true
 
 pub returns-clause-asked : goal.returns-clause-asked
 returns-clause-asked g c w e =
     let inv = c.loop-len.invariant.asked w e in
-    (inv.0, inv.1, reading-full c.loop-len.len c.loop-len.wait inv.0 w inv.2 c.loop-len-test.false c.loop-len.invariant.within)
+    (inv.0, inv.1, scan-full c.loop-len.len c.loop-len.wait inv.0 w inv.2 c.loop-len-test.false c.loop-len.invariant.within)
 
 pub loop-len-init : goal.loop-len-init
-loop-len-init g c = record { within = search rules; sized = search rules; goes_on = inl refl; told = search rules; asked = λ w e. (w, e, reading-none w); calm = search rules }
+loop-len-init g c = record { within = search rules; sized = search rules; goes_on = inl refl; told = search rules; asked = λ w e. (w, e, scan-none w); calm = search rules }

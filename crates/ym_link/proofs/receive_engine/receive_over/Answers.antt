@@ -5,8 +5,8 @@ use Rattle.ym_link.specs.Delivery.{bytes_read}
 use Rattle.ym_link.specs.ReceiveOver.{heard, heard_at, delivery_at, behind}
 use Rattle.ym_link.specs.declared.end_fault.EndFault.TheVariants as fault
 use Rattle.ym_core.specs.declared.state.RecvState.TheVariants as state
-use Rattle.ym_link.proofs.Courses.{asks-none, asks-more, asks-behind}
-use Rattle.ym_link.proofs.ReceiverProgress.{course-is}
+use Rattle.ym_link.proofs.Histories.{asks-none, asks-more, asks-behind}
+use Rattle.ym_link.proofs.ReceiverProgress.{history-is}
 use Rattle.ym_link.proofs.ReceiverDeliveries.{step-fewer}
 use Rattle.ym_link.proofs.receive_engine.receive_over.Goals as goal
 
@@ -75,8 +75,8 @@ loop-buf-preserved g c =
           let some : heard_at got.0 ≡ Ok h = heard-read got.0 c.take_delivery.result _ c.take_delivery.new.buf got.2 c.in_ok-len.was in
           let spoke : u ≡ after_write true (behind got.0) (reply_bytes c.in-Ok.reply) = rw (c.in_ok-write_reply-in-Ok.was, got.3) at wrote.2 in
           (inv.0, inv.1, λ out later. inv.2 out (heard c.loop-buf.receiver got.0 h c.in-Ok.reply c.hear_in.new.self out c.is_running.ensures.receiver on some gives (rw spoke at later)));
-      course =
-          let old = c.loop-buf.invariant.course in (
+      history =
+          let old = c.loop-buf.invariant.history in (
             old.0 ++ h ∷ [],
             old.1 + progress_at c.hear_in.new.self,
             receiver_more c.args.receiver.now old.0 old.1 c.loop-buf.receiver h c.in-Ok.reply c.hear_in.new.self old.2 c.is_running.ensures.receiver on c.heard_by.ensures.large gives,
@@ -90,48 +90,48 @@ loop-buf-preserved g c =
     }
 
 pub loop-buf-init : goal.loop-buf-init
-loop-buf-init g c = record { told = search rules; course = ([], 0, receiver_none c.args.receiver.now, λ w e. (w, e, asks-none w)); calm = search rules; left = search rules }
+loop-buf-init g c = record { told = search rules; history = ([], 0, receiver_none c.args.receiver.now, λ w e. (w, e, asks-none w)); calm = search rules; left = search rules }
 
-pub returns-clause-course : goal.returns-clause-course
-returns-clause-course g c =
-    let old = c.loop-buf.invariant.course in (
+pub returns-clause-history : goal.returns-clause-history
+returns-clause-history g c =
+    let old = c.loop-buf.invariant.history in (
       old.0,
-      course-is c.args.receiver.now old.0 old.1 c.loop-buf.receiver c.is_running.ensures.receiver old.2,
+      history-is c.args.receiver.now old.0 old.1 c.loop-buf.receiver c.is_running.ensures.receiver old.2,
       λ w e. let inv = old.3 w e in (inv.0, inv.1, length old.0, omega arith, inv.2),
     )
 
-pub returns-in_err-len-clause-course : goal.returns-in_err-len-clause-course
-returns-in_err-len-clause-course g c =
-    let old = c.loop-buf.invariant.course in (
+pub returns-in_err-len-clause-history : goal.returns-in_err-len-clause-history
+returns-in_err-len-clause-history g c =
+    let old = c.loop-buf.invariant.history in (
       old.0,
-      course-is c.args.receiver.now old.0 old.1 c.loop-buf.receiver c.is_running.ensures.receiver old.2,
+      history-is c.args.receiver.now old.0 old.1 c.loop-buf.receiver c.is_running.ensures.receiver old.2,
       λ w e.
           let got = c.take_delivery.ensures.asked w e in
           let inv = old.3 got.0 got.1 in
           (inv.0, inv.1, length old.0 + 1, omega arith, asks-more (length old.0) inv.0 got.0 w inv.2 got.2),
     )
 
-pub returns-in-Err-clause-course : goal.returns-in-Err-clause-course
-returns-in-Err-clause-course g c =
-    let old = c.loop-buf.invariant.course in
+pub returns-in-Err-clause-history : goal.returns-in-Err-clause-history
+returns-in-Err-clause-history g c =
+    let old = c.loop-buf.invariant.history in
     let gives : HearsGives c.loop-buf.receiver (heard_of (take c.in_ok-len.len c.take_delivery.new.buf)) (Err c.in-Err.field-0) c.hear_in.new.self = search rules in (
       old.0,
-      rw gives.2.0 (course-is c.args.receiver.now old.0 old.1 c.loop-buf.receiver c.is_running.ensures.receiver old.2),
+      rw gives.2.0 (history-is c.args.receiver.now old.0 old.1 c.loop-buf.receiver c.is_running.ensures.receiver old.2),
       λ w e.
           let got = c.take_delivery.ensures.asked w e in
           let inv = old.3 got.0 got.1 in
           (inv.0, inv.1, length old.0 + 1, omega arith, asks-more (length old.0) inv.0 got.0 w inv.2 got.2),
     )
 
-pub returns-in_err-write_reply-in-Ok-clause-course : goal.returns-in_err-write_reply-in-Ok-clause-course
-returns-in_err-write_reply-in-Ok-clause-course g c =
+pub returns-in_err-write_reply-in-Ok-clause-history : goal.returns-in_err-write_reply-in-Ok-clause-history
+returns-in_err-write_reply-in-Ok-clause-history g c =
     let h = heard_of (take c.in_ok-len.len c.take_delivery.new.buf) in
-    let old = c.loop-buf.invariant.course in
+    let old = c.loop-buf.invariant.history in
     let on : c.loop-buf.receiver.receiver.state ≡ state.Running = search rules in
     let gives : HearsGives c.loop-buf.receiver h (Ok c.in-Ok.reply) c.hear_in.new.self = search rules in
     let heard_all = receiver_more c.args.receiver.now old.0 old.1 c.loop-buf.receiver h c.in-Ok.reply c.hear_in.new.self old.2 c.is_running.ensures.receiver on c.heard_by.ensures.large gives in (
       old.0 ++ h ∷ [],
-      course-is c.args.receiver.now (old.0 ++ h ∷ []) (old.1 + progress_at c.hear_in.new.self) c.hear_in.new.self c.hear_in.ensures.receiver heard_all,
+      history-is c.args.receiver.now (old.0 ++ h ∷ []) (old.1 + progress_at c.hear_in.new.self) c.hear_in.new.self c.hear_in.ensures.receiver heard_all,
       λ w e.
           let got = c.take_delivery.ensures.asked w (c.write_reply.ensures.asked w e) in
           let inv = old.3 got.0 got.1 in

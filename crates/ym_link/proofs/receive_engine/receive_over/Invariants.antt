@@ -9,7 +9,7 @@ invariant-loop-buf g l = record {
   told : (u : Tape) → g.P.Port.tells l.port u
       → (t : Tape) × g.P.Port.tells l.fn.port t
       × ((out : Outcome) → Receives l.receiver u out → Receives l.fn.receiver t out);
-  course : (deliveries : List Heard) × (progress : ℕ) × ReceiverHears l.fn.receiver deliveries progress l.receiver
+  history : (deliveries : List Heard) × (progress : ℕ) × ReceiverHears l.fn.receiver deliveries progress l.receiver
       × ((w : List Wait) → g.P.Port.asked l.port w → (v : List Wait) × g.P.Port.asked l.fn.port v × Asks (length deliveries) v w);
   calm : g.P.Port.failures l.port ≡ g.P.Port.failures l.fn.port;
   left : l.fn.receiver.receiver.state ≢ state.Running → (l.receiver ≡ l.fn.receiver) × (l.port ≡ l.fn.port);

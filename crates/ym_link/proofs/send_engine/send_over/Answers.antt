@@ -4,8 +4,8 @@ use Rattle.std.proofs.lemmas.List.{length-take}
 use Rattle.ym_link.proofs.Names.{Tape, after_write, SenderParts, IsSender, spoken, Sends, heard, EndFault, Running, sender_progress_at, sender_none, sender_more, DELIVERY_LIMIT}
 use Rattle.ym_link.specs.SendOver.{ended, unwritten, unread, written_for, said, behind, delivery_to}
 use Rattle.ym_link.specs.declared.end_fault.EndFault.TheVariants as fault
-use Rattle.ym_link.proofs.Courses.{asks-none, asks-more, asks-behind}
-use Rattle.ym_link.proofs.SenderBound.{course-is, course-none, step-fewer}
+use Rattle.ym_link.proofs.Histories.{asks-none, asks-more, asks-behind}
+use Rattle.ym_link.proofs.SenderBound.{history-is, history-none, step-fewer}
 use Rattle.ym_link.proofs.send_engine.send_over.Goals as goal
 
 -- the last write
@@ -71,8 +71,8 @@ loop-buf-preserved g c = record {
         inv.1,
         λ out later. inv.2 out (heard c.loop-buf.sender wrote.0 (take c.in_ok-len.len c.take_delivery.new.buf) c.hear_found.new.self out c.write_frame.ensures.sender on whole (search rules) (rw left at later)),
       );
-  course =
-      let old = c.loop-buf.invariant.course in
+  history =
+      let old = c.loop-buf.invariant.history in
       let bytes = take c.in_ok-len.len c.take_delivery.new.buf in
       let on : c.loop-buf.sender.standing.state ≡ Running = search rules in
       let within : c.in_ok-len.len ≤ DELIVERY_LIMIT = search rules in
@@ -89,34 +89,34 @@ loop-buf-preserved g c = record {
 }
 
 pub loop-buf-init : goal.loop-buf-init
-loop-buf-init g c = record { ran = search rules; told = search rules; course = ([], 0, sender_none c.args.sender.now, λ w e. (w, e, asks-none w)); calm = search rules }
+loop-buf-init g c = record { ran = search rules; told = search rules; history = ([], 0, sender_none c.args.sender.now, λ w e. (w, e, asks-none w)); calm = search rules }
 
-pub returns-clause-course : goal.returns-clause-course
-returns-clause-course g c =
-    let old = c.loop-buf.invariant.course in (
+pub returns-clause-history : goal.returns-clause-history
+returns-clause-history g c =
+    let old = c.loop-buf.invariant.history in (
       old.0,
-      course-is c.args.sender.now old.0 old.1 c.loop-buf.sender c.write_frame-2.ensures.sender old.2,
+      history-is c.args.sender.now old.0 old.1 c.loop-buf.sender c.write_frame-2.ensures.sender old.2,
       λ w e. let inv = old.3 w (c.write_frame-2.ensures.asked w e) in (inv.0, inv.1, length old.0, omega arith, inv.2),
     )
 
-pub returns-in_err-write_frame-clause-course : goal.returns-in_err-write_frame-clause-course
-returns-in_err-write_frame-clause-course g c =
-    let old = c.loop-buf.invariant.course in (
+pub returns-in_err-write_frame-clause-history : goal.returns-in_err-write_frame-clause-history
+returns-in_err-write_frame-clause-history g c =
+    let old = c.loop-buf.invariant.history in (
       old.0,
-      course-is c.args.sender.now old.0 old.1 c.loop-buf.sender c.write_frame.ensures.sender old.2,
+      history-is c.args.sender.now old.0 old.1 c.loop-buf.sender c.write_frame.ensures.sender old.2,
       λ w e. let inv = old.3 w (c.write_frame.ensures.asked w e) in (inv.0, inv.1, length old.0, omega arith, inv.2),
     )
 
-pub returns-in_err-len-clause-course : goal.returns-in_err-len-clause-course
-returns-in_err-len-clause-course g c =
-    let old = c.loop-buf.invariant.course in (
+pub returns-in_err-len-clause-history : goal.returns-in_err-len-clause-history
+returns-in_err-len-clause-history g c =
+    let old = c.loop-buf.invariant.history in (
       old.0,
-      course-is c.args.sender.now old.0 old.1 c.loop-buf.sender c.write_frame.ensures.sender old.2,
+      history-is c.args.sender.now old.0 old.1 c.loop-buf.sender c.write_frame.ensures.sender old.2,
       λ w e.
           let got = c.take_delivery.ensures.asked w e in
           let inv = old.3 got.0 (c.write_frame.ensures.asked got.0 got.1) in
           (inv.0, inv.1, length old.0 + 1, omega arith, asks-more (length old.0) inv.0 got.0 w inv.2 got.2),
     )
 
-pub returns-then-ne-clause-course : goal.returns-then-ne-clause-course
-returns-then-ne-clause-course g c = ([], course-none c.args.sender.now, λ w e. (w, e, 0, omega arith, asks-none w))
+pub returns-then-ne-clause-history : goal.returns-then-ne-clause-history
+returns-then-ne-clause-history g c = ([], history-none c.args.sender.now, λ w e. (w, e, 0, omega arith, asks-none w))

@@ -10,7 +10,7 @@ invariant-loop-buf g l = record {
   told : (u : Tape) → g.P.Port.tells l.port u
       → (t : Tape) × g.P.Port.tells l.fn.port t
       × ((out : Outcome) → Sends l.sender u out → Sends l.fn.sender t out);
-  course : (deliveries : List (List ℕ)) × (progress : ℕ) × SenderHears l.fn.sender deliveries progress l.sender
+  history : (deliveries : List (List ℕ)) × (progress : ℕ) × SenderHears l.fn.sender deliveries progress l.sender
       × ((w : List Wait) → g.P.Port.asked l.port w → (v : List Wait) × g.P.Port.asked l.fn.port v × Asks (length deliveries) v w);
   calm : g.P.Port.failures l.port ≡ g.P.Port.failures l.fn.port;
 }

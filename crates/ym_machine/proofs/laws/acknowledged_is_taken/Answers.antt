@@ -1,7 +1,7 @@
 use Rattle.std.specs.Prelude.{refl, ◌∷◌}
 use Rattle.ym_frame.specs.declared.control.Control.TheVariants as control
 use Rattle.ym_machine.proofs.MachineStates.{acknowledged-taken}
-use Rattle.ym_machine.proofs.Places.{frames-end}
+use Rattle.ym_machine.proofs.Positions.{frames-end}
 use Rattle.ym_machine.proofs.laws.acknowledged_is_taken.Goals as goal
 use Rattle.ym_machine.proofs.Names.{frames_of}
 

@@ -1,4 +1,4 @@
-use Rattle.ym_machine.proofs.Places.{one-more, first-files, reported-within, counted}
+use Rattle.ym_machine.proofs.Positions.{one-more, first-files, reported-within, counted}
 use Rattle.ym_machine.proofs.laws.committed_is_reported_or_one_more.Goals as goal
 
 pub returns-clause-frames : goal.returns-clause-frames

@@ -1,7 +1,7 @@
 use Rattle.std.specs.Prelude.{Some}
 use Rattle.ym_machine.proofs.Endings.{half-there, start-endings, turn-endings, turns-endings}
 use Rattle.ym_machine.proofs.MachineStates.{start-machine}
-use Rattle.ym_machine.proofs.Places.{frames-end}
+use Rattle.ym_machine.proofs.Positions.{frames-end}
 use Rattle.ym_machine.proofs.laws.ends_stop_for_a_reason.Goals as goal
 use Rattle.ym_machine.proofs.Names.{frames_of, SenderEnd, start}
 

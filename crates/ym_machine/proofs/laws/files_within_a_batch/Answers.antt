@@ -1,4 +1,4 @@
-use Rattle.ym_machine.proofs.Places.{all-within, within-inside, within-behind}
+use Rattle.ym_machine.proofs.Positions.{all-within, within-inside, within-behind}
 use Rattle.ym_machine.proofs.laws.files_within_a_batch.Goals as goal
 
 pub returns-clause-inside : goal.returns-clause-inside

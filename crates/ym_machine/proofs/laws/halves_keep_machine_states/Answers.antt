@@ -1,6 +1,6 @@
 use Rattle.std.specs.Prelude.{Some}
 use Rattle.ym_machine.proofs.MachineStates.{start-machine, there-machine, turn-machine, turns-machine}
-use Rattle.ym_machine.proofs.Places.{frames-end}
+use Rattle.ym_machine.proofs.Positions.{frames-end}
 use Rattle.ym_machine.proofs.laws.halves_keep_machine_states.Goals as goal
 use Rattle.ym_machine.proofs.Names.{frames_of, SenderEnd}
 

@@ -1,10 +1,10 @@
-use Rattle.ym_machine.proofs.Places.{frames-end}
-use Rattle.ym_machine.proofs.Heard.{said-place, said-next-or-last, last-is-no-end}
+use Rattle.ym_machine.proofs.Positions.{frames-end}
+use Rattle.ym_machine.proofs.Heard.{said-position, said-next-or-last, last-is-no-end}
 use Rattle.ym_machine.proofs.laws.heard_is_next_or_last.Goals as goal
 use Rattle.ym_machine.proofs.Names.{frames_of}
 
-pub returns-clause-place : goal.returns-clause-place
-returns-clause-place g c files confirm st i m says = said-place (frames_of files) confirm st m.counters i says
+pub returns-clause-position : goal.returns-clause-position
+returns-clause-position g c files confirm st i m says = said-position (frames_of files) confirm st m.counters i says
 
 pub returns-clause-next_or_last : goal.returns-clause-next_or_last
 returns-clause-next_or_last g c files confirm st i m says = said-next-or-last (frames_of files) confirm st m.counters i says

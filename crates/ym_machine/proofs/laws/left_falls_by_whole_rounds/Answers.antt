@@ -1,4 +1,4 @@
-use Rattle.ym_machine.proofs.Places.{frames-end}
+use Rattle.ym_machine.proofs.Positions.{frames-end}
 use Rattle.ym_machine.proofs.Remaining.{left-start}
 use Rattle.ym_machine.proofs.Rounds.{turn-left, turn-lowered}
 use Rattle.ym_machine.proofs.laws.left_falls_by_whole_rounds.Goals as goal

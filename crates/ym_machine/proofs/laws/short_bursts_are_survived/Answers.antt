@@ -1,5 +1,5 @@
 use Rattle.ym_machine.specs.Frames.{frames_of}
-use Rattle.ym_machine.proofs.Places.{frames-end}
+use Rattle.ym_machine.proofs.Positions.{frames-end}
 use Rattle.ym_machine.proofs.ShortBursts.{got-all, one-fine, start-fine}
 use Rattle.ym_machine.proofs.laws.short_bursts_are_survived.Goals as goal
 

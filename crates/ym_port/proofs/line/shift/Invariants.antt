@@ -2,9 +2,9 @@
 use Rattle.std.proofs.Common.{◌≡◌, ℕ, ◌≤◌, take, drop, length, get_or}
 use Rattle.ym_port.proofs.line.shift.Given as goal
 
-abbrev pub invariant-loop-place : goal.invariant-loop-place
-invariant-loop-place l = record {
+abbrev pub invariant-loop-position : goal.invariant-loop-position
+invariant-loop-position l = record {
   sized : length l.buf ≡ length l.fn.buf;
-  moved : take l.place l.buf ≡ take l.place (drop l.by l.fn.buf);
-  others : (k : ℕ) → l.place ≤ k → get_or l.buf k 0 ≡ get_or l.fn.buf k 0;
+  moved : take l.position l.buf ≡ take l.position (drop l.by l.fn.buf);
+  others : (k : ℕ) → l.position ≤ k → get_or l.buf k 0 ≡ get_or l.fn.buf k 0;
 }

@@ -12,7 +12,7 @@ returns g c =
       c.close-closed.result,
       record {
         told = λ u after. let run = ran.told u after in (run.0, run.1, run.2, λ new. law.told _ _ _ run.2 new.begins new.into_new);
-        course = (ran.course.0, ran.course.1, λ new. law.course _ _ _ _ ran.course.1.hears new.begins new.into_new);
+        history = (ran.history.0, ran.history.1, λ new. law.history _ _ _ _ ran.history.1.hears new.begins new.into_new);
         device = ran.device;
         over = ran.ended;
       },

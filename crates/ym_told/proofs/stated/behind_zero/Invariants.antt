@@ -2,5 +2,5 @@ use Rattle.std.proofs.Common.{◌≡◌, drop}
 use Rattle.ym_told.specs.Announcing.{after_name}
 use Rattle.ym_told.proofs.stated.behind_zero.Given as goal
 
-abbrev pub invariant-loop-place : goal.invariant-loop-place
-invariant-loop-place l = after_name (drop l.place l.body) ≡ after_name l.body
+abbrev pub invariant-loop-position : goal.invariant-loop-position
+invariant-loop-position l = after_name (drop l.position l.body) ≡ after_name l.body

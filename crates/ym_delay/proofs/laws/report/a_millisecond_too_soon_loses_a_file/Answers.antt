@@ -3,7 +3,7 @@ unfoldable use Rattle.ym_frame.specs.Frame.{verdict_of}
 use Rattle.ym_frame.specs.Control.{reply_bytes}
 use Rattle.ym_frame.specs.declared.control.Reply.{Reply}
 use Rattle.ym_frame.specs.declared.control.Reply.TheVariants.{Ack, AckStart, Nak}
-use Rattle.ym_core.specs.Reading.{controls_in}
+use Rattle.ym_core.specs.Scan.{controls_in}
 use Rattle.ym_core.specs.declared.delivery.Heard.TheVariants as heard
 use Rattle.ym_line.specs.declared.delivery.Delivery.TheVariants.{Whole}
 use Rattle.ym_pair.specs.Pairing.{up_to_start}

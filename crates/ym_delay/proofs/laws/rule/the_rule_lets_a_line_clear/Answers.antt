@@ -132,7 +132,7 @@ enough-dropped more copies owed dropped none few counted = omega (arith, none, f
 
 is-counted : (more dropped : ℕ) (s next : SpokeAt) → CountsByRule more dropped s next → IsCounted more dropped s next
 is-counted more dropped s next counts =
-    let c = counts.clearing in
+    let c = counts.purge in
     let t = counts.timing in
     let is = both-are c.has_brought (nat_eq c.owed 0) (both-are (counts_answers t.role t.sent.kind) (c.has_brought && nat_eq c.owed 0) counts.answered).1 in
     record { acked = counts.acked; other = counts.other; each = enough-dropped more (t.out.copies - 1) c.owed dropped (none-owed c.owed is.1) counts.copies counts.counted }

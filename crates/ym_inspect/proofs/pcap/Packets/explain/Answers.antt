@@ -7,6 +7,6 @@ pub returns-clause-told : goal.returns-clause-told
 returns-clause-told g c = also_ok c.end.result _ _ c.end.ensures.told
     (λ verdict told. λ rest e. tells_to_end _ _ _ _ _ _ _ (c.in_ok-read_all.ensures.read rest e) told)
 
-pub returns-clause-place : goal.returns-clause-place
-returns-clause-place g c = also_err c.end.result _ _ c.end.ensures.place
+pub returns-clause-position : goal.returns-clause-position
+returns-clause-position g c = also_err c.end.result _ _ c.end.ensures.position
     (λ fault stop. λ rest e. stops_at_end _ _ _ _ _ _ (c.in_ok-read_all.ensures.read rest e) stop)

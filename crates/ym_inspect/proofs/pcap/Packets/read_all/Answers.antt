@@ -23,6 +23,6 @@ loop-preserved g c = record {
   writes = grind (arith, common_steps);
 }
 
-pub returns-in_err-tell_whole-clause-place : goal.returns-in_err-tell_whole-clause-place
-returns-in_err-tell_whole-clause-place g c = if_err c.from_residual.result c.in_err-tell_whole.field-0.0 _ (search rules)
-    (λ rest e. read_wrong_packet _ _ _ _ _ _ _ (c.loop.invariant.some rest e) c.in_err-tell_whole.ensures.place)
+pub returns-in_err-tell_whole-clause-position : goal.returns-in_err-tell_whole-clause-position
+returns-in_err-tell_whole-clause-position g c = if_err c.from_residual.result c.in_err-tell_whole.field-0.0 _ (search rules)
+    (λ rest e. read_wrong_packet _ _ _ _ _ _ _ (c.loop.invariant.some rest e) c.in_err-tell_whole.ensures.position)

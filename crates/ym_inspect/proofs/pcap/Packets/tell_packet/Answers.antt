@@ -8,24 +8,24 @@ use Rattle.ym_inspect.specs.declared.fault.InspectFault.TheVariants as fault
 use Rattle.ym_inspect.proofs.PcapLemmas.{packet_told, packet_wrong, tail_is}
 use Rattle.ym_inspect.proofs.pcap.Packets.tell_packet.Goals as goal
 
-pub returns-in-Err-clause-place : goal.returns-in-Err-clause-place
-returns-in-Err-clause-place g c =
+pub returns-in-Err-clause-position : goal.returns-in-Err-clause-position
+returns-in-Err-clause-position g c =
     let same : the_view c.self.inside ≡ c.args.self.now = c.self.view_is ∙ c.moment-at.ensures in
-    let there = subst (λ (u : Underway). PACKET_HEAD + c.args.count ≤ length u.held) (sym same) c.requires.there in
-    let stated = subst (λ (u : Underway). c.args.count ≡ length_in u.at.form (take PACKET_HEAD u.held)) (sym same) c.requires.stated in
-    let tail = tail_is PACKET_HEAD c.self.inside.held in
+    let there = subst (λ (u : Underway). PACKET_HEAD + c.args.count ≤ length u.buffered) (sym same) c.requires.there in
+    let stated = subst (λ (u : Underway). c.args.count ≡ length_in u.at.form (take PACKET_HEAD u.buffered)) (sym same) c.requires.stated in
+    let tail = tail_is PACKET_HEAD c.self.inside.buffered in
     subst (λ (u : Underway). (more : List ℕ) → StopsWith more u (g.O.Output.contents c.args.out.now) c.fault.result) same
     (packet_wrong (the_view c.self.inside) c.args.count _ c.in-Err.why _ there stated
     (ap (λ (xs : List ℕ). behind_packet c.self.inside.connection (take c.args.count xs)) (sym tail)
     ∙ (rw c.as_slice.ensures at (sym c.behind.ensures ∙ c.in-Err.is)))
-    (c.fault.ensures ∙ ap (λ (u : Underway). fault.Packet u.at.place c.in-Err.why) (sym c.self.view_is)))
+    (c.fault.ensures ∙ ap (λ (u : Underway). fault.Packet u.at.position c.in-Err.why) (sym c.self.view_is)))
 
 pub returns-clause-read : goal.returns-clause-read
 returns-clause-read g c =
     let same : the_view c.self.inside ≡ c.args.self.now = c.self.view_is ∙ c.moment-at.ensures in
-    let there = subst (λ (u : Underway). PACKET_HEAD + c.args.count ≤ length u.held) (sym same) c.requires.there in
-    let stated = subst (λ (u : Underway). c.args.count ≡ length_in u.at.form (take PACKET_HEAD u.held)) (sym same) c.requires.stated in
-    let tail = tail_is PACKET_HEAD c.self.inside.held in
+    let there = subst (λ (u : Underway). PACKET_HEAD + c.args.count ≤ length u.buffered) (sym same) c.requires.there in
+    let stated = subst (λ (u : Underway). c.args.count ≡ length_in u.at.form (take PACKET_HEAD u.buffered)) (sym same) c.requires.stated in
+    let tail = tail_is PACKET_HEAD c.self.inside.buffered in
     λ turned order part text before so.
     packet_told (the_view c.self.inside) _ c.args.count _ _ c.in-Ok.behind there stated
     (ap (λ (xs : List ℕ). behind_packet c.self.inside.connection (take c.args.count xs)) (sym tail)

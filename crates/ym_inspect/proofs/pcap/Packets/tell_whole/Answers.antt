@@ -16,6 +16,6 @@ loop-preserved g c = record {
 pub returns-then-not-branch-clause-read : goal.returns-then-not-branch-clause-read
 returns-then-not-branch-clause-read g c = tells_two _ _ _ _ _ _ _ c.loop.invariant.tells c.in_ok-tell_one.ensures.read
 
-pub returns-in_err-tell_one-clause-place : goal.returns-in_err-tell_one-clause-place
-returns-in_err-tell_one-clause-place g c = if_err c.from_residual.result c.in_err-tell_one.field-0.0 _ (search rules)
-    (λ more. stops_at_end_of more _ _ _ _ _ c.loop.invariant.tells (c.in_err-tell_one.ensures.place more))
+pub returns-in_err-tell_one-clause-position : goal.returns-in_err-tell_one-clause-position
+returns-in_err-tell_one-clause-position g c = if_err c.from_residual.result c.in_err-tell_one.field-0.0 _ (search rules)
+    (λ more. stops_at_end_of more _ _ _ _ _ c.loop.invariant.tells (c.in_err-tell_one.ensures.position more))

@@ -32,4 +32,4 @@ returns-clause-read g c = on_ok c.hand_on.result _ _ _ c.hand_on.ensures.read c.
 
 pub returns-clause-piece : goal.returns-clause-piece
 returns-clause-piece g c = on_ok_one c.hand_on.result _ _ c.hand_on.ensures.piece (λ none. λ before read so.
-    none (c.loop-character.invariant.walked before read so).so_far.held)
+    none (c.loop-character.invariant.walked before read so).so_far.buffered)

@@ -1,5 +1,5 @@
 use Rattle.ym_link.proofs.Follows.{ZeroLaws}
-use Rattle.ym_link.proofs.Positions.{PlaceLaws}
+use Rattle.ym_link.proofs.Spots.{PositionLaws}
 use Rattle.ym_link.proofs.ReceiverStanding.{follows, starts}
 use Rattle.ym_link.proofs.laws.receiver.a_standing_receiver_follows_the_machine.Goals as goal
 
@@ -7,15 +7,15 @@ pub returns-clause-start : goal.returns-clause-start
 returns-clause-start c = starts
 
 pub returns-clause-follows : goal.returns-clause-follows
-returns-clause-follows c = follows places zeros
+returns-clause-follows c = follows positions zeros
   where
-    places : PlaceLaws
-    places = record {
-      piece = c.places_of_a_batch.ensures.piece;
-      eot = c.places_of_a_batch.ensures.eot;
-      behind = c.places_of_a_batch.ensures.behind;
-      size = c.places_of_a_batch.ensures.size;
-      last = λ files. (c.places_of_a_batch.ensures.ends_once files).last;
+    positions : PositionLaws
+    positions = record {
+      piece = c.positions_of_a_batch.ensures.piece;
+      eot = c.positions_of_a_batch.ensures.eot;
+      behind = c.positions_of_a_batch.ensures.behind;
+      size = c.positions_of_a_batch.ensures.size;
+      last = λ files. (c.positions_of_a_batch.ensures.ends_once files).last;
       inside = c.files_within_a_batch.ensures.inside;
       counted = c.files_within_a_batch.ensures.behind;
     }

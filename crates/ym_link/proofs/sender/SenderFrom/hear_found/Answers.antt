@@ -1,14 +1,14 @@
 use Rattle.std.proofs.Common.{◌≡◌, Some, take, true, subst, sym, refl}
-use Rattle.ym_link.proofs.Names.{IsPlace, controls_in, hears, SenderParts, IsStep, counts}
+use Rattle.ym_link.proofs.Names.{IsPosition, controls_in, hears, SenderParts, IsStep, counts}
 use Rattle.ym_link.proofs.Kept.{failed_hears, failed_sender, unfilled_sender, filled_sender}
 use Rattle.ym_link.proofs.sender.SenderFrom.hear_found.Goals as goal
 
 pub invariant_of-self-in-Err : goal.invariant_of-self-in-Err
 invariant_of-self-in-Err g c =
     let s = c.self.inside in
-    let within = subst (λ (o : SenderParts). IsPlace (counts o) c.step_at-step.result.standing.place) (sym c.self.view_is) c.step_at-step.ensures.within in (
+    let within = subst (λ (o : SenderParts). IsPosition (counts o) c.step_at-step.result.standing.position) (sym c.self.view_is) c.step_at-step.ensures.within in (
       c.self.invariant.0,
-      failed_sender s.shape (take s.len c.frame_at.new.buffer) s.batch.items s.batch.items refl c.frame_at.new.files.items (Some c.in-Some.place)
+      failed_sender s.shape (take s.len c.frame_at.new.buffer) s.batch.items s.batch.items refl c.frame_at.new.files.items (Some c.in-Some.position)
           c.step_at-step.result.standing c.source_failed-self-inside.result c.source_failed-self-inside.ensures c.in-Err.ensures.failed c.self.invariant.1.files within,
     )
 
@@ -16,7 +16,7 @@ pub invariant_of-self-in_default : goal.invariant_of-self-in_default
 invariant_of-self-in_default g c =
     let s = c.self.inside in
     let step_is = subst (λ (o : SenderParts). c.step_at-step.result ≡ hears (counts o) o.standing (controls_in c.args.bytes.now)) (sym c.self.view_is) c.step_at-step.ensures.step in
-    let within = subst (λ (o : SenderParts). IsPlace (counts o) c.step_at-step.result.standing.place) (sym c.self.view_is) c.step_at-step.ensures.within in (
+    let within = subst (λ (o : SenderParts). IsPosition (counts o) c.step_at-step.result.standing.position) (sym c.self.view_is) c.step_at-step.ensures.within in (
       c.self.invariant.0,
       unfilled_sender s.shape (take s.len s.buffer) s.batch.items s.batch.items refl s.standing c.step_at-step.result (controls_in c.args.bytes.now)
           step_is c.in_default.is within c.self.invariant.1,
@@ -26,10 +26,10 @@ pub invariant_of-self : goal.invariant_of-self
 invariant_of-self g c =
     let s = c.self.inside in
     let step_is = subst (λ (o : SenderParts). c.step_at-step.result ≡ hears (counts o) o.standing (controls_in c.args.bytes.now)) (sym c.self.view_is) c.step_at-step.ensures.step in
-    let within = subst (λ (o : SenderParts). IsPlace (counts o) c.step_at-step.result.standing.place) (sym c.self.view_is) c.step_at-step.ensures.within in (
+    let within = subst (λ (o : SenderParts). IsPosition (counts o) c.step_at-step.result.standing.position) (sym c.self.view_is) c.step_at-step.ensures.within in (
       c.in-Ok.ensures.length,
       filled_sender s.shape (take s.len s.buffer) s.batch.items s.batch.items refl (take c.in-Ok.len c.frame_at.new.buffer) c.frame_at.new.files.items s.standing c.step_at-step.result (controls_in c.args.bytes.now)
-          c.in-Some.place step_is c.in-Some.is c.in-Ok.ensures.ok within c.in-Ok.ensures.frame c.self.invariant.1.files,
+          c.in-Some.position step_is c.in-Some.is c.in-Ok.ensures.ok within c.in-Ok.ensures.frame c.self.invariant.1.files,
     )
 
 pub returns-in-Err : goal.returns-in-Err
@@ -40,5 +40,5 @@ returns-in-Err g c =
       true,
       subst (λ (o : SenderParts). IsStep o (hears (counts o) o.standing (controls_in c.args.bytes.now)) true left) c.self.view_is
           (failed_hears s.shape s.batch.items s.batch.items c.frame_at.new.files.items (take s.len s.buffer) (take s.len c.frame_at.new.buffer) s.standing c.source_failed-self-inside.result (controls_in c.args.bytes.now)
-          c.step_at-step.result c.in-Some.place refl step_is c.in-Some.is c.source_failed-self-inside.ensures c.in-Err.ensures.failed),
+          c.step_at-step.result c.in-Some.position refl step_is c.in-Some.is c.source_failed-self-inside.ensures c.in-Err.ensures.failed),
     )

@@ -10,13 +10,13 @@ abbrev AreOther : Item → List Heard → Type 0
 AreOther i [] = Unit {0}
 AreOther i (h ∷ all) = (h ≡ heard.Item i → ⊥) × AreOther i all
 
-never-heard : (front more : List Item) (i : Item) (all : List Heard) → AreOther i all → AreAmong (front ++ i ∷ more) all → ⊥
+never-heard : (prefix more : List Item) (i : Item) (all : List Heard) → AreOther i all → AreAmong (prefix ++ i ∷ more) all → ⊥
 never-heard [] more i [] other among = among
-never-heard (x ∷ front) more i [] other among = among
+never-heard (x ∷ prefix) more i [] other among = among
 never-heard [] more i (h ∷ all) other (inl here) = other.0 here.0
 never-heard [] more i (h ∷ all) other (inr later) = never-heard [] more i all other.1 later
-never-heard (x ∷ front) more i (h ∷ all) other (inl here) = never-heard front more i all other.1 here.1
-never-heard (x ∷ front) more i (h ∷ all) other (inr later) = never-heard (x ∷ front) more i all other.1 later
+never-heard (x ∷ prefix) more i (h ∷ all) other (inl here) = never-heard prefix more i all other.1 here.1
+never-heard (x ∷ prefix) more i (h ∷ all) other (inr later) = never-heard (x ∷ prefix) more i all other.1 later
 
 -- the number of a block, and one that no block of the examples has
 abbrev number_of : Heard → ℕ

@@ -4,7 +4,7 @@ use Rattle.ym_frame.specs.Control.{reply_bytes}
 use Rattle.ym_frame.specs.Frame.{IsFrame}
 use Rattle.ym_frame.specs.declared.control.Reply.TheVariants.{Silence, Start, Ack, AckStart, Nak}
 use Rattle.ym_core.specs.Hearing.{heard_of}
-use Rattle.ym_core.specs.Reading.{controls_in}
+use Rattle.ym_core.specs.Scan.{controls_in}
 use Rattle.ym_core.specs.declared.delivery.Heard.TheVariants as heard
 use Rattle.ym_line.specs.declared.delivery.Delivery.TheVariants.{Whole}
 use Rattle.ym_pair.specs.Pairing.{WaitsInVain}

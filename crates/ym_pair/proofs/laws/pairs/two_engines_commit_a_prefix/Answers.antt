@@ -21,13 +21,13 @@ returns c =
       reported_within = machine.reported_within;
       prefix = c.a_standing_pair_commits_the_first_files.ensures.prefix;
     } in
-    let kept : SenderLaws = record { goes = c.a_delivery_goes_one_place.ensures.goes; finishes = c.a_delivery_goes_one_place.ensures.finishes; counts = c.a_step_keeps_the_batch.ensures.counts; files = c.a_step_keeps_the_batch.ensures.files } in
+    let kept : SenderLaws = record { goes = c.a_delivery_goes_one_position.ensures.goes; finishes = c.a_delivery_goes_one_position.ensures.finishes; counts = c.a_step_keeps_the_batch.ensures.counts; files = c.a_step_keeps_the_batch.ensures.files } in
     record {
       told = λ s t out sends r u end receives rounds fresh pairs.
           let said = speaks s t out sends in
           let left = leaves kept s t out sends (λ over. absurd (over (ap (λ (x : Standing). x.state) fresh.sender))) in
           engines-commit laws s out.sender r end.receiver _ _ _ rounds fresh (files-within s out.sender _ _ said left) said left (answers r u end receives) pairs;
-      course = λ s new r end calls rounds fresh is pairs.
+      history = λ s new r end calls rounds fresh is pairs.
           let said = speaks-along s calls.deliveries calls.progress new calls.speaks in
           let left : Leaves new (written_for (spoken new)) = record { is = is; words = inl (written-sent (spoken new)) } in
           engines-commit laws s new r end _ _ _ rounds fresh (files-within s new _ _ said left) said left (answers-along false r calls.heard calls.steps end calls.hears) pairs;
