@@ -203,6 +203,30 @@ def test_line_is_gone():
             assert "the line hung up\nfault: closed\n" in said, "it said %r" % said
 
 
+@cases(
+    case("ymodem-tty send, ended, whose line is taken away meanwhile", False),
+    case("ymodem-tty send, ended, whose line hangs up meanwhile", True),
+)
+def test_line_goes_meanwhile(hangs_up):
+    """The line goes before the other end is told: the signal is the status all the same, and no
+    file is made in the line's place."""
+    with folders() as (here, there), plug() as it, os.fdopen(os.dup(it.outer)):
+        # as long as that copy is there, no other terminal gets this path
+        paths, link = write_files(here, FILES), os.path.join(there, "line")
+        os.symlink(it.path, link)
+        with piped([SCRIPT, "--device", link, "send", *paths], here) as script:
+            wait_until(lambda: has_open(runs(script.pid), it.path), "the program has the line open")
+            script.send_signal(signal.SIGTERM)
+            wait_until(lambda: not runs(script.pid), "the program was stopped")
+            if hangs_up:
+                it.pull()
+            else:
+                os.remove(link)
+            said = wants_status("ymodem-tty", script, -signal.SIGTERM)
+        assert "ymodem-tty: interrupted" in said, "it said %r" % said
+        assert not os.path.exists(link), "a file stands where the line was"
+
+
 def moment_of(job, is_lrzsz, number, count):
     """One of so many moments of a job, that are spread over it."""
     *before, _ = moments(job, is_lrzsz)
