@@ -4,7 +4,7 @@
 # usage: install.sh PROGRAM FOLDER
 set -eu
 [ $# -eq 2 ] || { sed -n '2,4s/^# \{0,1\}//p' "$0" >&2; exit 2; }
-here=$(cd "$(dirname "$0")/.." && pwd)
+here=$(CDPATH='' cd "$(dirname "$0")/.." && pwd)
 share=$2/share
 
 # Whatever the umask is, everybody may read and search what is installed.

@@ -70,6 +70,23 @@ def test_is_installed():
         wants_same({"played": played(top + "/usr local/bin/ymodem")}, {"played": played(PROGRAM)})
 
 
+@cases(
+    case("make install, with CDPATH of the working folder", "."),
+    case("make install, with CDPATH of a folder that has tools, too", "{0}"),
+)
+def test_is_installed_with_cdpath(path):
+    """A shell that looks elsewhere for folders, and tells which it took, installs the same."""
+    with tempfile.TemporaryDirectory(prefix="ymodem-") as top:
+        os.mkdir(top + "/tools")
+        subprocess.run(
+            ["tools/install.sh", PROGRAM, top + "/usr"],
+            cwd=ROOT,
+            env={**os.environ, "CDPATH": path.format(top)},
+            check=True,
+        )
+        wants_same(below(top + "/usr"), INSTALLED)
+
+
 def copied(to, umask):
     """A copy of what packages are made of, as a user with this umask has it."""
     os.mkdir(to)
