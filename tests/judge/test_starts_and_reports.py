@@ -1,12 +1,13 @@
 """What `ymodem-judge` says where its peer cannot be started, or what it finds cannot be written."""
 
 import os
+import shlex
 import shutil
 import subprocess
 
 from support.cases import case, cases
 from support.judged import PEER, SCRIPT
-from support.program import LIMIT, PROGRAM, wants_same
+from support.program import LIMIT, PROGRAM, folders, wants_same
 from support.skipping import Skipped
 
 ONE_CASE = ["--only", "plain"]
@@ -67,6 +68,28 @@ def test_without_ymodem(program, status, told):
     done = judge("receiver", "true", program=program)
     wanted = (status, "", "ymodem-judge: '%s' %s\n" % (program, told))
     wants_same({"ended": (done.returncode, done.stdout, done.stderr)}, {"ended": wanted})
+
+
+# Names the cases, and has no memory to play one.
+WITHOUT_MEMORY = """#!/bin/sh
+case $* in *--list*) exec %s "$@" ;; esac
+echo "fault: memory" >&2
+exit 3
+"""
+
+
+@cases(case("judge: a ymodem that has no memory", ["receiver", "sender"]))
+def test_has_no_memory(kinds):
+    """It ends before it speaks to the peer. That is told, and is not waited for."""
+    with folders() as (here, _):
+        program = os.path.join(here, "ymodem")
+        with open(program, "w", encoding="utf-8") as it:
+            it.write(WITHOUT_MEMORY % shlex.quote(PROGRAM))
+        os.chmod(program, 0o755)
+        for kind in kinds:
+            done = judge(*ONE_CASE, kind, "cat", program=program)
+            ended = (done.returncode, done.stderr)
+            wants_same({kind: ended}, {kind: (3, "ymodem-judge: plain: fault: memory\n")})
 
 
 def full():
