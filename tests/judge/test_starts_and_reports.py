@@ -1,11 +1,12 @@
 """What `ymodem-judge` says where its peer cannot be started, or what it finds cannot be written."""
 
 import os
+import re
 import shlex
 import shutil
 import subprocess
 
-from support.cases import case, cases
+from support.cases import case, cases, sentence
 from support.judged import PEER, SCRIPT
 from support.program import LIMIT, PROGRAM, folders, wants_same
 from support.skipping import Skipped
@@ -13,10 +14,10 @@ from support.skipping import Skipped
 ONE_CASE = ["--only", "plain"]
 
 
-def judge(*words, out=subprocess.PIPE, program=PROGRAM):
+def judge(*words, out=subprocess.PIPE, program=PROGRAM, before=()):
     """How `ymodem-judge` ended with these words."""
     return subprocess.run(
-        [SCRIPT, *words],
+        [*before, SCRIPT, *words],
         stdin=subprocess.DEVNULL,
         stdout=out,
         stderr=subprocess.PIPE,
@@ -90,6 +91,19 @@ def test_has_no_memory(kinds):
             done = judge(*ONE_CASE, kind, "cat", program=program)
             ended = (done.returncode, done.stderr)
             wants_same({kind: ended}, {kind: (3, "ymodem-judge: plain: fault: memory\n")})
+
+
+# Starts a command that may store no byte, as where the disk is full.
+WITHOUT_ROOM = ["sh", "-c", 'ulimit -f 0; exec "$@"', "sh"]
+
+
+@sentence("judge: a folder in which nothing can be stored")
+def test_has_no_room():
+    """The file that the peer is to send cannot be made: the case cannot be tried, and that is
+    told."""
+    done = judge(*ONE_CASE, "sender", "cat", before=WITHOUT_ROOM)
+    one = re.fullmatch(r"ymodem-judge: plain: .+\n", done.stderr)
+    assert (done.returncode, bool(one)) == (3, True), "it said %r" % done.stderr
 
 
 def full():
