@@ -2,10 +2,11 @@
 
 import os
 import random
+import shutil
 
 from support.cable import cable, set_for_ticks
 from support.cases import case, cases, sentence
-from support.on_line import ends_with, started
+from support.on_line import ends_with, says, started
 from support.program import (
     LIMIT,
     PROGRAM,
@@ -150,3 +151,17 @@ def test_cannot_start(program, status, told):
         asked, err = asked_of_stty(here, there, program, status)
     assert err == "ymodem-tty: '%s' %s\n" % (program, told), "it said %r" % err
     assert not any("raw" in line or "-g" in line for line in asked), asked
+
+
+@sentence("ymodem-tty, by its bare name in its own folder")
+def test_in_its_folder():
+    """A shell that is given the script by its bare name finds the ymodem beside it."""
+    environment = {it: word for it, word in ENVIRONMENT.items() if it != "YMODEM"}
+    with folders() as (here, _):
+        beside = os.path.join(here, "ymodem")
+        shutil.copy(SCRIPT, here)
+        write_files(here, [("ymodem", b'#!/bin/sh\necho "it has $*"\n')])
+        os.chmod(beside, 0o755)
+        words = ["sh", os.path.basename(SCRIPT), "receive", "--single", "in"]
+        with started(words, here, env=environment) as script:
+            says(script, 0, "it has rb --single in\n")
