@@ -55,6 +55,8 @@ def named(said):
     case("ymodem-tty receive, stopped, names its own part of a folder", ["in"], "in/"),
     case("ymodem-tty receive, stopped, of a folder like an option", ["--", "-in"], "./-in/"),
     case("ymodem-tty receive, stopped, of a folder like a bracket", ["("], "./(/"),
+    case("ymodem-tty receive, stopped, of a folder without a name", [""], "./"),
+    case("ymodem-tty receive, stopped, of a folder that begins with blanks", ["  in"], "  in/"),
 )
 def test_names_its_own(words, told):
     """Others have parts in that folder before, and write some meanwhile."""
