@@ -99,13 +99,20 @@ def test_same_terminal():
         wants_stored(there, FILES)
 
 
+NO_SPEED, NO_FLOW = "'%s' is no speed: bits a second", "'' is no flow control: none, hard or soft"
+
+
 @cases(
-    case("a device without a name is refused", ["--device="], "no DEVICE behind --device"),
-    case("a speed is a number", ["--speed", "sane"], "'sane' is no speed: bits a second"),
+    case("a device without a name is refused", "--device= receive", "no DEVICE behind --device"),
+    case("a device that is not named is refused", "--device", "no DEVICE behind --device"),
+    case("a speed is a number", "--speed sane receive", NO_SPEED % "sane"),
+    case("a speed is not empty", "--speed= receive", NO_SPEED % ""),
+    case("a speed is none that hangs up", "--speed 0 receive", NO_SPEED % "0"),
+    case("a flow control is not empty", "--flow= receive", NO_FLOW),
 )
 def test_refused_words(words, told):
     with folders() as (here, _):
-        with started([SCRIPT, *words, "receive"], here, env=ENVIRONMENT) as script:
+        with started([SCRIPT, *words.split()], here, env=ENVIRONMENT) as script:
             _, err = ends_with(script, 2)
     assert err.startswith("ymodem-tty: %s\n" % told), "it said %r" % err
 

@@ -106,6 +106,12 @@ def test_without_ymodem():
         3,
         "no such device",
     ),
+    case(
+        "ymodem-tty of a device that is named like an option",
+        ["--device", "-x", "receive", "--verbose"],
+        3,
+        "cannot open './-x': no such device",
+    ),
 )
 def test_refuses(words, status, wanted):
     """Words that are refused, and what is said of them."""
