@@ -202,7 +202,7 @@ def test_installs():
 PICOCOM = 'picocom -b 115200 --send-cmd "ymodem-tty send" --receive-cmd "ymodem-tty receive" '
 # Those that another file of tests types.
 ELSEWHERE = {
-    PICOCOM + DEVICE: "serial/test_ymodem_tty.py",
+    PICOCOM + DEVICE: "serial/test_terminal_programs.py",
     "picocom -b 115200 " + DEVICE: "uboot/test_typed.py",
     "gzip -c firmware.bin | tail -c 8 | od -An -N 4 -t x4": "uboot/test_typed.py",
 }
