@@ -160,6 +160,31 @@ def test_interrupted(words, by):
             assert not left_of(script.pid), "left behind: %r" % left_of(script.pid)
 
 
+# Tells that it runs, and heeds no signal that may be unheeded: so it is with one that comes while
+# the shell still makes its child a program.
+DEAF = """#!/bin/sh
+trap '' TERM HUP INT QUIT
+echo > told
+exec sleep 600
+"""
+
+
+@sentence("ymodem-tty, of a program on which the signal is lost")
+def test_signal_is_lost():
+    """The program is ended all the same, at once, and the line gets its settings back."""
+    with folders() as (here, there), plug() as it:
+        write_files(there, [("deaf", DEAF.encode())])
+        program, before = os.path.join(there, "deaf"), settings(it.path)
+        os.chmod(program, 0o755)
+        words = [SCRIPT, "--device", it.path, "receive"]
+        with piped(words, here, {**ENVIRONMENT, "YMODEM": program}) as script:
+            wait_until(lambda: os.path.exists(os.path.join(here, "told")), "the program runs")
+            script.send_signal(signal.SIGTERM)
+            wants_status("ymodem-tty", script, -signal.SIGTERM)
+            wants_same({"left": left_of(script.pid)}, {"left": []})
+        wants_same({"settings": settings(it.path)}, {"settings": before})
+
+
 XOFF = b"\x13"
 
 
