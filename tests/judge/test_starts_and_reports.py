@@ -8,20 +8,21 @@ import subprocess
 
 from support.cases import case, cases, sentence
 from support.judged import PEER, SCRIPT
-from support.program import LIMIT, PROGRAM, folders, wants_same
+from support.program import LIMIT, PROGRAM, folders, wants_same, write_files
 from support.skipping import Skipped
 
 ONE_CASE = ["--only", "plain"]
 
 
-def judge(*words, out=subprocess.PIPE, program=PROGRAM, before=()):
+def judge(*words, out=subprocess.PIPE, program=PROGRAM, before=(), of=SCRIPT, path=None, cwd=None):
     """How `ymodem-judge` ended with these words."""
     return subprocess.run(
-        [*before, SCRIPT, *words],
+        [*before, of, *words],
+        cwd=cwd,
         stdin=subprocess.DEVNULL,
         stdout=out,
         stderr=subprocess.PIPE,
-        env={**os.environ, "YMODEM": program},
+        env={**os.environ, "YMODEM": program, "PATH": path or os.environ["PATH"]},
         text=True,
         timeout=LIMIT,
         check=False,
@@ -69,6 +70,24 @@ def test_without_ymodem(program, status, told):
     done = judge("receiver", "true", program=program)
     wanted = (status, "", "ymodem-judge: '%s' %s\n" % (program, told))
     wants_same({"ended": (done.returncode, done.stdout, done.stderr)}, {"ended": wanted})
+
+
+@cases(
+    case("judge: a ymodem that is named stands for the one beside it", "./ymodem"),
+    case("judge: a ymodem that is named is looked for on the path", "ymodem"),
+)
+def test_named_ymodem(named):
+    """The manual page has it so: what YMODEM names is run, and else what stands beside the
+    script."""
+    with folders() as (here, there):
+        beside = shutil.copy(SCRIPT, here)
+        write_files(here, [("ymodem", b"#!/bin/sh\nexit 1\n")])
+        os.chmod(os.path.join(here, "ymodem"), 0o755)
+        os.symlink(PROGRAM, os.path.join(there, "ymodem"))
+        path = there + ":" + os.environ["PATH"]
+        words = [*ONE_CASE, "receiver", PEER + " receiver"]
+        done = judge(*words, program=named, of=beside, path=path, cwd=there)
+    wants_same({"ended": (done.returncode, done.stderr)}, {"ended": (0, "")})
 
 
 # Names the cases, and has no memory to play one.
