@@ -56,6 +56,8 @@ int main(int count, char **words) {
         fprintf(stderr, "usage: receive FOLDER\n");
         return 2;
     }
+    /* a line that is gone fails a write, and does not end the program before its part is away */
+    signal(SIGPIPE, SIG_IGN);
     ym_error error = ym_receive(&line, &sink);
     if (part.file >= 0) {
         close(part.file);

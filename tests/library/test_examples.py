@@ -10,6 +10,7 @@ import tempfile
 from support.cases import case, cases, sentence
 from support.commands import command
 from support.example_ends import c_send, on_line
+from support.frames import header
 from support.library import FLAGS, INCLUDE, STRICT, built, example
 from support.program import LIMIT, ROOT, folders, write_files
 
@@ -82,6 +83,31 @@ def test_long_name():
         said = refused([name], there)
         assert said.startswith("receive: %s.part: File name too long\n" % name), said
         assert not os.listdir(there), os.listdir(there)
+
+
+def unheard(words, there, line):
+    """How a program ends, and what it says, whose replies nobody reads any more."""
+    reads, writes = os.pipe()
+    os.close(reads)
+    how = {"input": line, "stdout": writes, "stderr": subprocess.PIPE, "check": False}
+    ran = subprocess.run(words, cwd=there, timeout=LIMIT, **how)
+    os.close(writes)
+    return ran.returncode, ran.stderr.decode()
+
+
+@sentence("the line is gone where an example writes: it says so, and no part is left")
+def test_unheard():
+    """A program that a signal ends there would leave the part, and refuse the file from then on."""
+    with folders() as (here, there):
+        write_files(here, [("a", b"new")])
+        block0 = header(b"a", b"3")
+        for _ in range(2):
+            assert unheard([example("receive"), there], there, block0) == (
+                1,
+                "receive: the line failed, files 0\n",
+            )
+            assert not os.listdir(there), os.listdir(there)
+        assert unheard(c_send(["a"]), here, b"C") == (1, "send: the line failed\n")
 
 
 @cases(
