@@ -3,13 +3,13 @@
 /** Why a transfer did not take place, or did not end well. */
 export class YmodemError extends Error {
   constructor(code, message, more = {}) {
-    super(message, more.cause === undefined ? undefined : { cause: more.cause });
+    super(message, more.cause === undefined ? undefined : more);
     this.name = "YmodemError";
     this.code = code;
-    this.files = more.files ?? [];
+    this.files = [];
     this.fault = more.fault ?? "";
     this.answered = more.answered ?? false;
-    this.rest = more.rest ?? new Uint8Array();
+    this.rest = new Uint8Array();
   }
 }
 

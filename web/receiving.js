@@ -39,8 +39,6 @@ class Collected {
     const type = "application/octet-stream";
     this.about.file = new File(this.#parts, name, time === undefined ? { type } : { type, lastModified: time * 1000 });
   }
-
-  abort() {}
 }
 
 /** Whether this is a promise: a file that takes bytes at once is not waited for. */

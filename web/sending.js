@@ -58,10 +58,13 @@ export class Source {
     return start >= this.#start && end <= this.#start + this.#window.length;
   }
 
-  /** Moves the window there. */
-  async load({ start }) {
+  /** Moves the window there. Of a file that was cut since it was chosen, some browsers read what is
+   *  left, and say nothing. */
+  async load(place) {
+    const { start } = place;
     this.#window = await (this.#ahead ?? this.#read(start));
     this.#start = start;
+    if (!this.has(place)) throw new Error("it is shorter than before");
     const next = start + WINDOW;
     this.#ahead = next < this.length ? this.#read(next) : null;
     this.#ahead?.catch(() => {});
@@ -297,6 +300,4 @@ export class Sending {
     const state = isOurs ? "aborted" : this.#state;
     return new YmodemError(state, MESSAGES[state] ?? state, { cause: this.#cause, answered: this.#answered });
   }
-
-  abandon() {}
 }

@@ -41,7 +41,7 @@ async function finish(engine, line, transfer) {
     fault = what instanceof YmodemError ? what : new YmodemError("device", String(what?.message ?? what), { cause: what });
   }
   if (line.thrown) fault = Object.assign(line.thrown, { answered: fault?.answered ?? true });
-  if (fault) await transfer.abandon(fault);
+  if (fault) await transfer.abandon?.(fault);
   const rest = await line.release(transfer.rest);
   if (fault === null) {
     engine.end();

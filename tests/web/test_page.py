@@ -150,6 +150,28 @@ def test_receives_thirty(room):
         )
 
 
+@pytest.mark.program
+@cases_in(
+    BROWSERS,
+    case("page: a file that is cut once it is chosen", 300000),
+    case("page: a file that is emptied once it is chosen", 0),
+)
+def test_cut(room, length):
+    """What is left of it is not sent as the file, with padding for the rest."""
+    with folders() as (here, there), Shown(room) as page:
+        with program_receives(there) as (bridge, ended):
+            dial(page, bridge.address)
+            paths = write_files(here, firmware())
+            choose(page, paths)
+            until_says(page, "#chosen", "firmware.bin")
+            os.truncate(paths[0], length)
+            click(page, "#send")
+            until_ended(page)
+            wants_result(page, "A file could not be read", "Choose the file again.")
+            assert "cancelled" in ended().out, "ymodem receive says %r" % ended().out
+        wants_stored(there, [])
+
+
 @contextlib.contextmanager
 def sending_firmware(room):
     """The page in the middle of a transfer, on a line that stands still: the page, the loader at
