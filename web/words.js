@@ -70,12 +70,13 @@ const OPENING = {
 
 /** Why no line was opened. */
 export function noLine(fault, address) {
-  const known = OPENING[fault.name];
-  if (known) return { title: known[0], text: known[1], helps: known[2] };
-  if (address === undefined) return { title: "The port could not be opened", text: fault.message, helps: [CABLE] };
-  return {
-    title: "No connection",
-    text: `Nobody answered at ${address}.`,
-    helps: ["See that the bridge runs: websockify 8080 127.0.0.1:4000, say, with ser2net behind it.", "The address begins with ws:// (or wss://, as it must where this page came by https)."],
-  };
+  const helps = [
+    "See that the bridge runs: websockify 8080 127.0.0.1:4000, say, with ser2net behind it.",
+    "The address begins with ws:// (or wss://, as it must where this page came by https).",
+  ];
+  const [title, text, more] =
+    address === undefined
+      ? (OPENING[fault.name] ?? ["The port could not be opened", fault.message, [CABLE]])
+      : ["No connection", `Nobody answered at ${address}.`, helps];
+  return { title, text, helps: more };
 }

@@ -262,6 +262,28 @@ def test_no_connection(room):
         picture(page, "9-no-connection")
 
 
+# Errors of the browser at an address: what a page that came by https is told of ws://, and what
+# is told where somebody typed no address at all.
+REFUSES = """
+globalThis.WebSocket = class { constructor() { throw new DOMException('refused', '%s'); } };
+"""
+
+
+@cases_in(
+    BROWSERS,
+    case("page: an address that the browser refuses", "SecurityError"),
+    case("page: an address that is none", "SyntaxError"),
+)
+def test_refused_address(room, name):
+    """What is said is about the address, and not about serial ports."""
+    with Loud(room, REFUSES % name) as page:
+        click(page, "[name=way][value=socket]")
+        click(page, "#dial")
+        until_says(page, "#result", "Nobody answered at ws://127.0.0.1:8080.")
+        wants_result(page, "wss://, as it must where this page came by https")
+        assert "serial" not in text(page, "#result"), "the page says " + text(page, "#result")
+
+
 @cases_in(BROWSERS, case("page: nobody asks"))
 def test_nobody_asks(room):
     """A sender that is never asked: what the page says after a hundred seconds."""
