@@ -71,7 +71,8 @@ function refresh() {
   at("connect").hidden = line !== null;
   at("connected").hidden = line === null;
   at("port-name").textContent = line ? `Connected: ${line.name}` : "";
-  at("by-serial").hidden = !isBySerial();
+  // a field that nobody sees must not be asked for
+  at("by-serial").hidden = at("speed").disabled = !isBySerial();
   at("by-socket").hidden = isBySerial();
   at("way-hint").textContent = isBySerial() ? "If you are not sure of the speed: 115200 fits most boards." : "A bridge such as websockify, in front of ser2net or QEMU's serial port.";
   at("send-form").hidden = isReceiving();

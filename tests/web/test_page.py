@@ -28,6 +28,7 @@ from support.page import (
 from support.program import folders, stored, wants_same, wants_stored, write_files
 from support.relay import Seeded
 from support.rooms import BROWSERS
+from support.serial_port import SERIAL
 from support.waits import wait_until
 from support.web_peers import Held, Loader, lrzsz, program_receives, program_sends
 
@@ -282,6 +283,17 @@ def test_refused_address(room, name):
         until_says(page, "#result", "Nobody answered at ws://127.0.0.1:8080.")
         wants_result(page, "wss://, as it must where this page came by https")
         assert "serial" not in text(page, "#result"), "the page says " + text(page, "#result")
+
+
+@cases_in(BROWSERS, case("page: an address, where the speed of the serial port is none"))
+def test_no_speed(room):
+    """A field that is not shown keeps nobody from connecting."""
+    with folders() as (_, there), Shown(room, SERIAL) as page:
+        page.run("document.getElementById('speed').value = ''")
+        loader = Loader(there)
+        dial(page, loader.bridge.address)
+        until_says(page, "#screen", "=>")
+        loader.close()
 
 
 @cases_in(BROWSERS, case("page: nobody asks"))
