@@ -1,5 +1,6 @@
 /* The page: connects, shows the terminal, and runs transfers. What a transfer does is the module's affair. */
 
+import { moment } from "./alarm.js";
 import { Chart } from "./chart.js";
 import { knownPort, nameOf, openAddress, openSerial } from "./ports.js";
 import { Meter } from "./progress.js";
@@ -9,6 +10,7 @@ import { count, failure, noLine, size } from "./words.js";
 import { load, receive, send, supported } from "./ymodem.js";
 
 const at = (id) => document.getElementById(id);
+const first = (which) => document.querySelector(which);
 
 // How long the device may take to ask for a file after a command was typed at it, and to get ready to send.
 const ASK_WITHIN = 8000;
@@ -37,27 +39,22 @@ const chart = new Chart(at("chart"));
 
 // ---- What is shown
 
-const isReceiving = () => document.querySelector("[name=way2]:checked").value === "receive";
-const isBySerial = () => document.querySelector("[name=way]:checked").value === "serial";
+const isReceiving = () => first("[name=way2]:checked").value === "receive";
+const isBySerial = () => first("[name=way]:checked").value === "serial";
+
+const element = (kind, of) => Object.assign(document.createElement(kind), of);
+const rows = (texts) => texts.map((textContent) => element("li", { textContent }));
 
 function item(name, detail, ...controls) {
-  const row = document.createElement("li");
-  const label = document.createElement("span");
-  label.className = "name";
-  label.textContent = name;
-  const soft = document.createElement("span");
-  soft.className = "soft";
-  soft.textContent = detail;
-  row.append(label, soft, ...controls);
+  const row = element("li");
+  row.append(element("span", { className: "name", textContent: name }));
+  row.append(element("span", { className: "soft", textContent: detail }), ...controls);
   return row;
 }
 
-function button(text, label, act) {
-  const it = document.createElement("button");
-  it.type = "button";
-  it.textContent = text;
+function button(textContent, label, onclick) {
+  const it = element("button", { type: "button", textContent, onclick });
   it.setAttribute("aria-label", label);
-  it.addEventListener("click", act);
   return it;
 }
 
@@ -120,13 +117,7 @@ function show(isGood, { title, text, helps = [] }, files = []) {
   at("result").className = `card ${isGood ? "good" : "bad"}`;
   at("result-title").textContent = `${isGood ? "✓ " : ""}${title}`;
   at("result-text").textContent = text;
-  at("result-helps").replaceChildren(
-    ...helps.map((help) => {
-      const row = document.createElement("li");
-      row.textContent = help;
-      return row;
-    }),
-  );
+  at("result-helps").replaceChildren(...rows(helps));
   showReceived(files);
   say(`${title}. ${text}`);
   at("result-title").focus();
@@ -137,32 +128,45 @@ function showReceived(files) {
   urls = [];
   at("received").replaceChildren(
     ...files.map((about) => {
-      const link = document.createElement("a");
-      link.href = URL.createObjectURL(about.file);
-      urls.push(link.href);
-      link.download = about.name;
-      link.textContent = "Save";
+      const href = URL.createObjectURL(about.file);
+      const link = element("a", { href, download: about.name, textContent: "Save" });
+      urls.push(href);
       link.setAttribute("aria-label", `Save ${about.name}`);
       return item(about.name, size(about.length), link);
     }),
   );
   at("save-row").hidden = files.length < 2 || !("showDirectoryPicker" in window);
-  at("save-all").textContent = "Save all into a folder…";
   at("save-all").onclick = () => saveAll(files);
 }
 
+/** Saves a file in a folder, where nothing has its name. */
+async function saveIn(folder, { name, file }) {
+  const isThere = await folder.getFileHandle(name).then(() => true, () => false);
+  if (isThere) throw new Error("it is there already");
+  const handle = await folder.getFileHandle(name, { create: true });
+  try {
+    await file.stream().pipeTo(await handle.createWritable());
+  } catch (fault) {
+    await folder.removeEntry(name);
+    throw fault;
+  }
+}
+
+/** Saves each of these that can be, and tells of the others. */
 async function saveAll(files) {
+  const whys = [];
   try {
     const folder = await window.showDirectoryPicker({ mode: "readwrite" });
     for (const about of files) {
-      const handle = await folder.getFileHandle(about.name, { create: true });
-      await about.file.stream().pipeTo(await handle.createWritable());
+      await saveIn(folder, about).catch((fault) => whys.push(`${about.name}: ${fault.message}`));
     }
-    say(`${count(files.length, "file")} saved`);
-    at("save-all").textContent = "Saved";
   } catch (fault) {
-    if (fault.name !== "AbortError") at("result-text").textContent = `Not all could be saved: ${fault.message}`;
+    if (fault.name === "AbortError") return;
+    whys.push(fault.message);
   }
+  const isAll = whys.length === 0;
+  const saved = `${count(files.length, "file")} saved`;
+  say((at("result-text").textContent = isAll ? saved : `Not all could be saved: ${whys.join("; ")}`));
 }
 
 // ---- The line
@@ -203,7 +207,7 @@ function recall() {
   const { way, speed, address } = remembered();
   if (Number.isInteger(speed)) at("speed").value = speed;
   if (typeof address === "string") at("address").value = address;
-  if (way === "socket") document.querySelector("[name=way][value=socket]").checked = true;
+  if (way === "socket") first("[name=way][value=socket]").checked = true;
 }
 
 /** Looks whether the port of the last time is there. */
@@ -244,8 +248,8 @@ async function typeFirst(command, isSending, signal) {
   terminal.listen();
   await terminal.type(`${command}\r`);
   if (!isSending) return wait(READY_WITHIN);
-  const until = performance.now() + ASK_WITHIN;
-  while (!terminal.isAsked && !signal.aborted && performance.now() < until) await wait(50);
+  const until = moment() + ASK_WITHIN;
+  while (!terminal.isAsked && !signal.aborted && moment() < until) await wait(50);
 }
 
 /** What tells of a transfer while it runs. */
@@ -299,12 +303,12 @@ class Watch {
 
 /** Receives, and waits on where nobody has offered a file yet. */
 async function receivePatiently(port, options) {
-  const until = performance.now() + PATIENCE;
+  const until = moment() + PATIENCE;
   for (;;) {
     try {
       return await receive(port, options);
     } catch (fault) {
-      if (fault.code !== "too-many-errors" || fault.answered || performance.now() > until) throw fault;
+      if (fault.code !== "too-many-errors" || fault.answered || moment() > until) throw fault;
     }
   }
 }
@@ -386,18 +390,12 @@ function lacks() {
         : "It cannot reach network addresses (WebSocket) either, so this page cannot connect " +
             "to anything here. Open it in another browser.",
     );
-    document.querySelector("[name=way][value=serial]").disabled = true;
-    document.querySelector("[name=way][value=socket]").checked = true;
+    first("[name=way][value=serial]").disabled = true;
+    first("[name=way][value=socket]").checked = true;
   }
-  document.querySelector("[name=way][value=socket]").disabled = !hasSocket;
+  first("[name=way][value=socket]").disabled = !hasSocket;
   at("lacks").hidden = texts.length === 0;
-  at("lacks-list").replaceChildren(
-    ...texts.map((text) => {
-      const row = document.createElement("li");
-      row.textContent = text;
-      return row;
-    }),
-  );
+  at("lacks-list").replaceChildren(...rows(texts));
 }
 
 function unpacked() {

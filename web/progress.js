@@ -1,5 +1,6 @@
 /* How far a transfer is, how fast it goes, and how long it will take. */
 
+import { moment } from "./alarm.js";
 import { count, duration, size } from "./words.js";
 
 // The rate is that of the last seconds in which something went.
@@ -25,7 +26,7 @@ export class Meter {
   take(progress) {
     if (this.#last && progress.file !== this.#last.file) this.#before += this.#last.bytes;
     this.#last = progress;
-    const [done, time] = [this.#before + progress.bytes, performance.now()];
+    const [done, time] = [this.#before + progress.bytes, moment()];
     this.began ??= time;
     if (this.#samples.length === 0 || done !== this.done) this.#sample({ done, time });
   }
@@ -39,7 +40,7 @@ export class Meter {
   }
 
   get seconds() {
-    return this.began === null ? 0 : (performance.now() - this.began) / 1000;
+    return this.began === null ? 0 : (moment() - this.began) / 1000;
   }
 
   /** Bytes that went, and of how many. */
@@ -57,7 +58,7 @@ export class Meter {
 
   /** Milliseconds since something went. */
   get #idle() {
-    return performance.now() - (this.#samples.at(-1)?.time ?? Infinity);
+    return moment() - (this.#samples.at(-1)?.time ?? Infinity);
   }
 
   /** Bytes a second, when something went last; 0 where that is not known. */

@@ -1,5 +1,7 @@
 /* The line's text, before and after a transfer; and what is typed at it. */
 
+import { moment } from "./alarm.js";
+
 const MOST_LINES = 600;
 const NAMED = { Enter: "\r", Backspace: "\x7f", Escape: "\x1b", Delete: "\x1b[3~", ArrowUp: "\x1b[A", ArrowDown: "\x1b[B", ArrowRight: "\x1b[C", ArrowLeft: "\x1b[D", Home: "\x1b[H", End: "\x1b[F" };
 
@@ -114,7 +116,7 @@ export class Terminal {
   show(bytes) {
     const text = this.#decoder.decode(bytes, { stream: true });
     this.#tail = (this.#tail + text).slice(-200);
-    this.#when = performance.now();
+    this.#when = moment();
     this.print(text);
   }
 
@@ -146,7 +148,7 @@ export class Terminal {
 
   /** Whether it asked so within the last milliseconds. */
   asksSince(millis) {
-    return this.isAsked && performance.now() - this.#when < millis;
+    return this.isAsked && moment() - this.#when < millis;
   }
 
   /** Forgets what came, so that only what comes from now on is looked at. */

@@ -125,13 +125,43 @@ def test_sends_thirty(room):
         wants_stored(there, thirty())
 
 
-# A folder that the user chose, which keeps what is written as hexadecimal digits.
+# A folder that the user chose, which keeps what is written as hexadecimal digits. It takes no name
+# with a tilde, as that of a browser, and nothing of the file `full`.
 FOLDER = """
 globalThis.kept = {};
 const digits = (bytes) => Array.from(bytes, (byte) => byte.toString(16).padStart(2, '0')).join('');
-const writable = (name) => { kept[name] = ''; return new WritableStream({ write: (bytes) => { kept[name] += digits(bytes); } }); };
-globalThis.showDirectoryPicker = async () => ({ getFileHandle: async (name) => ({ createWritable: async () => writable(name) }) });
+const write = (name) => (bytes) => {
+  if (name === 'full') throw new Error('no room');
+  kept[name] += digits(bytes);
+};
+const getFileHandle = async (name, { create } = {}) => {
+  if (name.includes('~')) throw new TypeError('Name is not allowed.');
+  if (!create && !(name in kept)) throw new DOMException('none', 'NotFoundError');
+  kept[name] ??= '';
+  return { createWritable: async () => new WritableStream({ write: write(name) }) };
+};
+const removeEntry = async (name) => { delete kept[name]; };
+globalThis.showDirectoryPicker = async () => ({ getFileHandle, removeEntry });
 """
+
+
+@pytest.mark.program
+@cases_in(BROWSERS, case("page: a folder that takes some of what came"))
+def test_saves_some(room):
+    """What is there already stays, what the folder takes is saved, and the rest is told."""
+    with folders() as (here, _), Shown(room, FOLDER) as page:
+        page.run("kept.a = '6f6c64'")
+        batch = [(name, b"new") for name in ("a", "b~", "full", "c")]
+        with program_sends(write_files(here, batch)) as (bridge, ended):
+            dial(page, bridge.address)
+            begin_receiving(page)
+            until_ended(page)
+            assert ended().status == 0, "ymodem send failed"
+        click(page, "#save-all")
+        until_says(page, "#result", "Not all could be saved")
+        told = ("a: it is there already", "b~: Name is not allowed.", "full: no room")
+        wants_result(page, *told)
+        assert page.run("kept") == {"a": "6f6c64", "c": b"new".hex()}
 
 
 @pytest.mark.program
@@ -145,7 +175,7 @@ def test_receives_thirty(room):
             wants_result(page, "Received", "30 files")
             assert ended().status == 0, "ymodem send failed"
         click(page, "#save-all")
-        page.until("document.getElementById('save-all').innerText === 'Saved'")
+        until_says(page, "#result", "30 files saved")
         wants_same(
             {name: bytes.fromhex(data) for name, data in page.run("kept").items()}, dict(thirty())
         )
