@@ -32,7 +32,8 @@ let isDialing = false;
 let known;
 let stop = null;
 let chosen = [];
-let urls = [];
+// Files that came, and are not saved in a folder.
+let unsaved = [];
 
 const terminal = new Terminal(at("screen"), lost);
 const chart = new Chart(at("chart"));
@@ -123,20 +124,17 @@ function show(isGood, { title, text, helps = [] }, files = []) {
   at("result-title").focus();
 }
 
+/** Shows files that came, behind those before them: what a device takes for kept is not dropped. */
 function showReceived(files) {
-  for (const url of urls) URL.revokeObjectURL(url);
-  urls = [];
-  at("received").replaceChildren(
-    ...files.map((about) => {
-      const href = URL.createObjectURL(about.file);
-      const link = element("a", { href, download: about.name, textContent: "Save" });
-      urls.push(href);
-      link.setAttribute("aria-label", `Save ${about.name}`);
-      return item(about.name, size(about.length), link);
-    }),
-  );
-  at("save-row").hidden = files.length < 2 || !("showDirectoryPicker" in window);
-  at("save-all").onclick = () => saveAll(files);
+  for (const about of files) {
+    const href = URL.createObjectURL(about.file);
+    const link = element("a", { href, download: about.name, textContent: "Save" });
+    link.setAttribute("aria-label", `Save ${about.name}`);
+    at("received").append(item(about.name, size(about.length), link));
+    unsaved.push(about);
+    at("came").hidden = false;
+  }
+  at("save-row").hidden = unsaved.length < 2 || !("showDirectoryPicker" in window);
 }
 
 /** Saves a file in a folder, where nothing has its name. */
@@ -152,21 +150,25 @@ async function saveIn(folder, { name, file }) {
   }
 }
 
-/** Saves each of these that can be, and tells of the others. */
-async function saveAll(files) {
-  const whys = [];
+/** Saves each file that can be, and tells of the others. */
+async function saveAll() {
+  const [files, whys] = [unsaved, []];
   try {
     const folder = await window.showDirectoryPicker({ mode: "readwrite" });
+    unsaved = [];
     for (const about of files) {
-      await saveIn(folder, about).catch((fault) => whys.push(`${about.name}: ${fault.message}`));
+      await saveIn(folder, about).catch((fault) => {
+        whys.push(`${about.name}: ${fault.message}`);
+        unsaved.push(about);
+      });
     }
   } catch (fault) {
     if (fault.name === "AbortError") return;
     whys.push(fault.message);
   }
-  const isAll = whys.length === 0;
-  const saved = `${count(files.length, "file")} saved`;
-  say((at("result-text").textContent = isAll ? saved : `Not all could be saved: ${whys.join("; ")}`));
+  const told = whys.length ? `Not all could be saved: ${whys.join("; ")}` : "All saved";
+  say((at("saved").textContent = told));
+  at("save-row").hidden = unsaved.length === 0;
 }
 
 // ---- The line
@@ -406,12 +408,12 @@ function unpacked() {
 function listenForDrops() {
   const box = at("drop");
   for (const name of ["dragover", "drop"]) document.addEventListener(name, (event) => event.preventDefault());
-  box.addEventListener("dragover", () => box.classList.add("over"));
-  box.addEventListener("dragleave", () => box.classList.remove("over"));
-  box.addEventListener("drop", (event) => {
+  box.ondragover = () => box.classList.add("over");
+  box.ondragleave = () => box.classList.remove("over");
+  box.ondrop = (event) => {
     box.classList.remove("over");
     if (stop === null) choose(event.dataTransfer.files);
-  });
+  };
 }
 
 function begin() {
@@ -422,22 +424,23 @@ function begin() {
     look();
     for (const name of ["connect", "disconnect"]) navigator.serial.addEventListener?.(name, look);
   }
-  at("connect").addEventListener("submit", connect);
-  at("disconnect").addEventListener("click", disconnect);
-  at("send-form").addEventListener("submit", sendChosen);
-  at("receive-form").addEventListener("submit", receiveFiles);
-  at("cancel").addEventListener("click", () => stop?.abort());
-  at("interrupt").addEventListener("click", () => terminal.type("\x03"));
-  at("pick").addEventListener("change", (event) => {
+  at("connect").onsubmit = connect;
+  at("disconnect").onclick = disconnect;
+  at("send-form").onsubmit = sendChosen;
+  at("receive-form").onsubmit = receiveFiles;
+  at("cancel").onclick = () => stop?.abort();
+  at("save-all").onclick = saveAll;
+  at("interrupt").onclick = () => terminal.type("\x03");
+  at("pick").onchange = (event) => {
     choose(event.target.files);
     event.target.value = "";
-  });
-  at("line-form").addEventListener("submit", (event) => {
+  };
+  at("line-form").onsubmit = (event) => {
     event.preventDefault();
     terminal.type(`${at("line-text").value}\r`);
     at("line-text").value = "";
-  });
-  for (const it of document.querySelectorAll("[name=way], [name=way2]")) it.addEventListener("change", refresh);
+  };
+  for (const it of document.querySelectorAll("[name=way], [name=way2]")) it.onchange = refresh;
   listenForDrops();
   addEventListener("beforeunload", (event) => stop && event.preventDefault());
   refresh();

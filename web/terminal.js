@@ -70,11 +70,11 @@ export class Terminal {
   constructor(box, onEnd) {
     this.box = box;
     this.onEnd = onEnd;
-    box.addEventListener("keydown", (event) => this.#key(event));
-    box.addEventListener("paste", (event) => {
+    box.onkeydown = (event) => this.#key(event);
+    box.onpaste = (event) => {
       event.preventDefault();
       this.type(event.clipboardData.getData("text").replace(/\r?\n/g, "\r"));
-    });
+    };
   }
 
   /** Shows what this port says from now on. */

@@ -158,9 +158,9 @@ def test_saves_some(room):
             until_ended(page)
             assert ended().status == 0, "ymodem send failed"
         click(page, "#save-all")
-        until_says(page, "#result", "Not all could be saved")
-        told = ("a: it is there already", "b~: Name is not allowed.", "full: no room")
-        wants_result(page, *told)
+        until_says(page, "#came", "Not all could be saved")
+        for told in ("a: it is there already", "b~: Name is not allowed.", "full: no room"):
+            assert told in text(page, "#came"), "the page says " + text(page, "#came")
         assert page.run("kept") == {"a": "6f6c64", "c": b"new".hex()}
 
 
@@ -175,10 +175,28 @@ def test_receives_thirty(room):
             wants_result(page, "Received", "30 files")
             assert ended().status == 0, "ymodem send failed"
         click(page, "#save-all")
-        until_says(page, "#result", "30 files saved")
+        until_says(page, "#came", "All saved")
         wants_same(
             {name: bytes.fromhex(data) for name, data in page.run("kept").items()}, dict(thirty())
         )
+
+
+@pytest.mark.program
+@cases_in(BROWSERS, case("page: files that came stay, also behind another transfer"))
+def test_keeps(room):
+    """A sender takes them for kept, so the page drops none of them by itself."""
+    with folders() as (here, _), Shown(room, FOLDER) as page:
+        for name in ("a", "b"):
+            with program_sends(write_files(here, [(name, name.encode())])) as (bridge, ended):
+                dial(page, bridge.address)
+                begin_receiving(page)
+                until_ended(page)
+                assert ended().status == 0, "ymodem send failed"
+            page.until("!document.getElementById('connect').hidden")
+        assert text(page, "#received").split() == ["a", "1", "B", "Save", "b", "1", "B", "Save"]
+        click(page, "#save-all")
+        until_says(page, "#came", "All saved")
+        assert page.run("kept") == {"a": b"a".hex(), "b": b"b".hex()}
 
 
 @pytest.mark.program
