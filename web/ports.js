@@ -21,7 +21,8 @@ function steady(serial) {
     return controller.close();
   };
   const stop = async () => {
-    await reader?.cancel();
+    // a stream that has broken is none to cancel, and its port has to be closed all the same
+    await reader?.cancel().catch(() => {});
     reader?.releaseLock();
     reader = null;
   };

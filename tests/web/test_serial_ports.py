@@ -113,3 +113,59 @@ def test_vanishes(room):
         line.go_on()
         until_ended(page)
         wants_result(page, "The port failed")
+
+
+# That port as a browser has it: it is one, it is open or not, and its writes may get stuck.
+STUCK = (
+    SERIAL
+    + """
+(() => {
+  const { serial } = navigator, choose = serial.requestPort;
+  let port;
+  const made = async () => {
+    port = await choose();
+    const [open, close] = [port.open.bind(port), port.close.bind(port)];
+    const write = (bytes) => (fake.isStuck ? new Promise(() => {}) : port.socket.send(bytes));
+    port.open = async (options) => {
+      if (fake.isOpen) throw new DOMException('The port is already open.', 'InvalidStateError');
+      await open(options);
+      fake.isOpen = true;
+      port.writable = new WritableStream({ write });
+    };
+    port.close = async () => { await close(); fake.isOpen = false; };
+    return port;
+  };
+  serial.requestPort = async () => port ?? made();
+})();
+"""
+)
+
+
+def connects_again(page, there):
+    """The port was closed, and can be opened anew."""
+    page.until("!document.getElementById('connect').hidden")
+    assert page.run("fake.isOpen") is False, "the port is open"
+    loader = Loader(there)
+    page.run("fake.isStuck = false")
+    page.run("fake.address = %s" % json.dumps(loader.bridge.address))
+    click(page, "#choose")
+    page.until("!document.getElementById('connected').hidden")
+    loader.close()
+
+
+@cases_in(
+    BROWSERS, case("page: the port takes nothing any more, and its line breaks", marks=NEEDS_LRZSZ)
+)
+def test_sending_stuck(room):
+    with folders() as (here, there), Shown(room, STUCK) as page:
+        loader = Loader(there)
+        at_serial_port(page, loader.bridge.address)
+        begin(page, write_files(here, firmware()), "loady")
+        until_share(page, 0.05)
+        page.run("fake.isStuck = true")
+        until_says(page, "#figures", "standing still for")
+        page.run("fake.fault()")
+        until_ended(page)
+        wants_result(page, "The port failed", "the line takes no bytes")
+        loader.close()
+        connects_again(page, there)
