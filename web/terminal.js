@@ -62,6 +62,7 @@ export class Terminal {
   #port = null;
   #reader = null;
   #reading = null;
+  #writer;
   #isDue = false;
   #typing = Promise.resolve();
   #tail = "";
@@ -93,8 +94,11 @@ export class Terminal {
     await reading;
   }
 
+  /** Lets go of it for good, also where it does not take what was typed. */
   forget() {
     this.#port = null;
+    this.#typing = Promise.resolve();
+    this.#writer?.releaseLock();
     return this.detach();
   }
 
@@ -158,17 +162,19 @@ export class Terminal {
 
   /** Types at the line, behind what is being typed already. */
   type(text) {
-    this.#typing = this.#typing.then(() => this.#write(text));
+    const port = this.#port;
+    this.#typing = this.#typing.then(() => this.#write(port, text));
     return this.#typing;
   }
 
-  async #write(text) {
-    if (!this.#port || !this.#reader) return;
-    const writer = this.#port.writable.getWriter();
+  async #write(port, text) {
+    if (!this.#reader || port !== this.#port) return;
+    const writer = (this.#writer = port.writable.getWriter());
     try {
       await writer.write(new TextEncoder().encode(text));
     } catch (fault) {
-      this.onEnd(fault);
+      // without its port it was let go
+      if (port === this.#port) this.onEnd(fault);
     } finally {
       writer.releaseLock();
     }

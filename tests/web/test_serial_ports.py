@@ -153,6 +153,18 @@ def connects_again(page, there):
     loader.close()
 
 
+@cases_in(BROWSERS, case("page: the port takes nothing that is typed, and is let go"))
+def test_typing_stuck(room):
+    with folders() as (_, there), Shown(room, STUCK) as page:
+        loader = Loader(there)
+        at_serial_port(page, loader.bridge.address)
+        page.run("fake.isStuck = true")
+        click(page, "#interrupt")
+        click(page, "#disconnect")
+        loader.close()
+        connects_again(page, there)
+
+
 @cases_in(
     BROWSERS, case("page: the port takes nothing any more, and its line breaks", marks=NEEDS_LRZSZ)
 )
