@@ -40,8 +40,8 @@ const chart = new Chart(at("chart"));
 
 // ---- What is shown
 
-const isReceiving = () => first("[name=way2]:checked").value === "receive";
-const isBySerial = () => first("[name=way]:checked").value === "serial";
+const isReceiving = () => first("[value=receive]").checked;
+const isBySerial = () => first("[value=serial]").checked;
 
 const element = (kind, of) => Object.assign(document.createElement(kind), of);
 const rows = (texts) => texts.map((textContent) => element("li", { textContent }));
@@ -209,7 +209,7 @@ function recall() {
   const { way, speed, address } = remembered();
   if (Number.isInteger(speed)) at("speed").value = speed;
   if (typeof address === "string") at("address").value = address;
-  if (way === "socket") first("[name=way][value=socket]").checked = true;
+  if (way === "socket") first("[value=socket]").checked = true;
 }
 
 /** Looks whether the port of the last time is there. */
@@ -392,10 +392,10 @@ function lacks() {
         : "It cannot reach network addresses (WebSocket) either, so this page cannot connect " +
             "to anything here. Open it in another browser.",
     );
-    first("[name=way][value=serial]").disabled = true;
-    first("[name=way][value=socket]").checked = true;
+    first("[value=serial]").disabled = true;
+    first("[value=socket]").checked = true;
   }
-  first("[name=way][value=socket]").disabled = !hasSocket;
+  first("[value=socket]").disabled = !hasSocket;
   at("lacks").hidden = texts.length === 0;
   at("lacks-list").replaceChildren(...rows(texts));
 }
