@@ -66,8 +66,8 @@ function say(text) {
 
 function refresh() {
   const isBusy = stop !== null;
-  at("connect").hidden = line !== null;
-  at("connected").hidden = line === null;
+  at("connect").hidden = !!line;
+  at("connected").hidden = !line;
   at("port-name").textContent = line ? `Connected: ${line.name}` : "";
   // a field that nobody sees must not be asked for
   at("by-serial").hidden = at("speed").disabled = !isBySerial();
@@ -76,10 +76,10 @@ function refresh() {
   at("send-form").hidden = isReceiving();
   at("receive-form").hidden = !isReceiving();
   for (const id of ["choose", "again", "dial"]) at(id).disabled = isDialing || !canConnect;
-  at("again").hidden = known === undefined;
-  at("choose").classList.toggle("primary", known === undefined);
+  at("again").hidden = !known;
+  at("choose").classList.toggle("primary", !known);
   if (known) at("again").textContent = `Connect to ${nameOf(known) || "the port of before"}`;
-  for (const id of ["line-text", "line-send", "interrupt"]) at(id).disabled = line === null || isBusy;
+  for (const id of ["line-text", "line-send", "interrupt"]) at(id).disabled = !line || isBusy;
   for (const it of document.querySelectorAll("[name=way2], #pick, #send-command, #receive-command, #disconnect")) it.disabled = isBusy;
   at("screen").classList.toggle("busy", isBusy);
   at("send").disabled = !canRun || !line || isBusy || chosen.length === 0;
@@ -168,7 +168,7 @@ async function saveAll() {
   }
   const told = whys.length ? `Not all could be saved: ${whys.join("; ")}` : "All saved";
   say((at("saved").textContent = told));
-  at("save-row").hidden = unsaved.length === 0;
+  at("save-row").hidden = !unsaved.length;
 }
 
 // ---- The line
@@ -348,7 +348,7 @@ async function behind(outcome, watch, isSending) {
   refresh();
   const files = isSending ? [] : outcome.files ?? [];
   if (outcome instanceof Error) {
-    const told = failure(outcome);
+    const told = failure(outcome, watch.meter.file?.name);
     const done = outcome.files?.length ?? 0;
     const kept = done ? ` ${count(done, "file")} ${done === 1 ? "is" : "are"} whole.` : "";
     show(false, { ...told, text: told.text + kept }, files);

@@ -64,7 +64,7 @@ export class Source {
     const { start } = place;
     this.#window = await (this.#ahead ?? this.#read(start));
     this.#start = start;
-    if (!this.has(place)) throw new Error("it is shorter than before");
+    if (!this.has(place)) throw new Error("It became shorter.");
     const next = start + WINDOW;
     this.#ahead = next < this.length ? this.#read(next) : null;
     this.#ahead?.catch(() => {});

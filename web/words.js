@@ -46,17 +46,17 @@ const FAILED = {
   cancelled: () => ["The device cancelled", "It sent its signal to stop.", ["Look at what it printed, in the terminal: often there was no room, or the file was there already.", "Start again once that is solved."]],
   "out-of-step": () => ["The two sides lost step", "A block came that does not follow the one before, so the file could not be trusted any more.", ["Start the transfer again from the beginning, on both sides.", CABLE]],
   "too-many-files": () => ["Too many files", "A batch holds 65,535 files at most.", ["Send them in several batches."]],
-  "host-failed": (about) => ["The file could not be stored here", about.cause || "This browser could not keep it.", ["Check that there is room, and that the folder may be written to."]],
-  "source-failed": (about) => ["A file could not be read", about.cause || "It changed, moved or went away since it was chosen.", ["Choose the file again."]],
+  "host-failed": (about) => [`${about.name} could not be stored here`, about.cause || "This browser could not keep it.", ["Check that there is room, and that the folder may be written to."]],
+  "source-failed": (about) => [`${about.name} could not be read`, about.cause || "It changed, moved or went away since it was chosen.", ["Choose the file again."]],
   "bad-header": (about) => ["A file's name or length cannot be used", FAULTS[about.fault] ?? "", ["Rename the file, and start again."]],
   closed: () => ["The connection is gone", "The port was unplugged, or the other side closed the line.", ["Plug the cable in again, and connect anew.", "Of a bridge: see that it still runs."]],
   device: (about) => ["The port failed", about.cause || "The line could not be read or written any more.", ["Plug the cable in again, and connect anew.", CABLE]],
   aborted: () => ["You cancelled", "The device was told to stop.", ["Files that were done before are whole.", "If the device still waits and prints C, press Ctrl-C in the terminal: U-Boot does not stop by itself."]],
 };
 
-/** What went wrong in a transfer: a heading, a sentence, and what helps. */
-export function failure(fault) {
-  const about = { answered: fault.answered, fault: fault.fault, cause: fault.cause?.message };
+/** What went wrong in a transfer: a heading, a sentence, and what helps. It may have a file. */
+export function failure(fault, name = "A file") {
+  const about = { name, answered: fault.answered, fault: fault.fault, cause: fault.cause?.message };
   const [title, text, helps] = (FAILED[fault.code] ?? (() => ["This did not work", fault.message, []]))(about);
   return { title, text, helps };
 }

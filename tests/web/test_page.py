@@ -210,15 +210,16 @@ def test_cut(room, length):
     with folders() as (here, there), Shown(room) as page:
         with program_receives(there) as (bridge, ended):
             dial(page, bridge.address)
-            paths = write_files(here, firmware())
+            first = ("first", b"first")
+            paths = write_files(here, [first, *firmware()])
             choose(page, paths)
             until_says(page, "#chosen", "firmware.bin")
-            os.truncate(paths[0], length)
+            os.truncate(paths[1], length)
             click(page, "#send")
             until_ended(page)
-            wants_result(page, "A file could not be read", "Choose the file again.")
+            wants_result(page, "firmware.bin could not be read", "Choose the file again.")
             assert "cancelled" in ended().out, "ymodem receive says %r" % ended().out
-        wants_stored(there, [])
+        wants_stored(there, [first])
 
 
 @contextlib.contextmanager
