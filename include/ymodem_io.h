@@ -297,7 +297,8 @@ static inline ym_error ym_received(const ym_stand *stand) {
     }
 }
 
-/* Receives a batch. A file that was begun and not committed is the host's to take back. */
+/* Receives a batch. A file that was begun and not committed is the host's to take back. Behind the
+   end block all files are kept: the batch is through, also where its ACK cannot be written. */
 static inline ym_error ym_receive(const ym_io *io, const ym_sink *sink) {
     ym_end end;
     ym_receiver receiver;
@@ -312,7 +313,9 @@ static inline ym_error ym_receive(const ym_io *io, const ym_sink *sink) {
         int done = !other && ym_receive_does(sink, &receiver, &ask);
         if (ask.kind == YM_BEGIN) opening = ym_opening_of(&receiver);
         size_t len = ym_receiver_answer(&receiver, (uint32_t)done, reply, sizeof reply);
-        if (len && !ym_end_write(&end, reply, len)) return YM_ERROR_LINE;
+        if (len && !ym_end_write(&end, reply, len) && receiver.stand.state != YM_FINISHED) {
+            return YM_ERROR_LINE;
+        }
         if (other) return YM_ERROR_OUT_OF_STEP;
     }
     return ym_received(&receiver.stand);

@@ -16,11 +16,11 @@ static void wants(int holds, const char *what) {
 
 /* What comes, each piece at one read, an empty one for a quiet line; behind it the line is quiet,
    or drips one byte each so many milliseconds, for ever or for so long, or is closed. What was
-   written, and when the second time. */
+   written, and when the second time; the write of this number fails, if any does. */
 struct played {
     const char *const *comes;
     const size_t *sizes;
-    size_t count, at, written, closed_behind;
+    size_t count, at, written, closed_behind, unwritten;
     uint64_t now, drips, drips_for, second;
     int stands_still;
     uint8_t last[1029];
@@ -65,7 +65,7 @@ static int writes(void *user, const uint8_t *bytes, size_t len) {
     if (!len || len > sizeof it->last) return -1;
     memcpy(it->last, bytes, len);
     if (++it->written == 2) it->second = it->now;
-    return 0;
+    return it->written == it->unwritten ? -1 : 0;
 }
 
 static uint64_t tells(void *user) { return ((struct played *)user)->now; }
@@ -254,6 +254,24 @@ static void received(void) {
     wants(receives(&it, 0) == YM_ERROR_OUT_OF_STEP && it.last[0] == 0x18, "block 9 at first");
 }
 
+/* Behind the end block all files are kept, whether its ACK can be written or not. So it is behind
+   no other reply. */
+static void unwritten(void) {
+    uint8_t zero[133], one[133], end[133];
+    const char *comes[] = { (char *)zero, (char *)one, "\x04", "\x04", (char *)end };
+    size_t sizes[] = { 133, 133, 1, 1, 133 };
+    struct played it = played_of(comes, sizes, COUNT(sizes));
+    frame_of(0, "f\0" "3", 3, zero);
+    frame_of(1, "xyz", 3, one);
+    frame_of(0, "", 0, end);
+    it.unwritten = COUNT(sizes);
+    wants(receives(&it, 0) == YM_DONE && it.written == COUNT(sizes), "an ACK of the end block");
+    while (--it.unwritten) {
+        again(&it);
+        wants(receives(&it, 0) == YM_ERROR_LINE, "another reply that cannot be written");
+    }
+}
+
 /* Block 0 once more is a repeat, and another one is out of step: it begins another file. */
 static void repeated(void) {
     uint8_t zero[133], other[133], one[133], end[133];
@@ -339,6 +357,7 @@ int main(void) {
     sent();
     closed();
     received();
+    unwritten();
     repeated();
     changes();
     fails();
