@@ -165,8 +165,9 @@ export class Receiving {
   };
 
   async run() {
-    await drive(this, this.#port);
-    if (this.#state !== "finished") throw this.#failed();
+    const fault = await drive(this, this.#port).catch((it) => it);
+    // behind the end block all files are kept, also where the line does not take the last ACK
+    if (this.#state !== "finished") throw fault ?? this.#failed();
   }
 
   /** What came behind the transfer. */

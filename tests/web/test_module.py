@@ -313,9 +313,22 @@ STUCK = (
     " Promise(() => {}) }) };"
 )
 
+# A receiver whose line takes every reply but the ACK of the end block.
+LAST_ACK = """
+  let isKept = false;
+  const writer = there.writable.getWriter();
+  const write = (bytes) => (isKept && bytes.length === 1 ? %s : writer.write(bytes));
+  const port = { readable: there.readable, writable: new WritableStream({ write }) };
+  const onProgress = ({ files }) => (isKept = files === 1);
+  y.send(here, [{ name: "a", data }]).catch(() => {});
+  const it = await tools.ended(y.receive(port, { onProgress }));
+  return JSON.stringify([it.code, it.files.length, there.readable.locked]);"""
+
 
 @cases_in(
     BROWSERS,
+    case("the last ACK fails", LAST_ACK % "Promise.reject(new Error('gone'))", ["", 1, False]),
+    case("the last ACK is stuck", LAST_ACK % "new Promise(() => {})", ["", 1, False], FASTER),
     case(
         "a name that cannot be sent",
         (
