@@ -79,7 +79,8 @@ typedef struct ym_sink {
 typedef struct ym_source {
     void *user;
     size_t files;          /* at most 65,535 */
-    uint64_t *blocks;      /* room for a number a file, which ym_send writes */
+    uint64_t *blocks;      /* room for a number a file, which ym_send writes; never NULL, also where
+                              there is no file: calls of ymodem.h are given it */
     /* Tells of a file, counted from 0: at first of each, and again before a part of it is sent, and
        tells the same each time. Where its length is another, it cannot be sent. The name has to
        stay until `about` is called again. */

@@ -207,6 +207,15 @@ static void sent(void) {
     wants(sends(&it, "name", 65536) == YM_ERROR_MOST_FILES, "too many files");
 }
 
+/* A batch of no file is its end block. */
+static void none(void) {
+    static const char *const comes[] = { "C", "\x06" };
+    static const size_t sizes[] = { 1, 1 };
+    struct played it = played_of(comes, sizes, COUNT(sizes));
+    wants(sends(&it, "name", 0) == YM_DONE && it.written == 1, "a batch of no file");
+    wants(it.last[0] == 1 && it.last[3] == 0, "the end block alone");
+}
+
 /* Who answers the end block may close the line behind its ACK; behind any other that is no end. */
 static void closed(void) {
     struct played it = played_of(replies, reply_sizes, COUNT(reply_sizes));
@@ -355,6 +364,7 @@ int main(void) {
     cancelled();
     line_fails();
     sent();
+    none();
     closed();
     received();
     unwritten();
