@@ -132,6 +132,7 @@ function showReceived(files) {
     link.setAttribute("aria-label", `Save ${about.name}`);
     at("received").append(item(about.name, size(about.length), link));
     unsaved.push(about);
+    at("saved").textContent = "";
     at("came").hidden = false;
   }
   at("save-row").hidden = unsaved.length < 2 || !("showDirectoryPicker" in window);

@@ -197,6 +197,13 @@ def test_keeps(room):
         click(page, "#save-all")
         until_says(page, "#came", "All saved")
         assert page.run("kept") == {"a": b"a".hex(), "b": b"b".hex()}
+        with program_sends(write_files(here, [("c", b"c")])) as (bridge, ended):
+            dial(page, bridge.address)
+            begin_receiving(page)
+            until_ended(page)
+            assert ended().status == 0, "ymodem send failed"
+        # one that came behind is not
+        assert "All saved" not in text(page, "#came"), "the page says " + text(page, "#came")
 
 
 @pytest.mark.program
