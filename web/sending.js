@@ -266,7 +266,7 @@ export class Sending {
       BigInt(Math.floor(source.time ?? 0)),
       source.mode ?? 0,
     );
-    if (fault) throw new YmodemError("bad-header", `${source.name}: ${FAULTS[fault]}`, { fault: FAULTS[fault] });
+    if (fault) throw new YmodemError("bad-header", `${source.name}: ${FAULTS[fault]}`, { fault: FAULTS[fault], cause: { file: source.name } });
   }
 
   #block(source, place) {

@@ -48,7 +48,7 @@ const FAILED = {
   "too-many-files": () => ["Too many files", "A batch holds 65,535 files at most.", ["Send them in several batches."]],
   "host-failed": (about) => [`${about.name} could not be stored here`, about.cause || "This browser could not keep it.", ["Check that there is room, and that the folder may be written to."]],
   "source-failed": (about) => [`${about.name} could not be read`, about.cause || "It changed, moved or went away since it was chosen.", ["Choose the file again."]],
-  "bad-header": (about) => ["A file's name or length cannot be used", FAULTS[about.fault] ?? "", ["Rename the file, and start again."]],
+  "bad-header": (about) => [`${about.refused ?? "A file"}'s name or length cannot be used`, FAULTS[about.fault] ?? "", ["Rename the file, and start again."]],
   closed: () => ["The connection is gone", "The port was unplugged, or the other side closed the line.", ["Plug the cable in again, and connect anew.", "Of a bridge: see that it still runs."]],
   device: (about) => ["The port failed", about.cause || "The line could not be read or written any more.", ["Plug the cable in again, and connect anew.", CABLE]],
   aborted: () => ["You cancelled", "The device was told to stop.", ["Files that were done before are whole.", "If the device still waits and prints C, press Ctrl-C in the terminal: U-Boot does not stop by itself."]],
@@ -56,14 +56,15 @@ const FAILED = {
 
 /** What went wrong in a transfer: a heading, a sentence, and what helps. It may have a file. */
 export function failure(fault, name = "A file") {
-  const about = { name, answered: fault.answered, fault: fault.fault, cause: fault.cause?.message };
+  const { answered, cause } = fault;
+  const about = { name, answered, fault: fault.fault, cause: cause?.message, refused: cause?.file };
   const [title, text, helps] = (FAILED[fault.code] ?? (() => ["This did not work", fault.message, []]))(about);
   return { title, text, helps };
 }
 
 const OPENING = {
   NotFoundError: ["No port was chosen", "The browser's list was closed, or has no port in it.", ["Plug the cable in, and press the button again.", "Under Linux you may have to be in the group dialout to see serial ports."]],
-  NetworkError: ["The port could not be opened", "Another program may have it open, or you may not be allowed to use it.", ["Close terminal programs that use this port.", "Under Linux: sudo usermod -a -G dialout $USER, and log in again."]],
+  NetworkError: ["The port could not be opened", "Another program may have it open, you may not be allowed to use it, or it does not have this speed.", ["Close terminal programs that use this port.", "Under Linux: sudo usermod -a -G dialout $USER, and log in again."]],
   InvalidStateError: ["The port is open already", "Another page or program uses it.", ["Close it there."]],
   SecurityError: ["The browser does not let this page use serial ports", "A rule of the browser or of whoever manages it forbids it.", ["Open the page by https, from 127.0.0.1, or from your disk."]],
 };

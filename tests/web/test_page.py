@@ -229,6 +229,28 @@ def test_cut(room, length):
         wants_stored(there, [first])
 
 
+@cases_in(BROWSERS, case("page: a name that cannot be sent, among others"))
+def test_long_name(room):
+    """The page says which it is, and writes nothing."""
+    with folders() as (_, there), Shown(room) as page:
+        loader = Loader(there)
+        dial(page, loader.bridge.address)
+        until_says(page, "#screen", "=>")
+        page.run(
+            """(() => {
+          const list = new DataTransfer();
+          for (const name of ["a", "n".repeat(256), "b"]) list.items.add(new File(["x"], name));
+          const pick = document.querySelector("#pick");
+          pick.files = list.files;
+          pick.dispatchEvent(new Event("change"));
+        })()"""
+        )
+        click(page, "#send")
+        until_ended(page)
+        wants_result(page, "n" * 256 + "'s name or length cannot be used", "The name is too long")
+        loader.close()
+
+
 @contextlib.contextmanager
 def sending_firmware(room):
     """The page in the middle of a transfer, on a line that stands still: the page, the loader at

@@ -7,6 +7,7 @@ import re
 from support.cases import NEEDS_LRZSZ, case, cases_in
 from support.page import (
     SIZE,
+    Loud,
     Shown,
     begin,
     click,
@@ -48,6 +49,16 @@ def test_serial(room):
         click(page, "#disconnect")
         page.until("fake.closed === 1")
         loader.close()
+
+
+@cases_in(BROWSERS, case("page: a serial port that does not open"))
+def test_not_opened(room):
+    """A browser says the same of a port that is busy, and of a speed that it does not have."""
+    with Loud(room, SERIAL) as page:
+        page.run("fake.address = 'ws://127.0.0.1:1'")
+        click(page, "#choose")
+        page.until("!document.getElementById('result').hidden")
+        wants_result(page, "Another program may have it open", "it does not have this speed")
 
 
 @cases_in(BROWSERS, case("page: a serial port with a pace", marks=NEEDS_LRZSZ))
