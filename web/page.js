@@ -7,7 +7,7 @@ import { Meter } from "./progress.js";
 import { remember, remembered } from "./remembered.js";
 import { Terminal } from "./terminal.js";
 import { count, failure, noLine, size } from "./words.js";
-import { load, receive, send, supported } from "./ymodem.js";
+import { YmodemError, load, receive, send, supported } from "./ymodem.js";
 
 const at = (id) => document.getElementById(id);
 const first = (which) => document.querySelector(which);
@@ -326,8 +326,10 @@ async function run(isSending, command, work) {
   at("transfer-title").focus();
   let outcome;
   try {
+    signal.onabort = () => terminal.giveUp();
     await typeFirst(command, isSending, signal);
     await terminal.detach();
+    if (signal.aborted && terminal.isStuck) throw new YmodemError("aborted", "", { cause: { message: "The line takes nothing, so the device was not told." } });
     terminal.note(isSending ? "sending files" : "receiving files");
     outcome = await work({ ...watch.hooks, signal });
     terminal.note("done");

@@ -62,7 +62,7 @@ export class Terminal {
   #port = null;
   #reader = null;
   #reading = null;
-  #writer;
+  #letGo;
   #isDue = false;
   #typing = Promise.resolve();
   #tail = "";
@@ -96,10 +96,14 @@ export class Terminal {
 
   /** Lets go of it for good, also where it does not take what was typed. */
   forget() {
-    this.#port = null;
-    this.#typing = Promise.resolve();
-    this.#writer?.releaseLock();
+    this.giveUp();
     return this.detach();
+  }
+
+  /** Does not wait any longer for a port to take what was typed. */
+  giveUp() {
+    this.#port = null;
+    this.#letGo?.();
   }
 
   async #read(reader) {
@@ -169,14 +173,19 @@ export class Terminal {
 
   async #write(port, text) {
     if (!this.#reader || port !== this.#port) return;
-    const writer = (this.#writer = port.writable.getWriter());
+    const writer = port.writable.getWriter();
+    this.isStuck = false;
     try {
-      await writer.write(new TextEncoder().encode(text));
+      await new Promise((resolve, reject) => {
+        this.#letGo = () => resolve((this.isStuck = true));
+        writer.write(new TextEncoder().encode(text)).then(resolve, reject);
+      });
     } catch (fault) {
       // without its port it was let go
       if (port === this.#port) this.onEnd(fault);
     } finally {
       writer.releaseLock();
+      this.#letGo = null;
     }
   }
 

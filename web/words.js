@@ -51,7 +51,7 @@ const FAILED = {
   "bad-header": (about) => [`${about.refused ?? "A file"}'s name or length cannot be used`, FAULTS[about.fault] ?? "", ["Rename the file, and start again."]],
   closed: () => ["The connection is gone", "The port was unplugged, or the other side closed the line.", ["Plug the cable in again, and connect anew.", "Of a bridge: see that it still runs."]],
   device: (about) => ["The port failed", about.cause || "The line could not be read or written any more.", ["Plug the cable in again, and connect anew.", CABLE]],
-  aborted: () => ["You cancelled", "The device was told to stop.", ["Files that were done before are whole.", "If the device still waits and prints C, press Ctrl-C in the terminal: U-Boot does not stop by itself."]],
+  aborted: (about) => ["You cancelled", about.cause || "The device was told to stop.", ["Files that were done before are whole.", "If the device still waits and prints C, press Ctrl-C in the terminal: U-Boot does not stop by itself."]],
 };
 
 /** What went wrong in a transfer: a heading, a sentence, and what helps. It may have a file. */

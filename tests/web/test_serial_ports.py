@@ -177,6 +177,29 @@ def test_typing_stuck(room):
 
 
 @cases_in(
+    BROWSERS,
+    case("page: cancelled while the port takes no command", "loady", False),
+    case("page: cancelled while the port takes nothing that was typed", "", True),
+)
+def test_cancels_stuck(room, command, is_typed):
+    """The page does not wait for the port, and goes on once it takes something again."""
+    with folders() as (here, there), Shown(room, STUCK) as page:
+        loader = Loader(there)
+        at_serial_port(page, loader.bridge.address)
+        page.run("fake.isStuck = true")
+        if is_typed:
+            click(page, "#interrupt")
+        begin(page, write_files(here, [("a", b"x")]), command)
+        page.until("!document.getElementById('transfer').hidden")
+        click(page, "#cancel")
+        until_ended(page)
+        wants_result(page, "You cancelled", "The line takes nothing, so the device was not told.")
+        click(page, "#disconnect")
+        loader.close()
+        connects_again(page, there)
+
+
+@cases_in(
     BROWSERS, case("page: the port takes nothing any more, and its line breaks", marks=NEEDS_LRZSZ)
 )
 def test_sending_stuck(room):
