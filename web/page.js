@@ -24,7 +24,7 @@ const C = 0x43;
 const hasSerial = "serial" in navigator;
 const hasSocket = typeof WebSocket === "function";
 const canConnect = hasSerial || hasSocket;
-const canRun = supported() && typeof DecompressionStream === "function";
+const canRun = supported() && typeof DecompressionStream === "function" && letsGo();
 
 let line = null;
 let isDialing = false;
@@ -37,6 +37,17 @@ let unsaved = [];
 
 const terminal = new Terminal(at("screen"), lost);
 const chart = new Chart(at("chart"));
+
+/** Whether a stream can be let go while a read waits: browsers before that rule throw. */
+function letsGo() {
+  try {
+    const reader = new ReadableStream().getReader();
+    reader.read().catch(() => {});
+    return !reader.releaseLock();
+  } catch {
+    return false;
+  }
+}
 
 // ---- What is shown
 
@@ -329,7 +340,7 @@ async function run(isSending, command, work) {
     signal.onabort = () => terminal.giveUp();
     await typeFirst(command, isSending, signal);
     await terminal.detach();
-    if (signal.aborted && terminal.isStuck) throw new YmodemError("aborted", "", { cause: { message: "The line takes nothing, so the device was not told." } });
+    if (signal.aborted && terminal.isStuck) throw new YmodemError("aborted", "stuck", { cause: { message: "The line takes nothing, so the device was not told." } });
     terminal.note(isSending ? "sending files" : "receiving files");
     outcome = await work({ ...watch.hooks, signal });
     terminal.note("done");
@@ -378,8 +389,7 @@ function lacks() {
   const texts = [];
   if (!canRun) {
     texts.push(
-      "It cannot run this page's module, so no file can be sent or received here. " +
-        "Chrome, Edge and Chromium can from version 95 on, Firefox from 113, Safari from 16.4.",
+      "It cannot run this page's module, so no file can be sent or received here. A newer browser can.",
     );
   }
   if (!hasSerial) {

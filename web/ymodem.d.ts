@@ -55,7 +55,7 @@ export interface Frame {
 export interface Options {
   onProgress?(progress: Progress): void;
   onFrame?(frame: Frame): void;
-  /** Stops the transfer: the other end is told by CAN CAN. A promise of a sink is waited for. */
+  /** Stops the transfer: the other end is told by CAN CAN. */
   signal?: AbortSignal;
   /** What the line said just before, where it belongs to the transfer: the C of a receiver that a terminal has shown. */
   heard?: Uint8Array;

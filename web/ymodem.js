@@ -1,6 +1,6 @@
-/* Sends and receives files by YMODEM over any pair of streams: a serial port of the browser, a WebSocket, or streams of your own. */
+/* Sends and receives files by YMODEM over any pair of streams. */
 
-/* What is heard, what is written, how long is waited and when a transfer has ended is decided in
+/* They are a serial port of the browser, a WebSocket, or streams of your own. What is heard, what is written, how long is waited and when a transfer has ended is decided in
    ymodem.wasm, whose functions are proved (docs/library.md). Here stand only the streams, the files
    and the clock. */
 

@@ -288,6 +288,24 @@ NO_SERIAL = "delete Navigator.prototype.serial;"
 OFF = "['choose', 'again', 'dial'].every((id) => document.getElementById(id).disabled)"
 
 
+# Streams as browsers have them that are older than their standard of 2022.
+HELD = """
+const { read, releaseLock } = ReadableStreamDefaultReader.prototype;
+let waiting = 0;
+Object.assign(ReadableStreamDefaultReader.prototype, {
+  read() { waiting++; return read.call(this).finally(() => waiting--); },
+  releaseLock() { if (waiting) throw new TypeError('a read waits'); releaseLock.call(this); },
+});
+"""
+
+
+@cases_in(BROWSERS, case("page: a browser whose streams are held by a read"))
+def test_held(room):
+    """The page says at once that no file can be sent or received."""
+    with Loud(room, HELD) as page:
+        assert "It cannot run this page's module" in text(page, "#lacks"), text(page, "#lacks")
+
+
 @cases_in(BROWSERS, case("page: a browser that lacks what it needs"))
 def test_lacking(room):
     """A browser without serial ports, which cannot run the module: it connects all the same."""
