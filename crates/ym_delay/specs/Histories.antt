@@ -1,4 +1,4 @@
--- Calls of `send_batch` and `receive_batch`, by the courses that their contracts tell of.
+-- Calls of `send_batch` and `receive_batch`, by the histories that their contracts tell of.
 use Rattle.std.specs.Prelude.{◌+◌, ◌*◌, ℕ, List}
 use Rattle.ym_core.specs.declared.delivery.Heard.{Heard}
 use Rattle.ym_link.specs.Bound.{accepted, steps_of}

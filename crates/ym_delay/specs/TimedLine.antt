@@ -167,7 +167,7 @@ spoken spoke = map (λ (one : SpokeAt). one.spoke) spoke
 abbrev pub answers_of : List AnsweredAt → List Answered
 answers_of answered = map (λ (one : AnsweredAt). one.answered) answered
 
--- the courses of two calls, with moments: what they were, and when
+-- the histories of two calls, with moments: what they were, and when
 pub record CallsAreTimed (times : Times) (s new : SenderParts) (r end : ReceiverParts)
     (calls : AreCalls s new r end) : Type 0 where
   pub start : ℕ

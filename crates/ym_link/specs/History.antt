@@ -1,4 +1,4 @@
--- The course of a call, over any port: the deliveries that the end heard, one after another, and
+-- The history of a call, over any port: the deliveries that the end heard, one after another, and
 -- the waits that the port's reads were given (this profile).
 use Rattle.std.specs.Prelude.{◌≡◌, ℕ, zero, suc, ◌+◌, ◌*◌, ◌<◌, ◌≤◌, List, [], ◌∷◌, ◌++◌, length, replicate, All, Ok}
 use Rattle.ym_frame.specs.Block.{BlockParts}
