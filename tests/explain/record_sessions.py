@@ -168,6 +168,19 @@ class Doubled:
         return data
 
 
+class TakenBack:
+    """Sends CAN CAN right behind the ACK of one number, as a receiver does that takes it back."""
+
+    def __init__(self, number):
+        self.number, self.count = number, 0
+
+    def __call__(self, data):
+        before, self.count = self.count, self.count + data.count(b"\x06")
+        if before < self.number <= self.count:
+            return data + b"\x18\x18"
+        return data
+
+
 def echoed(sender, wait=0.0, seconds=3):
     """A sender that was asked by mistake, on a line where what it writes comes back."""
     line = Line()
@@ -372,6 +385,7 @@ SESSIONS = {
     "sender-cancels": (SENDER, lambda: broken_off("sender", SB, 8, 30000, 5000)),
     "sender-cancels-1k": (SENDER, lambda: broken_off("sender", SB_LONG, 11, 60000, 9000)),
     "receiver-cancels": (RECEIVER, lambda: broken_off("receiver", SB, 9, 30000, 5000)),
+    "receiver-cancels-at-end": (RECEIVER, lambda: between(SB, RB, Line(back=TakenBack(27)))),
     "sender-killed": (
         STOPPED,
         lambda: between(KILLED, RB, Line(slowly), files=[("a", some_bytes(10, 60000))], seconds=8),

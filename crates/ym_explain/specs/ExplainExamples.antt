@@ -1,5 +1,5 @@
 -- A session of one file with one data block, and six that went wrong, computed.
-use Rattle.std.specs.Prelude.{◌≡◌, ℕ, List, [], ◌∷◌, false, refl}
+use Rattle.std.specs.Prelude.{◌≡◌, ℕ, List, [], ◌∷◌, ◌++◌, false, refl}
 use Rattle.ym_frame.specs.declared.control.Control.TheVariants.{Ack, Nak, Start}
 use Rattle.ym_frame.specs.declared.frame.Item.{Item}
 use Rattle.ym_frame.specs.declared.frame.Item.TheVariants as item
@@ -43,12 +43,30 @@ ack = refl
 abbrev verdict_on : List Sign → Verdict
 verdict_on signs = first_shown (seen_of nothing_seen signs) ORDER
 
-whole :
-    verdict_on (sign.Answer Start ∷ sign.Block position.Before kind.Name ∷ sign.Answer Ack ∷
+-- a file of one data block, and the block that ends the batch
+abbrev batch : List Sign
+batch =
+    sign.Answer Start ∷ sign.Block position.Before kind.Name ∷ sign.Answer Ack ∷
     sign.Answer Start ∷ sign.Block position.Named kind.Data ∷ sign.Answer Ack ∷
     sign.Eot ∷ sign.Answer Nak ∷ sign.Eot ∷ sign.Answer Ack ∷ sign.Answer Start ∷
-    sign.Block position.Ended kind.End ∷ sign.Answer Ack ∷ []) ≡ verdict.Whole
+    sign.Block position.Ended kind.End ∷ []
+
+whole : verdict_on (batch ++ (sign.Answer Ack ∷ [])) ≡ verdict.Whole
 whole = refl
+
+-- an ACK behind which its receiver cancels is none
+taken_back :
+    verdict_on (batch ++ (sign.Answer Ack ∷ sign.ReceiverCancel ∷ [])) ≡ verdict.ReceiverCancelled
+taken_back = refl
+
+-- the sender heard no ACK of its end, whether one came before its cancel or behind it
+unheard_end :
+    verdict_on (batch ++ (sign.Answer Ack ∷ sign.SenderCancel ∷ [])) ≡ verdict.SenderCancelled
+unheard_end = refl
+
+late_ack :
+    verdict_on (batch ++ (sign.SenderCancel ∷ sign.Answer Ack ∷ [])) ≡ verdict.SenderCancelled
+late_ack = refl
 
 nothing : verdict_on [] ≡ verdict.NobodyAsked
 nothing = refl

@@ -49,6 +49,10 @@ one_more out = min (out + 1) 255
 abbrev pub with_frame : Signs → Signs
 with_frame seen = record seen { out = one_more seen.out; unanswered = one_more seen.unanswered }
 
+-- the end of the batch does not count
+abbrev pub without_end : Signs → Signs
+without_end seen = record seen { over = false; finished = false }
+
 -- what tells seven bits, flow control and a line that takes SUB: the bytes themselves
 abbrev pub with_byte : Signs → ℕ → Signs
 with_byte seen byte = record seen {
@@ -127,12 +131,15 @@ with_answer seen Ack = with_ack seen
 with_answer seen Nak = with_nak seen
 with_answer seen Can = seen
 
+-- An ACK behind which the receiver cancels is none. A sender that cancels behind its end has heard
+-- none.
 abbrev pub noted : Signs → Sign → Signs
 noted seen (sign.Byte byte) = with_byte seen byte
 noted seen (sign.Block at kind) = with_block seen at kind
 noted seen sign.Eot = with_frame seen
-noted seen sign.SenderCancel =
-    record seen { sender_cancelled = seen.sender_cancelled || not seen.receiver_cancelled }
+noted seen sign.SenderCancel = record (without_end seen) {
+  sender_cancelled = seen.sender_cancelled || not seen.receiver_cancelled;
+}
 noted seen (sign.Damage short headed) = with_damage seen short headed
 noted seen sign.Junk = record seen { junk = true }
 noted seen sign.CutLength = record seen { cut_length = true }
@@ -140,8 +147,10 @@ noted seen sign.NoRoom = record seen { no_room = true }
 noted seen sign.Zmodem = record seen { zmodem = true }
 noted seen sign.Echo = record seen { echoed = true }
 noted seen (sign.Answer control) = with_answer seen control
-noted seen sign.ReceiverCancel =
-    record seen { receiver_cancelled = seen.receiver_cancelled || not seen.sender_cancelled }
+noted seen sign.ReceiverCancel = record seen {
+  receiver_cancelled = seen.receiver_cancelled || not seen.sender_cancelled;
+  finished = false;
+}
 noted seen (sign.AnswerJunk byte) =
     record seen { back_high = seen.back_high || not (nat_lt byte 0x80) }
 

@@ -1,7 +1,7 @@
 //! What was seen of a session so far.
 
 ghost use Rattle.std.specs.Prelude.{◌≡◌};
-ghost use Rattle.ym_explain.specs.Noting.{noted, nothing_seen, with_byte, with_bytes, with_answer_junk, with_frame, with_damage, with_block, with_answer, with_ack, with_nak};
+ghost use Rattle.ym_explain.specs.Noting.{noted, nothing_seen, without_end, with_byte, with_bytes, with_answer_junk, with_frame, with_damage, with_block, with_answer, with_ack, with_nak};
 
 use crate::told::{FrameKind, SendPosition};
 use ym_frame::Control;
@@ -93,9 +93,9 @@ pub struct Signs {
     pub repeated: bool,
     /// So many frames came last without any answer between them: 255 at most.
     pub unanswered: u8,
-    /// The block that ends the batch came.
+    /// The block that ends the batch came, and its sender did not cancel behind it.
     pub over: bool,
-    /// That block was acknowledged.
+    /// That block was acknowledged, and no end cancelled behind it.
     pub finished: bool,
     /// The receiver acknowledged where no frame was out.
     pub ahead: bool,
@@ -156,6 +156,7 @@ impl Signs {
             Sign::Answer(control) => return self.note_answer(control),
             Sign::Eot => return self.note_frame(),
             Sign::SenderCancel => {
+                seen = self.unended();
                 seen.sender_cancelled = self.sender_cancelled || !self.receiver_cancelled;
             }
             Sign::Damage { short, headed } => return self.note_damage(short, headed),
@@ -166,9 +167,20 @@ impl Signs {
             Sign::Echo => seen.echoed = true,
             Sign::ReceiverCancel => {
                 seen.receiver_cancelled = self.receiver_cancelled || !self.sender_cancelled;
+                seen.finished = false;
             }
             Sign::AnswerJunk(byte) => seen.back_high = self.back_high || byte >= 0x80,
         }
+        seen
+    }
+
+    /// The same where the end of the batch does not count.
+    fn unended(self) -> Signs
+        ensures { result ≡ without_end self }
+    {
+        let mut seen = self;
+        seen.over = false;
+        seen.finished = false;
         seen
     }
 
