@@ -1,5 +1,5 @@
 -- What a block 0 announces of its file.
-use Rattle.std.specs.Prelude.{◌≡◌, ℕ, ◌==◌, nat_le, ◌&&◌, Bool, true, false, if◌then◌else◌, List, [], ◌∷◌, ◌++◌, Result, Ok, Err, codes, decimal}
+use Rattle.std.specs.Prelude.{◌≡◌, ℕ, ◌==◌, nat_le, ◌&&◌, Bool, true, false, if◌then◌else◌, List, [], ◌∷◌, ◌++◌, length, Result, Ok, Err, codes, decimal}
 use Rattle.std.specs.List.{list_all}
 use Rattle.ym_frame.specs.Frame.{verdict_of}
 use Rattle.ym_frame.specs.declared.frame.Broken.{Broken}
@@ -21,13 +21,15 @@ use Rattle.ym_told.specs.declared.stated.Announced.TheVariants as announced
 use Rattle.ym_told.specs.declared.stated.Stated.{Stated}
 use Rattle.ym_told.specs.declared.stated.Stated.TheVariants as stated
 
-abbrev pub stated_unread : HeaderFault → Stated
-stated_unread NoLength = stated.NoRoom
-stated_unread NameEmpty = stated.Nothing
-stated_unread NameLong = stated.Nothing
-stated_unread NameUnsafe = stated.Nothing
-stated_unread LengthLarge = stated.Nothing
-stated_unread Memory = stated.Nothing
+-- a block 0 may have a name alone; where there was no room for more, its length was lost
+abbrev pub stated_unread : HeaderFault → Bool → Stated
+stated_unread NoLength true = stated.NoRoom
+stated_unread NoLength false = stated.Nothing
+stated_unread NameEmpty crammed = stated.Nothing
+stated_unread NameLong crammed = stated.Nothing
+stated_unread NameUnsafe crammed = stated.Nothing
+stated_unread LengthLarge crammed = stated.Nothing
+stated_unread Memory crammed = stated.Nothing
 
 abbrev pub stated_file : ℕ → Bool → Stated
 stated_file length true = stated.NoRoom
@@ -36,7 +38,7 @@ stated_file length false = stated.Length length
 -- A length that fills block 0 to its end may have been cut there.
 abbrev pub stated_by : Announced → Stated
 stated_by (announced.File header full) = stated_file header.length full
-stated_by (announced.Unread fault) = stated_unread fault
+stated_by (announced.Unread fault crammed) = stated_unread fault crammed
 stated_by announced.Nothing = stated.Nothing
 
 abbrev pub unread_words : HeaderFault → List ℕ
@@ -52,7 +54,7 @@ abbrev pub announced_words : Announced → List ℕ
 announced_words (announced.File header full) =
     codes "  file " ++ (header.name ++ (codes ", " ++ (decimal header.length
     ++ (codes " bytes" ++ 10 ∷ []))))
-announced_words (announced.Unread fault) = unread_words fault
+announced_words (announced.Unread fault crammed) = unread_words fault
 announced_words announced.Nothing = []
 
 abbrev pub is_digit : ℕ → Bool
@@ -67,11 +69,17 @@ after_name (byte ∷ more) = if byte == 0 then more else after_name more
 abbrev pub fills : List ℕ → Bool
 fills rest = list_all is_digit rest
 
+-- Two bytes and fewer are no room for a length. A digit and its 00 would fit, but into the last two
+-- of 128 bytes `sb` writes a count of blocks.
+abbrev pub is_crammed : List ℕ → Bool
+is_crammed rest = nat_le (length rest) 2
+
 -- what a body announces is what it stands for
 abbrev pub IsFileOf : List ℕ → Announced → Type 0
 IsFileOf body (announced.File header full) =
     Reads length_limit body (File header) × (full ≡ fills (after_name body))
-IsFileOf body (announced.Unread fault) = IsFault length_limit body fault
+IsFileOf body (announced.Unread fault crammed) =
+    IsFault length_limit body fault × (crammed ≡ is_crammed (after_name body))
 IsFileOf body announced.Nothing = Reads length_limit body End
 
 abbrev pub IsFileInItem : Item → Announced → Type 0

@@ -1,4 +1,5 @@
 pub mod Announcing
+pub mod AnnouncingExamples
 pub mod BothStand
 pub mod LineOf
 pub mod LineWords

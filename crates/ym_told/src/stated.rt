@@ -3,7 +3,7 @@
 ghost use Rattle.std.specs.Prelude.{◌≡◌, take};
 ghost use Rattle.ym_frame.specs.Frame.{verdict_of};
 ghost use Rattle.ym_told.specs.TellPrefix.{used_by};
-ghost use Rattle.ym_told.specs.Announcing.{stated_by, announced_words, after_name, fills, is_digit as digit_byte, IsAnnounced, IsFileIn, names_file};
+ghost use Rattle.ym_told.specs.Announcing.{stated_by, announced_words, after_name, fills, is_crammed as crams, is_digit as digit_byte, IsAnnounced, IsFileIn, names_file};
 
 use crate::prefix::BufferedPrefix;
 use crate::runs::prefix_of;
@@ -28,8 +28,8 @@ pub enum Stated {
 pub enum Announced<'a> {
     /// The file of this header; and whether its length fills block 0 to the end.
     File(HeaderRef<'a>, bool),
-    /// A file, in a block 0 that cannot be read.
-    Unread(HeaderFault),
+    /// A file, in a block 0 that cannot be read; and whether its name leaves no room for a length.
+    Unread(HeaderFault, bool),
     /// No file.
     Nothing,
 }
@@ -47,13 +47,21 @@ impl Announced<'_> {
                     Stated::Length(header.length())
                 }
             }
-            Announced::Unread(HeaderFault::NoLength) => Stated::NoRoom,
+            // Who states no length though there is room for one need not: it is no fault.
+            Announced::Unread(HeaderFault::NoLength, is_crammed) => {
+                if *is_crammed {
+                    Stated::NoRoom
+                } else {
+                    Stated::Nothing
+                }
+            }
             Announced::Unread(
                 HeaderFault::NameEmpty
                 | HeaderFault::NameLong
                 | HeaderFault::NameUnsafe
                 | HeaderFault::LengthLarge
                 | HeaderFault::Memory,
+                _,
             )
             | Announced::Nothing => Stated::Nothing,
         }
@@ -72,10 +80,10 @@ impl fmt::Display for Announced<'_> {
                 let length = header.length();
                 write!(f, "  file {name}, {length} bytes\n")
             }
-            Announced::Unread(HeaderFault::NoLength) => {
+            Announced::Unread(HeaderFault::NoLength, _) => {
                 f.write_str("  a file with no length behind its name\n")
             }
-            Announced::Unread(HeaderFault::LengthLarge) => {
+            Announced::Unread(HeaderFault::LengthLarge, _) => {
                 f.write_str("  a file with a length that is too large\n")
             }
             Announced::Unread(
@@ -83,6 +91,7 @@ impl fmt::Display for Announced<'_> {
                 | HeaderFault::NameLong
                 | HeaderFault::NameUnsafe
                 | HeaderFault::Memory,
+                _,
             ) => f.write_str("  a file with a name that no file may have\n"),
             Announced::Nothing => Ok(()),
         }
@@ -95,6 +104,14 @@ fn is_full(body: &[u8]) -> bool
     ensures { result ≡ fills (after_name body.now) }
 {
     behind_zero(body).iter().all(|byte| is_digit(*byte))
+}
+
+/// Whether so little stands behind the name and its 00 that no length has room there. A digit and
+/// its 00 would fit, but into the last two of 128 bytes `sb` writes a count of blocks.
+fn is_crammed(body: &[u8]) -> bool
+    ensures { result ≡ crams (after_name body.now) }
+{
+    behind_zero(body).len() <= 2
 }
 
 /// Whether a byte is a decimal digit.
@@ -158,7 +175,7 @@ fn file_in(bytes: &[u8]) -> Announced<'_>
     match read_borrowed(block.body()) {
         Ok(ZeroRef::File(header)) => Announced::File(header, is_full(block.body())),
         Ok(ZeroRef::End) => Announced::Nothing,
-        Err(fault) => Announced::Unread(fault),
+        Err(fault) => Announced::Unread(fault, is_crammed(block.body())),
     }
 }
 
