@@ -109,6 +109,39 @@ def test_lines_before_are_told():
         assert whole[: len(front)] == front, "told %r" % front[-3:]
 
 
+CUT = "'standard input' is cut: line %d has no end, and only what stands before it is told\n"
+
+
+@sentence("a record that is cut is told up to its last whole line")
+def test_a_cut_record_is_told():
+    """A last line without an end was cut, wherever that was. Nothing of it is told, all that stands
+    before it is, as if it stood alone, and it is said that the record is cut."""
+    _, _, text = record_of("whole")
+    lines = text.splitlines(keepends=True)
+    # A block 0, a data block, and an answer.
+    for number in (3, 5, 6):
+        front, line = "".join(lines[: number - 1]), lines[number - 1].rstrip("\n")
+        digits = line.rindex(" ") + 1
+        cuts = (1, line.index("."), line.index(".") + 3, digits - 2, digits - 1, digits)
+        whole = explained(input=front, stdin=None).stdout
+        for cut in {*cuts, digits + 1, digits + 2, len(line) - 1, len(line)}:
+            done = explained(input=front + line[:cut], stdin=None)
+            how = "behind %r" % line[:cut][-20:]
+            assert done.stdout == whole, "%s it told %r" % (how, done.stdout[-200:])
+            assert done.returncode == 1, "%s status %d" % (how, done.returncode)
+            assert done.stderr == CUT % number, "%s it said %r" % (how, done.stderr)
+
+
+@sentence("a comment and a space need no end")
+def test_a_comment_needs_no_end():
+    """A record whose last line says nothing is whole also where that has no end."""
+    path, _, text = record_of("whole")
+    for last in ("# made by hand", " "):
+        lines = explained(input=text + last, stdin=None)
+        assert lines.returncode == 0 and not lines.stderr, "behind %r: %r" % (last, lines.stderr)
+        assert lines.stdout.splitlines() == told(path), "behind %r another telling" % last
+
+
 @sentence("where nothing can be printed the status is 3")
 def test_a_full_device_is_told():
     """Where nothing can be printed the status is 3."""
@@ -165,7 +198,6 @@ REFUSED = (
         "# one\n0.1 < 43\n0.2 > 4g\n",
     ),
     ("half a byte", 1, NO_RECORD % "line 1: its last byte has one digit", "0.1 < 4\n"),
-    ("half a byte at the end", 1, NO_RECORD % "line 1: its last byte has one digit", "0.1 < 4"),
     ("no file", 1, "cannot open 'FOLDER/a.record': no such file or directory", None),
     (
         "a record and a way",

@@ -11,6 +11,7 @@ use Rattle.ym_file.specs.Counts.{Counted}
 use Rattle.ym_inspect.specs.CaptureFaults.{CountsReads, CountsWrites, record_words}
 use Rattle.ym_inspect.specs.CaptureTold.{Explains, TellsLast, tagged, ways_of}
 use Rattle.ym_inspect.specs.PcapRead.{FaultOfCapture, TellsCapture}
+use Rattle.ym_inspect.specs.RecordRead.{IsCut}
 use Rattle.ym_inspect.specs.declared.fault.InspectFault.{InspectFault}
 use Rattle.ym_inspect.specs.declared.fault.InspectFault.TheVariants as inspect
 use Rattle.ym_inspect.specs.declared.fault.RecordFault.{RecordFault}
@@ -57,6 +58,11 @@ no_record_words name number why =
     codes "'" ++ (name ++ (codes "' is no record: line " ++ (decimal number ++ (codes ": "
     ++ (record_words why ++ forms_words)))))
 
+abbrev pub cut_words : Text → ℕ → List ℕ
+cut_words name number =
+    codes "'" ++ (name ++ (codes "' is cut: line " ++ (decimal number ++ codes
+    " has no end, and only what stands before it is told")))
+
 abbrev pub pcapng_words : Text → List ℕ
 pcapng_words name =
     codes "'" ++ (name ++ codes
@@ -83,6 +89,7 @@ untold_words (untold.Unread name) = unread_words name.now
 untold_words (untold.UnreadPair there back) = pair_words there.now back.now
 untold_words (untold.Endless name) = endless_words name.now
 untold_words (untold.NoRecord name number why) = no_record_words name.now number why
+untold_words (untold.Cut name number) = cut_words name.now number
 untold_words (untold.Pcapng name) = pcapng_words name.now
 untold_words (untold.NoCapture name position why) = no_capture_words name.now position why
 untold_words untold.TooMany = too_many_words
@@ -108,6 +115,12 @@ abbrev pub IsFaultOf : Form → InspectFault → List ℕ → Type 0
 IsFaultOf (Capture turned) why text = FaultOfCapture turned why text
 IsFaultOf (OneWay way) why text = ⊤
 
+-- where the last line of a record has no end, all that the lines before it say is told
+abbrev pub IsCutOf :
+    Form → InspectFault → List ℕ → Option (List ℕ) → Option (List ℕ) → Type 0
+IsCutOf (Capture turned) why text before after = IsCut why text before after
+IsCutOf (OneWay way) why text before after = ⊤
+
 -- A capture of this form was told, where reads give this text: its last line is the verdict's.
 pub record Told (form : Form) (text : Option (List ℕ)) (reads_failed : ℕ) (out : Page)
     (told : Result Verdict InspectFault) (new_reads_failed : ℕ) (new_out : Page) : Type 0 where
@@ -116,6 +129,8 @@ pub record Told (form : Form) (text : Option (List ℕ)) (reads_failed : ℕ) (o
       → TellsForm form known out.holds verdict new_out.holds)
   pub fault_is : IfErr told (λ why. (known : List ℕ) → text ≡ Some known
       → IsFaultOf form why known)
+  pub cut : IfErr told (λ why. (known : List ℕ) → text ≡ Some known
+      → IsCutOf form why known out.holds new_out.holds)
   pub reads : CountsReads told reads_failed new_reads_failed
   pub writes : CountsWrites told out.failed new_out.failed
 
@@ -141,6 +156,8 @@ AnswersCapture name unread (Err inspect.Endless) old answer new =
     Refuses (endless_words name) 1 old answer new
 AnswersCapture name unread (Err (inspect.Line number why)) old answer new =
     Refuses (no_record_words name number why) 1 old answer new
+AnswersCapture name unread (Err (inspect.Cut number)) old answer new =
+    Refuses (cut_words name number) 1 old answer new
 AnswersCapture name unread (Err inspect.Pcapng) old answer new =
     Refuses (pcapng_words name) 1 old answer new
 AnswersCapture name unread (Err (inspect.Packet position why)) old answer new =

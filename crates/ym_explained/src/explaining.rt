@@ -91,6 +91,7 @@ fn answer<E: Output>(
         Err(InspectFault::Line { number, why }) => {
             refuse(err, Untold::NoRecord(name, number, why), UNTOLD)
         }
+        Err(InspectFault::Cut(number)) => refuse(err, Untold::Cut(name, number), UNTOLD),
         Err(InspectFault::Pcapng) => refuse(err, Untold::Pcapng(name), UNTOLD),
         Err(InspectFault::Packet { position, why }) => {
             refuse(err, Untold::NoCapture(name, position, why), UNTOLD)

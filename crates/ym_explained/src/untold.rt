@@ -20,6 +20,8 @@ pub(crate) enum Untold<'a> {
     Endless(&'a str),
     /// This line of what has this name is none of a record.
     NoRecord(&'a str, u64, RecordFault),
+    /// This line of what has this name, the last of a record, has no end.
+    Cut(&'a str, u64),
     /// What has this name is a capture of packets in the form that is not read.
     Pcapng(&'a str),
     /// What has this name cannot be read on from this byte.
@@ -59,6 +61,10 @@ impl fmt::Display for Untold<'_> {
                 let forms = forms();
                 write!(f, "'{name}' is no record: line {number}: {why}{forms}")
             }
+            Untold::Cut(name, number) => write!(
+                f,
+                "'{name}' is cut: line {number} has no end, and only what stands before it is told"
+            ),
             Untold::Pcapng(name) => write!(
                 f,
                 "'{name}' is a pcapng capture, which is not read; editcap -F pcap IN OUT makes a \

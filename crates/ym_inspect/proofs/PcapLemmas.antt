@@ -149,19 +149,20 @@ ends_cut now out found unfinished some is = λ turned order part text before so.
 
 pub no_packet :
     (turned : Bool) (order : ByteOrder) (part : Part) (found : InspectFault) (text : List ℕ) → ((position : ℕ) (why : CaptureFault) → found ≢ fault.Packet position why)
-    → SaysPosition turned order part found text
-no_packet turned order part (fault.Packet position why) text never = absurd (never position why refl)
-no_packet turned order part fault.Pcapng text never = tt
-no_packet turned order part (fault.Line number why) text never = tt
-no_packet turned order part fault.Memory text never = tt
-no_packet turned order part fault.Read text never = tt
-no_packet turned order part fault.Write text never = tt
-no_packet turned order part fault.Endless text never = tt
+    → ((number : ℕ) → found ≢ fault.Cut number) → SaysPosition turned order part found text
+no_packet turned order part (fault.Packet position why) text never uncut = absurd (never position why refl)
+no_packet turned order part fault.Pcapng text never uncut = tt
+no_packet turned order part (fault.Line number why) text never uncut = tt
+no_packet turned order part (fault.Cut number) text never uncut = absurd (uncut number refl)
+no_packet turned order part fault.Memory text never uncut = tt
+no_packet turned order part fault.Read text never uncut = tt
+no_packet turned order part fault.Write text never uncut = tt
+no_packet turned order part fault.Endless text never uncut = tt
 
 pub stops_not :
     (more : List ℕ) (old : Underway) (out : Option (List ℕ)) (found : InspectFault) → ((position : ℕ) (why : CaptureFault) → found ≢ fault.Packet position why)
-    → StopsWith more old out found
-stops_not more old out found never = λ turned order part text before so. no_packet turned order part found (text ++ more) never
+    → ((number : ℕ) → found ≢ fault.Cut number) → StopsWith more old out found
+stops_not more old out found never uncut = λ turned order part text before so. no_packet turned order part found (text ++ more) never uncut
 
 -- ---- What was told, one thing behind another
 
@@ -357,7 +358,7 @@ tail_is m xs =
 -- nothing that a file has is wrong
 pub no_fault_of :
     (kind : CaptureKind) (turned : Bool) (found : InspectFault) (text : List ℕ) → ((number : ℕ) (why : RecordFault) → found ≢ fault.Line number why)
-    → ((position : ℕ) (why : CaptureFault) → found ≢ fault.Packet position why) → FaultOfKind kind turned found text
-no_fault_of (kinds.Pcap order part) turned found text no_line never = no_packet turned order part found text never
-no_fault_of kinds.Pcapng turned found text no_line never = tt
-no_fault_of kinds.Other turned found text no_line never = λ number why e. absurd (no_line number why e)
+    → ((position : ℕ) (why : CaptureFault) → found ≢ fault.Packet position why) → ((number : ℕ) → found ≢ fault.Cut number) → FaultOfKind kind turned found text
+no_fault_of (kinds.Pcap order part) turned found text no_line never uncut = no_packet turned order part found text never uncut
+no_fault_of kinds.Pcapng turned found text no_line never uncut = tt
+no_fault_of kinds.Other turned found text no_line never uncut = λ number why e. absurd (no_line number why e)

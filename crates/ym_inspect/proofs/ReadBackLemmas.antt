@@ -12,10 +12,11 @@ use Rattle.ym_inspect.specs.CaptureTold.{tagged}
 use Rattle.ym_inspect.specs.Recorded.{after_char, at_start, capped, digit_value, goes_to, in_bytes}
 use Rattle.ym_inspect.specs.Recorded.{in_fraction, in_seconds, with_high, with_low}
 use Rattle.ym_inspect.specs.RecordRead.{SoMuch, and_char, and_chars, at_record_end, behind_char}
-use Rattle.ym_inspect.specs.RecordRead.{in_line, recorded, so_much, way_in}
+use Rattle.ym_inspect.specs.RecordRead.{behind_line, further, recorded, so_much}
 use Rattle.ym_inspect.specs.declared.fault.InspectFault.{InspectFault}
 use Rattle.ym_inspect.specs.declared.in_line.InLine.{InLine}
 use Rattle.ym_inspect.specs.declared.in_line.InLine.TheVariants as line
+use Rattle.ym_inspect.specs.declared.in_line.Stepped.{Stepped}
 use Rattle.ym_told.specs.declared.way.Direction.{Direction}
 use Rattle.ym_told.specs.declared.way.Direction.TheVariants.{There, Back}
 use Rattle.ym_inspect.specs.RecordBack.{bytes_of}
@@ -29,45 +30,44 @@ chars_append : (much : Result SoMuch InspectFault) (xs ys : List ℕ)
 chars_append much [] ys = refl
 chars_append much (x ∷ xs) ys = chars_append (and_char much x) xs ys
 
-in_nothing : (way : Option Direction) → in_line way [] ≡ []
-in_nothing None = refl
-in_nothing (Some way) = refl
+-- a character that ends no line
+further_by : (state : InLine) (c number : ℕ) (held : List ℕ) (read : List (Direction × ℕ))
+    (new : Stepped) → (c ≡ 10 → ⊥)
+    → behind_char (so_much state number held read) c (Ok new)
+    ≡ Ok (so_much new.state number (held ++ option_to_list new.byte) read)
+further_by state c number held read new ne =
+    ap (λ (b : Bool). Ok (if b then behind_line (so_much state number held read) new.state
+    else further (so_much state number held read) new)) (ne_eqb c 10 ne)
 
-number_stays : (c number : ℕ) → (c ≡ 10 → ⊥)
-    → (if c == 10 then capped (number + 1) else number) ≡ number
-number_stays c number ne =
-    ap (λ (b : Bool). if b then capped (number + 1) else number) (ne_eqb c 10 ne)
-
--- a character that completes no byte and ends no line
-passes : (state new : InLine) (c number : ℕ) (read : List (Direction × ℕ))
+-- and that completes no byte
+passes : (state new : InLine) (c number : ℕ) (held : List ℕ) (read : List (Direction × ℕ))
     → after_char state c ≡ goes_to new → (c ≡ 10 → ⊥)
-    → and_char (Ok (so_much state number read)) c ≡ Ok (so_much new number read)
-passes state new c number read e ne =
-    ap (behind_char (so_much state number read) c) e
-    ∙ ap (λ (n : ℕ). Ok (so_much new n (read ++ in_line (way_in new) []))) (number_stays c number ne)
-    ∙ ap (λ (zs : List (Direction × ℕ)). Ok (so_much new number (read ++ zs))) (in_nothing (way_in new))
-    ∙ ap (λ (zs : List (Direction × ℕ)). Ok (so_much new number zs)) (append-nil read)
+    → and_char (Ok (so_much state number held read)) c ≡ Ok (so_much new number held read)
+passes state new c number held read e ne =
+    ap (behind_char (so_much state number held read) c) e
+    ∙ further_by state c number held read (record { state = new; byte = None }) ne
+    ∙ ap (λ (bs : List ℕ). Ok (so_much new number bs read)) (append-nil held)
 
 uncapped : (n : ℕ) → n < 2 ^ 64 → capped n ≡ n
 uncapped n h = omega arith
 
 -- ---- Seconds
 
-first_digit : (d number : ℕ) (read : List (Direction × ℕ)) → d < 10
-    → and_char (Ok (so_much line.Start number read)) (48 + d)
-    ≡ Ok (so_much (line.Seconds (d * 1000000)) number read)
-first_digit d number read h =
+first_digit : (d number : ℕ) (held : List ℕ) (read : List (Direction × ℕ)) → d < 10
+    → and_char (Ok (so_much line.Start number held read)) (48 + d)
+    ≡ Ok (so_much (line.Seconds (d * 1000000)) number held read)
+first_digit d number held read h =
     let low : nat_le 48 (48 + d) ≡ true = le-leb 48 (48 + d) (omega arith) in
     let high : nat_le (48 + d) 57 ≡ true = le-leb (48 + d) 57 (omega arith) in
     let value : 48 + d - 48 ≡ d = omega arith in
     let e : at_start (48 + d) ≡ goes_to (line.Seconds (d * 1000000)) = rw (low, high, value) refl in
-    passes line.Start (line.Seconds (d * 1000000)) (48 + d) number read e (λ ten. omega arith)
+    passes line.Start (line.Seconds (d * 1000000)) (48 + d) number held read e (λ ten. omega arith)
 
-next_digit : (n d number : ℕ) (read : List (Direction × ℕ)) → d < 10
+next_digit : (n d number : ℕ) (held : List ℕ) (read : List (Direction × ℕ)) → d < 10
     → (n * 10 + d) * 1000000 < 2 ^ 64
-    → and_char (Ok (so_much (line.Seconds (n * 1000000)) number read)) (48 + d)
-    ≡ Ok (so_much (line.Seconds ((n * 10 + d) * 1000000)) number read)
-next_digit n d number read h fits =
+    → and_char (Ok (so_much (line.Seconds (n * 1000000)) number held read)) (48 + d)
+    ≡ Ok (so_much (line.Seconds ((n * 10 + d) * 1000000)) number held read)
+next_digit n d number held read h fits =
     let low : nat_le 48 (48 + d) ≡ true = le-leb 48 (48 + d) (omega arith) in
     let high : nat_le (48 + d) 57 ≡ true = le-leb (48 + d) 57 (omega arith) in
     let value : 48 + d - 48 ≡ d = omega arith in
@@ -76,43 +76,43 @@ next_digit n d number read h fits =
     let sum : n * 1000000 * 10 + d * 1000000 ≡ (n * 10 + d) * 1000000 = omega arith in
     let e : in_seconds (n * 1000000) (48 + d) ≡ goes_to (line.Seconds ((n * 10 + d) * 1000000)) =
     rw (low, high, value, tens, all, sum) refl in
-    passes (line.Seconds (n * 1000000)) (line.Seconds ((n * 10 + d) * 1000000)) (48 + d) number read e
+    passes (line.Seconds (n * 1000000)) (line.Seconds ((n * 10 + d) * 1000000)) (48 + d) number held read e
     (λ ten. omega arith)
 
 -- these digits are those of a number of seconds
 abbrev AreSeconds : ℕ → List ℕ → Type 0
 AreSeconds n ds =
-    (number : ℕ) (read : List (Direction × ℕ)) → n * 1000000 < 2 ^ 64
-    → and_chars (Ok (so_much line.Start number read)) ds
-    ≡ Ok (so_much (line.Seconds (n * 1000000)) number read)
+    (number : ℕ) (held : List ℕ) (read : List (Direction × ℕ)) → n * 1000000 < 2 ^ 64
+    → and_chars (Ok (so_much line.Start number held read)) ds
+    ≡ Ok (so_much (line.Seconds (n * 1000000)) number held read)
 
 one_digit : (n : ℕ) → n < 10 → AreSeconds n ((48 + n) ∷ [])
-one_digit n h = λ number read fits. first_digit n number read h
+one_digit n h = λ number held read fits. first_digit n number held read h
 
 more_digits : (n : ℕ) (ds : List ℕ) → 10 ≤ n → AreSeconds (n / 10) ds
     → AreSeconds n (ds ++ (48 + n % 10) ∷ [])
-more_digits n ds large before = λ number read fits.
+more_digits n ds large before = λ number held read fits.
     let whole : n / 10 * 10 + n % 10 ≡ n = omega arith in
     let prefix : n / 10 * 1000000 < 2 ^ 64 = omega arith in
     let last : n % 10 < 10 = omega arith in
-    chars_append (Ok (so_much line.Start number read)) ds ((48 + n % 10) ∷ [])
-    ∙ ap (λ (much : Result SoMuch InspectFault). and_char much (48 + n % 10)) (before number read prefix)
-    ∙ next_digit (n / 10) (n % 10) number read last (omega arith)
-    ∙ ap (λ (m : ℕ). Ok (so_much (line.Seconds (m * 1000000)) number read)) whole
+    chars_append (Ok (so_much line.Start number held read)) ds ((48 + n % 10) ∷ [])
+    ∙ ap (λ (much : Result SoMuch InspectFault). and_char much (48 + n % 10)) (before number held read prefix)
+    ∙ next_digit (n / 10) (n % 10) number held read last (omega arith)
+    ∙ ap (λ (m : ℕ). Ok (so_much (line.Seconds (m * 1000000)) number held read)) whole
 
-seconds_read : (n number : ℕ) (read : List (Direction × ℕ)) → n * 1000000 < 2 ^ 64
-    → and_chars (Ok (so_much line.Start number read)) (decimal n)
-    ≡ Ok (so_much (line.Seconds (n * 1000000)) number read)
-seconds_read n number read fits =
-    decimal_by_steps AreSeconds one_digit more_digits n (omega arith) number read fits
+seconds_read : (n number : ℕ) (held : List ℕ) (read : List (Direction × ℕ)) → n * 1000000 < 2 ^ 64
+    → and_chars (Ok (so_much line.Start number held read)) (decimal n)
+    ≡ Ok (so_much (line.Seconds (n * 1000000)) number held read)
+seconds_read n number held read fits =
+    decimal_by_steps AreSeconds one_digit more_digits n (omega arith) number held read fits
 
 -- ---- Behind the point
 
-fraction_digit : (m unit d number : ℕ) (read : List (Direction × ℕ)) → d < 10
+fraction_digit : (m unit d number : ℕ) (held : List ℕ) (read : List (Direction × ℕ)) → d < 10
     → m + unit * d < 2 ^ 64
-    → and_char (Ok (so_much (line.Fraction m unit) number read)) (48 + d)
-    ≡ Ok (so_much (line.Fraction (m + unit * d) (unit / 10)) number read)
-fraction_digit m unit d number read h fits =
+    → and_char (Ok (so_much (line.Fraction m unit) number held read)) (48 + d)
+    ≡ Ok (so_much (line.Fraction (m + unit * d) (unit / 10)) number held read)
+fraction_digit m unit d number held read h fits =
     let low : nat_le 48 (48 + d) ≡ true = le-leb 48 (48 + d) (omega arith) in
     let high : nat_le (48 + d) 57 ≡ true = le-leb (48 + d) 57 (omega arith) in
     let value : 48 + d - 48 ≡ d = omega arith in
@@ -120,32 +120,32 @@ fraction_digit m unit d number read h fits =
     let all = uncapped (m + unit * d) fits in
     let e : in_fraction m unit (48 + d) ≡ goes_to (line.Fraction (m + unit * d) (unit / 10)) =
     rw (low, high, value, more, all) refl in
-    passes (line.Fraction m unit) (line.Fraction (m + unit * d) (unit / 10)) (48 + d) number read e
+    passes (line.Fraction m unit) (line.Fraction (m + unit * d) (unit / 10)) (48 + d) number held read e
     (λ ten. omega arith)
 
 abbrev sixth : ℕ → ℕ → ℕ → ℕ → ℕ → ℕ → ℕ → ℕ
 sixth m a b c d e f =
     m + 100000 * a + 10000 * b + 1000 * c + 100 * d + 10 * e + 1 * f
 
-six_digits : (m a b c d e f number : ℕ) (read : List (Direction × ℕ)) → a < 10 → b < 10 → c < 10
+six_digits : (m a b c d e f number : ℕ) (held : List ℕ) (read : List (Direction × ℕ)) → a < 10 → b < 10 → c < 10
     → d < 10 → e < 10 → f < 10 → sixth m a b c d e f < 2 ^ 64
-    → and_chars (Ok (so_much (line.Fraction m 100000) number read))
+    → and_chars (Ok (so_much (line.Fraction m 100000) number held read))
     ((48 + a) ∷ (48 + b) ∷ (48 + c) ∷ (48 + d) ∷ (48 + e) ∷ (48 + f) ∷ [])
-    ≡ Ok (so_much (line.Fraction (sixth m a b c d e f) 0) number read)
-six_digits m a b c d e f number read ha hb hc hd he hf fits =
+    ≡ Ok (so_much (line.Fraction (sixth m a b c d e f) 0) number held read)
+six_digits m a b c d e f number held read ha hb hc hd he hf fits =
     ap (λ (x : Result SoMuch InspectFault).
     and_chars x ((48 + b) ∷ (48 + c) ∷ (48 + d) ∷ (48 + e) ∷ (48 + f) ∷ []))
-    (fraction_digit m 100000 a number read ha (omega arith))
+    (fraction_digit m 100000 a number held read ha (omega arith))
     ∙ ap (λ (x : Result SoMuch InspectFault).
     and_chars x ((48 + c) ∷ (48 + d) ∷ (48 + e) ∷ (48 + f) ∷ []))
-    (fraction_digit (m + 100000 * a) 10000 b number read hb (omega arith))
+    (fraction_digit (m + 100000 * a) 10000 b number held read hb (omega arith))
     ∙ ap (λ (x : Result SoMuch InspectFault). and_chars x ((48 + d) ∷ (48 + e) ∷ (48 + f) ∷ []))
-    (fraction_digit (m + 100000 * a + 10000 * b) 1000 c number read hc (omega arith))
+    (fraction_digit (m + 100000 * a + 10000 * b) 1000 c number held read hc (omega arith))
     ∙ ap (λ (x : Result SoMuch InspectFault). and_chars x ((48 + e) ∷ (48 + f) ∷ []))
-    (fraction_digit (m + 100000 * a + 10000 * b + 1000 * c) 100 d number read hd (omega arith))
+    (fraction_digit (m + 100000 * a + 10000 * b + 1000 * c) 100 d number held read hd (omega arith))
     ∙ ap (λ (x : Result SoMuch InspectFault). and_chars x ((48 + f) ∷ []))
-    (fraction_digit (m + 100000 * a + 10000 * b + 1000 * c + 100 * d) 10 e number read he (omega arith))
-    ∙ fraction_digit (m + 100000 * a + 10000 * b + 1000 * c + 100 * d + 10 * e) 1 f number read hf
+    (fraction_digit (m + 100000 * a + 10000 * b + 1000 * c + 100 * d) 10 e number held read he (omega arith))
+    ∙ fraction_digit (m + 100000 * a + 10000 * b + 1000 * c + 100 * d + 10 * e) 1 f number held read hf
     (omega arith)
 
 -- ---- A moment
@@ -172,58 +172,58 @@ digits_of_micros n =
 below_ten : (n : ℕ) → n % 10 < 10
 below_ten n = omega arith
 
-point_read : (m number : ℕ) (read : List (Direction × ℕ))
-    → and_char (Ok (so_much (line.Seconds m) number read)) 0x2e
-    ≡ Ok (so_much (line.Fraction m 100000) number read)
-point_read m number read =
-    passes (line.Seconds m) (line.Fraction m 100000) 0x2e number read refl (λ ten. omega arith)
+point_read : (m number : ℕ) (held : List ℕ) (read : List (Direction × ℕ))
+    → and_char (Ok (so_much (line.Seconds m) number held read)) 0x2e
+    ≡ Ok (so_much (line.Fraction m 100000) number held read)
+point_read m number held read =
+    passes (line.Seconds m) (line.Fraction m 100000) 0x2e number held read refl (λ ten. omega arith)
 
-fraction_read : (n number : ℕ) (read : List (Direction × ℕ)) → n < 2 ^ 64
-    → and_chars (Ok (so_much (line.Seconds (n / 1000000 * 1000000)) number read)) (fraction n)
-    ≡ Ok (so_much (line.Fraction n 0) number read)
-fraction_read n number read fits =
+fraction_read : (n number : ℕ) (held : List ℕ) (read : List (Direction × ℕ)) → n < 2 ^ 64
+    → and_chars (Ok (so_much (line.Seconds (n / 1000000 * 1000000)) number held read)) (fraction n)
+    ≡ Ok (so_much (line.Fraction n 0) number held read)
+fraction_read n number held read fits =
     let whole = digits_of_micros n in
     let digits : List ℕ = last_digit (n / 100000) ∷ last_digit (n / 10000) ∷ last_digit (n / 1000)
     ∷ last_digit (n / 100) ∷ last_digit (n / 10) ∷ last_digit n ∷ [] in
     ap (λ (x : Result SoMuch InspectFault). and_chars x digits)
-    (point_read (n / 1000000 * 1000000) number read)
+    (point_read (n / 1000000 * 1000000) number held read)
     ∙ six_digits (n / 1000000 * 1000000) (n / 100000 % 10) (n / 10000 % 10) (n / 1000 % 10)
-    (n / 100 % 10) (n / 10 % 10) (n % 10) number read (below_ten _) (below_ten _) (below_ten _)
+    (n / 100 % 10) (n / 10 % 10) (n % 10) number held read (below_ten _) (below_ten _) (below_ten _)
     (below_ten _) (below_ten _) (below_ten _) (rw whole fits)
-    ∙ ap (λ (m : ℕ). Ok (so_much (line.Fraction m 0) number read)) whole
+    ∙ ap (λ (m : ℕ). Ok (so_much (line.Fraction m 0) number held read)) whole
 
-moment_read : (n number : ℕ) (read : List (Direction × ℕ)) → n < 2 ^ 64
-    → and_chars (Ok (so_much line.Start number read)) (moment_text n)
-    ≡ Ok (so_much (line.Fraction n 0) number read)
-moment_read n number read fits =
-    chars_append (Ok (so_much line.Start number read)) (decimal (n / 1000000)) (fraction n)
+moment_read : (n number : ℕ) (held : List ℕ) (read : List (Direction × ℕ)) → n < 2 ^ 64
+    → and_chars (Ok (so_much line.Start number held read)) (moment_text n)
+    ≡ Ok (so_much (line.Fraction n 0) number held read)
+moment_read n number held read fits =
+    chars_append (Ok (so_much line.Start number held read)) (decimal (n / 1000000)) (fraction n)
     ∙ ap (λ (x : Result SoMuch InspectFault). and_chars x (fraction n))
-    (seconds_read (n / 1000000) number read (omega arith))
-    ∙ fraction_read n number read fits
+    (seconds_read (n / 1000000) number held read (omega arith))
+    ∙ fraction_read n number held read fits
 
-mark_read : (n : ℕ) (way : Direction) (number : ℕ) (read : List (Direction × ℕ))
-    → and_chars (Ok (so_much (line.Fraction n 0) number read)) (mark way)
-    ≡ Ok (so_much (line.Bytes n way) number read)
-mark_read n There number read =
+mark_read : (n : ℕ) (way : Direction) (number : ℕ) (held : List ℕ) (read : List (Direction × ℕ))
+    → and_chars (Ok (so_much (line.Fraction n 0) number held read)) (mark way)
+    ≡ Ok (so_much (line.Bytes n way) number held read)
+mark_read n There number held read =
     ap (λ (x : Result SoMuch InspectFault). and_chars x (0x3e ∷ 0x20 ∷ []))
-    (passes (line.Fraction n 0) (line.Moment n) 0x20 number read refl (λ ten. omega arith))
+    (passes (line.Fraction n 0) (line.Moment n) 0x20 number held read refl (λ ten. omega arith))
     ∙ ap (λ (x : Result SoMuch InspectFault). and_char x 0x20)
-    (passes (line.Moment n) (line.Bytes n There) 0x3e number read refl (λ ten. omega arith))
-    ∙ passes (line.Bytes n There) (line.Bytes n There) 0x20 number read refl (λ ten. omega arith)
-mark_read n Back number read =
+    (passes (line.Moment n) (line.Bytes n There) 0x3e number held read refl (λ ten. omega arith))
+    ∙ passes (line.Bytes n There) (line.Bytes n There) 0x20 number held read refl (λ ten. omega arith)
+mark_read n Back number held read =
     ap (λ (x : Result SoMuch InspectFault). and_chars x (0x3c ∷ 0x20 ∷ []))
-    (passes (line.Fraction n 0) (line.Moment n) 0x20 number read refl (λ ten. omega arith))
+    (passes (line.Fraction n 0) (line.Moment n) 0x20 number held read refl (λ ten. omega arith))
     ∙ ap (λ (x : Result SoMuch InspectFault). and_char x 0x20)
-    (passes (line.Moment n) (line.Bytes n Back) 0x3c number read refl (λ ten. omega arith))
-    ∙ passes (line.Bytes n Back) (line.Bytes n Back) 0x20 number read refl (λ ten. omega arith)
+    (passes (line.Moment n) (line.Bytes n Back) 0x3c number held read refl (λ ten. omega arith))
+    ∙ passes (line.Bytes n Back) (line.Bytes n Back) 0x20 number held read refl (λ ten. omega arith)
 
-pub head_read : (n : ℕ) (way : Direction) (number : ℕ) (read : List (Direction × ℕ)) → n < 2 ^ 64
-    → and_chars (Ok (so_much line.Start number read)) (head_of n way)
-    ≡ Ok (so_much (line.Bytes n way) number read)
-head_read n way number read fits =
-    chars_append (Ok (so_much line.Start number read)) (moment_text n) (mark way)
-    ∙ ap (λ (x : Result SoMuch InspectFault). and_chars x (mark way)) (moment_read n number read fits)
-    ∙ mark_read n way number read
+pub head_read : (n : ℕ) (way : Direction) (number : ℕ) (held : List ℕ) (read : List (Direction × ℕ)) → n < 2 ^ 64
+    → and_chars (Ok (so_much line.Start number held read)) (head_of n way)
+    ≡ Ok (so_much (line.Bytes n way) number held read)
+head_read n way number held read fits =
+    chars_append (Ok (so_much line.Start number held read)) (moment_text n) (mark way)
+    ∙ ap (λ (x : Result SoMuch InspectFault). and_chars x (mark way)) (moment_read n number held read fits)
+    ∙ mark_read n way number held read
 
 -- ---- Bytes
 
@@ -263,95 +263,93 @@ digit_at (suc (suc (suc (suc (suc (suc (suc (suc (suc (suc (suc (suc (suc (suc (
 digit_at (suc (suc (suc (suc (suc (suc (suc (suc (suc (suc (suc (suc (suc (suc (suc (suc k)))))))))))))))) h =
     absurd (omega arith)
 
-high_read : (n : ℕ) (way : Direction) (c k number : ℕ) (read : List (Direction × ℕ)) → IsDigitOf k c
-    → and_char (Ok (so_much (line.Bytes n way) number read)) c
-    ≡ Ok (so_much (line.Half n way k) number read)
-high_read n way c k number read is =
+high_read : (n : ℕ) (way : Direction) (c k number : ℕ) (held : List ℕ) (read : List (Direction × ℕ)) → IsDigitOf k c
+    → and_char (Ok (so_much (line.Bytes n way) number held read)) c
+    ≡ Ok (so_much (line.Half n way k) number held read)
+high_read n way c k number held read is =
     let above = is.printed in
     let space : (c == 32) ≡ false = ne_eqb c 32 (λ e. omega arith) in
     let back : (c == 13) ≡ false = ne_eqb c 13 (λ e. omega arith) in
     let end : (c == 10) ≡ false = ne_eqb c 10 (λ e. omega arith) in
     let e : in_bytes n way c ≡ with_high n way (digit_value c) = rw (space, back, end) refl in
-    passes (line.Bytes n way) (line.Half n way k) c number read (e ∙ ap (with_high n way) is.value)
+    passes (line.Bytes n way) (line.Half n way k) c number held read (e ∙ ap (with_high n way) is.value)
     (λ ten. omega arith)
 
-low_read : (n : ℕ) (way : Direction) (high c k number : ℕ) (read : List (Direction × ℕ)) → IsDigitOf k c
-    → and_char (Ok (so_much (line.Half n way high) number read)) c
-    ≡ Ok (so_much (line.Bytes n way) number (read ++ (way, high % 16 * 16 + k % 16) ∷ []))
-low_read n way high c k number read is =
+low_read : (n : ℕ) (way : Direction) (high c k number : ℕ) (held : List ℕ) (read : List (Direction × ℕ)) → IsDigitOf k c
+    → and_char (Ok (so_much (line.Half n way high) number held read)) c
+    ≡ Ok (so_much (line.Bytes n way) number (held ++ (high % 16 * 16 + k % 16) ∷ []) read)
+low_read n way high c k number held read is =
     let above = is.printed in
-    ap (behind_char (so_much (line.Half n way high) number read) c) (ap (with_low n way high c) is.value)
-    ∙ ap (λ (m : ℕ). Ok (so_much (line.Bytes n way) m (read ++ (way, high % 16 * 16 + k % 16) ∷ [])))
-    (number_stays c number (λ ten. omega arith))
+    ap (behind_char (so_much (line.Half n way high) number held read) c) (ap (with_low n way high c) is.value)
+    ∙ further_by (line.Half n way high) c number held read
+    (record { state = line.Bytes n way; byte = Some (high % 16 * 16 + k % 16) }) (λ ten. omega arith)
 
 abbrev IsByte : ℕ → Type 0
 IsByte byte = byte < 256
 
-byte_read : (n : ℕ) (way : Direction) (b number : ℕ) (read : List (Direction × ℕ)) → b < 256
-    → and_chars (Ok (so_much (line.Bytes n way) number read))
+byte_read : (n : ℕ) (way : Direction) (b number : ℕ) (held : List ℕ) (read : List (Direction × ℕ)) → b < 256
+    → and_chars (Ok (so_much (line.Bytes n way) number held read))
     (slice_index lower_digits (b / 16) ∷ slice_index lower_digits (b % 16) ∷ [])
-    ≡ Ok (so_much (line.Bytes n way) number (read ++ (way, b) ∷ []))
-byte_read n way b number read h =
+    ≡ Ok (so_much (line.Bytes n way) number (held ++ b ∷ []) read)
+byte_read n way b number held read h =
     let high : b / 16 < 16 = omega arith in
     let low : b % 16 < 16 = omega arith in
     let whole : b / 16 % 16 * 16 + b % 16 % 16 ≡ b = omega arith in
     ap (λ (x : Result SoMuch InspectFault). and_char x (slice_index lower_digits (b % 16)))
-    (high_read n way (slice_index lower_digits (b / 16)) (b / 16) number read (digit_at (b / 16) high))
-    ∙ low_read n way (b / 16) (slice_index lower_digits (b % 16)) (b % 16) number read
+    (high_read n way (slice_index lower_digits (b / 16)) (b / 16) number held read (digit_at (b / 16) high))
+    ∙ low_read n way (b / 16) (slice_index lower_digits (b % 16)) (b % 16) number held read
     (digit_at (b % 16) low)
-    ∙ ap (λ (v : ℕ). Ok (so_much (line.Bytes n way) number (read ++ (way, v) ∷ []))) whole
+    ∙ ap (λ (v : ℕ). Ok (so_much (line.Bytes n way) number (held ++ v ∷ []) read)) whole
 
-hex_read : (n : ℕ) (way : Direction) (bytes : List ℕ) (number : ℕ) (read : List (Direction × ℕ))
+hex_read : (n : ℕ) (way : Direction) (bytes : List ℕ) (number : ℕ) (held : List ℕ) (read : List (Direction × ℕ))
     → All IsByte bytes
-    → and_chars (Ok (so_much (line.Bytes n way) number read)) (encode_lower bytes)
-    ≡ Ok (so_much (line.Bytes n way) number (read ++ tagged way bytes))
+    → and_chars (Ok (so_much (line.Bytes n way) number held read)) (encode_lower bytes)
+    ≡ Ok (so_much (line.Bytes n way) number (held ++ bytes) read)
 unfolding encode_with
-hex_read n way [] number read h =
-    ap (λ (zs : List (Direction × ℕ)). Ok (so_much (line.Bytes n way) number zs)) (sym (append-nil read))
-hex_read n way (b ∷ rest) number read h =
+hex_read n way [] number held read h =
+    ap (λ (bs : List ℕ). Ok (so_much (line.Bytes n way) number bs read)) (sym (append-nil held))
+hex_read n way (b ∷ rest) number held read h =
     ap (λ (x : Result SoMuch InspectFault). and_chars x (encode_lower rest))
-    (byte_read n way b number read (All-head IsByte b rest h))
-    ∙ hex_read n way rest number (read ++ (way, b) ∷ []) (All-tail IsByte b rest h)
-    ∙ ap (λ (zs : List (Direction × ℕ)). Ok (so_much (line.Bytes n way) number zs))
-    (append_assoc read ((way, b) ∷ []) (tagged way rest))
+    (byte_read n way b number held read (All-head IsByte b rest h))
+    ∙ hex_read n way rest number (held ++ b ∷ []) read (All-tail IsByte b rest h)
+    ∙ ap (λ (bs : List ℕ). Ok (so_much (line.Bytes n way) number bs read)) (append_assoc held (b ∷ []) rest)
 
 -- ---- Lines
 
-end_read : (n : ℕ) (way : Direction) (number : ℕ) (read : List (Direction × ℕ))
-    → and_char (Ok (so_much (line.Bytes n way) number read)) 10
-    ≡ Ok (so_much line.Start (capped (number + 1)) read)
-end_read n way number read =
-    ap (λ (zs : List (Direction × ℕ)). Ok (so_much line.Start (capped (number + 1)) zs)) (append-nil read)
+end_read : (n : ℕ) (way : Direction) (number : ℕ) (held : List ℕ) (read : List (Direction × ℕ))
+    → and_char (Ok (so_much (line.Bytes n way) number held read)) 10
+    ≡ Ok (so_much line.Start (capped (number + 1)) [] (read ++ tagged way held))
+end_read n way number held read = refl
 
 line_read : (p : Piece) (number : ℕ) (read : List (Direction × ℕ)) → IsPiece p
-    → and_chars (Ok (so_much line.Start number read)) (line_of p.at p.way p.bytes)
-    ≡ Ok (so_much line.Start (capped (number + 1)) (read ++ tagged p.way p.bytes))
+    → and_chars (Ok (so_much line.Start number [] read)) (line_of p.at p.way p.bytes)
+    ≡ Ok (so_much line.Start (capped (number + 1)) [] (read ++ tagged p.way p.bytes))
 unfolding line_of
 line_read p number read h =
-    chars_append (Ok (so_much line.Start number read)) (head_of p.at p.way) (encode_lower p.bytes ++ 10 ∷ [])
+    chars_append (Ok (so_much line.Start number [] read)) (head_of p.at p.way) (encode_lower p.bytes ++ 10 ∷ [])
     ∙ ap (λ (x : Result SoMuch InspectFault). and_chars x (encode_lower p.bytes ++ 10 ∷ []))
-    (head_read p.at p.way number read h.0)
-    ∙ chars_append (Ok (so_much (line.Bytes p.at p.way) number read)) (encode_lower p.bytes) (10 ∷ [])
+    (head_read p.at p.way number [] read h.0)
+    ∙ chars_append (Ok (so_much (line.Bytes p.at p.way) number [] read)) (encode_lower p.bytes) (10 ∷ [])
     ∙ ap (λ (x : Result SoMuch InspectFault). and_char x 10)
-    (hex_read p.at p.way p.bytes number read h.1)
-    ∙ end_read p.at p.way number (read ++ tagged p.way p.bytes)
+    (hex_read p.at p.way p.bytes number [] read h.1)
+    ∙ end_read p.at p.way number p.bytes read
 
 text_read : (pieces : List Piece) (number : ℕ) (read : List (Direction × ℕ)) → All IsPiece pieces
-    → (n : ℕ) × (and_chars (Ok (so_much line.Start number read)) (text_of pieces)
-    ≡ Ok (so_much line.Start n (read ++ bytes_of pieces)))
+    → (n : ℕ) × (and_chars (Ok (so_much line.Start number [] read)) (text_of pieces)
+    ≡ Ok (so_much line.Start n [] (read ++ bytes_of pieces)))
 text_read [] number read h = (
   number,
-  ap (λ (zs : List (Direction × ℕ)). Ok (so_much line.Start number zs)) (sym (append-nil read)),
+  ap (λ (zs : List (Direction × ℕ)). Ok (so_much line.Start number [] zs)) (sym (append-nil read)),
 )
 text_read (p ∷ more) number read h =
     let ours = line_of p.at p.way p.bytes in
     let rest = text_read more (capped (number + 1)) (read ++ tagged p.way p.bytes) (All-tail IsPiece p more h) in (
       rest.0,
-      chars_append (Ok (so_much line.Start number read)) ours (text_of more)
+      chars_append (Ok (so_much line.Start number [] read)) ours (text_of more)
           ∙ ap (λ (x : Result SoMuch InspectFault). and_chars x (text_of more))
           (line_read p number read (All-head IsPiece p more h))
           ∙ rest.1
-          ∙ ap (λ (zs : List (Direction × ℕ)). Ok (so_much line.Start rest.0 zs))
+          ∙ ap (λ (zs : List (Direction × ℕ)). Ok (so_much line.Start rest.0 [] zs))
           (append_assoc read (tagged p.way p.bytes) (bytes_of more)),
     )
 

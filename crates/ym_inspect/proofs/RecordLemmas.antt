@@ -1,25 +1,24 @@
 -- What a record says, character by character, and what is told of it.
-use Rattle.std.proofs.Common.{◌≡◌, ◌∙◌, ◌⊎◌, inl, inr, ◌+◌, ◌<◌, ◌≤◌, ◌==◌, ◌++◌, ◌∷◌, [], ℕ, List, length, drop, get_or, Bool, true, false, if◌then◌else◌, Option, Some, None, Result, Ok, Err, refl, sym, subst, ap, append_assoc}
+use Rattle.std.proofs.Common.{◌≡◌, ◌∙◌, ◌+◌, ◌<◌, ◌≤◌, ◌==◌, ◌++◌, ◌∷◌, [], ℕ, List, length, drop, get_or, Bool, true, false, if◌then◌else◌, Option, Some, None, Result, Ok, Err, refl, sym, subst, ap, append_assoc}
 use Rattle.std.specs.Prelude.{option_to_list, IfOk, IfErr, OnOk}
 use Rattle.std.proofs.Math.Numerals.{add-one}
 use Rattle.std.proofs.Math.Seq.{drop-cons}
 use Rattle.std.proofs.lemmas.Bool.{ne_eqb}
 use Rattle.std.proofs.lemmas.List.{append-nil, drop_all}
-use Rattle.std.proofs.lemmas.Option.{none-some}
 use Rattle.std.specs.Io.KnownBytes.{Consumes, IsAtEnd}
 use Rattle.ym_told.specs.declared.way.Direction.{Direction}
 use Rattle.ym_inspect.specs.CaptureFaults.{IsOfTelling}
 use Rattle.ym_inspect.specs.CaptureTold.{Tells, tagged, nothing}
 use Rattle.ym_inspect.specs.Inspecting.{Parts, nothing_buffered}
 use Rattle.ym_inspect.specs.Recorded.{after_char, capped}
-use Rattle.ym_inspect.specs.RecordRead.{SoMuch, SoFar, GoesOn, Keeps, KeepsWay, SaysLine, IsFirstLine, way_in, in_line, so_much, no_line, behind_char, and_char, and_chars, at_record_end, recorded}
+use Rattle.ym_inspect.specs.RecordRead.{SoMuch, SoFar, GoesOn, SaysLine, EndsCut, IsCut, IsFirstLine, way_in, in_line, so_much, no_line, behind_line, further, behind_char, and_char, and_chars, at_record_end}
 use Rattle.ym_inspect.specs.declared.fault.InspectFault.{InspectFault}
-use Rattle.ym_inspect.specs.declared.fault.InspectFault.TheVariants.{Line}
+use Rattle.ym_inspect.specs.declared.fault.InspectFault.TheVariants.{Cut}
 use Rattle.ym_inspect.specs.declared.fault.RecordFault.{RecordFault}
 use Rattle.ym_inspect.specs.declared.in_line.InLine.{InLine}
 use Rattle.ym_inspect.specs.declared.in_line.InLine.TheVariants as line
 use Rattle.ym_inspect.specs.declared.in_line.Stepped.{Stepped}
-use Rattle.ym_inspect.proofs.TellLemmas.{consumed, tagged-append, tells_on}
+use Rattle.ym_inspect.proofs.TellLemmas.{consumed, tells_on}
 
 -- a fault stays
 pub fault_stays : (fault : InspectFault) (xs : List ℕ) → and_chars (Err fault) xs ≡ Err fault
@@ -41,146 +40,66 @@ in_nothing : (way : Option Direction) → in_line way [] ≡ []
 in_nothing None = refl
 in_nothing (Some way) = refl
 
-in_append : (way : Option Direction) (xs ys : List ℕ) → in_line way (xs ++ ys) ≡ in_line way xs ++ in_line way ys
-in_append None xs ys = refl
-in_append (Some way) xs ys = tagged-append way xs ys
+-- ---- What a line says
 
--- the bytes of the line under way were handed on
-pub handed_on :
-    (before : Option (List ℕ)) (at : Parts) (state : InLine) (piece : List ℕ) (out : Option (List ℕ)) (read : List (Direction × ℕ)) (way : Direction) (new : Parts)
-    (after : Option (List ℕ)) → SoFar before at state piece out read → way_in state ≡ Some way → Tells at out (tagged way piece) new after
-    → SoFar before new state [] after read
-handed_on before at state piece out read way new after so e t = record {
-  told = so.told ++ tagged way piece;
-  tells = tells_on nothing_buffered before so.told at out (tagged way piece) new after so.tells t;
-  all = so.all ∙ ap (λ (w : Option Direction). so.told ++ in_line w piece) e ∙ sym (append-nil (so.told ++ tagged way piece))
-      ∙ ap (λ (zs : List (Direction × ℕ)). (so.told ++ tagged way piece) ++ zs) (sym (in_nothing (way_in state)));
-  buffered = λ _. refl;
-}
+-- all of it was told
+pub line_told :
+    (state : InLine) (way : Direction) (held : List ℕ) (at : Parts) (out : Option (List ℕ)) (new : Parts) (after : Option (List ℕ)) → way_in state ≡ Some way
+    → Tells at out (tagged way held) new after → Tells at out (in_line (way_in state) held) new after
+line_told state way held at out new after e t = subst (λ (w : Option Direction). Tells at out (in_line w held) new after) (sym e) t
 
-pub none_buffered :
-    (before : Option (List ℕ)) (at : Parts) (state : InLine) (piece : List ℕ) (out : Option (List ℕ)) (read : List (Direction × ℕ)) → SoFar before at state piece out read
-    → piece ≡ [] → SoFar before at state [] out read
-none_buffered before at state piece out read so e = subst (λ (p : List ℕ). SoFar before at state p out read) e so
+-- it says nothing: it has no way
+pub no_way_told : (state : InLine) (held : List ℕ) (at : Parts) (out : Option (List ℕ)) → way_in state ≡ None → Tells at out (in_line (way_in state) held) at out
+no_way_told state held at out e = subst (λ (w : Option Direction). Tells at out (in_line w held) at out) (sym e) (nothing at out)
 
--- nothing is held, and the next state is this
-pub nothing_taken :
-    (before : Option (List ℕ)) (at : Parts) (state : InLine) (out : Option (List ℕ)) (read : List (Direction × ℕ)) (new : InLine) → SoFar before at state [] out read
-    → SoFar before at new [] out (read ++ in_line (way_in new) [])
-nothing_taken before at state out read new so =
-    let r_is : read ≡ so.told = so.all ∙ ap (λ (zs : List (Direction × ℕ)). so.told ++ zs) (in_nothing (way_in state)) ∙ append-nil so.told in
-    record {
-      told = so.told;
-      tells = so.tells;
-      all = ap (λ (zs : List (Direction × ℕ)). zs ++ in_line (way_in new) []) r_is;
-      buffered = λ _. refl;
-    }
+-- or no byte
+pub no_byte_told : (state : InLine) (held : List ℕ) (at : Parts) (out : Option (List ℕ)) → held ≡ [] → Tells at out (in_line (way_in state) held) at out
+no_byte_told state held at out e =
+    subst (λ (bs : List ℕ). Tells at out (in_line (way_in state) bs) at out) (sym e)
+    (subst (λ (zs : List (Direction × ℕ)). Tells at out zs at out) (sym (in_nothing (way_in state))) (nothing at out))
 
--- a byte more, or none, in a line that has its way
-in_way :
-    (before : Option (List ℕ)) (at : Parts) (state : InLine) (piece : List ℕ) (out : Option (List ℕ)) (read : List (Direction × ℕ)) (way : Direction) (new : InLine)
-    (more : List ℕ) → SoFar before at state piece out read → way_in state ≡ Some way → way_in new ≡ Some way
-    → SoFar before at new (piece ++ more) out (read ++ in_line (way_in new) more)
-in_way before at state piece out read way new more so e f =
-    let r_is : read ≡ so.told ++ in_line (way_in new) piece = so.all ∙ ap (λ (w : Option Direction). so.told ++ in_line w piece) (e ∙ sym f) in
-    record {
-      told = so.told;
-      tells = so.tells;
-      all = ap (λ (zs : List (Direction × ℕ)). zs ++ in_line (way_in new) more) r_is ∙ append_assoc so.told (in_line (way_in new) piece) (in_line (way_in new) more)
-          ∙ ap (λ (zs : List (Direction × ℕ)). so.told ++ zs) (sym (in_append (way_in new) piece more));
-      buffered = λ n. absurd (none-some way (sym n ∙ f));
-    }
+-- ---- One character
 
--- none, behind no way
-behind_none :
-    (before : Option (List ℕ)) (at : Parts) (state : InLine) (piece : List ℕ) (out : Option (List ℕ)) (read : List (Direction × ℕ)) (new : InLine) (more : List ℕ)
-    → SoFar before at state piece out read → piece ≡ [] → more ≡ [] → SoFar before at new (piece ++ more) out (read ++ in_line (way_in new) more)
-behind_none before at state piece out read new more so e f =
-    subst (λ (m : List ℕ). SoFar before at new (piece ++ m) out (read ++ in_line (way_in new) m)) (sym f)
-    (subst (λ (p : List ℕ). SoFar before at new (p ++ []) out (read ++ in_line (way_in new) [])) (sym e)
-    (nothing_taken before at state out read new (none_buffered before at state piece out read so e)))
-
--- a byte that is completed stands in its line
-ends_none : (way after : Option Direction) (c : ℕ) (byte : Option ℕ) → Keeps way c after byte → c ≡ 10 → byte ≡ None
-ends_none None after c byte keeps e = keeps
-ends_none (Some way) after c byte keeps e = elim keeps [ inl h ↦ h.1 | inr h ↦ absurd (h.0 e) ]
-
-stays : (way : Direction) (after : Option Direction) (c : ℕ) (byte : Option ℕ) → Keeps (Some way) c after byte → (c ≡ 10 → ⊥) → after ≡ Some way
-stays way after c byte keeps goes = elim keeps [ inl h ↦ absurd (goes h.0) | inr h ↦ h.1 ]
-
--- a character that ends no line
-taken_in :
-    (way : Option Direction) (before : Option (List ℕ)) (at : Parts) (state : InLine) (piece : List ℕ) (out : Option (List ℕ)) (read : List (Direction × ℕ)) (c : ℕ)
-    (new : Stepped) → SoFar before at state piece out read → Keeps way c (way_in new.state) new.byte → (c ≡ 10 → ⊥) → way_in state ≡ way
-    → SoFar before at new.state (piece ++ option_to_list new.byte) out (read ++ in_line (way_in new.state) (option_to_list new.byte))
-taken_in None before at state piece out read c new so keeps goes e =
-    behind_none before at state piece out read new.state (option_to_list new.byte) so (so.buffered e) (ap (λ (o : Option ℕ). option_to_list o) keeps)
-taken_in (Some way) before at state piece out read c new so keeps goes e =
-    in_way before at state piece out read way new.state (option_to_list new.byte) so e (stays way (way_in new.state) c new.byte keeps goes)
-
-stepped_on :
-    (state : InLine) (number : ℕ) (read : List (Direction × ℕ)) (c : ℕ) (new : Stepped) → after_char state c ≡ Ok new
-    → and_char (Ok (so_much state number read)) c ≡ behind_char (so_much state number read) c (Ok new)
-stepped_on state number read c new e = ap (λ (r : Result Stepped RecordFault). behind_char (so_much state number read) c r) e
+-- one that does or does not end its line
+by_end :
+    (state : InLine) (number : ℕ) (held : List ℕ) (read : List (Direction × ℕ)) (c : ℕ) (new : Stepped) (ends : Bool) → after_char state c ≡ Ok new → (c == 10) ≡ ends
+    → and_char (Ok (so_much state number held read)) c
+    ≡ Ok (if ends then behind_line (so_much state number held read) new.state else further (so_much state number held read) new)
+by_end state number held read c new ends e f =
+    ap (λ (r : Result Stepped RecordFault). behind_char (so_much state number held read) c r) e
+    ∙ ap (λ (b : Bool). Ok (if b then behind_line (so_much state number held read) new.state else further (so_much state number held read) new)) f
 
 -- so it goes on in a line
-pub goes_in_line :
-    (before : Option (List ℕ)) (at : Parts) (state : InLine) (number : ℕ) (piece : List ℕ) (out : Option (List ℕ)) (read : List (Direction × ℕ)) (c : ℕ) (new : Stepped)
-    (buffered : List ℕ) → after_char state c ≡ Ok new → KeepsWay state c new → (c ≡ 10 → ⊥) → buffered ≡ piece ++ option_to_list new.byte
-    → SoFar before at state piece out read → GoesOn before (and_char (Ok (so_much state number read)) c) at new.state number buffered out
-goes_in_line before at state number piece out read c new buffered e keeps goes h so = record {
-  read = read ++ in_line (way_in new.state) (option_to_list new.byte);
-  much_is = stepped_on state number read c new e
-      ∙ ap (λ (b : Bool). Ok (so_much new.state (if b then capped (number + 1) else number) (read ++ in_line (way_in new.state) (option_to_list new.byte)))) (no_end c goes);
-  so_far = subst (λ (p : List ℕ). SoFar before at new.state p out (read ++ in_line (way_in new.state) (option_to_list new.byte))) (sym h)
-      (taken_in (way_in state) before at state piece out read c new so keeps goes refl);
+pub goes_on_in_line :
+    (before : Option (List ℕ)) (at : Parts) (state : InLine) (number : ℕ) (held : List ℕ) (out : Option (List ℕ)) (read : List (Direction × ℕ)) (c : ℕ) (new : Stepped)
+    (new_at : Parts) (new_state : InLine) (new_number : ℕ) (new_held : List ℕ) → after_char state c ≡ Ok new → (c ≡ 10 → ⊥)
+    → new_at ≡ at → new_state ≡ new.state → new_number ≡ number → new_held ≡ held ++ option_to_list new.byte
+    → SoFar before at out read → GoesOn before (and_char (Ok (so_much state number held read)) c) new_at new_state new_number new_held out
+goes_on_in_line before at state number held out read c new new_at new_state new_number new_held e goes a s n h so = record {
+  read = read;
+  much_is = by_end state number held read c new false e (no_end c goes)
+      ∙ ap (λ (bs : List ℕ). Ok (so_much new.state number bs read)) (sym h)
+      ∙ ap (λ (m : ℕ). Ok (so_much new.state m new_held read)) (sym n)
+      ∙ ap (λ (l : InLine). Ok (so_much l new_number new_held read)) (sym s);
+  so_far = subst (λ (q : Parts). SoFar before q out read) (sym a) so;
 }
 
--- and at the end of one
-pub goes_behind_line :
-    (before : Option (List ℕ)) (at : Parts) (state : InLine) (number : ℕ) (out : Option (List ℕ)) (read : List (Direction × ℕ)) (c : ℕ) (new : Stepped) (next : ℕ)
-    → (buffered : List ℕ) → after_char state c ≡ Ok new → KeepsWay state c new → c ≡ 10 → next ≡ capped (number + 1) → buffered ≡ []
-    → SoFar before at state [] out read → GoesOn before (and_char (Ok (so_much state number read)) c) at new.state next buffered out
-goes_behind_line before at state number out read c new next buffered e keeps ends n h so =
-    let none : option_to_list new.byte ≡ [] = ap (λ (o : Option ℕ). option_to_list o) (ends_none (way_in state) (way_in new.state) c new.byte keeps ends) in
-    record {
-      read = read ++ in_line (way_in new.state) [];
-      much_is = stepped_on state number read c new e
-          ∙ ap (λ (b : Bool). Ok (so_much new.state (if b then capped (number + 1) else number) (read ++ in_line (way_in new.state) (option_to_list new.byte)))) (is_end c ends)
-          ∙ ap (λ (m : ℕ). Ok (so_much new.state m (read ++ in_line (way_in new.state) (option_to_list new.byte)))) (sym n)
-          ∙ ap (λ (bs : List ℕ). Ok (so_much new.state next (read ++ in_line (way_in new.state) bs))) none;
-      so_far = subst (λ (p : List ℕ). SoFar before at new.state p out (read ++ in_line (way_in new.state) [])) (sym h) (nothing_taken before at state out read new.state so);
-    }
-
--- the same, of a record whose parts are these
-pub goes_on_in_line :
-    (before : Option (List ℕ)) (at : Parts) (state : InLine) (number : ℕ) (piece : List ℕ) (out : Option (List ℕ)) (read : List (Direction × ℕ)) (c : ℕ) (new : Stepped)
-    (new_at : Parts) (new_state : InLine) (new_number : ℕ) (buffered : List ℕ) → after_char state c ≡ Ok new → KeepsWay state c new → (c ≡ 10 → ⊥)
-    → new_at ≡ at → new_state ≡ new.state → new_number ≡ number → buffered ≡ piece ++ option_to_list new.byte
-    → SoFar before at state piece out read → GoesOn before (and_char (Ok (so_much state number read)) c) new_at new_state new_number buffered out
-goes_on_in_line before at state number piece out read c new new_at new_state new_number buffered e keeps goes a s n h so =
-    subst (λ (m : ℕ). GoesOn before (and_char (Ok (so_much state number read)) c) new_at new_state m buffered out) (sym n)
-    (subst (λ (l : InLine). GoesOn before (and_char (Ok (so_much state number read)) c) new_at l number buffered out) (sym s)
-    (subst (λ (p : Parts). GoesOn before (and_char (Ok (so_much state number read)) c) p new.state number buffered out) (sym a)
-    (goes_in_line before at state number piece out read c new buffered e keeps goes h so)))
-
+-- and so behind a line, of which all was told
 pub goes_on_behind_line :
-    (before : Option (List ℕ)) (at : Parts) (state : InLine) (number : ℕ) (out : Option (List ℕ)) (read : List (Direction × ℕ)) (c : ℕ) (new : Stepped)
-    (new_state : InLine) (next : ℕ) (buffered : List ℕ) → after_char state c ≡ Ok new → KeepsWay state c new → c ≡ 10 → new_state ≡ new.state
-    → next ≡ capped (number + 1) → buffered ≡ [] → SoFar before at state [] out read
-    → GoesOn before (and_char (Ok (so_much state number read)) c) at new_state next buffered out
-goes_on_behind_line before at state number out read c new new_state next buffered e keeps ends s n h so =
-    subst (λ (l : InLine). GoesOn before (and_char (Ok (so_much state number read)) c) at l next buffered out) (sym s)
-    (goes_behind_line before at state number out read c new next buffered e keeps ends n h so)
-
--- all that was read was told
-pub all_told :
-    (before : Option (List ℕ)) (at : Parts) (state : InLine) (piece : List ℕ) (out : Option (List ℕ)) (read : List (Direction × ℕ)) → SoFar before at state piece out read
-    → piece ≡ [] → Tells nothing_buffered before read at out
-all_told before at state piece out read so e =
-    let r_is : read ≡ so.told = so.all ∙ ap (λ (p : List ℕ). so.told ++ in_line (way_in state) p) e ∙ ap (λ (zs : List (Direction × ℕ)). so.told ++ zs) (in_nothing (way_in state))
-    ∙ append-nil so.told in
-    subst (λ (zs : List (Direction × ℕ)). Tells nothing_buffered before zs at out) (sym r_is) so.tells
+    (before : Option (List ℕ)) (at : Parts) (state : InLine) (number : ℕ) (held : List ℕ) (out : Option (List ℕ)) (read : List (Direction × ℕ)) (c : ℕ) (new : Stepped)
+    (new_at : Parts) (new_state : InLine) (new_number : ℕ) (new_held : List ℕ) (after : Option (List ℕ)) → after_char state c ≡ Ok new → c ≡ 10
+    → Tells at out (in_line (way_in state) held) new_at after → new_state ≡ new.state → new_number ≡ capped (number + 1) → new_held ≡ []
+    → SoFar before at out read → GoesOn before (and_char (Ok (so_much state number held read)) c) new_at new_state new_number new_held after
+goes_on_behind_line before at state number held out read c new new_at new_state new_number new_held after e ends t s n h so =
+    let all = read ++ in_line (way_in state) held in
+    record {
+      read = all;
+      much_is = by_end state number held read c new true e (is_end c ends)
+          ∙ ap (λ (bs : List ℕ). Ok (so_much new.state (capped (number + 1)) bs all)) (sym h)
+          ∙ ap (λ (m : ℕ). Ok (so_much new.state m new_held all)) (sym n)
+          ∙ ap (λ (l : InLine). Ok (so_much l new_number new_held all)) (sym s);
+      so_far = tells_on nothing_buffered before read at out (in_line (way_in state) held) new_at after so t;
+    }
 
 -- what is of telling is no fault of a line
 pub no_line_told : {A : Type 0} (told : Result A InspectFault) (fault : InspectFault) (at : Result SoMuch InspectFault) → IsOfTelling told → told ≡ Err fault → SaysLine fault at
@@ -192,58 +111,57 @@ at_front : (xs : List ℕ) (i : ℕ) → i < length xs → drop i xs ≡ get_or 
 at_front xs i within = rw add-one (drop-cons xs i 0 within)
 
 -- what was read of them, where this is left
-pub record Walked (before : Option (List ℕ)) (much : Result SoMuch InspectFault) (rest : List ℕ) (at : Parts) (state : InLine) (number : ℕ) (piece : List ℕ) (out : Option (List ℕ))
+pub record Walked (before : Option (List ℕ)) (much : Result SoMuch InspectFault) (rest : List ℕ) (at : Parts) (state : InLine) (number : ℕ) (held : List ℕ) (out : Option (List ℕ))
     : Type 0 where
   pub read : List (Direction × ℕ)
-  pub much_is : much ≡ and_chars (Ok (so_much state number read)) rest
-  pub so_far : SoFar before at state piece out read
+  pub much_is : much ≡ and_chars (Ok (so_much state number held read)) rest
+  pub so_far : SoFar before at out read
 
 pub walked_on :
-    (before : Option (List ℕ)) (much : Result SoMuch InspectFault) (xs : List ℕ) (i : ℕ) (at : Parts) (state : InLine) (number : ℕ) (piece : List ℕ) (out : Option (List ℕ))
-    (new : Parts) (new_state : InLine) (new_number : ℕ) (new_piece : List ℕ) (after : Option (List ℕ)) → i < length xs
-    → (walked : Walked before much (drop i xs) at state number piece out)
-    → GoesOn before (and_char (Ok (so_much state number walked.read)) (get_or xs i 0)) new new_state new_number new_piece after
-    → Walked before much (drop (i + 1) xs) new new_state new_number new_piece after
-walked_on before much xs i at state number piece out new new_state new_number new_piece after within walked goes = record {
+    (before : Option (List ℕ)) (much : Result SoMuch InspectFault) (xs : List ℕ) (i : ℕ) (at : Parts) (state : InLine) (number : ℕ) (held : List ℕ) (out : Option (List ℕ))
+    (new : Parts) (new_state : InLine) (new_number : ℕ) (new_held : List ℕ) (after : Option (List ℕ)) → i < length xs
+    → (walked : Walked before much (drop i xs) at state number held out)
+    → GoesOn before (and_char (Ok (so_much state number held walked.read)) (get_or xs i 0)) new new_state new_number new_held after
+    → Walked before much (drop (i + 1) xs) new new_state new_number new_held after
+walked_on before much xs i at state number held out new new_state new_number new_held after within walked goes = record {
   read = goes.read;
-  much_is = walked.much_is ∙ ap (λ (zs : List ℕ). and_chars (Ok (so_much state number walked.read)) zs) (at_front xs i within)
+  much_is = walked.much_is ∙ ap (λ (zs : List ℕ). and_chars (Ok (so_much state number held walked.read)) zs) (at_front xs i within)
       ∙ ap (λ (m : Result SoMuch InspectFault). and_chars m (drop (i + 1) xs)) goes.much_is;
   so_far = goes.so_far;
 }
 
 pub walked_wrong :
-    (before : Option (List ℕ)) (much : Result SoMuch InspectFault) (xs : List ℕ) (i : ℕ) (at : Parts) (state : InLine) (number : ℕ) (piece : List ℕ) (out : Option (List ℕ))
-    (fault : InspectFault) → i < length xs → (walked : Walked before much (drop i xs) at state number piece out)
-    → SaysLine fault (and_char (Ok (so_much state number walked.read)) (get_or xs i 0)) → SaysLine fault much
-walked_wrong before much xs i at state number piece out fault within walked says = λ n why e.
-    walked.much_is ∙ ap (λ (zs : List ℕ). and_chars (Ok (so_much state number walked.read)) zs) (at_front xs i within)
+    (before : Option (List ℕ)) (much : Result SoMuch InspectFault) (xs : List ℕ) (i : ℕ) (at : Parts) (state : InLine) (number : ℕ) (held : List ℕ) (out : Option (List ℕ))
+    (fault : InspectFault) → i < length xs → (walked : Walked before much (drop i xs) at state number held out)
+    → SaysLine fault (and_char (Ok (so_much state number held walked.read)) (get_or xs i 0)) → SaysLine fault much
+walked_wrong before much xs i at state number held out fault within walked says = λ n why e.
+    walked.much_is ∙ ap (λ (zs : List ℕ). and_chars (Ok (so_much state number held walked.read)) zs) (at_front xs i within)
     ∙ ap (λ (m : Result SoMuch InspectFault). and_chars m (drop (i + 1) xs)) (says n why e) ∙ fault_stays fault (drop (i + 1) xs)
 
--- all of them were, and what was held was handed on
-pub walked_all :
-    (before : Option (List ℕ)) (much : Result SoMuch InspectFault) (xs : List ℕ) (i : ℕ) (at : Parts) (state : InLine) (number : ℕ) (piece : List ℕ) (out : Option (List ℕ))
-    (new : Parts) (buffered : List ℕ) (after : Option (List ℕ)) → length xs ≤ i → (walked : Walked before much (drop i xs) at state number piece out) → buffered ≡ []
-    → SoFar before new state [] after walked.read → GoesOn before much new state number buffered after
-walked_all before much xs i at state number piece out new buffered after above walked none so = record {
+-- all of them were
+pub walked_end :
+    (before : Option (List ℕ)) (much : Result SoMuch InspectFault) (xs : List ℕ) (i : ℕ) (at : Parts) (state : InLine) (number : ℕ) (held : List ℕ) (out : Option (List ℕ))
+    → length xs ≤ i → Walked before much (drop i xs) at state number held out → GoesOn before much at state number held out
+walked_end before much xs i at state number held out above walked = record {
   read = walked.read;
-  much_is = walked.much_is ∙ ap (λ (zs : List ℕ). and_chars (Ok (so_much state number walked.read)) zs) (drop_all i xs above);
-  so_far = subst (λ (p : List ℕ). SoFar before new state p after walked.read) (sym none) so;
+  much_is = walked.much_is ∙ ap (λ (zs : List ℕ). and_chars (Ok (so_much state number held walked.read)) zs) (drop_all i xs above);
+  so_far = walked.so_far;
 }
 
 -- ---- A whole record, in pieces
 
 -- what was read of a text, and what is left of it
-pub record ReadSome (text : List ℕ) (start : SoMuch) (before remaining : Option (List ℕ)) (at : Parts) (state : InLine) (number : ℕ) (piece : List ℕ) (out : Option (List ℕ)) : Type 0 where
+pub record ReadSome (text : List ℕ) (start : SoMuch) (before remaining : Option (List ℕ)) (at : Parts) (state : InLine) (number : ℕ) (held : List ℕ) (out : Option (List ℕ)) : Type 0 where
   pub taken : List ℕ
   pub rest : List ℕ
   pub split : text ≡ taken ++ rest
   pub left : remaining ≡ Some rest
-  pub goes : GoesOn before (and_chars (Ok start) taken) at state number piece out
+  pub goes : GoesOn before (and_chars (Ok start) taken) at state number held out
 
 pub read_none :
-    (text : List ℕ) (before remaining : Option (List ℕ)) (at : Parts) (state : InLine) (number : ℕ) (piece : List ℕ) (out : Option (List ℕ)) (read : List (Direction × ℕ))
-    → remaining ≡ Some text → SoFar before at state piece out read → ReadSome text (so_much state number read) before remaining at state number piece out
-read_none text before remaining at state number piece out read e so = record {
+    (text : List ℕ) (before remaining : Option (List ℕ)) (at : Parts) (state : InLine) (number : ℕ) (held : List ℕ) (out : Option (List ℕ)) (read : List (Direction × ℕ))
+    → remaining ≡ Some text → SoFar before at out read → ReadSome text (so_much state number held read) before remaining at state number held out
+read_none text before remaining at state number held out read e so = record {
   taken = [];
   rest = text;
   split = refl;
@@ -252,12 +170,12 @@ read_none text before remaining at state number piece out read e so = record {
 }
 
 pub read_more :
-    (text : List ℕ) (start : SoMuch) (before remaining : Option (List ℕ)) (at : Parts) (state : InLine) (number : ℕ) (piece : List ℕ) (out left : Option (List ℕ)) (more : List ℕ)
-    (new : Parts) (new_state : InLine) (new_number : ℕ) (new_piece : List ℕ) (after : Option (List ℕ))
-    → (some : ReadSome text start before remaining at state number piece out) → Consumes remaining left more
-    → GoesOn before (and_chars (Ok (so_much state number some.goes.read)) more) new new_state new_number new_piece after
-    → ReadSome text start before left new new_state new_number new_piece after
-read_more text start before remaining at state number piece out left more new new_state new_number new_piece after some con goes =
+    (text : List ℕ) (start : SoMuch) (before remaining : Option (List ℕ)) (at : Parts) (state : InLine) (number : ℕ) (held : List ℕ) (out left : Option (List ℕ)) (more : List ℕ)
+    (new : Parts) (new_state : InLine) (new_number : ℕ) (new_held : List ℕ) (after : Option (List ℕ))
+    → (some : ReadSome text start before remaining at state number held out) → Consumes remaining left more
+    → GoesOn before (and_chars (Ok (so_much state number held some.goes.read)) more) new new_state new_number new_held after
+    → ReadSome text start before left new new_state new_number new_held after
+read_more text start before remaining at state number held out left more new new_state new_number new_held after some con goes =
     let known : Consumes (Some some.rest) left more = subst (λ (r : Option (List ℕ)). Consumes r left more) some.left con in
     let rests : (ys : List ℕ) × (left ≡ Some ys) × (some.rest ≡ more ++ ys) = consumed left some.rest more known in
     record {
@@ -273,28 +191,28 @@ read_more text start before remaining at state number piece out left more new ne
     }
 
 pub read_wrong :
-    (text : List ℕ) (start : SoMuch) (before remaining : Option (List ℕ)) (at : Parts) (state : InLine) (number : ℕ) (piece : List ℕ) (out left : Option (List ℕ)) (more : List ℕ)
-    (fault : InspectFault) → (some : ReadSome text start before remaining at state number piece out) → Consumes remaining left more
-    → SaysLine fault (and_chars (Ok (so_much state number some.goes.read)) more) → SaysLine fault (and_chars (Ok start) text)
-read_wrong text start before remaining at state number piece out left more fault some con says = λ n why e.
+    (text : List ℕ) (start : SoMuch) (before remaining : Option (List ℕ)) (at : Parts) (state : InLine) (number : ℕ) (held : List ℕ) (out left : Option (List ℕ)) (more : List ℕ)
+    (fault : InspectFault) → (some : ReadSome text start before remaining at state number held out) → Consumes remaining left more
+    → SaysLine fault (and_chars (Ok (so_much state number held some.goes.read)) more) → SaysLine fault (and_chars (Ok start) text)
+read_wrong text start before remaining at state number held out left more fault some con says = λ n why e.
     let known : Consumes (Some some.rest) left more = subst (λ (r : Option (List ℕ)). Consumes r left more) some.left con in
     let rests : (ys : List ℕ) × (left ≡ Some ys) × (some.rest ≡ more ++ ys) = consumed left some.rest more known in
     ap (λ (zs : List ℕ). and_chars (Ok start) zs) (some.split ∙ ap (λ (ys : List ℕ). some.taken ++ ys) rests.2)
     ∙ chars_append (Ok start) some.taken (more ++ rests.0)
     ∙ ap (λ (m : Result SoMuch InspectFault). and_chars m (more ++ rests.0)) some.goes.much_is
-    ∙ chars_append (Ok (so_much state number some.goes.read)) more rests.0
+    ∙ chars_append (Ok (so_much state number held some.goes.read)) more rests.0
     ∙ ap (λ (m : Result SoMuch InspectFault). and_chars m rests.0) (says n why e) ∙ fault_stays fault rests.0
 
 pub read_whole :
-    (text : List ℕ) (start : SoMuch) (before remaining : Option (List ℕ)) (at : Parts) (state : InLine) (number : ℕ) (piece : List ℕ) (out left : Option (List ℕ))
-    → ReadSome text start before remaining at state number piece out → Consumes remaining left [] → IsAtEnd left
-    → GoesOn before (and_chars (Ok start) text) at state number piece out
-read_whole text start before remaining at state number piece out left some con at_end =
+    (text : List ℕ) (start : SoMuch) (before remaining : Option (List ℕ)) (at : Parts) (state : InLine) (number : ℕ) (held : List ℕ) (out left : Option (List ℕ))
+    → ReadSome text start before remaining at state number held out → Consumes remaining left [] → IsAtEnd left
+    → GoesOn before (and_chars (Ok start) text) at state number held out
+read_whole text start before remaining at state number held out left some con at_end =
     let known : Consumes (Some some.rest) left [] = subst (λ (r : Option (List ℕ)). Consumes r left []) some.left con in
     let rests : (ys : List ℕ) × (left ≡ Some ys) × (some.rest ≡ [] ++ ys) = consumed left some.rest [] known in
     let none : IsAtEnd (Some rests.0) = subst (λ (r : Option (List ℕ)). IsAtEnd r) rests.1 at_end in
     let whole : text ≡ some.taken = some.split ∙ ap (λ (ys : List ℕ). some.taken ++ ys) (rests.2 ∙ none) ∙ append-nil some.taken in
-    subst (λ (zs : List ℕ). GoesOn before (and_chars (Ok start) zs) at state number piece out) (sym whole) some.goes
+    subst (λ (zs : List ℕ). GoesOn before (and_chars (Ok start) zs) at state number held out) (sym whole) some.goes
 
 -- ---- What a call gave
 
@@ -317,40 +235,33 @@ pub on_ok_one : {A : Type 0} (r : Result A InspectFault) (P R : Type 0) → OnOk
 on_ok_one (Ok a) P R p f = f p
 on_ok_one (Err fault) P R p f = tt
 
--- what was held is handed on behind the last character
-pub walked_end :
-    (before : Option (List ℕ)) (much : Result SoMuch InspectFault) (xs : List ℕ) (i : ℕ) (at : Parts) (state : InLine) (number : ℕ) (piece : List ℕ) (out : Option (List ℕ))
-    (new : Parts) (new_state : InLine) (new_number : ℕ) (buffered : List ℕ) (after : Option (List ℕ)) → length xs ≤ i
-    → (walked : Walked before much (drop i xs) at state number piece out) → new_state ≡ state → new_number ≡ number → ((way_in state ≡ None → piece ≡ []) → buffered ≡ [])
-    → SoFar before new state [] after walked.read → GoesOn before much new new_state new_number buffered after
-walked_end before much xs i at state number piece out new new_state new_number buffered after above walked s n none so =
-    subst (λ (l : InLine). GoesOn before much new l new_number buffered after) (sym s)
-    (subst (λ (m : ℕ). GoesOn before much new state m buffered after) (sym n)
-    (walked_all before much xs i at state number piece out new buffered after above walked (none walked.so_far.buffered) so))
-
 -- ---- The beginning and the end
 
-pub none_so_far :
-    (before : Option (List ℕ)) (at : Parts) (state : InLine) (piece : List ℕ) → at ≡ nothing_buffered → state ≡ line.Start → piece ≡ [] → SoFar before at state piece before []
-none_so_far before at state piece a s p =
-    subst (λ (q : Parts). SoFar before q state piece before []) (sym a)
-    (subst (λ (l : InLine). SoFar before nothing_buffered l piece before []) (sym s)
-    (subst (λ (bs : List ℕ). SoFar before nothing_buffered line.Start bs before []) (sym p)
-    (record { told = []; tells = nothing nothing_buffered before; all = refl; buffered = λ _. refl })))
+pub none_so_far : (before : Option (List ℕ)) (at : Parts) → at ≡ nothing_buffered → SoFar before at before []
+none_so_far before at a = subst (λ (q : Parts). SoFar before q before []) (sym a) (nothing nothing_buffered before)
 
-begins : (state : InLine) (number : ℕ) (text : List ℕ) → state ≡ line.Start → number ≡ 1 → and_chars (Ok no_line) text ≡ and_chars (Ok (so_much state number [])) text
-begins state number text s n =
-    sym (ap (λ (l : InLine). and_chars (Ok (so_much l number [])) text) s ∙ ap (λ (m : ℕ). and_chars (Ok (so_much line.Start m [])) text) n)
+pub begins :
+    (state : InLine) (number : ℕ) (held text : List ℕ) → state ≡ line.Start → number ≡ 1 → held ≡ []
+    → and_chars (Ok no_line) text ≡ and_chars (Ok (so_much state number held [])) text
+begins state number held text s n h =
+    sym (ap (λ (l : InLine). and_chars (Ok (so_much l number held [])) text) s
+    ∙ ap (λ (m : ℕ). and_chars (Ok (so_much line.Start m held [])) text) n
+    ∙ ap (λ (bs : List ℕ). and_chars (Ok (so_much line.Start 1 bs [])) text) h)
 
 pub first_wrong :
-    (state : InLine) (number : ℕ) (fault : InspectFault) (text : List ℕ) → state ≡ line.Start → number ≡ 1 → SaysLine fault (and_chars (Ok (so_much state number [])) text)
-    → IsFirstLine fault text
-first_wrong state number fault text s n says = λ m why e. ap at_record_end (begins state number text s n ∙ says m why e)
+    (state : InLine) (number : ℕ) (held : List ℕ) (fault : InspectFault) (text : List ℕ) → state ≡ line.Start → number ≡ 1 → held ≡ []
+    → SaysLine fault (and_chars (Ok (so_much state number held [])) text) → IsFirstLine fault text
+first_wrong state number held fault text s n h says = λ m why e. ap at_record_end (begins state number held text s n h ∙ says m why e)
 
-pub says_so :
-    (state : InLine) (number : ℕ) (text : List ℕ) (much : Result SoMuch InspectFault) → state ≡ line.Start → number ≡ 1
-    → and_chars (Ok (so_much state number [])) text ≡ much → recorded text ≡ at_record_end much
-says_so state number text much s n e = ap at_record_end (begins state number text s n ∙ e)
+-- where it is no fault that a line has no end
+pub never_cut : (fault : InspectFault) (much : Result SoMuch InspectFault) (before after : Option (List ℕ)) → ((number : ℕ) → fault ≡ Cut number → ⊥) → EndsCut fault much before after
+never_cut fault much before after never = λ number e. absurd (never number e)
+
+-- where it is one of the record that was read so
+pub cut_of :
+    (fault : InspectFault) (text : List ℕ) (much : Result SoMuch InspectFault) (before after : Option (List ℕ)) → and_chars (Ok no_line) text ≡ much
+    → EndsCut fault much before after → IsCut fault text before after
+cut_of fault text much before after e cut = subst (λ (m : Result SoMuch InspectFault). EndsCut fault m before after) (sym e) cut
 
 -- ---- A text of which the first characters were read before
 

@@ -4,7 +4,7 @@ use Rattle.ym_capture.specs.CaptureWords.{capture_words}
 use Rattle.ym_capture.specs.declared.fault.CaptureFault.{CaptureFault}
 use Rattle.ym_file.specs.Counts.{Counted}
 use Rattle.ym_inspect.specs.declared.fault.InspectFault.{InspectFault}
-use Rattle.ym_inspect.specs.declared.fault.InspectFault.TheVariants.{Memory, Read, Write, Endless, Line, Pcapng, Packet}
+use Rattle.ym_inspect.specs.declared.fault.InspectFault.TheVariants.{Memory, Read, Write, Endless, Line, Cut, Pcapng, Packet}
 use Rattle.ym_inspect.specs.declared.fault.RecordFault.{RecordFault}
 use Rattle.ym_inspect.specs.declared.fault.RecordFault.TheVariants.{Seconds, Way, Digit, HalfByte}
 
@@ -21,6 +21,7 @@ fault_words Write = codes "a write failed"
 fault_words Endless = codes "the capture has no end"
 fault_words (Line number why) =
     codes "line " ++ (decimal number ++ (codes ": " ++ record_words why))
+fault_words (Cut number) = codes "line " ++ (decimal number ++ codes " has no end")
 fault_words Pcapng = codes "it is a pcapng capture, which is not read"
 fault_words (Packet position why) =
     codes "byte " ++ (decimal position ++ (codes ": " ++ capture_words why))
@@ -35,14 +36,16 @@ abbrev pub CountsReads : {A : Type 0} → Result A InspectFault → ℕ → ℕ 
 CountsReads {A} told old new =
     (told ≡ Err Read → Counted old new) × (told ≢ Err Read → new ≡ old)
 
--- Where something is told nothing is read, and no line and no packet is refused.
+-- Where something is told nothing is read, no line and no packet is refused, and none is cut.
 abbrev pub IsOfTelling : {A : Type 0} → Result A InspectFault → Type 0
 IsOfTelling {A} told =
     (told ≢ Err Read) × ((number : ℕ) (why : RecordFault) → told ≢ Err (Line number why))
     × ((position : ℕ) (why : CaptureFault) → told ≢ Err (Packet position why))
+    × ((number : ℕ) → told ≢ Err (Cut number))
 
 -- Where a file is read nothing is written, and nothing that it has is refused.
 abbrev pub IsOfReading : {A : Type 0} → Result A InspectFault → Type 0
 IsOfReading {A} told =
     (told ≢ Err Write) × ((number : ℕ) (why : RecordFault) → told ≢ Err (Line number why))
     × ((position : ℕ) (why : CaptureFault) → told ≢ Err (Packet position why))
+    × ((number : ℕ) → told ≢ Err (Cut number))

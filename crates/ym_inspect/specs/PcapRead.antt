@@ -111,6 +111,7 @@ SaysPosition turned order part (fault.Packet position why) text =
     Stops turned order part text position why
 SaysPosition turned order part fault.Pcapng text = Unit {0}
 SaysPosition turned order part (fault.Line number why) text = Unit {0}
+SaysPosition turned order part (fault.Cut number) text = ⊥
 SaysPosition turned order part fault.Memory text = Unit {0}
 SaysPosition turned order part fault.Read text = Unit {0}
 SaysPosition turned order part fault.Write text = Unit {0}

@@ -85,12 +85,12 @@ after_char (line.Moment micros) c = behind_moment micros c
 after_char (line.Bytes at way) c = in_bytes at way c
 after_char (line.Half at way high) c = with_low at way high c (digit_value c)
 
--- why a record may not end here, if it may not
-abbrev pub end_fault : InLine → Option RecordFault
-end_fault line.Start = None
-end_fault line.Comment = None
-end_fault (line.Seconds micros) = Some fault.Seconds
-end_fault (line.Fraction micros unit) = Some fault.Seconds
-end_fault (line.Moment micros) = Some fault.Way
-end_fault (line.Bytes at way) = None
-end_fault (line.Half at way high) = Some fault.HalfByte
+-- whether a line has begun that has no end yet
+abbrev pub is_open : InLine → Bool
+is_open line.Start = false
+is_open line.Comment = false
+is_open (line.Seconds micros) = true
+is_open (line.Fraction micros unit) = true
+is_open (line.Moment micros) = true
+is_open (line.Bytes at way) = true
+is_open (line.Half at way high) = true

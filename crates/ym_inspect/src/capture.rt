@@ -6,6 +6,7 @@ ghost use Rattle.ym_inspect.specs.CaptureFaults.{CountsReads, CountsWrites, IsOf
 ghost use Rattle.ym_inspect.specs.CaptureTold.{TellsLast};
 ghost use Rattle.ym_inspect.specs.FirstBytes.{Begins};
 ghost use Rattle.ym_inspect.specs.PcapRead.{FaultOfCapture, SaysPosition, TellsCapture};
+ghost use Rattle.ym_inspect.specs.RecordRead.{IsCut};
 
 use crate::fault::InspectFault;
 use crate::pcap::Packets;
@@ -43,6 +44,7 @@ fn form_at(order: ByteOrder, part: Part, prefix: &[u8]) -> Result<Form, InspectF
     ensures position { IfErr result (λ fault.
         (turned : Bool) (text : List ℕ) (left : Option (List ℕ)) → Begins prefix.now text left
         → SaysPosition turned order part fault text) }
+    ensures uncut { (number : ℕ) → result ≢ Err (InspectFault.Cut number) }
     ensures read { result ≢ Err InspectFault.Read }
     ensures write { result ≢ Err InspectFault.Write }
 {
@@ -63,8 +65,9 @@ fn form_at(order: ByteOrder, part: Part, prefix: &[u8]) -> Result<Form, InspectF
 ///
 /// # Errors
 ///
-/// Where it cannot be read on from a line or from a packet, behind all that stands before that; or
-/// where a read or a write failed, or memory ran out.
+/// Where it cannot be read on from a line or from a packet, behind all that stands before that;
+/// where the last line of a record has no end, behind all that the lines before it say, as if they
+/// were the record; or where a read or a write failed, or memory ran out.
 pub fn explain_capture<I: Input, O: Output>(
     alloc: Global,
     input: &mut I,
@@ -77,6 +80,9 @@ pub fn explain_capture<I: Input, O: Output>(
     // A line that cannot be read is the first such line, and a packet the first such packet.
     ensures fault { IfErr result (λ fault. (text : List ℕ) → I.remaining input.old ≡ Some text
         → FaultOfCapture turned fault text) }
+    // Where the last line of a record has no end, all that the lines before it say is told.
+    ensures cut { IfErr result (λ fault. (text : List ℕ) → I.remaining input.old ≡ Some text
+        → IsCut fault text (O.contents out.old) (O.contents out.new)) }
     // The last of what is told is this verdict.
     ensures last { IfOk result (λ verdict. TellsLast Ways.Both verdict (O.contents out.new)) }
     ensures reads { CountsReads result (I.failures input.old) (I.failures input.new) }

@@ -63,6 +63,8 @@ pub enum InspectFault {
         /// What is wrong with it.
         why: RecordFault,
     },
+    /// The last line of a record, which has this number, from 1 on, has no end.
+    Cut(u64),
     /// It is a capture of packets in the form that is not read.
     Pcapng,
     /// A capture of packets cannot be read on.
@@ -87,6 +89,7 @@ impl fmt::Display for InspectFault {
             InspectFault::Write => f.write_str("a write failed"),
             InspectFault::Endless => f.write_str("the capture has no end"),
             InspectFault::Line { number, why } => write!(f, "line {number}: {why}"),
+            InspectFault::Cut(number) => write!(f, "line {number} has no end"),
             InspectFault::Pcapng => f.write_str("it is a pcapng capture, which is not read"),
             InspectFault::Packet { position, why } => write!(f, "byte {position}: {why}"),
         }

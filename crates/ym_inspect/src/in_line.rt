@@ -1,9 +1,8 @@
 //! A record of a line, character by character: lines of `SECONDS > HEX` for bytes from the sender,
 //! and `SECONDS < HEX` for bytes from the receiver.
 
-ghost use Rattle.std.specs.Prelude.{◌≡◌, ◌==◌, if◌then◌else◌, IfOk};
-ghost use Rattle.ym_inspect.specs.Recorded.{after_char, at_start, behind_moment, digit_value, end_fault, goes_to, half_fault, in_bytes, in_fraction, in_seconds, with_low};
-ghost use Rattle.ym_inspect.specs.RecordRead.{KeepsWay};
+ghost use Rattle.std.specs.Prelude.{◌≡◌, ◌==◌, if◌then◌else◌};
+ghost use Rattle.ym_inspect.specs.Recorded.{after_char, at_start, behind_moment, digit_value, goes_to, half_fault, in_bytes, in_fraction, in_seconds, is_open, with_low};
 
 use crate::fault::RecordFault;
 use ym_told::Direction;
@@ -57,8 +56,7 @@ fn pass(state: InLine) -> Result<Stepped, RecordFault>
 
 /// What a character of a record leaves.
 pub(crate) fn step(state: InLine, character: u8) -> Result<Stepped, RecordFault>
-    ensures gives { result ≡ after_char state character }
-    ensures way { IfOk result (KeepsWay state character) }
+    ensures { result ≡ after_char state character }
 {
     match state {
         InLine::Start => step_start(character),
@@ -73,8 +71,7 @@ pub(crate) fn step(state: InLine, character: u8) -> Result<Stepped, RecordFault>
 
 /// What the first character of a line leaves.
 fn step_start(character: u8) -> Result<Stepped, RecordFault>
-    ensures gives { result ≡ at_start character }
-    ensures way { IfOk result (KeepsWay InLine.Start character) }
+    ensures { result ≡ at_start character }
 {
     match character {
         b'0'..=b'9' => pass(InLine::Seconds(u64::from(character - b'0') * 1_000_000)),
@@ -86,9 +83,8 @@ fn step_start(character: u8) -> Result<Stepped, RecordFault>
 
 /// What a character of a comment leaves.
 fn step_comment(character: u8) -> Result<Stepped, RecordFault>
-    ensures gives { result ≡
+    ensures { result ≡
         (if character == 10 then goes_to InLine.Start else goes_to InLine.Comment) }
-    ensures way { IfOk result (KeepsWay InLine.Comment character) }
 {
     if character == b'\n' {
         pass(InLine::Start)
@@ -99,8 +95,7 @@ fn step_comment(character: u8) -> Result<Stepped, RecordFault>
 
 /// What a character leaves behind whole seconds.
 fn step_seconds(micros: u64, character: u8) -> Result<Stepped, RecordFault>
-    ensures gives { result ≡ in_seconds micros character }
-    ensures way { IfOk result (KeepsWay (InLine.Seconds micros) character) }
+    ensures { result ≡ in_seconds micros character }
 {
     match character {
         b'0'..=b'9' => {
@@ -115,8 +110,7 @@ fn step_seconds(micros: u64, character: u8) -> Result<Stepped, RecordFault>
 
 /// What a character leaves behind a point, where the next digit is worth so much.
 fn step_fraction(micros: u64, unit: u64, character: u8) -> Result<Stepped, RecordFault>
-    ensures gives { result ≡ in_fraction micros unit character }
-    ensures way { IfOk result (KeepsWay (InLine.Fraction micros unit) character) }
+    ensures { result ≡ in_fraction micros unit character }
 {
     match character {
         b'0'..=b'9' => {
@@ -130,8 +124,7 @@ fn step_fraction(micros: u64, unit: u64, character: u8) -> Result<Stepped, Recor
 
 /// What a character leaves behind the seconds and a space.
 fn step_moment(micros: u64, character: u8) -> Result<Stepped, RecordFault>
-    ensures gives { result ≡ behind_moment micros character }
-    ensures way { IfOk result (KeepsWay (InLine.Moment micros) character) }
+    ensures { result ≡ behind_moment micros character }
 {
     match character {
         b' ' => pass(InLine::Moment(micros)),
@@ -143,8 +136,7 @@ fn step_moment(micros: u64, character: u8) -> Result<Stepped, RecordFault>
 
 /// What a character leaves behind whole bytes.
 fn step_bytes(at: u64, way: Direction, character: u8) -> Result<Stepped, RecordFault>
-    ensures gives { result ≡ in_bytes at way character }
-    ensures way { IfOk result (KeepsWay (InLine.Bytes at way) character) }
+    ensures { result ≡ in_bytes at way character }
 {
     match character {
         b' ' | b'\r' => pass(InLine::Bytes(at, way)),
@@ -158,8 +150,7 @@ fn step_bytes(at: u64, way: Direction, character: u8) -> Result<Stepped, RecordF
 
 /// What a character leaves behind the first digit of a byte.
 fn step_half(at: u64, way: Direction, high: u8, character: u8) -> Result<Stepped, RecordFault>
-    ensures gives { result ≡ with_low at way high character (digit_value character) }
-    ensures way { IfOk result (KeepsWay (InLine.Half at way high) character) }
+    ensures { result ≡ with_low at way high character (digit_value character) }
 {
     match digit_of(character) {
         Some(low) => Ok(Stepped {
@@ -180,14 +171,13 @@ fn fault_in_half(character: u8) -> RecordFault
     }
 }
 
-/// Why a record may not end here, if it may not.
-pub(crate) fn fault_at_end(state: InLine) -> Option<RecordFault>
-    ensures { result ≡ end_fault state }
+/// Whether a line has begun that has no end yet. A comment says nothing, with an end or without.
+pub(crate) fn is_open(state: InLine) -> bool
+    ensures { result ≡ is_open state }
 {
     match state {
-        InLine::Start | InLine::Comment | InLine::Bytes(_, _) => None,
-        InLine::Seconds(_) | InLine::Fraction(_, _) => Some(RecordFault::Seconds),
-        InLine::Moment(_) => Some(RecordFault::Way),
-        InLine::Half(_, _, _) => Some(RecordFault::HalfByte),
+        InLine::Start | InLine::Comment => false,
+        InLine::Seconds(_) | InLine::Fraction(_, _) | InLine::Moment(_) => true,
+        InLine::Bytes(_, _) | InLine::Half(_, _, _) => true,
     }
 }

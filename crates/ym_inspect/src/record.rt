@@ -3,14 +3,14 @@
 
 ghost use Rattle.std.specs.Prelude.{◌≡◌, ◌≢◌, ◌+◌, ◌++◌, ℕ, List, [], Option, Some, None, Ok, Err, IfOk, OnOk, IfErr, IfSome, IfNone, option_to_list};
 ghost use Rattle.ym_inspect.specs.CaptureFaults.{CountsReads, CountsWrites, IsOfTelling};
-ghost use Rattle.ym_inspect.specs.CaptureTold.{Explains, TellsLast};
+ghost use Rattle.ym_inspect.specs.CaptureTold.{Explains, Tells, TellsLast};
 ghost use Rattle.ym_inspect.specs.FirstBytes.{Begins};
 ghost use Rattle.ym_inspect.specs.Inspecting.{nothing_buffered};
 ghost use Rattle.ym_inspect.specs.Recorded.{after_char, capped};
-ghost use Rattle.ym_inspect.specs.RecordRead.{and_char, and_chars, at_record_end, so_much, way_in, EndsLine, GoesOn, IsFirstLine, KeepsWay, SaysLine, SoFar, TellsRecord};
+ghost use Rattle.ym_inspect.specs.RecordRead.{and_char, and_chars, at_record_end, in_line, so_much, way_in, EndsCut, GoesOn, IsCut, IsFirstLine, SaysLine, SoFar, TellsRecord};
 
 use crate::fault::{InspectFault, RecordFault};
-use crate::in_line::{InLine, Stepped, fault_at_end, step};
+use crate::in_line::{InLine, Stepped, is_open, step};
 use crate::inspection::Inspection;
 use crate::reading::{PIECE, read_some};
 use std::alloc::{AllocError, Global};
@@ -37,7 +37,9 @@ struct Recording {
     inspection: Inspection,
     state: InLine,
     number: u64,
-    piece: Vec<u8>,
+    /// The bytes of the line under way. They are held until its end came: a line without one was
+    /// cut, and what it has may be a part of what it was to say.
+    held: Vec<u8>,
 }
 
 impl Recording {
@@ -46,13 +48,13 @@ impl Recording {
         ensures inspection { result.inspection ≡ nothing_buffered }
         ensures state { result.state ≡ InLine.Start }
         ensures number { result.number ≡ 1 }
-        ensures piece { result.piece.items ≡ [] }
+        ensures held { result.held.items ≡ [] }
     {
         Recording {
             inspection: Inspection::new(alloc),
             state: InLine::Start,
             number: 1,
-            piece: Vec::new(alloc),
+            held: Vec::new(alloc),
         }
     }
 
@@ -69,9 +71,9 @@ impl Recording {
     /// What a character of it leaves.
     fn stepped(&self, character: u8) -> Result<Stepped, InspectFault>
         ensures ok { IfOk result (λ stepped. after_char self.now.state character ≡ Ok stepped) }
-        ensures way { IfOk result (KeepsWay self.now.state character) }
-        ensures err { IfErr result (λ fault. (read : List (Direction × ℕ)) →
-            and_char (Ok (so_much self.now.state self.now.number read)) character ≡ Err fault) }
+        ensures err { IfErr result (λ fault. (held : List ℕ) (read : List (Direction × ℕ)) →
+            and_char (Ok (so_much self.now.state self.now.number held read)) character
+            ≡ Err fault) }
         ensures why { IfErr result (λ fault. (why : RecordFault)
             × (fault ≡ InspectFault.Line self.now.number why)) }
     {
@@ -81,44 +83,37 @@ impl Recording {
         }
     }
 
-    /// Hands on the bytes of the line under way.
-    fn hand_on<O: Output>(&mut self, out: &mut O) -> Result<(), InspectFault>
-        ensures read { OnOk result ((before : Option (List ℕ)) (read : List (Direction × ℕ))
-            → SoFar before self.old.inspection self.old.state self.old.piece.items
-            (O.contents out.old) read
-            → SoFar before self.new.inspection self.old.state [] (O.contents out.new) read) }
-        ensures state { self.new.state ≡ self.old.state }
+    /// Tells what the line under way says, if it has a way.
+    fn tell_line<O: Output>(&mut self, out: &mut O) -> Result<(), InspectFault>
+        ensures tells { OnOk result (Tells self.old.inspection (O.contents out.old)
+            (in_line (way_in self.old.state) self.old.held.items)
+            self.new.inspection (O.contents out.new)) }
         ensures number { self.new.number ≡ self.old.number }
-        ensures piece { OnOk result ((way_in self.old.state ≡ None → self.old.piece.items ≡ [])
-            → self.new.piece.items ≡ []) }
         ensures failed { CountsWrites result (O.failures out.old) (O.failures out.new) }
         ensures why { IsOfTelling result }
     {
         let Some((at, way)) = line_at(self.state) else {
             return Ok(());
         };
-        if self.piece.is_empty() {
+        if self.held.is_empty() {
             return Ok(());
         }
-        self.inspection.take(way, at, self.piece.as_slice(), out)?;
-        self.piece.clear();
-        Ok(())
+        self.inspection.take(way, at, self.held.as_slice(), out)
     }
 
     /// Ends the line under way, behind which it is so.
     fn end_line<O: Output>(&mut self, state: InLine, out: &mut O) -> Result<(), InspectFault>
-        ensures read { OnOk result ((before : Option (List ℕ)) (read : List (Direction × ℕ))
-            → SoFar before self.old.inspection self.old.state self.old.piece.items
-            (O.contents out.old) read
-            → SoFar before self.new.inspection self.old.state [] (O.contents out.new) read) }
-        ensures piece { OnOk result ((way_in self.old.state ≡ None → self.old.piece.items ≡ [])
-            → self.new.piece.items ≡ []) }
+        ensures tells { OnOk result (Tells self.old.inspection (O.contents out.old)
+            (in_line (way_in self.old.state) self.old.held.items)
+            self.new.inspection (O.contents out.new)) }
         ensures state { OnOk result (self.new.state ≡ state) }
         ensures number { OnOk result (self.new.number ≡ capped (self.old.number + 1)) }
+        ensures held { OnOk result (self.new.held.items ≡ []) }
         ensures failed { CountsWrites result (O.failures out.old) (O.failures out.new) }
         ensures why { IsOfTelling result }
     {
-        self.hand_on(out)?;
+        self.tell_line(out)?;
+        self.held.clear();
         self.number = self.number.saturating_add(1);
         self.state = state;
         Ok(())
@@ -129,27 +124,29 @@ impl Recording {
         ensures inspection { OnOk result (self.new.inspection ≡ self.old.inspection) }
         ensures state { OnOk result (self.new.state ≡ stepped.state) }
         ensures number { OnOk result (self.new.number ≡ self.old.number) }
-        ensures piece { OnOk result
-            (self.new.piece.items ≡ self.old.piece.items ++ option_to_list stepped.byte) }
+        ensures held { OnOk result
+            (self.new.held.items ≡ self.old.held.items ++ option_to_list stepped.byte) }
     {
         if let Some(byte) = stepped.byte {
-            self.piece.push(byte)?;
+            self.held.push(byte)?;
         }
         self.state = stepped.state;
         Ok(())
     }
 
-    /// Takes a character of the record.
+    /// Takes a character of the record, and tells what the line says that it ends.
     fn take_one<O: Output>(&mut self, character: u8, out: &mut O) -> Result<(), InspectFault>
         ensures read { OnOk result ((before : Option (List ℕ)) (read : List (Direction × ℕ))
-            → SoFar before self.old.inspection self.old.state self.old.piece.items
-            (O.contents out.old) read
+            → SoFar before self.old.inspection (O.contents out.old) read
             → GoesOn before
-            (and_char (Ok (so_much self.old.state self.old.number read)) character)
-            self.new.inspection self.new.state self.new.number self.new.piece.items
+            (and_char (Ok (so_much self.old.state self.old.number self.old.held.items read))
+            character)
+            self.new.inspection self.new.state self.new.number self.new.held.items
             (O.contents out.new)) }
         ensures line { IfErr result (λ fault. (read : List (Direction × ℕ)) → SaysLine fault
-            (and_char (Ok (so_much self.old.state self.old.number read)) character)) }
+            (and_char (Ok (so_much self.old.state self.old.number self.old.held.items read))
+            character)) }
+        ensures uncut { (number : ℕ) → result ≢ Err (InspectFault.Cut number) }
         ensures failed { CountsWrites result (O.failures out.old) (O.failures out.new) }
         ensures why { result ≢ Err InspectFault.Read }
     {
@@ -161,33 +158,31 @@ impl Recording {
         Ok(())
     }
 
-    /// Takes characters of the record, and tells what is sure of them.
+    /// Takes characters of the record, and tells what the lines say that they end.
     fn take<O: Output>(&mut self, characters: &[u8], out: &mut O) -> Result<(), InspectFault>
         ensures read { OnOk result ((before : Option (List ℕ)) (read : List (Direction × ℕ))
-            → SoFar before self.old.inspection self.old.state self.old.piece.items
-            (O.contents out.old) read
+            → SoFar before self.old.inspection (O.contents out.old) read
             → GoesOn before
-            (and_chars (Ok (so_much self.old.state self.old.number read)) characters.now)
-            self.new.inspection self.new.state self.new.number self.new.piece.items
+            (and_chars (Ok (so_much self.old.state self.old.number self.old.held.items read))
+            characters.now)
+            self.new.inspection self.new.state self.new.number self.new.held.items
             (O.contents out.new)) }
-        ensures piece { OnOk result ((before : Option (List ℕ)) (read : List (Direction × ℕ))
-            → SoFar before self.old.inspection self.old.state self.old.piece.items
-            (O.contents out.old) read → self.new.piece.items ≡ []) }
         ensures line { IfErr result (λ fault.
             (before : Option (List ℕ)) (read : List (Direction × ℕ))
-            → SoFar before self.old.inspection self.old.state self.old.piece.items
-            (O.contents out.old) read → SaysLine fault
-            (and_chars (Ok (so_much self.old.state self.old.number read)) characters.now)) }
+            → SoFar before self.old.inspection (O.contents out.old) read → SaysLine fault
+            (and_chars (Ok (so_much self.old.state self.old.number self.old.held.items read))
+            characters.now)) }
+        ensures uncut { (number : ℕ) → result ≢ Err (InspectFault.Cut number) }
         ensures failed { CountsWrites result (O.failures out.old) (O.failures out.new) }
         ensures why { result ≢ Err InspectFault.Read }
     {
         for character in characters {
             self.take_one(*character, out)?;
         }
-        self.hand_on(out)
+        Ok(())
     }
 
-    /// Reads a record to its end, and tells what is sure of it.
+    /// Reads a record to its end, and tells what its lines say that have one.
     fn read_all<I: Input, O: Output>(
         &mut self,
         input: &mut I,
@@ -196,23 +191,19 @@ impl Recording {
         ensures read { OnOk result
             ((text : List ℕ) (before : Option (List ℕ)) (read : List (Direction × ℕ))
             → I.remaining input.old ≡ Some text
-            → SoFar before self.old.inspection self.old.state self.old.piece.items
-            (O.contents out.old) read
+            → SoFar before self.old.inspection (O.contents out.old) read
             → GoesOn before
-            (and_chars (Ok (so_much self.old.state self.old.number read)) text)
-            self.new.inspection self.new.state self.new.number self.new.piece.items
+            (and_chars (Ok (so_much self.old.state self.old.number self.old.held.items read))
+            text)
+            self.new.inspection self.new.state self.new.number self.new.held.items
             (O.contents out.new)) }
-        ensures piece { OnOk result
-            ((text : List ℕ) (before : Option (List ℕ)) (read : List (Direction × ℕ))
-            → I.remaining input.old ≡ Some text
-            → SoFar before self.old.inspection self.old.state self.old.piece.items
-            (O.contents out.old) read → self.old.piece.items ≡ [] → self.new.piece.items ≡ []) }
         ensures line { IfErr result (λ fault.
             (text : List ℕ) (before : Option (List ℕ)) (read : List (Direction × ℕ))
             → I.remaining input.old ≡ Some text
-            → SoFar before self.old.inspection self.old.state self.old.piece.items
-            (O.contents out.old) read → SaysLine fault
-            (and_chars (Ok (so_much self.old.state self.old.number read)) text)) }
+            → SoFar before self.old.inspection (O.contents out.old) read → SaysLine fault
+            (and_chars (Ok (so_much self.old.state self.old.number self.old.held.items read))
+            text)) }
+        ensures uncut { (number : ℕ) → result ≢ Err (InspectFault.Cut number) }
         ensures reads { CountsReads result (I.failures input.old) (I.failures input.new) }
         ensures wrote { CountsWrites result (O.failures out.old) (O.failures out.new) }
     {
@@ -227,27 +218,28 @@ impl Recording {
         Err(InspectFault::Endless)
     }
 
-    /// Tells the end of the record, where it may end here.
+    /// Tells the end of what its lines say that have one. A last line without one is a fault.
     fn end<O: Output>(&mut self, out: &mut O) -> Result<Verdict, InspectFault>
         ensures ends { IfOk result (λ verdict.
-            (before : Option (List ℕ)) (read : List (Direction × ℕ))
-            → SoFar before self.old.inspection self.old.state self.old.piece.items
-            (O.contents out.old) read → self.old.piece.items ≡ []
-            → (at_record_end (Ok (so_much self.old.state self.old.number read)) ≡ Ok read)
+            (before : Option (List ℕ)) (held : List ℕ) (read : List (Direction × ℕ))
+            → SoFar before self.old.inspection (O.contents out.old) read
+            → (at_record_end (Ok (so_much self.old.state self.old.number held read)) ≡ Ok read)
             × Explains Ways.Both read before verdict (O.contents out.new)) }
         ensures last { IfOk result (λ verdict. TellsLast Ways.Both verdict (O.contents out.new)) }
-        ensures line { IfErr result (λ fault. (read : List (Direction × ℕ)) → EndsLine fault
-            (at_record_end (Ok (so_much self.old.state self.old.number read)))) }
+        ensures line { IfErr result (λ fault. (number : ℕ) (why : RecordFault)
+            → fault ≢ InspectFault.Line number why) }
+        ensures cut { IfErr result (λ fault.
+            (before : Option (List ℕ)) (held : List ℕ) (read : List (Direction × ℕ))
+            → SoFar before self.old.inspection (O.contents out.old) read → EndsCut fault
+            (Ok (so_much self.old.state self.old.number held read)) before (O.contents out.new)) }
         ensures failed { CountsWrites result (O.failures out.old) (O.failures out.new) }
         ensures why { result ≢ Err InspectFault.Read }
     {
-        match fault_at_end(self.state) {
-            None => {
-                let verdict = self.inspection.end(Ways::Both, out)?;
-                Ok(verdict)
-            }
-            Some(why) => Err(self.fault(why)),
+        let verdict = self.inspection.end(Ways::Both, out)?;
+        if is_open(self.state) {
+            return Err(InspectFault::Cut(self.number));
         }
+        Ok(verdict)
     }
 }
 
@@ -265,6 +257,10 @@ pub(crate) fn tell_record<I: Input, O: Output>(
     // A line that cannot be read is the first such line.
     ensures line { IfErr result (λ fault. (text : List ℕ)
         → Begins prefix.now text (I.remaining input.old) → IsFirstLine fault text) }
+    // Where the last line has no end, all that the lines before it say is told.
+    ensures cut { IfErr result (λ fault. (text : List ℕ)
+        → Begins prefix.now text (I.remaining input.old)
+        → IsCut fault text (O.contents out.old) (O.contents out.new)) }
     // The last of what is told is this verdict.
     ensures last { IfOk result (λ verdict. TellsLast Ways.Both verdict (O.contents out.new)) }
     ensures reads { CountsReads result (I.failures input.old) (I.failures input.new) }

@@ -6,7 +6,14 @@ pub returns-in-Capture : goal.returns-in-Capture
 returns-in-Capture g c =
     let it = c.explain_capture.ensures in
     rw c.in-Capture.is
-    (record { last = it.last; all = it.told; fault_is = it.fault; reads = it.reads; writes = it.wrote })
+    (record {
+      last = it.last;
+      all = it.told;
+      fault_is = it.fault;
+      cut = it.cut;
+      reads = it.reads;
+      writes = it.wrote;
+    })
 
 pub returns-in-OneWay : goal.returns-in-OneWay
 returns-in-OneWay g c =
@@ -16,6 +23,7 @@ returns-in-OneWay g c =
       last = it.last;
       all = it.told;
       fault_is = of_any_fault c.explain_one_way.result _ (λ why known e. tt);
+      cut = of_any_fault c.explain_one_way.result _ (λ why known e. tt);
       reads = it.reads;
       writes = it.wrote;
     })

@@ -1,19 +1,19 @@
-use Rattle.std.proofs.Common.{◌≡◌, ◌∙◌, sym, ap, Option, None}
-use Rattle.ym_inspect.specs.Recorded.{end_fault}
+use Rattle.std.proofs.Common.{◌≡◌, Bool, true, false, refl, ap, rules}
+use Rattle.ym_inspect.specs.Recorded.{is_open}
 use Rattle.ym_inspect.specs.RecordRead.{ended, so_much}
-use Rattle.ym_inspect.specs.declared.fault.RecordFault.{RecordFault}
-use Rattle.ym_inspect.proofs.RecordLemmas.{all_told}
+use Rattle.ym_inspect.specs.declared.fault.InspectFault.{InspectFault}
+use Rattle.ym_inspect.proofs.RecordLemmas.{if_err, never_cut}
 use Rattle.ym_inspect.proofs.record.Recording.end.Goals as goal
 
-pub returns-in_ok-verdict-in-None-clause-ends : goal.returns-in_ok-verdict-in-None-clause-ends
-returns-in_ok-verdict-in-None-clause-ends g c = λ before read so none.
+pub returns-clause-ends : goal.returns-clause-ends
+returns-clause-ends g c = λ before held read so.
     let s = c.args.self.now in
-    let e : end_fault s.state ≡ None = cc in (
-      ap (λ (o : Option RecordFault). ended (so_much s.state s.number read) o) e,
+    let e : is_open s.state ≡ false = search rules in (
+      ap (λ (b : Bool). ended (so_much s.state s.number held read) b) e,
       record {
         at_end = s.inspection;
         between = g.O.Output.contents c.args.out.now;
-        tells = all_told _ _ _ _ _ _ so none;
-        ends = c.in_ok-verdict-in-None.ensures.ends;
+        tells = so;
+        ends = c.in_ok-verdict.ensures.ends;
       },
     )

@@ -7,7 +7,6 @@ use Rattle.ym_inspect.proofs.record.Recording.read_all.Goals as goal
 pub loop-init : goal.loop-init
 loop-init g c = record {
   some = λ text before read e so. read_none _ _ _ _ _ _ _ _ read e so;
-  pieces = λ text before read e so none. none;
   reads = refl;
   writes = refl;
 }
@@ -24,9 +23,6 @@ loop-preserved g c = record {
       let some = c.loop.invariant.some text before read e so in
       read_more _ _ _ _ _ _ _ _ _ _ _ _ _ _ _ _ some c.in_ok-count.ensures.bytes.0
       (c.in_ok-take.ensures.read before some.goes.read some.goes.so_far);
-  pieces = λ text before read e so none.
-      let some = c.loop.invariant.some text before read e so in
-      c.in_ok-take.ensures.piece before some.goes.read some.goes.so_far;
   reads = grind (arith, common_steps);
   writes = grind (arith, common_steps);
 }
@@ -36,6 +32,3 @@ returns-in_err-take-clause-line g c = if_err c.from_residual-in_err-take.result 
     let some = c.loop.invariant.some text before read e so in
     read_wrong _ _ _ _ _ _ _ _ _ _ _ c.in_err-take.field-0.0 some c.in_ok-count.ensures.bytes.0
     (c.in_err-take.ensures.line before some.goes.read some.goes.so_far))
-
-pub returns-then-count-eq0-clause-piece : goal.returns-then-count-eq0-clause-piece
-returns-then-count-eq0-clause-piece g c = c.loop.invariant.pieces

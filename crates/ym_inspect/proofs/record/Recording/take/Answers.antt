@@ -1,6 +1,6 @@
 use Rattle.std.proofs.Common.{refl, arith, rules}
 use Rattle.std.proofs.lemmas.Grind.{common_steps}
-use Rattle.ym_inspect.proofs.RecordLemmas.{if_err, on_ok, on_ok_one, walked_end, walked_on, walked_wrong}
+use Rattle.ym_inspect.proofs.RecordLemmas.{if_err, walked_end, walked_on, walked_wrong}
 use Rattle.ym_inspect.proofs.record.Recording.take.Goals as goal
 
 pub loop-character-init : goal.loop-character-init
@@ -25,11 +25,6 @@ returns-in_err-take_one-clause-line g c = if_err c.from_residual.result c.in_err
     c.loop-character-test.true w (c.in_err-take_one.ensures.line w.read))
 
 pub returns-clause-read : goal.returns-clause-read
-returns-clause-read g c = on_ok c.hand_on.result _ _ _ c.hand_on.ensures.read c.hand_on.ensures.piece (λ handed none. λ before read so.
-    let w = c.loop-character.invariant.walked before read so in
-    walked_end _ _ c.args.characters.now c.loop-character.character-index _ _ _ _ _ _ _ _ _ _ c.loop-character-test.false w
-    c.hand_on.ensures.state c.hand_on.ensures.number none (handed before w.read w.so_far))
-
-pub returns-clause-piece : goal.returns-clause-piece
-returns-clause-piece g c = on_ok_one c.hand_on.result _ _ c.hand_on.ensures.piece (λ none. λ before read so.
-    none (c.loop-character.invariant.walked before read so).so_far.buffered)
+returns-clause-read g c = λ before read so.
+    walked_end _ _ c.args.characters.now c.loop-character.character-index _ _ _ _ _ c.loop-character-test.false
+    (c.loop-character.invariant.walked before read so)
