@@ -7,7 +7,7 @@ import threading
 import time
 
 from support.cases import case, cases, sentence
-from support.frames import ACK, EOT, NAK, START, frames_of
+from support.frames import ACK, ACK_START, END, EOT, NAK, START, block, frames_of, header
 from support.peers import PlainReceiver, called, frames_at, receive_from, send_to
 from support.program import (
     LIMIT,
@@ -21,6 +21,7 @@ from support.program import (
     wants_stored,
     write_files,
 )
+from support.talking import talks
 from support.telling import DATA, FILE, coming, connecting, line, listening, missing, under_terminal
 from support.terminal import UnderTerminal
 
@@ -248,3 +249,28 @@ def test_counts_repeats(count):
     sent.wants(0, "sender done 1 finished\n", sent.err)
     for ended in (received, sent):
         assert re.fullmatch(wanted, ended.err.splitlines()[-1].encode()), "it told %r" % ended.err
+
+
+@cases(
+    case("counts no data past a length as repeats", 0, b""),
+    case("counts a repeat between data past a length", 1, b", 1 repeated"),
+)
+def test_counts_no_data_past_a_length(repeats, counted):
+    """What is behind the length of a file is dropped, and did not come before."""
+    ack, last = bytes((ACK,)), bytes((EOT,))
+    peer = talks(
+        (header(b"a", b"3"), ACK_START),
+        (block(1, b"abc" + bytes(125)), ack),
+        (block(2, bytes(128)), ack),
+        *[(block(2, bytes(128)), ack)] * repeats,
+        (block(3, bytes(1024)), ack),
+        (last, bytes((NAK,))),
+        (last, ACK_START),
+        (END, ack),
+    )
+    with folders() as (_, there):
+        ended = receive_from(peer, there, ("--verbose",))
+        wants_stored(there, [("a", b"abc")])
+    ended.wants(0, "file a 3 - -\nreceiver files 1 finished\n", ended.err)
+    told = rb"a: 3 bytes in \d+\.\d s(, \d+ k?B/s)?" + counted
+    assert re.fullmatch(told, ended.err.splitlines()[-1].encode()), "it told %r" % ended.err

@@ -19,6 +19,7 @@ from support.program import (
     write_files,
 )
 from support.telling import FAULT, FILE, coming
+from support.talking import talks
 from support.tracing import at_paths, calls_of, strace
 
 
@@ -27,7 +28,9 @@ XMODEM = "the receiver asks by NAK, as XMODEM does: start it as a receiver of YM
 STREAMS = "the receiver asks by G, as YMODEM-g does: start it as a receiver of YMODEM"
 REFUSES = "nothing came but NAK, ten times: does the receiver get every byte that is sent?"
 SPEED = "nothing whole came, ten times in a row: do both ends have the same speed?"
-BETTER_LINE = "nothing whole came, ten times in a row: use a better line, or a lower speed"
+BETTER_LINE = "nothing new came whole, ten times in a row: use a better line, or a lower speed"
+SAME = "nothing came but the same again, ten times: does the sender get what is written to it?"
+PAST = "nothing came but data past the file's length, ten times: does the file grow?"
 NO_SENDER = "nothing came but what receivers send: is a sender at the other end?"
 NAMELESS = "the sender names no file, as XMODEM does: start it as a sender of YMODEM"
 AGAIN = "a block came out of turn: the two ends are out of step, send again"
@@ -103,12 +106,14 @@ def test_receiver_ceases():
     assert re.fullmatch(ceased, told_last(ended)), "it told %r" % told_last(ended)
 
 
+# A block 1 that the line damaged.
+DAMAGED = block(1, bytes(128)).replace(bytes(128), bytes(7) + b"\x01" + bytes(120))
+
+
 def sends_damaged(end):
     """A sender whose blocks come damaged behind block 0."""
     end.sendall(header(b"a", b"128"))
-    damaged = bytearray(block(1, bytes(128)))
-    damaged[10] ^= 1
-    says_on(end, bytes(damaged))
+    says_on(end, DAMAGED)
 
 
 def sends_first(number):
@@ -121,7 +126,40 @@ def sends_first(number):
     return peer
 
 
+def stuck(*turns, times=9):
+    """A sender that gets these answers to what it sends, and the last of them so many times more
+    before it is cancelled: whatever it is answered, it sends that again."""
+    last = turns[-1]
+    return talks(*turns, *([last] * times), (last[0], CANCEL))
+
+
+LONG = (header(b"a", b"300"), ACK_START)
+FIRST = (block(1, bytes(128)), bytes((ACK,)))
+
+
+def sends_now_and_then_whole(end):
+    """The same, of whose blocks every second one comes whole, and is one that came before."""
+    again = ((DAMAGED, bytes((NAK,))), FIRST)
+    talks(LONG, FIRST, *(again * 4), again[0], (FIRST[0], CANCEL))(end)
+
+
+def sends_past(count):
+    """A sender of a file of three bytes, and of so many blocks more before it is cancelled."""
+    past = [(block(number, bytes(128)), bytes((ACK,))) for number in range(2, 1 + count)]
+    begun = ((header(b"a", b"3"), ACK_START), FIRST)
+    return talks(*begun, *past, (block(1 + count, bytes(128)), CANCEL))
+
+
 @cases(
+    case("tells that a block comes again and again", stuck(LONG, FIRST), "too-many-errors", SAME),
+    case("tells that a block 0 comes again and again", stuck(LONG), "too-many-errors", SAME),
+    case("tells that data comes past a length", sends_past(10), "too-many-errors", PAST),
+    case(
+        "tells that copies come between damaged blocks",
+        sends_now_and_then_whole,
+        "too-many-errors",
+        BETTER_LINE,
+    ),
     case("tells that the line damages blocks", sends_damaged, "too-many-errors", BETTER_LINE),
     case("tells that a receiver is at both ends", asks_by(START), "too-many-errors", NO_SENDER),
     case("tells that a sender sends as one of XMODEM", sends_first(1), "out-of-step", NAMELESS),

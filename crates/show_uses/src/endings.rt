@@ -253,7 +253,7 @@ static TO_SENDERS: [Heard; 11] = [
         &[b"\x15", b"\xfe"],
         Sight::Peer,
         false,
-        "nothing whole came, ten times in a row: use a better line, or a lower speed",
+        "nothing new came whole, ten times in a row: use a better line, or a lower speed",
     ),
 ];
 
@@ -282,7 +282,7 @@ static TO_RECEIVERS: [Heard; 5] = [
         &[b"\x01\x00"],
         Sight::Peer,
         false,
-        "nothing whole came, ten times in a row: use a better line",
+        "nothing new came whole, ten times in a row: use a better line",
     ),
     (
         &[b"\x00"],

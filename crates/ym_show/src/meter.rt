@@ -37,6 +37,8 @@ struct Course {
 struct Quiet {
     /// What came since it last got on.
     came: Came,
+    /// The same without the delivery that came last.
+    before: Came,
     /// What was seen of the other end.
     seen: Sight,
     /// When it began to wait: for the first bytes, or for more behind those that came last.
@@ -96,6 +98,7 @@ impl<'t, E: Write + Drop, C: Clock + Drop> Meter<'t, E, C> {
             course: None,
             quiet: Quiet {
                 came: Came::Nothing,
+                before: Came::Nothing,
                 seen: Sight::Nothing,
                 since: None,
                 has_heard: false,
@@ -176,6 +179,7 @@ impl<'t, E: Write + Drop, C: Clock + Drop> Meter<'t, E, C> {
     /// shown, once a second has passed.
     pub fn wait(&mut self, awaited: Awaited) {
         let is_first = self.quiet.since.is_none();
+        self.quiet.before = self.quiet.came;
         if is_first || self.quiet.has_heard {
             self.quiet.since = Instant::now(&self.clock).ok();
             self.quiet.has_heard = false;
@@ -209,6 +213,16 @@ impl<'t, E: Write + Drop, C: Clock + Drop> Meter<'t, E, C> {
         self.quiet.came = self.quiet.came.with(bytes);
         self.quiet.has_heard = true;
         self.quiet.shown = None;
+    }
+
+    /// The delivery that came last came before, and was answered then.
+    pub fn know_again(&mut self) {
+        self.quiet.came = self.quiet.before.with_copy();
+    }
+
+    /// The delivery that came last is a block behind the length of its file.
+    pub fn pass(&mut self) {
+        self.quiet.came = self.quiet.before.with_past();
     }
 
     /// The line echoes. That is told once.

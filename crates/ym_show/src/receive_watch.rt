@@ -7,13 +7,48 @@ use std::alloc::Global;
 use std::cell::RefCell;
 use std::io::Write;
 use std::time::Clock;
-use ym_frame::{SOH, STX};
+use ym_frame::{CAN, EOT, SOH, STX};
 use ym_header::Header;
 use ym_link::Wait;
 use ym_text::{Awaited, Coming, EchoMessage, FileMessage, Lately};
 
+/// The byte by which a receiver answers a frame that it has.
+const ACK: u8 = 0x06;
+
 /// So many bytes of a delivery are kept: a block's front, and a name.
 const PREFIX_BYTES: usize = 260;
+
+/// What a delivery is that was taken, and brought a receiver no further.
+#[derive(Clone, Copy)]
+enum Stale {
+    /// It came before.
+    Copy,
+    /// It is a block behind the length of its file.
+    Past,
+}
+
+/// What a delivery with these bytes in front is that brought a receiver no further, behind so many
+/// blocks of a file. One that came damaged is refused, and not answered by this.
+fn stale(front: &[u8], blocks: u64, answer: &[u8]) -> Option<Stale> {
+    // the last of too many in a row is answered by CAN
+    if !matches!(answer, [ACK | CAN, ..]) {
+        return None;
+    }
+    match front {
+        [EOT, ..] => Some(Stale::Copy),
+        [SOH | STX, number, check, ..] if *number == !*check => {
+            let number = u64::from(*number);
+            if number == blocks % 256 {
+                Some(Stale::Copy)
+            } else if number == blocks.saturating_add(1) % 256 {
+                Some(Stale::Past)
+            } else {
+                None
+            }
+        }
+        _ => None,
+    }
+}
 
 /// The text up to the first 00 of a block's body, where it is text.
 fn name_in(body: &[u8]) -> Option<&str> {
@@ -32,9 +67,12 @@ pub struct Receiving<'t, E: Write + Drop, C: Clock + Drop> {
     last: Option<String>,
     /// The first bytes of the delivery that came last.
     prefix: Vec<u8>,
+    /// Whether that brought it further.
+    has_got_on: bool,
     /// What it waits for.
     awaited: Awaited,
-    /// How often it has written since that file was begun, the file's blocks, and its bytes.
+    /// How often it has written since that file was begun, the file's blocks with those behind its
+    /// length, and its bytes.
     replies: u64,
     blocks: u64,
     done: u64,
@@ -49,6 +87,7 @@ impl<'t, E: Write + Drop, C: Clock + Drop> Receiving<'t, E, C> {
             besides,
             last: None,
             prefix: Vec::new(alloc),
+            has_got_on: false,
             awaited: Awaited::Sender,
             replies: 0,
             blocks: 0,
@@ -74,6 +113,7 @@ impl<'t, E: Write + Drop, C: Clock + Drop> Receiving<'t, E, C> {
     /// A delivery is waited for.
     fn wait(&mut self) {
         self.prefix.clear();
+        self.has_got_on = false;
         let awaited = self.awaited;
         self.meter.wait(awaited);
     }
@@ -99,7 +139,7 @@ impl<'t, E: Write + Drop, C: Clock + Drop> Receiving<'t, E, C> {
         self.replies = 0;
         self.blocks = 0;
         self.done = 0;
-        self.meter.get_on();
+        self.get_on();
         self.meter.introduce(Coming(header));
         self.meter.begin(header.name(), header.length());
     }
@@ -108,7 +148,7 @@ impl<'t, E: Write + Drop, C: Clock + Drop> Receiving<'t, E, C> {
     fn add(&mut self, count: usize) {
         self.blocks = self.blocks.saturating_add(1);
         self.done = self.done.saturating_add(count as u64);
-        self.meter.get_on();
+        self.get_on();
         let repeats = self.replies.saturating_sub(self.blocks);
         self.meter.advance(self.done, repeats);
     }
@@ -116,8 +156,33 @@ impl<'t, E: Write + Drop, C: Clock + Drop> Receiving<'t, E, C> {
     /// The file is whole.
     fn finish(&mut self) {
         let replies = self.blocks.saturating_add(self.besides);
-        self.meter.get_on();
+        self.get_on();
         self.meter.finish(self.replies.saturating_sub(replies));
+    }
+
+    /// What came last brought it further.
+    fn get_on(&mut self) {
+        self.has_got_on = true;
+        self.meter.get_on();
+    }
+
+    /// A block behind the length of the file came.
+    fn pass(&mut self) {
+        self.blocks = self.blocks.saturating_add(1);
+        self.meter.pass();
+    }
+
+    /// This is its answer to what came last.
+    fn answer(&mut self, answer: &[u8]) {
+        self.replies = self.replies.saturating_add(1);
+        if self.has_got_on {
+            return;
+        }
+        match stale(self.prefix.as_slice(), self.blocks, answer) {
+            Some(Stale::Copy) => self.meter.know_again(),
+            Some(Stale::Past) => self.pass(),
+            None => {}
+        }
     }
 }
 
@@ -142,12 +207,12 @@ impl<'s, 't, E: Write + Drop, C: Clock + Drop> ReceiveWatch<'s, 't, E, C> {
         }
     }
 
-    /// Something was written.
+    /// This was written.
     #[cold]
     #[inline(never)]
-    fn reply(&self) {
+    fn reply(&self, bytes: &[u8]) {
         if let Ok(mut shown) = self.shown.try_borrow_mut() {
-            shown.replies = shown.replies.saturating_add(1);
+            shown.answer(bytes);
         }
     }
 }
@@ -174,9 +239,9 @@ impl<'s, 't, E: Write + Drop, C: Clock + Drop> PortWatch for ReceiveWatch<'s, 't
     }
 
     #[inline(always)]
-    fn wrote(&mut self, _bytes: &[u8]) {
+    fn wrote(&mut self, bytes: &[u8]) {
         if self.is_looked_at {
-            self.reply();
+            self.reply(bytes);
         }
     }
 

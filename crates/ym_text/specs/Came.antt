@@ -17,13 +17,31 @@ and_streams before = before
 -- after more that asks for a block again
 abbrev pub and_refusals : Came → Came
 and_refusals came.Text = came.Other
+and_refusals came.Copies = came.Other
+and_refusals came.Past = came.Other
 and_refusals came.Other = came.Other
 and_refusals _ = came.Refuses
 
 -- after more that is text
 abbrev pub and_text : Came → Came
+and_text came.Copies = came.Other
+and_text came.Past = came.Other
 and_text came.Other = came.Other
 and_text _ = came.Text
+
+-- after a frame more that came before, and was answered
+abbrev pub and_copy : Came → Came
+and_copy came.Nothing = came.Copies
+and_copy came.Copies = came.Copies
+and_copy came.Past = came.Past
+and_copy _ = came.Other
+
+-- after a block more that is behind the length of its file
+abbrev pub and_past : Came → Came
+and_past came.Nothing = came.Past
+and_past came.Copies = came.Past
+and_past came.Past = came.Past
+and_past _ = came.Other
 
 -- an answer takes so many seconds, where that is more than usual peers wait
 abbrev pub slow_of : Option ℕ → Option ℕ

@@ -30,6 +30,8 @@ prompt_of peer.Sender why = cause.NoSender
 -- a receiver may not be heard: what it sends is what an echo would bring.
 abbrev pub quiet_of : Peer → Sight → Came → ℕ → Cause
 quiet_of other before came.Nothing seconds = silence_of other before seconds
+quiet_of other before came.Copies seconds = silence_of other before seconds
+quiet_of other before came.Past seconds = silence_of other before seconds
 quiet_of other before came.Other seconds = silence_of other before seconds
 quiet_of other before came.Text seconds = cause.Text
 quiet_of other before _ seconds = prompt_of other (cause.Ceased other seconds)
@@ -50,6 +52,8 @@ heard_of other before came.Asks seconds = prompt_of other cause.Asks
 heard_of other before came.Refuses seconds = prompt_of other (asked_of before)
 heard_of other before came.Streams seconds = prompt_of other cause.Streams
 heard_of other before came.Text seconds = cause.Text
+heard_of other before came.Copies seconds = cause.Copies
+heard_of other before came.Past seconds = cause.Past
 heard_of other before came.Other seconds = noise_of before
 
 -- where an answer takes longer than usual peers wait, and something came, that is the reason
@@ -98,8 +102,12 @@ cause_text cause.NoSender =
     codes "nothing came but what receivers send: is a sender at the other end?"
 cause_text cause.Text =
     codes "what comes is no YMODEM: is a shell or a boot loader's prompt at the other end?"
+cause_text cause.Copies =
+    codes "nothing came but the same again, ten times: does the sender get what is written to it?"
+cause_text cause.Past =
+    codes "nothing came but data past the file's length, ten times: does the file grow?"
 cause_text cause.Damage =
-    codes "nothing whole came, ten times in a row: use a better line, or a lower speed"
+    codes "nothing new came whole, ten times in a row: use a better line, or a lower speed"
 cause_text cause.Noise =
     codes "nothing whole came, ten times in a row: do both ends have the same speed?"
 

@@ -1,5 +1,6 @@
 pub mod Briefs
 pub mod Came
+pub mod CauseExamples
 pub mod Causes
 pub mod Messages
 pub mod Moment

@@ -25,6 +25,10 @@ pub enum Came {
     Streams,
     /// Text, as a person reads it.
     Text,
+    /// Frames alone that came before, and were answered.
+    Copies,
+    /// Blocks behind the length of their file, or those and copies.
+    Past,
     /// Other bytes, or some of them.
     Other,
 }
@@ -62,6 +66,7 @@ fn is_text(bytes: &[u8]) -> bool
 
 impl Came {
     ghost use Rattle.ym_text.specs.Came.{and_asks, and_streams, and_refusals, and_text};
+    ghost use Rattle.ym_text.specs.Came.{and_copy, and_past};
 
     /// After more that asks.
     fn with_asks(self) -> Came
@@ -88,7 +93,7 @@ impl Came {
         ensures { result ≡ and_refusals self }
     {
         match self {
-            Came::Text | Came::Other => Came::Other,
+            Came::Text | Came::Copies | Came::Past | Came::Other => Came::Other,
             _ => Came::Refuses,
         }
     }
@@ -98,8 +103,29 @@ impl Came {
         ensures { result ≡ and_text self }
     {
         match self {
-            Came::Other => Came::Other,
+            Came::Copies | Came::Past | Came::Other => Came::Other,
             _ => Came::Text,
+        }
+    }
+
+    /// After a frame more that came before, and was answered.
+    pub fn with_copy(self) -> Came
+        ensures { result ≡ and_copy self }
+    {
+        match self {
+            Came::Nothing | Came::Copies => Came::Copies,
+            Came::Past => Came::Past,
+            _ => Came::Other,
+        }
+    }
+
+    /// After a block more that is behind the length of its file.
+    pub fn with_past(self) -> Came
+        ensures { result ≡ and_past self }
+    {
+        match self {
+            Came::Nothing | Came::Copies | Came::Past => Came::Past,
+            _ => Came::Other,
         }
     }
 

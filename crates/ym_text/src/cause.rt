@@ -51,6 +51,10 @@ pub(crate) enum Cause {
     NoSender,
     /// Text came.
     Text,
+    /// The sender sends again what was answered.
+    Copies,
+    /// It sends on behind the length of a file.
+    Past,
     /// Other bytes came from an end that was heard before.
     Damage,
     /// Other bytes came, and nothing whole yet.
@@ -171,7 +175,7 @@ fn quiet(peer: Peer, seen: Sight, came: Came, seconds: u64) -> Cause
     ensures { result ≡ quiet_of peer seen came seconds }
 {
     match came {
-        Came::Nothing | Came::Other => silence(peer, seen, seconds),
+        Came::Nothing | Came::Copies | Came::Past | Came::Other => silence(peer, seen, seconds),
         Came::Text => Cause::Text,
         _ => prompts(peer, Cause::Ceased(peer, seconds)),
     }
@@ -207,6 +211,8 @@ fn heard(peer: Peer, seen: Sight, came: Came, seconds: u64) -> Cause
         Came::Refuses => prompts(peer, asked(seen)),
         Came::Streams => prompts(peer, Cause::Streams),
         Came::Text => Cause::Text,
+        Came::Copies => Cause::Copies,
+        Came::Past => Cause::Past,
         Came::Other => noise(seen),
     }
 }
@@ -251,8 +257,15 @@ impl Cause {
             Cause::Text => CauseWords::Text(
                 "what comes is no YMODEM: is a shell or a boot loader's prompt at the other end?",
             ),
+            Cause::Copies => CauseWords::Text(
+                "nothing came but the same again, ten times: does the sender get what is \
+                written to it?",
+            ),
+            Cause::Past => CauseWords::Text(
+                "nothing came but data past the file's length, ten times: does the file grow?",
+            ),
             Cause::Damage => CauseWords::Text(
-                "nothing whole came, ten times in a row: use a better line, or a lower speed",
+                "nothing new came whole, ten times in a row: use a better line, or a lower speed",
             ),
             Cause::Noise => CauseWords::Text(
                 "nothing whole came, ten times in a row: do both ends have the same speed?",
