@@ -111,6 +111,21 @@ def test_closed_part(mode, stays, is_locked=False):
         wants_stored(there, stays or FILE)
 
 
+@sentence("parts: one that may not be opened is named")
+def test_closed_part_is_named():
+    """It is told which part it is, and what to do with it."""
+    with folders() as (_, there):
+        (path,) = write_files(there, [PART_OF_FILE])
+        os.chmod(path, 0o000)
+        words = handed_over(there, path)
+        ended, _ = received(FILE, there, [*DISCARD, "--verbose"], words)
+        os.chmod(path, 0o600)
+        wants_stored(there, [PART_OF_FILE])
+    wants_same({"status": ended.status}, {"status": 3})
+    why = "'%s' is in use by another program, may not be read, or is no" % part_of("first")
+    assert why in ended.err and "move it away" in ended.err, "it told %r" % ended.err
+
+
 @cases(
     case("parts: two receivers of one name", []),
     case("parts: two receivers of one name, --discard-parts", DISCARD),

@@ -27,8 +27,8 @@ IN_THE_MIDDLE = 150_000
 LEFT = part_of("first.bin")
 REPLACED = "'%s', left from an earlier run, was replaced\n" % LEFT
 HELD = (
-    "cannot store 'first.bin': '%s' is in use by another program, or is no regular file; "
-    "wait for that program, or move it away\n" % LEFT
+    "cannot store 'first.bin': '%s' is in use by another program, may not be read, or is no "
+    "regular file; wait for that program, or move it away\n" % LEFT
 )
 
 
@@ -116,7 +116,7 @@ def test_receive_refuses_it():
                 {"status": ended.status, "out": ended.out},
                 {"status": 3, "out": refused(0, LONG[1:])},
             )
-            told = "'%s' is left from an earlier run; --discard-parts removes such parts\n" % LEFT
+            told = "or use --discard-parts where an earlier run left it\n"
             wants_same({"told": told in ended.err}, {"told": bool(words)})
             wants_same(stored(there), before)
         received(LONG[1:], there, ["--discard-parts"])[0].wants(

@@ -59,8 +59,8 @@ def test_unsent(path, told):
         (),
         [("first.bin.part", b"left")],
         (
-            "cannot store 'first.bin': 'first.bin.part' is left from an earlier run;"
-            " --discard-parts removes such parts\n"
+            "cannot store 'first.bin': 'first.bin.part' is there; wait for the receiver that"
+            " writes it, or use --discard-parts where an earlier run left it\n"
         ),
     ),
     case(
@@ -68,8 +68,8 @@ def test_unsent(path, told):
         ("--discard-parts",),
         [("first.bin.part", b"held")],
         (
-            "cannot store 'first.bin': 'first.bin.part' is in use by another program, or is no"
-            " regular file; wait for that program, or move it away\n"
+            "cannot store 'first.bin': 'first.bin.part' is in use by another program, may"
+            " not be read, or is no regular file; wait for that program, or move it away\n"
         ),
         lock=True,
     ),

@@ -60,8 +60,8 @@ static FILES: [(FileMessage, &str); 11] = [
     ),
     (
         FileMessage::PartIsLeft("a", "a.part"),
-        "cannot store 'a': 'a.part' is left from an earlier run; \
-        --discard-parts removes such parts",
+        "cannot store 'a': 'a.part' is there; wait for the receiver that writes it, \
+        or use --discard-parts where an earlier run left it",
     ),
     (
         FileMessage::CannotStore("a", Reason::Full),
@@ -77,8 +77,8 @@ static FILES: [(FileMessage, &str); 11] = [
     ),
     (
         FileMessage::PartIsInUse("a", "a.part"),
-        "cannot store 'a': 'a.part' is in use by another program, or is no regular file; \
-        wait for that program, or move it away",
+        "cannot store 'a': 'a.part' is in use by another program, may not be read, \
+        or is no regular file; wait for that program, or move it away",
     ),
     (
         FileMessage::PartIsReplaced("a.part"),

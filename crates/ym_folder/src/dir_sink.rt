@@ -156,8 +156,8 @@ fn part_fault(error: io::Error) -> StoreFault {
     match error.kind() {
         // It is there, or somebody has it locked.
         ErrorKind::AlreadyExists | ErrorKind::WouldBlock => StoreFault::PartIsThere,
-        // Somebody took it away meanwhile, or it is no regular file: these two are no errors of the
-        // system.
+        // Somebody took it away meanwhile, it may not be opened, or it is no regular file: these
+        // are no errors of the system.
         ErrorKind::ResourceBusy | ErrorKind::InvalidInput if error.raw_os_error().is_none() => {
             StoreFault::PartIsThere
         }

@@ -96,8 +96,19 @@ pub(crate) fn make_part<D: Folder>(folder: &mut D, part: &FilePlace) -> io::Resu
     Ok(file)
 }
 
+/// Opens what stands at a part's place. Of what may not be opened nobody knows whether somebody has
+/// it locked.
+fn open_left<D: Folder>(folder: &D, part: &FilePlace) -> io::Result<D::File> {
+    match folder.open(part) {
+        Err(error) if error.kind() == ErrorKind::PermissionDenied => {
+            Err(io::Error::from(ErrorKind::ResourceBusy))
+        }
+        opened => opened,
+    }
+}
+
 /// Removes a part that an earlier run left. What somebody has locked is being written, and what is
-/// no regular file is no part: both are refused.
+/// no regular file is no part: both are refused. So is what may not be opened.
 fn discard_part<D: Folder>(folder: &mut D, part: &FilePlace) -> io::Result<()>
     ensures removed { OnOk result
         (Removed (name_of part.now) (D.seen folder.old) (D.seen folder.new)) }
@@ -106,7 +117,7 @@ fn discard_part<D: Folder>(folder: &mut D, part: &FilePlace) -> io::Result<()>
     if !folder.is_regular(part)? {
         return Err(io::Error::from(ErrorKind::InvalidInput));
     }
-    let file = folder.open(part)?;
+    let file = open_left(folder, part)?;
     hold(folder, &file, part)?;
     // While it is locked nobody else takes the name away, so this is the file that was opened.
     folder.remove(part)

@@ -21,7 +21,8 @@ pub enum FileMessage<'a> {
     CannotStoreIn(&'a str, Reason),
     /// A file of this name is there already.
     IsThere(&'a str),
-    /// This name has a part, the second text, that an earlier run left.
+    /// This name has a part, the second text, that an earlier run left, or that another receiver
+    /// writes.
     PartIsLeft(&'a str, &'a str),
     /// This name has a part, the second text, that may not be removed.
     PartIsInUse(&'a str, &'a str),
@@ -87,8 +88,8 @@ impl fmt::Display for FileMessage<'_> {
                 let part = Shown(part);
                 write!(
                     f,
-                    "cannot store '{name}': '{part}' is left from an earlier run; \
-                    --discard-parts removes such parts"
+                    "cannot store '{name}': '{part}' is there; wait for the receiver that \
+                    writes it, or use --discard-parts where an earlier run left it"
                 )
             }
             FileMessage::PartIsInUse(name, part) => {
@@ -96,8 +97,8 @@ impl fmt::Display for FileMessage<'_> {
                 let part = Shown(part);
                 write!(
                     f,
-                    "cannot store '{name}': '{part}' is in use by another program, or is no \
-                    regular file; wait for that program, or move it away"
+                    "cannot store '{name}': '{part}' is in use by another program, may not be \
+                    read, or is no regular file; wait for that program, or move it away"
                 )
             }
             FileMessage::PartIsReplaced(part) => {
