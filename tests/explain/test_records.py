@@ -314,7 +314,7 @@ def is_front(path, most):
 
 @cases(
     case("a record: a full device", "/dev/full", "no space left on device"),
-    case("a record: a file that may not grow", "here", "error 27 of the system", most=4096),
+    case("a record: a file that may not grow", "here", "the file system or a limit takes no file so large", most=4096),
 )
 def test_goes_on(record, why, most=None):
     """Where a write of the record fails, it is told once at the end, and the transfer is whole."""

@@ -7,6 +7,7 @@ pub mod Moment
 pub mod MomentExamples
 pub mod Progress
 pub mod Readable
+pub mod ReasonExamples
 pub mod Reasons
 pub mod Rights
 pub mod Waiting

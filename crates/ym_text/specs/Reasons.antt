@@ -1,5 +1,5 @@
 -- Why the system refused a call, in words.
-use Rattle.std.specs.Prelude.{ℕ, ℤ, List, ◌++◌, codes, decimal, Option, Some, None, unsigned_abs}
+use Rattle.std.specs.Prelude.{ℕ, ℤ, List, [], ◌∷◌, ◌++◌, ◌==◌, codes, decimal, Option, Some, None, unsigned_abs, if◌then◌else◌}
 use Rattle.std.specs.IoError.{error_kind, raw_os_error}
 use Rattle.std.specs.declared.io.Error.{Error}
 use Rattle.std.specs.declared.io.ErrorKind.{ErrorKind}
@@ -15,6 +15,22 @@ reason_text why.NoRegularFile = codes "not a regular file"
 reason_text why.ReadOnly = codes "read-only file system"
 reason_text why.Unsupported = codes "the file system or the device does not support it"
 reason_text why.Full = codes "no space left on device"
+reason_text why.Closed = codes "nobody reads what is written to it"
+reason_text why.Broken = codes "the other end broke the connection off"
+reason_text why.Unreached = codes "the network does not lead there"
+reason_text why.Late = codes "nothing answered in time"
+reason_text why.PortInUse = codes "another program has this port"
+reason_text why.NoPort = codes "no port of this machine is free for it"
+reason_text why.Links = codes "too many levels of symbolic links"
+reason_text why.NameLong = codes "the file system takes no name so long"
+reason_text why.Large = codes "the file system or a limit takes no file so large"
+reason_text why.Busy = codes "another program uses it"
+reason_text why.Stale = codes "it was removed on the machine that has it"
+reason_text why.Memory = codes "out of memory"
+reason_text why.Broke = codes "the device failed, or was unplugged"
+reason_text why.NoDevice = codes "no such device"
+reason_text why.NotOpen = codes "it is closed, or not open for this"
+reason_text why.ManyOpen = codes "too many files are open"
 reason_text (why.Number number) = codes "error " ++ (decimal number ++ codes " of the system")
 reason_text why.Other = codes "the system refused it"
 
@@ -23,10 +39,20 @@ abbrev pub invalid : Option ℤ → Reason
 invalid None = why.NoRegularFile
 invalid (Some number) = why.Unsupported
 
--- one that has no words of its own, by the number of the system
+-- those that have a number of the system, and no kind of their own
+abbrev pub reasons : List (ℕ × Reason)
+reasons =
+    (5, why.Broke) ∷ (6, why.NoDevice) ∷ (9, why.NotOpen) ∷ (19, why.NoDevice)
+    ∷ (23, why.ManyOpen) ∷ (24, why.ManyOpen) ∷ []
+
+-- one that has no words of its own is told by its number
+abbrev pub reason_in : List (ℕ × Reason) → ℕ → Reason
+reason_in [] number = why.Number number
+reason_in (row ∷ rows) number = if number == row.0 then row.1 else reason_in rows number
+
 abbrev pub numbered : Option ℤ → Reason
 numbered None = why.Other
-numbered (Some number) = why.Number (unsigned_abs number)
+numbered (Some number) = reason_in reasons (unsigned_abs number)
 
 abbrev pub reason_for : ErrorKind → Option ℤ → Reason
 reason_for kind.NotFound number = why.Absent
@@ -38,6 +64,23 @@ reason_for kind.Unsupported number = why.Unsupported
 reason_for kind.ReadOnlyFilesystem number = why.ReadOnly
 reason_for kind.StorageFull number = why.Full
 reason_for kind.QuotaExceeded number = why.Full
+reason_for kind.BrokenPipe number = why.Closed
+reason_for kind.ConnectionReset number = why.Broken
+reason_for kind.ConnectionAborted number = why.Broken
+reason_for kind.NotConnected number = why.Broken
+reason_for kind.HostUnreachable number = why.Unreached
+reason_for kind.NetworkUnreachable number = why.Unreached
+reason_for kind.NetworkDown number = why.Unreached
+reason_for kind.TimedOut number = why.Late
+reason_for kind.AddrInUse number = why.PortInUse
+reason_for kind.AddrNotAvailable number = why.NoPort
+reason_for kind.FilesystemLoop number = why.Links
+reason_for kind.InvalidFilename number = why.NameLong
+reason_for kind.FileTooLarge number = why.Large
+reason_for kind.ResourceBusy number = why.Busy
+reason_for kind.ExecutableFileBusy number = why.Busy
+reason_for kind.StaleNetworkFileHandle number = why.Stale
+reason_for kind.OutOfMemory number = why.Memory
 reason_for _ number = numbered number
 
 abbrev pub reason_of : Error → Reason

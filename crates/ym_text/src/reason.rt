@@ -1,7 +1,7 @@
 //! Why the system refused a call.
 
 ghost use Rattle.std.specs.Prelude.{◌≡◌, Some, IfOk, IfErr};
-ghost use Rattle.ym_text.specs.Reasons.{reason_text, invalid};
+ghost use Rattle.ym_text.specs.Reasons.{reason_text, invalid, reason_in, reasons, numbered};
 
 use std::io::ErrorKind;
 use std::{fmt, io};
@@ -23,6 +23,38 @@ pub enum Reason {
     Unsupported,
     /// There is no room left.
     Full,
+    /// Nobody reads what is written to it.
+    Closed,
+    /// The other end broke the connection off.
+    Broken,
+    /// No way leads to it.
+    Unreached,
+    /// It did not answer in time.
+    Late,
+    /// Another program has the port.
+    PortInUse,
+    /// No port is free for a connection.
+    NoPort,
+    /// Its links lead in a circle.
+    Links,
+    /// Its name is too long.
+    NameLong,
+    /// It would be too large.
+    Large,
+    /// Another program uses it.
+    Busy,
+    /// It is on another machine, and was removed there.
+    Stale,
+    /// There is no memory for it.
+    Memory,
+    /// The device failed.
+    Broke,
+    /// The device is not there.
+    NoDevice,
+    /// It is not open, or not for this.
+    NotOpen,
+    /// Too many files are open.
+    ManyOpen,
     /// Another error of the system, by its number.
     Number(u32),
     /// Another one, that has no number.
@@ -37,6 +69,30 @@ fn invalid(number: Option<i32>) -> Reason
     match number {
         Some(_) => Reason::Unsupported,
         None => Reason::NoRegularFile,
+    }
+}
+
+/// The reason that has this number, where the library has no kind of it: EIO, ENXIO, EBADF, ENODEV,
+/// ENFILE or EMFILE.
+fn of_number(number: u32) -> Reason
+    ensures { result ≡ reason_in reasons number }
+{
+    match number {
+        5 => Reason::Broke,
+        6 | 19 => Reason::NoDevice,
+        9 => Reason::NotOpen,
+        23 | 24 => Reason::ManyOpen,
+        _ => Reason::Number(number),
+    }
+}
+
+/// The same of an error that may have none.
+fn numbered(number: Option<i32>) -> Reason
+    ensures { result ≡ numbered number }
+{
+    match number {
+        Some(number) => of_number(number.unsigned_abs()),
+        None => Reason::Other,
     }
 }
 
@@ -56,10 +112,21 @@ impl Reason {
             ErrorKind::Unsupported => Reason::Unsupported,
             ErrorKind::ReadOnlyFilesystem => Reason::ReadOnly,
             ErrorKind::StorageFull | ErrorKind::QuotaExceeded => Reason::Full,
-            _ => match error.raw_os_error() {
-                Some(number) => Reason::Number(number.unsigned_abs()),
-                None => Reason::Other,
-            },
+            ErrorKind::BrokenPipe => Reason::Closed,
+            ErrorKind::ConnectionReset | ErrorKind::ConnectionAborted | ErrorKind::NotConnected =>
+                Reason::Broken,
+            ErrorKind::HostUnreachable | ErrorKind::NetworkUnreachable | ErrorKind::NetworkDown =>
+                Reason::Unreached,
+            ErrorKind::TimedOut => Reason::Late,
+            ErrorKind::AddrInUse => Reason::PortInUse,
+            ErrorKind::AddrNotAvailable => Reason::NoPort,
+            ErrorKind::FilesystemLoop => Reason::Links,
+            ErrorKind::InvalidFilename => Reason::NameLong,
+            ErrorKind::FileTooLarge => Reason::Large,
+            ErrorKind::ResourceBusy | ErrorKind::ExecutableFileBusy => Reason::Busy,
+            ErrorKind::StaleNetworkFileHandle => Reason::Stale,
+            ErrorKind::OutOfMemory => Reason::Memory,
+            _ => numbered(error.raw_os_error()),
         }
     }
 
@@ -76,6 +143,22 @@ impl Reason {
             Reason::ReadOnly => Ok("read-only file system"),
             Reason::Unsupported => Ok("the file system or the device does not support it"),
             Reason::Full => Ok("no space left on device"),
+            Reason::Closed => Ok("nobody reads what is written to it"),
+            Reason::Broken => Ok("the other end broke the connection off"),
+            Reason::Unreached => Ok("the network does not lead there"),
+            Reason::Late => Ok("nothing answered in time"),
+            Reason::PortInUse => Ok("another program has this port"),
+            Reason::NoPort => Ok("no port of this machine is free for it"),
+            Reason::Links => Ok("too many levels of symbolic links"),
+            Reason::NameLong => Ok("the file system takes no name so long"),
+            Reason::Large => Ok("the file system or a limit takes no file so large"),
+            Reason::Busy => Ok("another program uses it"),
+            Reason::Stale => Ok("it was removed on the machine that has it"),
+            Reason::Memory => Ok("out of memory"),
+            Reason::Broke => Ok("the device failed, or was unplugged"),
+            Reason::NoDevice => Ok("no such device"),
+            Reason::NotOpen => Ok("it is closed, or not open for this"),
+            Reason::ManyOpen => Ok("too many files are open"),
             Reason::Number(number) => Err(number),
             Reason::Other => Ok("the system refused it"),
         }

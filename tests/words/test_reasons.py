@@ -1,0 +1,56 @@
+"""Why the system refused a call, in words: of a file, of a connection and of a line."""
+
+import os
+
+from support.cases import case, cases, sentence
+from support.on_line import ends_with, started
+from support.program import PROGRAM, folders, free_port, running, write_files
+from support.telling import FAULT, FILE, connecting
+from support.tracing import at_paths, strace
+
+
+@cases(
+    case("a reason of the system: its device", "EIO", "the device failed, or was unplugged"),
+    case("a reason of the system: no device", "ENXIO", "no such device"),
+    case("a reason of the system: its links", "ELOOP", "too many levels of symbolic links"),
+    case("a reason of the system: others", "EMFILE", "too many files are open"),
+    case("a reason of the system: its user", "EBUSY", "another program uses it"),
+    case("a reason of the system: by number", "ENOEXEC", "error 8 of the system"),
+)
+def test_refused_by_the_system(error, why):
+    """A file that the system does not open."""
+    with folders() as (here, log):
+        path = write_files(here, FILE)[0]
+        refusing = ("-e", "inject=open,openat:error=" + error)
+        before = strace(os.path.join(log, "log"), *at_paths([path]), *refusing)
+        words = ("send", "-p", free_port(), "--verbose", path)
+        with running(*words, before=before) as send:
+            send.ended().wants(3, "", "cannot open '%s': %s\n" % (path, why) + FAULT)
+
+
+@cases(
+    case("a reason of the system: a reset", "ECONNRESET", "the other end broke the connection off"),
+    case("a reason of the system: no way", "EHOSTUNREACH", "the network does not lead there"),
+    case("a reason of the system: a wait", "ETIMEDOUT", "nothing answered in time"),
+    case(
+        "a reason of the system: no port", "EADDRNOTAVAIL", "no port of this machine is free for it"
+    ),
+)
+def test_no_connection(error, why):
+    """A connection that the system does not make."""
+    with folders() as (here, log):
+        path, port = write_files(here, FILE)[0], free_port()
+        before = strace(os.path.join(log, "log"), "-e", "inject=connect:error=" + error)
+        with running("send", "-p", port, "--verbose", path, before=before) as send:
+            told = "no connection at 127.0.0.1:%d: %s\n" % (port, why)
+            send.ended().wants(3, "", connecting(port) + told + FAULT)
+
+
+@sentence("a reason of the system: standard output, which is the line, is closed")
+def test_closed_line():
+    """A receiver on standard input and output that cannot ask."""
+    words = ["sh", "-c", 'exec "$0" "$@" >&-', PROGRAM, "rb", "--verbose"]
+    with folders() as (_, there), started(words, there) as child:
+        out, err = ends_with(child, 3)
+    told = "the line failed: it is closed, or not open for this\n"
+    assert told in err and not out, "it told %r" % err
