@@ -36,12 +36,17 @@ from support.qemu_words import words_of
 
 U_BOOT = os.environ.get("U_BOOT", "/usr/lib/u-boot/qemu_arm64/u-boot.bin")
 
-# Seconds after which an end acts that hears nothing, and after which what came is a whole delivery.
-QUIET = 2
+# Seconds after which an end acts that hears nothing. `judge` writes late after 4, and waits for an
+# answer for 20: half way between them, the machine may stand still for 8 and nothing is otherwise.
+QUIET = 12
+# Seconds after which what came is a whole delivery: each comes by one call.
 WITHIN = 0.1
-# Seconds after which U-Boot's `loady` says C behind its ACK of block 0, and what it says where it
-# gives up.
-LATE = 4.25
+# Seconds after which "says C late" says C behind its ACK of block 0. U-Boot's `loady` does so after
+# 4.25; here the machine may stand still for 5 between the two.
+LATE = 8
+# Seconds after which "takes its ACK back" does so, where the end block comes after 4.
+SOON = 1
+# What U-Boot says where it gives up.
 ABORT = 4 * CANCEL[:1] + 4 * b"\b"
 # After so many deliveries without progress it gives up.
 GIVE_UP = 10
@@ -108,11 +113,12 @@ SENDER_FAULTS = {
 }
 
 
-def heard(seconds):
-    """What comes within these seconds, until it pauses: nothing where nothing comes."""
+def heard(seconds, most=4096):
+    """What comes within these seconds, until it pauses or is so many bytes: nothing where nothing
+    comes."""
     data, wait = b"", seconds
-    while select.select([0], [], [], wait)[0]:
-        piece = os.read(0, 4096)
+    while len(data) < most and select.select([0], [], [], wait)[0]:
+        piece = os.read(0, most - len(data))
         if not piece:
             if not data:
                 sys.exit(0)
@@ -246,9 +252,6 @@ class Receiver:
 
     def silence(self):
         """What it does where nothing comes."""
-        if self.has("takes its ACK back") and self.name is None and self.files:
-            self.is_over = True
-            return bytes((ACK,)) + ABORT
         if (
             self.has("commits at an EOT that is lost")
             and self.name
@@ -261,7 +264,15 @@ class Receiver:
             return bytes((ACK,))
         return b"" if self.has("never asks again") else self.bad()
 
+    def takes_back(self):
+        """Whether it is behind its last file, whose ACK it takes back."""
+        return self.has("takes its ACK back") and self.name is None and self.files > 0
+
     def answer(self, data):
+        # It does so whatever comes: where the machine stood still, that is the end block.
+        if self.takes_back():
+            self.is_over = True
+            return bytes((ACK,)) + ABORT
         kind, number, body = self.item(data)
         self.retries += 1
         if kind == "cancel" and not self.has("is deaf to CAN CAN"):
@@ -285,11 +296,11 @@ class Receiver:
     def run(self):
         say(bytes((START,)))
         while not self.is_over:
-            data = heard(QUIET)
+            data = heard(SOON if self.takes_back() else QUIET)
             if not self.is_deaf:
                 say(self.answer(data))
         # The end block that comes again is answered again.
-        while data := heard(10 * QUIET):
+        while data := heard(QUIET):
             if has_frame(data) and data[0] in (SOH, STX) and data[3] == 0 and self.is_finished():
                 say(bytes((ACK,)))
 
@@ -405,11 +416,13 @@ class Sender:
                 self.frames[self.place] = block(frame[1] + 1, frame[3:-2])
 
     def run(self):
+        # One that needs no C goes on behind the ACK, also where the C has come meanwhile.
+        most = 1 if self.has("needs no C behind block 0") else 4096
         while not self.is_over:
             is_again = self.retries and self.has("never repeats")
             if self.is_sent and not is_again:
                 say(self.frames[self.place])
-            data = heard(QUIET)
+            data = heard(QUIET, most)
             if self.has("answers each C") and self.place == 0 and data == bytes((START, START)):
                 say(self.frames[0])
             if not data and self.is_sent:

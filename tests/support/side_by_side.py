@@ -25,7 +25,7 @@ AT_ONCE = {
     "disk": 60,
     "explain": 60,
     "house": 8,
-    "judge": 16,
+    "judge": 32,
     "library": 60,
     "line": 500,
     "package": 8,
