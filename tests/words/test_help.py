@@ -140,6 +140,10 @@ REFUSED = [
     ("send", "--single", "a"),
     ("send", "-p", "a"),
     ("sb", "a"),
+    ("send", "--short", "--short", "a"),
+    ("receive", "--record", "a", "--verbose", "--record=b"),
+    ("send", "--record=", "a"),
+    ("send", "--record", "--short", "a"),
     ("--speed",),
     ("--flow", "some", "send", "a"),
 ]
