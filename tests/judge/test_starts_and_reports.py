@@ -90,6 +90,20 @@ def test_named_ymodem(named):
     wants_same({"ended": (done.returncode, done.stderr)}, {"ended": (0, "")})
 
 
+@cases(
+    *(
+        case("judge: no number of cases is %r" % word, word)
+        for word in ("-3", "0", "x", "1.5", "", "10000")
+    )
+)
+def test_refuses_a_number(word):
+    """So many cases cannot be tried at once: nothing is tried."""
+    done = judge("--jobs", word, *ONE_CASE, "receiver", "true")
+    told = "'%s' is no number of cases from 1 to 9999\n" % word
+    wants_same({"ended": (done.returncode, done.stdout)}, {"ended": (2, "")})
+    assert done.stderr.endswith(": error: argument --jobs: " + told), repr(done.stderr)
+
+
 # Names the cases, and has no memory to play one.
 WITHOUT_MEMORY = """#!/bin/sh
 case $* in *--list*) exec %s "$@" ;; esac
