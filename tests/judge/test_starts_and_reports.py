@@ -91,6 +91,22 @@ def test_named_ymodem(named):
 
 
 @cases(
+    case("judge: a link to it finds the ymodem beside the script", False, 0),
+    case("judge: a link to it takes the ymodem beside the link first", True, 126),
+)
+def test_by_a_link(has_own, status):
+    """A link may lead to the script from a folder that has no ymodem, or another one."""
+    with folders() as (here, there):
+        os.symlink(shutil.copy(SCRIPT, here), os.path.join(there, "judge"))
+        os.symlink(PROGRAM, os.path.join(here, "ymodem"))
+        if has_own:
+            os.symlink(shutil.which("false"), os.path.join(there, "ymodem"))
+        words = [*ONE_CASE, "receiver", PEER + " receiver"]
+        done = judge(*words, program="", of=os.path.join(there, "judge"))
+    wants_same({"ended": done.returncode}, {"ended": status})
+
+
+@cases(
     *(
         case("judge: no number of cases is %r" % word, word)
         for word in ("-3", "0", "x", "1.5", "", "10000")

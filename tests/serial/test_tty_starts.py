@@ -160,15 +160,37 @@ def test_cannot_start(program, status, told):
     assert not any("raw" in line or "-g" in line for line in asked), asked
 
 
+UNNAMED = {it: word for it, word in ENVIRONMENT.items() if it != "YMODEM"}
+
+
+def write_stand_in(folder, told):
+    """A ymodem in this folder, which tells so what it is asked for."""
+    write_files(folder, [("ymodem", b'#!/bin/sh\necho "%s $*"\n' % told)])
+    os.chmod(os.path.join(folder, "ymodem"), 0o755)
+
+
 @sentence("ymodem-tty, by its bare name in its own folder")
 def test_in_its_folder():
     """A shell that is given the script by its bare name finds the ymodem beside it."""
-    environment = {it: word for it, word in ENVIRONMENT.items() if it != "YMODEM"}
     with folders() as (here, _):
-        beside = os.path.join(here, "ymodem")
         shutil.copy(SCRIPT, here)
-        write_files(here, [("ymodem", b'#!/bin/sh\necho "it has $*"\n')])
-        os.chmod(beside, 0o755)
+        write_stand_in(here, b"it has")
         words = ["sh", os.path.basename(SCRIPT), "receive", "--single", "in"]
-        with started(words, here, env=environment) as script:
+        with started(words, here, env=UNNAMED) as script:
             says(script, 0, "it has rb --single in\n")
+
+
+@cases(
+    case("ymodem-tty, by a link, finds the ymodem beside the script", False, "the script's"),
+    case("ymodem-tty, by a link, takes the ymodem beside the link first", True, "the link's"),
+)
+def test_by_a_link(has_own, told):
+    """A link may lead to the script from a folder that has no ymodem, or another one."""
+    with folders() as (here, there):
+        os.symlink(shutil.copy(SCRIPT, here), os.path.join(there, "tty"))
+        write_stand_in(here, b"the script's")
+        if has_own:
+            write_stand_in(there, b"the link's")
+        words = [os.path.join(there, "tty"), "receive", "--single", "in"]
+        with started(words, there, env=UNNAMED) as script:
+            says(script, 0, told + " rb --single in\n")
