@@ -40,7 +40,6 @@ XMODEM = "the sender names no file, as XMODEM does: start it as a sender of YMOD
 XMODEM_RECEIVER = "the receiver asks by NAK, as XMODEM does: start it as a receiver of YMODEM"
 NO_ROOM = "block 0 had no room for the whole length: send the file under a shorter name"
 TOO_MANY = "ten frames in a row were refused: try a lower speed or a better line"
-DAMAGE = "a frame came damaged and never whole: try a lower speed or a better line"
 SENDER = "the sender cancelled: see what it says"
 RECEIVER = "the receiver cancelled: see what it says, and whether it can write the file"
 STOPPED = "the session stopped before its end: see whether the line was cut or an end was closed"

@@ -142,6 +142,17 @@ def test_a_comment_needs_no_end():
         assert lines.stdout.splitlines() == told(path), "behind %r another telling" % last
 
 
+@sentence("a record that ends behind a damaged frame: it never came whole")
+def test_a_last_damaged_frame_is_told():
+    """Where the last frame came damaged, and no whole block behind it, that is what went wrong."""
+    _, _, text = record_of("damage-mended-own")
+    pieces = ["%s %s %s" % it for it in PIECE.findall(text)]
+    refused = next(at for at, it in enumerate(pieces) if it.endswith("< 15"))
+    lines = told("-", stdin=None, input="\n".join(pieces[: refused + 1]) + "\n")
+    wanted = "a frame came damaged and never whole: try a lower speed or a better line"
+    assert lines[-1] == wanted, "told %r" % lines[-2:]
+
+
 @sentence("where nothing can be printed the status is 3")
 def test_a_full_device_is_told():
     """Where nothing can be printed the status is 3."""
@@ -271,6 +282,11 @@ ONE_WAY = (
     ),
     ("whole", "back", "nothing wrong is seen one way: record both ways to see what was answered"),
     ("nobody-answered", "back", "the receiver asked and no frame came: start the sender"),
+    (
+        "nobody-answered",
+        "there",
+        "no frame is in the file: see which way it has, and whether a sender was started",
+    ),
     (
         "nobody-asked-shell",
         "back",
