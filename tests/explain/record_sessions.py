@@ -220,6 +220,10 @@ FLOW_EATEN, SUB_EATEN = dropping(b"\x11\x13"), dropping(b"\x1a")
 LATE_SENDER = piped("sh", "-c", 'sleep 6; exec sb -q "$@"', "sb")
 SHELL = piped("sh", "-c", "printf 'login: '; sleep 2; printf '\\r\\nPassword: '; sleep 1")
 KILLED = piped("timeout", "-s", "KILL", "2", "sb", "-q")
+# One session behind another on one line.
+SB_TWICE = piped("sh", "-c", 'sb -q "$@"; exec sb -q "$@"', "sb")
+SB_KILLED_SECOND = piped("sh", "-c", 'sb -q "$@"; exec timeout -s KILL 2 sb -q "$@"', "sb")
+RB_TWICE = piped("sh", "-c", "rb -q -y; exec rb -q -y")
 # Debian's python3 has its modules, whichever runs this.
 XMODEM_END = ("/usr/bin/python3", os.path.join(HERE, "xmodem_end.py"))
 
@@ -263,6 +267,7 @@ SESSIONS = {
     "whole-own-receiver": (WHOLE, lambda: between(SB, our_receiver)),
     "whole-u-boot": (WHOLE, lambda: between(SB, board(LOADY), seconds=30)),
     "whole-u-boot-own-sender": (WHOLE, lambda: between(our_sender, board(LOADY), seconds=30)),
+    "whole-twice": (WHOLE, lambda: between(SB_TWICE, RB_TWICE)),
     # a peer that is not there
     "nobody-answered": (NOBODY_ANSWERED, lambda: between(nobody, RB, seconds=8)),
     "nobody-answered-own": (NOBODY_ANSWERED, lambda: between(nobody, our_receiver, seconds=12)),
@@ -388,6 +393,10 @@ SESSIONS = {
     "sender-killed": (
         STOPPED,
         lambda: between(KILLED, RB, Line(slowly), files=[("a", some_bytes(10, 60000))], seconds=8),
+    ),
+    "sender-killed-second": (
+        STOPPED,
+        lambda: between(SB_KILLED_SECOND, RB_TWICE, Line(slowly), seconds=20),
     ),
 }
 

@@ -26,6 +26,13 @@ name = refl
 end : told_of position.Ended (block 0 0) ≡ tells kind.End position.Over
 end = refl
 
+-- behind the end it begins another batch with a name, and without one it is the end once more
+another : told_of position.Over (block 0 0x61) ≡ tells kind.Name position.Named
+another = refl
+
+end_again : told_of position.Over (block 0 0) ≡ tells kind.Copy position.Over
+end_again = refl
+
 -- behind block 255 comes block 0, which is no name there
 wraps : told_of (position.Data 255) (block 0 0x61) ≡ tells kind.Data (position.Data 0)
 wraps = refl
@@ -67,6 +74,20 @@ unheard_end = refl
 late_ack :
     verdict_on (batch ++ (sign.SenderCancel ∷ sign.Answer Ack ∷ [])) ≡ verdict.SenderCancelled
 late_ack = refl
+
+-- another batch behind the first, of which no data came, and one that came to its end
+abbrev name_behind : List Sign
+name_behind =
+    sign.Answer Ack ∷ sign.Answer Start ∷ sign.Block position.Over kind.Name ∷ sign.Answer Ack ∷ []
+
+cut_short : verdict_on (batch ++ name_behind) ≡ verdict.Stopped
+cut_short = refl
+
+both_whole :
+    verdict_on (batch ++ name_behind ++ (sign.Answer Start ∷ sign.Eot ∷ sign.Answer Ack ∷
+    sign.Answer Start ∷ sign.Block position.Ended kind.End ∷ sign.Answer Ack ∷ []))
+    ≡ verdict.Whole
+both_whole = refl
 
 nothing : verdict_on [] ≡ verdict.NobodyAsked
 nothing = refl

@@ -86,14 +86,30 @@ abbrev pub is_copy : FrameKind → Bool
 is_copy kind.Copy = true
 is_copy kind = false
 
-abbrev pub with_block : Signs → SendPosition → FrameKind → Signs
-with_block seen at kind = record (with_frame seen) {
+-- a block behind the end that is no copy of it is of another batch
+abbrev pub is_of_another : SendPosition → FrameKind → Bool
+is_of_another position.Over kind.Copy = false
+is_of_another position.Over kind = true
+is_of_another at kind = false
+
+-- How the batch before ended tells nothing of the one that is under way.
+abbrev pub in_batch : Signs → SendPosition → FrameKind → Signs
+in_batch seen at kind =
+    if is_of_another at kind
+    then record (without_end seen) { sender_cancelled = false; receiver_cancelled = false }
+    else seen
+
+abbrev pub with_kind : Signs → SendPosition → FrameKind → Signs
+with_kind seen at kind = record (with_frame seen) {
   framed = true;
   unmended = false;
   unnamed = is_unnamed at kind || seen.unnamed;
   over = is_end kind || seen.over;
   repeated = is_copy kind || seen.repeated;
 }
+
+abbrev pub with_block : Signs → SendPosition → FrameKind → Signs
+with_block seen at kind = with_kind (in_batch seen at kind) at kind
 
 -- An ACK is for a frame that is out. The last is for the block that ends the batch.
 abbrev pub with_ack : Signs → Signs

@@ -22,15 +22,19 @@ number_kind last number =
     if number == (last + 1) % 256 then Data else
     OutOfTurn
 
--- a block by its number, and by whether its body begins with 00, as a nameless block 0 does
+-- where a file may begin: its block 0, or one without a name, which is the end or a copy of it
+abbrev pub zero_kind : ℕ → Bool → FrameKind → FrameKind
+zero_kind number nameless end =
+    if number == 0 then if nameless then end else Name else OutOfTurn
+
+-- A block by its number, and by whether its body begins with 00, as a nameless block 0 does. Behind
+-- the end a block 0 with a name begins another batch.
 abbrev pub block_kind : SendPosition → ℕ → Bool → FrameKind
-block_kind position.Before number nameless =
-    if number == 0 then if nameless then End else Name else OutOfTurn
-block_kind position.Ended number nameless =
-    if number == 0 then if nameless then End else Name else OutOfTurn
+block_kind position.Before number nameless = zero_kind number nameless End
+block_kind position.Ended number nameless = zero_kind number nameless End
 block_kind position.Named number nameless = number_kind 0 number
 block_kind (position.Data last) number nameless = number_kind last number
-block_kind position.Over number nameless = if number == 0 then Copy else OutOfTurn
+block_kind position.Over number nameless = zero_kind number nameless Copy
 
 -- A copy leaves the sender where it was. From a block out of turn on the numbers count on.
 abbrev pub position_behind : SendPosition → ℕ → FrameKind → SendPosition

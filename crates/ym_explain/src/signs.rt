@@ -1,7 +1,7 @@
 //! What was seen of a session so far.
 
 ghost use Rattle.std.specs.Prelude.{◌≡◌};
-ghost use Rattle.ym_explain.specs.Noting.{noted, nothing_seen, without_end, with_byte, with_bytes, with_answer_junk, with_frame, with_damage, with_block, with_answer, with_ack, with_nak};
+ghost use Rattle.ym_explain.specs.Noting.{noted, nothing_seen, without_end, with_byte, with_bytes, with_answer_junk, with_frame, with_damage, in_batch as in_batch_of, with_block, with_answer, with_ack, with_nak};
 
 use crate::told::{FrameKind, SendPosition};
 use ym_frame::Control;
@@ -93,7 +93,7 @@ pub struct Signs {
     pub repeated: bool,
     /// So many frames came last without any answer between them: 255 at most.
     pub unanswered: u8,
-    /// The block that ends the batch came, and its sender did not cancel behind it.
+    /// The block that ends the last batch came, and its sender did not cancel behind it.
     pub over: bool,
     /// That block was acknowledged, and no end cancelled behind it.
     pub finished: bool,
@@ -239,11 +239,28 @@ impl Signs {
         seen
     }
 
+    /// The same where this block comes. Behind the end another one than its copy is of another
+    /// batch, of which the end before it, and a cancel there, tell nothing.
+    fn in_batch(self, position: SendPosition, kind: FrameKind) -> Signs
+        ensures { result ≡ in_batch_of self position kind }
+    {
+        match (position, kind) {
+            (SendPosition::Over, FrameKind::Copy) => self,
+            (SendPosition::Over, _) => {
+                let mut seen = self.unended();
+                seen.sender_cancelled = false;
+                seen.receiver_cancelled = false;
+                seen
+            }
+            _ => self,
+        }
+    }
+
     /// The same behind a whole block.
     fn note_block(self, position: SendPosition, kind: FrameKind) -> Signs
         ensures { result ≡ with_block self position kind }
     {
-        let mut seen = self.note_frame();
+        let mut seen = self.in_batch(position, kind).note_frame();
         seen.framed = true;
         seen.unmended = false;
         match (position, kind) {

@@ -2,7 +2,7 @@
 
 ghost use Rattle.std.specs.Prelude.{◌≡◌};
 ghost use Rattle.ym_frame.specs.ItemRef.{owned_item};
-ghost use Rattle.ym_explain.specs.Telling.{told_of, eot_told, block_kind, number_kind, position_behind};
+ghost use Rattle.ym_explain.specs.Telling.{told_of, eot_told, block_kind, zero_kind, number_kind, position_behind};
 
 use ym_frame::ItemRef;
 
@@ -98,17 +98,21 @@ fn told_block(position: SendPosition, number: u8, nameless: bool) -> FrameKind
     ensures { result ≡ block_kind position number nameless }
 {
     match position {
-        SendPosition::Before | SendPosition::Ended => match (number, nameless) {
-            (0, true) => FrameKind::End,
-            (0, false) => FrameKind::Name,
-            _ => FrameKind::OutOfTurn,
-        },
+        SendPosition::Before | SendPosition::Ended => told_zero(number, nameless, FrameKind::End),
         SendPosition::Named => told_number(0, number),
         SendPosition::Data { number: last } => told_number(last, number),
-        SendPosition::Over => match number {
-            0 => FrameKind::Copy,
-            _ => FrameKind::OutOfTurn,
-        },
+        SendPosition::Over => told_zero(number, nameless, FrameKind::Copy),
+    }
+}
+
+/// What a block of this number is where a file may begin, and where one without a name is this.
+fn told_zero(number: u8, nameless: bool, end: FrameKind) -> FrameKind
+    ensures { result ≡ zero_kind number nameless end }
+{
+    match (number, nameless) {
+        (0, true) => end,
+        (0, false) => FrameKind::Name,
+        _ => FrameKind::OutOfTurn,
     }
 }
 
