@@ -7,13 +7,10 @@ use std::alloc::Global;
 use std::cell::RefCell;
 use std::io::Write;
 use std::time::Clock;
-use ym_frame::{CAN, EOT, SOH, STX};
+use ym_frame::{Control, EOT, SOH, STX, control_of};
 use ym_header::Header;
 use ym_link::Wait;
 use ym_text::{Awaited, Coming, EchoMessage, FileMessage, Lately};
-
-/// The byte by which a receiver answers a frame that it has.
-const ACK: u8 = 0x06;
 
 /// So many bytes of a delivery are kept: a block's front, and a name.
 const PREFIX_BYTES: usize = 260;
@@ -27,25 +24,32 @@ enum Stale {
     Past,
 }
 
-/// What a delivery with these bytes in front is that brought a receiver no further, behind so many
-/// blocks of a file. One that came damaged is refused, and not answered by this.
-fn stale(front: &[u8], blocks: u64, answer: &[u8]) -> Option<Stale> {
-    // the last of too many in a row is answered by CAN
-    if !matches!(answer, [ACK | CAN, ..]) {
-        return None;
+/// Whether a receiver that answers so has the frame. The last of too many in a row is answered by a
+/// cancel, and a damaged one by a NAK.
+fn is_taken(answer: &[u8]) -> bool {
+    match answer {
+        [first, ..] => matches!(control_of(*first), Some(Control::Ack | Control::Can)),
+        [] => false,
     }
+}
+
+/// What a block of this number is that brought no further, behind so many blocks of its file.
+fn stale_block(number: u8, blocks: u64) -> Option<Stale> {
+    let number = u64::from(number);
+    if number == blocks % 256 {
+        Some(Stale::Copy)
+    } else if number == blocks.saturating_add(1) % 256 {
+        Some(Stale::Past)
+    } else {
+        None
+    }
+}
+
+/// What a delivery with these bytes in front is that brought no further.
+fn stale_of(front: &[u8], blocks: u64) -> Option<Stale> {
     match front {
         [EOT, ..] => Some(Stale::Copy),
-        [SOH | STX, number, check, ..] if *number == !*check => {
-            let number = u64::from(*number);
-            if number == blocks % 256 {
-                Some(Stale::Copy)
-            } else if number == blocks.saturating_add(1) % 256 {
-                Some(Stale::Past)
-            } else {
-                None
-            }
-        }
+        [SOH | STX, number, check, ..] if *number == !*check => stale_block(*number, blocks),
         _ => None,
     }
 }
@@ -175,10 +179,10 @@ impl<'t, E: Write + Drop, C: Clock + Drop> Receiving<'t, E, C> {
     /// This is its answer to what came last.
     fn answer(&mut self, answer: &[u8]) {
         self.replies = self.replies.saturating_add(1);
-        if self.has_got_on {
+        if self.has_got_on || !is_taken(answer) {
             return;
         }
-        match stale(self.prefix.as_slice(), self.blocks, answer) {
+        match stale_of(self.prefix.as_slice(), self.blocks) {
             Some(Stale::Copy) => self.meter.know_again(),
             Some(Stale::Past) => self.pass(),
             None => {}
