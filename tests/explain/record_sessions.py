@@ -38,6 +38,7 @@ AHEAD = "the receiver acknowledged what was not sent yet: start both ends again"
 ZMODEM = "an end speaks ZMODEM: start it with sb or rb in place of sz or rz"
 XMODEM = "the sender names no file, as XMODEM does: start it as a sender of YMODEM"
 XMODEM_RECEIVER = "the receiver asks by NAK, as XMODEM does: start it as a receiver of YMODEM"
+YMODEM_G = "the receiver asks by G, as YMODEM-g does: start it as a receiver of YMODEM"
 NO_ROOM = "block 0 had no room for the whole length: send the file under a shorter name"
 TOO_MANY = "ten frames in a row were refused: try a lower speed or a better line"
 SENDER = "the sender cancelled: see what it says"
@@ -219,6 +220,8 @@ def slowly(data):
 FLOW_EATEN, SUB_EATEN = dropping(b"\x11\x13"), dropping(b"\x1a")
 LATE_SENDER = piped("sh", "-c", 'sleep 6; exec sb -q "$@"', "sb")
 SHELL = piped("sh", "-c", "printf 'login: '; sleep 2; printf '\\r\\nPassword: '; sleep 1")
+# It asks as a receiver of YMODEM-g does, and answers no block.
+BY_G = piped("sh", "-c", "for _ in 1 2 3; do printf G; sleep 1; done")
 KILLED = piped("timeout", "-s", "KILL", "2", "sb", "-q")
 # One session behind another on one line.
 SB_TWICE = piped("sh", "-c", 'sb -q "$@"; exec sb -q "$@"', "sb")
@@ -363,6 +366,8 @@ SESSIONS = {
         XMODEM_RECEIVER,
         lambda: between(nobody, piped(*XMODEM_END, "receive", "got"), seconds=20),
     ),
+    "ymodem-g-receiver": (YMODEM_G, lambda: between(nobody, BY_G, seconds=5)),
+    "ymodem-g-receiver-sb": (YMODEM_G, lambda: between(SB, BY_G, seconds=10)),
     # a length that is not that of the file
     "no-room-for-length": (NO_ROOM, lambda: between(SB, RB, files=named(124), seconds=60)),
     "no-room-for-two-digits": (NO_ROOM, lambda: between(SB, RB, files=named(123), seconds=60)),

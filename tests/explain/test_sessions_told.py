@@ -256,6 +256,7 @@ PAIRS = (
     "sender-killed",
     "xmodem-sender",
     "xmodem-receiver",
+    "ymodem-g-receiver",
     "zmodem-sender",
     "zmodem-receiver",
 )
@@ -309,6 +310,11 @@ ONE_WAY = (
         "xmodem-sender",
         "there",
         "the sender names no file, as XMODEM does: start it as a sender of YMODEM",
+    ),
+    (
+        "ymodem-g-receiver",
+        "back",
+        "the receiver asks by G, as YMODEM-g does: start it as a receiver of YMODEM",
     ),
     (
         "zmodem-receiver",

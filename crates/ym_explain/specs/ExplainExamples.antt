@@ -89,6 +89,30 @@ both_whole :
     ≡ verdict.Whole
 both_whole = refl
 
+-- a receiver of YMODEM-g, behind text and alone; one that asked by C, and a text with the letter
+by_g : verdict_on (sign.AnswerJunk 0x47 ∷ []) ≡ verdict.YmodemGReceiver
+by_g = refl
+
+by_g_behind_text :
+    verdict_on (sign.AnswerJunk 0x67 ∷ sign.AnswerJunk 0x0a ∷ sign.AnswerJunk 0x47 ∷
+    sign.AnswerJunk 0x47 ∷ sign.AnswerJunk 0x24 ∷ []) ≡ verdict.YmodemGReceiver
+by_g_behind_text = refl
+
+by_c_and_g :
+    verdict_on (sign.AnswerJunk 0x47 ∷ sign.Answer Start ∷ []) ≡ verdict.NobodyAnswered
+by_c_and_g = refl
+
+-- several G, and C behind them, which the told lines take for text
+by_g_then_c :
+    verdict_on (sign.AnswerJunk 0x47 ∷ sign.AnswerJunk 0x47 ∷ sign.AnswerJunk 0x43 ∷ [])
+    ≡ verdict.NobodyAsked
+by_g_then_c = refl
+
+a_letter :
+    verdict_on (sign.AnswerJunk 0x0a ∷ sign.AnswerJunk 0x47 ∷ sign.AnswerJunk 0x6f ∷ [])
+    ≡ verdict.NobodyAsked
+a_letter = refl
+
 nothing : verdict_on [] ≡ verdict.NobodyAsked
 nothing = refl
 

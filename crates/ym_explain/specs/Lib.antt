@@ -1,4 +1,5 @@
 pub mod Answered
+pub mod Asking
 pub mod Evidence
 pub mod ExplainExamples
 pub mod PrefixOf

@@ -2,6 +2,9 @@
 use Rattle.std.specs.Prelude.{ℕ, ◌+◌, ◌-◌, ◌==◌, min, nat_lt, not, Bool, true, false, ◌||◌, if◌then◌else◌, List, [], ◌∷◌}
 use Rattle.ym_frame.specs.declared.control.Control.{Control}
 use Rattle.ym_frame.specs.declared.control.Control.TheVariants.{Ack, Nak, Start, Can}
+use Rattle.ym_explain.specs.Asking.{behind_junk}
+use Rattle.ym_explain.specs.declared.asking.Asking.{Asking}
+use Rattle.ym_explain.specs.declared.asking.Asking.TheVariants.{Nothing, Usual}
 use Rattle.ym_explain.specs.declared.told.FrameKind.{FrameKind}
 use Rattle.ym_explain.specs.declared.told.FrameKind.TheVariants as kind
 use Rattle.ym_explain.specs.declared.told.SendPosition.{SendPosition}
@@ -29,6 +32,7 @@ nothing_seen = record {
   echoed = false;
   back_high = false;
   nak_first = false;
+  asking = Nothing;
   out = 0;
   repeated = false;
   unanswered = 0;
@@ -123,6 +127,10 @@ with_ack seen =
     }
     else record seen { refusals = 0; unanswered = 0; ahead = true }
 
+-- a NAK asks before any whole block, and refuses one behind it
+abbrev pub asking_by_nak : Signs → Asking
+asking_by_nak seen = if seen.framed then seen.asking else Usual
+
 -- the tenth refusal in a row, and all behind it, are too many
 abbrev pub with_nak : Signs → Signs
 with_nak seen =
@@ -131,18 +139,20 @@ with_nak seen =
       out = seen.out - 1;
       unanswered = 0;
       nak_first = seen.nak_first || not (seen.asked || seen.framed || seen.damaged);
+      asking = asking_by_nak seen;
       refusals = seen.refusals + 1;
     }
     else record seen {
       out = seen.out - 1;
       unanswered = 0;
       nak_first = seen.nak_first || not (seen.asked || seen.framed || seen.damaged);
+      asking = asking_by_nak seen;
       refusals = 10;
       gave_up = true;
     }
 
 abbrev pub with_answer : Signs → Control → Signs
-with_answer seen Start = record seen { asked = true; unanswered = 0 }
+with_answer seen Start = record seen { asked = true; asking = Usual; unanswered = 0 }
 with_answer seen Ack = with_ack seen
 with_answer seen Nak = with_nak seen
 with_answer seen Can = seen
@@ -167,8 +177,10 @@ noted seen sign.ReceiverCancel = record seen {
   receiver_cancelled = seen.receiver_cancelled || not seen.sender_cancelled;
   finished = false;
 }
-noted seen (sign.AnswerJunk byte) =
-    record seen { back_high = seen.back_high || not (nat_lt byte 0x80) }
+noted seen (sign.AnswerJunk byte) = record seen {
+  back_high = seen.back_high || not (nat_lt byte 0x80);
+  asking = if seen.framed then seen.asking else behind_junk seen.asking byte;
+}
 
 abbrev pub with_answer_junk : Signs → List ℕ → Signs
 with_answer_junk seen [] = seen

@@ -3,6 +3,7 @@
 #![tactic(auto)]
 
 mod answered;
+mod asking;
 mod passed;
 mod sent;
 mod sign_of;
@@ -12,6 +13,7 @@ mod told;
 mod verdict;
 
 pub use answered::{AnswerLine, tell_answer};
+pub use asking::Asking;
 pub use passed::{Passed, damage_len, prefix_of};
 pub use sent::{SentLine, SentTold, tell_sent};
 pub use sign_of::{answer_sign, is_zmodem, sent_sign};

@@ -3,6 +3,7 @@
 ghost use Rattle.std.specs.Prelude.{◌≡◌};
 ghost use Rattle.ym_explain.specs.Noting.{noted, nothing_seen, without_end, with_byte, with_bytes, with_answer_junk, with_frame, with_damage, in_batch as in_batch_of, with_block, with_answer, with_ack, with_nak};
 
+use crate::asking::Asking;
 use crate::told::{FrameKind, SendPosition};
 use ym_frame::Control;
 
@@ -87,6 +88,8 @@ pub struct Signs {
     pub back_high: bool,
     /// The receiver refused before anything was asked or sent.
     pub nak_first: bool,
+    /// By what it asks, until a block came whole.
+    pub asking: Asking,
     /// So many frames have no answer yet, copies among them: 255 at most.
     pub out: u8,
     /// A whole block came once more.
@@ -132,6 +135,7 @@ impl Signs {
             echoed: false,
             back_high: false,
             nak_first: false,
+            asking: Asking::Nothing,
             out: 0,
             repeated: false,
             unanswered: 0,
@@ -169,7 +173,12 @@ impl Signs {
                 seen.receiver_cancelled = self.receiver_cancelled || !self.sender_cancelled;
                 seen.finished = false;
             }
-            Sign::AnswerJunk(byte) => seen.back_high = self.back_high || byte >= 0x80,
+            Sign::AnswerJunk(byte) => {
+                seen.back_high = self.back_high || byte >= 0x80;
+                if !self.framed {
+                    seen.asking = self.asking.behind(byte);
+                }
+            }
         }
         seen
     }
@@ -280,6 +289,7 @@ impl Signs {
         match control {
             Control::Start => {
                 seen.asked = true;
+                seen.asking = Asking::Usual;
                 seen.unanswered = 0;
             }
             Control::Ack => return self.note_ack(),
@@ -313,6 +323,9 @@ impl Signs {
         seen.unanswered = 0;
         seen.out = self.out.saturating_sub(1);
         seen.nak_first = self.nak_first || !(self.asked || self.framed || self.damaged);
+        if !self.framed {
+            seen.asking = Asking::Usual;
+        }
         if self.refusals < REFUSALS - 1 {
             seen.refusals = self.refusals + 1;
         } else {

@@ -29,6 +29,8 @@ pub enum Verdict {
     Xmodem,
     /// The receiver speaks XMODEM.
     XmodemReceiver,
+    /// The receiver speaks YMODEM-g.
+    YmodemGReceiver,
     /// No receiver asked for a file.
     NobodyAsked,
     /// No frame came.
@@ -64,8 +66,9 @@ pub enum Verdict {
 }
 
 /// The verdicts in the order in which they are looked for, where both ways are known: what keeps a
-/// session from beginning comes before what stops it.
-pub const ORDER: [Verdict; 23] = [
+/// session from beginning comes before what stops it. Who asks by G has not asked by C, so that
+/// comes before `NobodyAsked`; a NAK before any block is of XMODEM, whatever came beside it.
+pub const ORDER: [Verdict; 24] = [
     Verdict::Whole,
     Verdict::Mended,
     Verdict::Repeated,
@@ -75,6 +78,7 @@ pub const ORDER: [Verdict; 23] = [
     Verdict::Noise,
     Verdict::Xmodem,
     Verdict::XmodemReceiver,
+    Verdict::YmodemGReceiver,
     Verdict::NobodyAsked,
     Verdict::NobodyAnswered,
     Verdict::FlowControl,
@@ -110,11 +114,12 @@ pub const ORDER_THERE: [Verdict; 14] = [
 ];
 
 /// The same where only the way from the receiver is known.
-pub const ORDER_BACK: [Verdict; 9] = [
+pub const ORDER_BACK: [Verdict; 10] = [
     Verdict::Zmodem,
     Verdict::Echo,
     Verdict::Noise,
     Verdict::XmodemReceiver,
+    Verdict::YmodemGReceiver,
     Verdict::NobodyAsked,
     Verdict::TooManyErrors,
     Verdict::ReceiverCancelled,
@@ -181,6 +186,7 @@ impl Verdict {
                 && !seen.headed,
             Verdict::Xmodem => seen.unnamed,
             Verdict::XmodemReceiver => seen.nak_first && !seen.asked,
+            Verdict::YmodemGReceiver => seen.asking.is_by_g(),
             Verdict::NobodyAsked => !seen.asked,
             Verdict::NobodySent => !seen.framed && !seen.damaged,
             Verdict::NobodyAnswered => !seen.framed && !seen.damaged && !seen.ahead,
@@ -229,6 +235,9 @@ impl Verdict {
             }
             Verdict::XmodemReceiver => {
                 "the receiver asks by NAK, as XMODEM does: start it as a receiver of YMODEM"
+            }
+            Verdict::YmodemGReceiver => {
+                "the receiver asks by G, as YMODEM-g does: start it as a receiver of YMODEM"
             }
             Verdict::NobodyAsked => {
                 "no receiver asked for a file: start one, and see that its line is connected"
