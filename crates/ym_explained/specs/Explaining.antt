@@ -27,6 +27,7 @@ use Rattle.ym_explained.specs.declared.explaining.Form.{Form}
 use Rattle.ym_explained.specs.declared.explaining.Form.TheVariants.{Capture, OneWay}
 use Rattle.ym_explained.specs.declared.explaining.Reading.{Reading}
 use Rattle.ym_explained.specs.declared.explaining.Reading.TheVariants as reading
+use Rattle.ym_explained.specs.declared.opened.Seen.{Seen}
 use Rattle.ym_explained.specs.declared.untold.Untold.{Untold}
 use Rattle.ym_explained.specs.declared.untold.Untold.TheVariants as untold
 
@@ -39,12 +40,15 @@ Text = List ℕ
 abbrev pub closed_words : Text → Reason → List ℕ
 closed_words path why = codes "cannot open '" ++ (path ++ (codes "': " ++ reason_text why))
 
-abbrev pub unread_words : Text → List ℕ
-unread_words name = codes "cannot read '" ++ (name ++ codes "'")
+-- for a reason, where one is known
+abbrev pub unread_words : Text → Option Reason → List ℕ
+unread_words name None = codes "cannot read '" ++ (name ++ codes "'")
+unread_words name (Some why) = codes "cannot read '" ++ (name ++ (codes "': " ++ reason_text why))
 
-abbrev pub pair_words : Text → Text → List ℕ
-pair_words there back =
-    codes "cannot read '" ++ (there ++ (codes "' or '" ++ (back ++ codes "'")))
+-- of two files the first of which a read failed, for a reason that is known
+abbrev pub unread_pair : Text → Text → Option Reason → Option Reason → List ℕ
+unread_pair there back (Some why) why_back = unread_words there (Some why)
+unread_pair there back None why_back = unread_words back why_back
 
 abbrev pub endless_words : Text → List ℕ
 endless_words name = codes "'" ++ (name ++ codes "' has no end")
@@ -76,6 +80,17 @@ no_capture_words name position why =
 abbrev pub too_many_words : List ℕ
 too_many_words = codes "a record has both ways: give it alone, or else --there and --back"
 
+abbrev pub turned_files_words : List ℕ
+turned_files_words = codes "files of bytes are not turned: swap --there and --back"
+
+abbrev pub unturned_words : Text → List ℕ
+unturned_words path =
+    codes "'" ++ (path ++ codes "' is a record, which says its ways: --turned changed nothing")
+
+abbrev pub chart_unnamed_words : List ℕ
+chart_unnamed_words =
+    codes "standard output has what is told: name a file for the chart (./- is one called -)"
+
 abbrev pub chart_there_words : Text → List ℕ
 chart_there_words path = codes "'" ++ (path ++ codes "' is there already: no chart is written")
 
@@ -85,14 +100,16 @@ chart_unwritten_words path why =
 
 abbrev pub untold_words : Untold → List ℕ
 untold_words (untold.Closed path why) = closed_words path.now why
-untold_words (untold.Unread name) = unread_words name.now
-untold_words (untold.UnreadPair there back) = pair_words there.now back.now
+untold_words (untold.Unread name why) = unread_words name.now why
 untold_words (untold.Endless name) = endless_words name.now
 untold_words (untold.NoRecord name number why) = no_record_words name.now number why
 untold_words (untold.Cut name number) = cut_words name.now number
 untold_words (untold.Pcapng name) = pcapng_words name.now
 untold_words (untold.NoCapture name position why) = no_capture_words name.now position why
 untold_words untold.TooMany = too_many_words
+untold_words untold.TurnedFiles = turned_files_words
+untold_words (untold.Unturned path) = unturned_words path.now
+untold_words untold.ChartUnnamed = chart_unnamed_words
 untold_words (untold.ChartThere path) = chart_there_words path.now
 untold_words (untold.ChartUnwritten path why) = chart_unwritten_words path.now why
 
@@ -163,6 +180,26 @@ AnswersCapture name unread (Err inspect.Pcapng) old answer new =
 AnswersCapture name unread (Err (inspect.Packet position why)) old answer new =
     Refuses (no_capture_words name position why) 1 old answer new
 
+-- nothing is said
+abbrev pub Passes : Page → Result ℕ CommandFault → Page → Type 0
+Passes old answer new = (answer ≡ Ok 0) × (new ≡ old)
+
+-- All of the file at this path was told. A record says its ways: where they were to be turned, a
+-- line says that they were not.
+abbrev pub AnswersTold : Form → Bool → Text → Page → Result ℕ CommandFault → Page → Type 0
+AnswersTold (Capture true) true path old answer new = Refuses (unturned_words path) 0 old answer new
+AnswersTold (Capture true) false path old answer new = Passes old answer new
+AnswersTold (Capture false) is_record path old answer new = Passes old answer new
+AnswersTold (OneWay way) is_record path old answer new = Passes old answer new
+
+-- where the file at this path was told so, and this was seen of it
+abbrev pub AnswersOpened : Form → Seen → Text → Result Verdict InspectFault → Page
+    → Result ℕ CommandFault → Page → Type 0
+AnswersOpened form seen path (Ok verdict) old answer new =
+    AnswersTold form seen.is_record path old answer new
+AnswersOpened form seen path (Err fault) old answer new =
+    AnswersCapture path (unread_words path seen.why) (Err fault) old answer new
+
 -- where the file at this path could not be opened
 abbrev pub AnswersClosed : Text → Page → Result ℕ CommandFault → Page → Type 0
 AnswersClosed path old answer new =
@@ -183,15 +220,16 @@ pub record InputGives (form : Form) (old : Desk) (answer : Result ℕ CommandFau
     : Type 0 where
   pub told : Result Verdict InspectFault
   pub tells : Told form old.text old.reads_failed old.out told new.reads_failed new.out
-  pub answers : AnswersCapture input_name (unread_words input_name) told old.err answer new.err
+  pub answers : AnswersCapture input_name (unread_words input_name None) told old.err answer new.err
 
 -- What a file has nobody knows.
 pub record OpenedGives (path : Text) (form : Form) (old : Desk) (answer : Result ℕ CommandFault)
     (new : Desk) : Type 0 where
   pub told : Result Verdict InspectFault
+  pub seen : Seen
   pub last : IfOk told (λ verdict. TellsLast (ways_in form) verdict new.out.holds)
   pub writes : CountsWrites told old.out.failed new.out.failed
-  pub answers : AnswersCapture path (unread_words path) told old.err answer new.err
+  pub answers : AnswersOpened form seen path told old.err answer new.err
   pub keeps : KeepsInput old new
 
 pub record ClosedGives (path : Text) (old : Desk) (answer : Result ℕ CommandFault) (new : Desk)
@@ -212,9 +250,13 @@ FileGives path form old answer new = GivesBy (bytes_eq path (codes "-")) path fo
 pub record BothOpened (there back : Text) (old_out old_err : Page) (answer : Result ℕ CommandFault)
     (new_out new_err : Page) : Type 0 where
   pub told : Result Verdict InspectFault
+  pub why_there : Option Reason
+  pub why_back : Option Reason
+  pub unread : List ℕ
+  pub names : unread ≡ unread_pair there back why_there why_back
   pub last : IfOk told (λ verdict. TellsLast ways.Both verdict new_out.holds)
   pub writes : CountsWrites told old_out.failed new_out.failed
-  pub answers : AnswersCapture there (pair_words there back) told old_err answer new_err
+  pub answers : AnswersCapture there unread told old_err answer new_err
 
 abbrev pub PairGives : Text → Text → Page → Page → Result ℕ CommandFault → Page → Page → Type 0
 PairGives there back old_out old_err answer new_out new_err =
@@ -224,27 +266,36 @@ PairGives there back old_out old_err answer new_out new_err =
 
 -- ---- The command
 
--- Nothing is read or told.
-abbrev pub RefusesBoth : Desk → Result ℕ CommandFault → Desk → Type 0
-RefusesBoth old answer new =
-    Refuses too_many_words 2 old.err answer new.err × (new.out ≡ old.out) × KeepsInput old new
+-- Nothing is read or told, for what these words say.
+abbrev pub RefusesWords : List ℕ → Desk → Result ℕ CommandFault → Desk → Type 0
+RefusesWords words old answer new =
+    Refuses words 2 old.err answer new.err × (new.out ≡ old.out) × KeepsInput old new
 
--- where these files of one way are given, and a capture or none, whose ways are turned or not
+-- where these files of one way are given, and a capture or none, whose ways are turned or not. The
+-- ways of files of one way are named, and not turned.
 abbrev pub ExplainGives :
     Option Text → Option Text → Option Text → Bool → Desk → Result ℕ CommandFault → Desk → Type 0
 ExplainGives None None (Some path) turned old answer new =
     FileGives path (Capture turned) old answer new
-ExplainGives None (Some back) (Some path) turned old answer new = RefusesBoth old answer new
-ExplainGives (Some there) None (Some path) turned old answer new = RefusesBoth old answer new
+ExplainGives None (Some back) (Some path) turned old answer new =
+    RefusesWords too_many_words old answer new
+ExplainGives (Some there) None (Some path) turned old answer new =
+    RefusesWords too_many_words old answer new
 ExplainGives (Some there) (Some back) (Some path) turned old answer new =
-    RefusesBoth old answer new
+    RefusesWords too_many_words old answer new
 ExplainGives None None None turned old answer new =
     FileGives (codes "-") (Capture turned) old answer new
-ExplainGives (Some path) None None turned old answer new =
+ExplainGives (Some path) None None true old answer new =
+    RefusesWords turned_files_words old answer new
+ExplainGives (Some path) None None false old answer new =
     FileGives path (OneWay There) old answer new
-ExplainGives None (Some path) None turned old answer new =
+ExplainGives None (Some path) None true old answer new =
+    RefusesWords turned_files_words old answer new
+ExplainGives None (Some path) None false old answer new =
     FileGives path (OneWay Back) old answer new
-ExplainGives (Some there) (Some back) None turned old answer new =
+ExplainGives (Some there) (Some back) None true old answer new =
+    RefusesWords turned_files_words old answer new
+ExplainGives (Some there) (Some back) None false old answer new =
     PairGives there back old.out old.err answer new.out new.err × KeepsInput old new
 
 -- what is told of one file, or of one for each way, and where the words ask for too many
@@ -252,11 +303,13 @@ abbrev pub ReadingGives : Reading → Desk → Result ℕ CommandFault → Desk 
 ReadingGives (reading.One path form) old answer new = FileGives path.now form old answer new
 ReadingGives (reading.Pair there back) old answer new =
     PairGives there.now back.now old.out old.err answer new.out new.err × KeepsInput old new
-ReadingGives reading.TooMany old answer new = RefusesBoth old answer new
+ReadingGives reading.TooMany old answer new = RefusesWords too_many_words old answer new
+ReadingGives reading.TurnedFiles old answer new = RefusesWords turned_files_words old answer new
 
 -- ---- The chart
 
--- what was answered of the telling, or a line that says why no chart is written at this path
+-- what was answered of the telling, or a line that says why no chart is written at this path. Where
+-- nothing was told there is none to write.
 abbrev pub AnswersChart : Text → ℕ → Page → Result ℕ CommandFault → Page → Type 0
 AnswersChart path status old answer new =
     ((answer ≡ Ok status) × (new ≡ old))
@@ -277,9 +330,17 @@ pub record Draws (path : Text) (there back both : Option Text) (turned : Bool) (
   pub tells : ExplainGives there back both turned old told (record new { err = between })
   pub answers : ChartBehind path told between answer new.err
 
+abbrev pub DrawsBy : Bool → Text → Option Text → Option Text → Option Text → Bool → Desk
+    → Result ℕ CommandFault → Desk → Type 0
+DrawsBy true path there back both turned old answer new =
+    RefusesWords chart_unnamed_words old answer new
+DrawsBy false path there back both turned old answer new =
+    Draws path there back both turned old answer new
+
+-- what is told goes to standard output, which `-` would be
 abbrev pub DrawsGives : Option Text → Option Text → Option Text → Option Text → Bool → Desk
     → Result ℕ CommandFault → Desk → Type 0
 DrawsGives None there back both turned old answer new =
     ExplainGives there back both turned old answer new
 DrawsGives (Some path) there back both turned old answer new =
-    Draws path there back both turned old answer new
+    DrawsBy (bytes_eq path (codes "-")) path there back both turned old answer new

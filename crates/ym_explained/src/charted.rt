@@ -15,8 +15,12 @@ pub trait Draw: Output {
         ensures holds { Self.contents self.new ≡ Self.contents self.old }
         ensures failed { Self.failures self.new ≡ Self.failures self.old };
 
-    /// The picture of what went there since that began; none at want of memory, now or before.
-    fn end_chart(&mut self) -> Option<String>
+    /// The picture of what went there since that began; none where nothing did.
+    ///
+    /// # Errors
+    ///
+    /// At want of memory, now or before.
+    fn end_chart(&mut self) -> Result<Option<String>, AllocError>
         ensures holds { Self.contents self.new ≡ Self.contents self.old }
         ensures failed { Self.failures self.new ≡ Self.failures self.old };
 }
@@ -28,6 +32,8 @@ pub struct Charted<O: Output + Drop> {
     alloc: Global,
     out: O,
     chart: Option<Chart>,
+    /// Nothing went to the output since the chart began.
+    blank: bool,
     /// Memory ran out for the chart.
     short: bool,
 }
@@ -45,6 +51,7 @@ impl<O: Output + Drop> Charted<O> {
             alloc,
             out,
             chart: None,
+            blank: true,
             short: false,
         }
     }
@@ -61,6 +68,9 @@ impl<O: Output + Drop> Charted<O> {
     fn draw(&mut self, bytes: &[u8])
         ensures { self.new.out ≡ self.old.out }
     {
+        if !bytes.is_empty() {
+            self.blank = false;
+        }
         if let Some(chart) = &mut self.chart {
             if chart.take(bytes).is_err() {
                 self.short = true;
@@ -108,15 +118,23 @@ impl<O: Output + Drop> Draw for Charted<O> {
     fn begin_chart(&mut self) {
         let earlier = mem::replace(&mut self.chart, Some(Chart::new(self.alloc)));
         discard(earlier);
+        self.blank = true;
         self.short = false;
     }
 
-    fn end_chart(&mut self) -> Option<String> {
+    fn end_chart(&mut self) -> Result<Option<String>, AllocError> {
         let chart = self.chart.take();
         if self.short {
             discard(chart);
-            return None;
+            return Err(AllocError);
         }
-        chart?.picture().ok()
+        if self.blank {
+            discard(chart);
+            return Ok(None);
+        }
+        match chart {
+            Some(chart) => Ok(Some(chart.picture()?)),
+            None => Ok(None),
+        }
     }
 }

@@ -5,28 +5,26 @@ ghost use Rattle.std.specs.Prelude.{◌≡◌, ◌≤◌, ◌⊎◌, ℕ, IfOk, 
 ghost use Rattle.ym_answer.specs.Desk.{Desk, desk};
 ghost use Rattle.ym_answer.specs.Page.{page};
 ghost use Rattle.ym_answer.specs.declared.command_fault.CommandFault.{CommandFault};
-ghost use Rattle.ym_explained.specs.Explaining.{AnswersCapture, AnswersChart, AnswersClosed, ChartBehind, DrawsGives, ExplainGives, FileGives, PairGives, ReadingGives, Refuses, Told, untold_words};
+ghost use Rattle.ym_explained.specs.Explaining.{ChartBehind, DrawsGives, ExplainGives, FileGives, PairGives, ReadingGives, Told};
 
-use crate::chart_file::{ChartFault, write_chart};
+use crate::answering::{answer, answer_chart, answer_closed, answer_opened, refuse, unread_of};
+use crate::chart_file::write_chart;
 use crate::charted::Draw;
+use crate::opened::Opened;
 use crate::untold::Untold;
-use std::alloc::Global;
+use std::alloc::{AllocError, Global};
+use std::fs;
 use std::fs::{File, Files};
-use std::{fs, io};
 use ym_answer::CommandFault;
 use ym_explain::Verdict;
 use ym_inspect::{Direction, InspectFault, explain_capture, explain_one_way, explain_pair};
-use ym_streams::{Input, Output, Outputs, StreamFault, Streams};
-use ym_text::Reason;
+use ym_streams::{Input, Output, Outputs, Streams};
 
-/// The status where a capture was not told to its end.
-const UNTOLD: u8 = 1;
-
-/// The status where the words ask for a record and files of one way.
+/// The status where the words ask for what cannot be done.
 const REFUSED: u8 = 2;
 
-/// Standard input, as a word.
-const STANDARD_INPUT: &str = "-";
+/// Standard input, as a word: or standard output, where a file is written.
+const STANDARD: &str = "-";
 
 /// What it is called.
 const INPUT_NAME: &str = "standard input";
@@ -57,61 +55,6 @@ fn tell_form<I: Input, O: Output>(
     }
 }
 
-/// Writes the line that says why nothing more is told. The answer is this status.
-fn refuse<E: Output>(err: &mut E, why: Untold<'_>, status: u8) -> Result<u8, CommandFault>
-    ensures gives { Refuses (untold_words why.entry) status
-        (page (E.contents err.old) (E.failures err.old)) result
-        (page (E.contents err.new) (E.failures err.new)) }
-    ensures status { IfOk result (λ it. it ≡ status) }
-{
-    match err.put_line(why) {
-        Ok(()) => Ok(status),
-        Err(StreamFault) => Err(CommandFault::Device),
-    }
-}
-
-/// The answer where what has this name was told so. The one is told where it cannot be read.
-fn answer<E: Output>(
-    err: &mut E,
-    name: &str,
-    unread: Untold<'_>,
-    told: Result<Verdict, InspectFault>,
-) -> Result<u8, CommandFault>
-    ensures gives { AnswersCapture name.now (untold_words unread.entry) told
-        (page (E.contents err.old) (E.failures err.old)) result
-        (page (E.contents err.new) (E.failures err.new)) }
-    ensures status { IfOk result (λ status. status ≤ 1) }
-{
-    match told {
-        Ok(_) => Ok(0),
-        Err(InspectFault::Memory) => Err(CommandFault::Memory),
-        Err(InspectFault::Write) => Err(CommandFault::Device),
-        Err(InspectFault::Read) => refuse(err, unread, UNTOLD),
-        Err(InspectFault::Endless) => refuse(err, Untold::Endless(name), UNTOLD),
-        Err(InspectFault::Line { number, why }) => {
-            refuse(err, Untold::NoRecord(name, number, why), UNTOLD)
-        }
-        Err(InspectFault::Cut(number)) => refuse(err, Untold::Cut(name, number), UNTOLD),
-        Err(InspectFault::Pcapng) => refuse(err, Untold::Pcapng(name), UNTOLD),
-        Err(InspectFault::Packet { position, why }) => {
-            refuse(err, Untold::NoCapture(name, position, why), UNTOLD)
-        }
-    }
-}
-
-/// The answer where the file at this path cannot be opened.
-fn answer_closed<E: Output>(err: &mut E, path: &str, error: io::Error) -> Result<u8, CommandFault>
-    ensures gives { AnswersClosed path.now
-        (page (E.contents err.old) (E.failures err.old)) result
-        (page (E.contents err.new) (E.failures err.new)) }
-    ensures status { IfOk result (λ status. status ≤ 1) }
-{
-    if error.kind() == io::ErrorKind::OutOfMemory {
-        return Err(CommandFault::Memory);
-    }
-    refuse(err, Untold::Closed(path, Reason::of(&error)), UNTOLD)
-}
-
 /// Tells a capture of one file, or of standard input.
 fn explain_file<R: Files<File = File>, I: Input, O: Output, E: Output>(
     rt: &R,
@@ -131,14 +74,15 @@ fn explain_file<R: Files<File = File>, I: Input, O: Output, E: Output>(
 {
     let Streams { input, outputs } = streams;
     let Outputs { out, err } = outputs;
-    if path == STANDARD_INPUT {
+    if path == STANDARD {
         let told = tell_form(alloc, form, input, out);
-        return answer(err, INPUT_NAME, Untold::Unread(INPUT_NAME), told);
+        return answer(err, INPUT_NAME, Untold::Unread(INPUT_NAME, None), told);
     }
     match fs::open(rt, path) {
-        Ok(mut file) => {
-            let told = tell_form(alloc, form, &mut file, out);
-            answer(err, path, Untold::Unread(path), told)
+        Ok(file) => {
+            let mut opened = Opened::new(file);
+            let told = tell_form(alloc, form, &mut opened, out);
+            answer_opened(err, path, form, opened.seen(), told)
         }
         Err(error) => answer_closed(err, path, error),
     }
@@ -161,15 +105,16 @@ fn explain_files<R: Files<File = File>, O: Output, E: Output>(
 {
     let Outputs { out, err } = outputs;
     let mut there_file = match fs::open(rt, there) {
-        Ok(file) => file,
+        Ok(file) => Opened::new(file),
         Err(error) => return answer_closed(err, there, error),
     };
     let mut back_file = match fs::open(rt, back) {
-        Ok(file) => file,
+        Ok(file) => Opened::new(file),
         Err(error) => return answer_closed(err, back, error),
     };
     let told = explain_pair(alloc, &mut there_file, &mut back_file, out);
-    answer(err, there, Untold::UnreadPair(there, back), told)
+    let unread = unread_of(there, back, there_file.seen().why, back_file.seen().why);
+    answer(err, there, unread, told)
 }
 
 /// What `explain` is asked for, as its words say it. The paths are those of files; where one alone
@@ -197,6 +142,8 @@ pub(crate) enum Reading<'a> {
     Pair(&'a str, &'a str),
     /// Nothing: a record is given, and files of one way.
     TooMany,
+    /// Nothing: files of one way are to be turned.
+    TurnedFiles,
 }
 
 /// What is read where this is asked for.
@@ -208,15 +155,18 @@ fn reading_of<'a>(order: ExplainOrder<'a>) -> Reading<'a>
         order.entry.turned old answer new }
 {
     let capture = Form::Capture(order.turned);
-    match (order.both, order.there, order.back) {
-        (Some(path), None, None) => Reading::One(path, capture),
-        (Some(_), Some(_), None) => Reading::TooMany,
-        (Some(_), None, Some(_)) => Reading::TooMany,
-        (Some(_), Some(_), Some(_)) => Reading::TooMany,
-        (None, None, None) => Reading::One(STANDARD_INPUT, capture),
-        (None, Some(path), None) => Reading::One(path, Form::OneWay(Direction::There)),
-        (None, None, Some(path)) => Reading::One(path, Form::OneWay(Direction::Back)),
-        (None, Some(there), Some(back)) => Reading::Pair(there, back),
+    match (order.both, order.there, order.back, order.turned) {
+        (Some(path), None, None, _) => Reading::One(path, capture),
+        (Some(_), Some(_), None, _) => Reading::TooMany,
+        (Some(_), None, Some(_), _) => Reading::TooMany,
+        (Some(_), Some(_), Some(_), _) => Reading::TooMany,
+        (None, None, None, _) => Reading::One(STANDARD, capture),
+        (None, Some(_), None, true) => Reading::TurnedFiles,
+        (None, Some(path), None, false) => Reading::One(path, Form::OneWay(Direction::There)),
+        (None, None, Some(_), true) => Reading::TurnedFiles,
+        (None, None, Some(path), false) => Reading::One(path, Form::OneWay(Direction::Back)),
+        (None, Some(_), Some(_), true) => Reading::TurnedFiles,
+        (None, Some(there), Some(back), false) => Reading::Pair(there, back),
     }
 }
 
@@ -244,37 +194,17 @@ fn explain<R: Files<File = File>, I: Input, O: Output, E: Output>(
         Reading::One(path, form) => explain_file(rt, alloc, path, form, streams),
         Reading::Pair(there, back) => explain_files(rt, alloc, there, back, &mut streams.outputs),
         Reading::TooMany => refuse(&mut streams.outputs.err, Untold::TooMany, REFUSED),
+        Reading::TurnedFiles => refuse(&mut streams.outputs.err, Untold::TurnedFiles, REFUSED),
     }
 }
 
-/// The answer where a telling had this one, and its chart was written so at this path.
-fn answer_chart<E: Output>(
-    err: &mut E,
-    path: &str,
-    status: u8,
-    written: Result<(), ChartFault>,
-) -> Result<u8, CommandFault>
-    ensures gives { AnswersChart path.now status
-        (page (E.contents err.old) (E.failures err.old)) result
-        (page (E.contents err.new) (E.failures err.new)) }
-    ensures status { IfOk result (λ it. (it ≡ status) ⊎ (it ≡ 1)) }
-{
-    match written {
-        Ok(()) => Ok(status),
-        Err(ChartFault::There) => refuse(err, Untold::ChartThere(path), UNTOLD),
-        Err(ChartFault::System(error)) => {
-            let why = Reason::of(&error);
-            refuse(err, Untold::ChartUnwritten(path, why), UNTOLD)
-        }
-    }
-}
-
-/// Writes a picture at this path, behind a telling that had this answer.
+/// Writes a picture at this path, behind a telling that had this answer. Where nothing was told
+/// there is none, and no file is made.
 fn put_picture<R: Files<File = File>, E: Output>(
     rt: &R,
     path: &str,
     told: Result<u8, CommandFault>,
-    picture: Option<&str>,
+    picture: Result<Option<String>, AllocError>,
     err: &mut E,
 ) -> Result<u8, CommandFault>
     ensures gives { ChartBehind path.now told
@@ -287,8 +217,12 @@ fn put_picture<R: Files<File = File>, E: Output>(
         // Where the words were refused, nothing was told.
         Ok(REFUSED) => Ok(REFUSED),
         Ok(status) => match picture {
-            Some(text) => answer_chart(err, path, status, write_chart(rt, path, text)),
-            None => Err(CommandFault::Memory),
+            Ok(Some(text)) => {
+                let written = write_chart(rt, path, text.as_str());
+                answer_chart(err, path, status, written)
+            }
+            Ok(None) => Ok(status),
+            Err(_) => Err(CommandFault::Memory),
         },
     }
 }
@@ -315,8 +249,11 @@ pub fn explain_and_draw<R: Files<File = File>, I: Input, O: Draw, E: Output>(
     let Some(path) = order.chart else {
         return explain(rt, alloc, order, streams);
     };
+    if path == STANDARD {
+        return refuse(&mut streams.outputs.err, Untold::ChartUnnamed, REFUSED);
+    }
     streams.outputs.out.begin_chart();
     let told = explain(rt, alloc, order, streams);
     let picture = streams.outputs.out.end_chart();
-    put_picture(rt, path, told, picture.as_deref(), &mut streams.outputs.err)
+    put_picture(rt, path, told, picture, &mut streams.outputs.err)
 }

@@ -2,9 +2,11 @@
 //! Read first: `explain_and_draw` (`explaining.rt`).
 #![tactic(auto)]
 
+mod answering;
 mod chart_file;
 mod charted;
 mod explaining;
+mod opened;
 mod untold;
 
 pub use charted::{Charted, Draw};
