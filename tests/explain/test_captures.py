@@ -102,6 +102,19 @@ def test_other_packets_do_not_count():
     assert told_of(it.data) == told(record_of("whole")[0]), "another telling"
 
 
+@sentence("a capture of TCP: calls that were refused before")
+def test_refused_calls():
+    """Who calls before anybody listens is refused, and calls again from other ports: no byte came
+    of these, and the connection that was taken is told."""
+    it = Capture()
+    for port in (39998, 39999):
+        it.refuses(port)
+    it.opens()
+    for at, way, data in pieces_of("whole"):
+        it.sends(at, way, data)
+    assert told_of(it.data) == told(record_of("whole")[0]), "another telling"
+
+
 @cases(
     case("a capture of TCP: who begins by C receives", b"C", False, ">"),
     case("a capture of TCP: who begins by NAK receives", b"\x15", False, ">"),

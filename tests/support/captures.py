@@ -17,7 +17,7 @@ LINKS = {
     113: (bytes(14) + b"\x08\x00", bytes(14) + b"\x86\xdd"),
     276: (b"\x08\x00" + bytes(18), b"\x86\xdd" + bytes(18)),
 }
-SYN, ACK, FIN = 2, 16, 1
+SYN, RST, ACK, FIN = 2, 4, 16, 1
 # When the first packet passed.
 BEGAN = 1_700_000_000
 
@@ -91,6 +91,14 @@ class Capture:
                 0, self.framed(self.segment(it, b"", number=self.next[it] - 1, flags=flags))
             )
         self.packet(0, self.framed(self.segment(way, b"")))
+
+    def refuses(self, port):
+        """A call of the sender from this port, where nobody listens yet."""
+        ports = (port, self.ports[1])
+        for way, flags in ((">", SYN), ("<", RST | ACK)):
+            it = self.segment(way, b"", number=port, flags=flags, ports=ports)
+            self.packet(0, self.framed(it))
+            ports = ports[::-1]
 
 
 def captured(pieces, opener=">", **how):

@@ -4,8 +4,8 @@ use Rattle.ym_told.specs.declared.way.Direction.TheVariants.{There, Back}
 use Rattle.ym_capture.specs.CaptureHead.{kind_of}
 use Rattle.ym_capture.specs.CaptureNumbers.{two, four}
 use Rattle.ym_capture.specs.Flow.{seen_of}
-use Rattle.ym_capture.specs.PacketParts.{number, opens, tcp_header_len, data_of}
-use Rattle.ym_capture.specs.TwoSides.{first_way_of}
+use Rattle.ym_capture.specs.PacketParts.{number, opens, tcp_header_len, data_of, header_len, tcp_in, total_len}
+use Rattle.ym_capture.specs.TwoSides.{first_sides, first_way_of, sides_for, source, target}
 use Rattle.ym_capture.specs.declared.head.CaptureKind.TheVariants as kind
 use Rattle.ym_capture.specs.declared.head.ByteOrder.TheVariants.{LowFirst}
 use Rattle.ym_capture.specs.declared.head.Part.TheVariants.{Micros}
@@ -48,3 +48,20 @@ by_a_block = refl
 
 by_text : first_way_of Second 0x6c ≡ There
 by_text = refl
+
+-- an opening from this port of 10.0.0.1, to port 9 of 10.0.0.2
+abbrev call : ℕ → List ℕ
+call port =
+    0x45 ∷ 0 ∷ 0 ∷ 40 ∷ 0 ∷ 0 ∷ 0x40 ∷ 0 ∷ 64 ∷ 6 ∷ 0 ∷ 0 ∷ 10 ∷ 0 ∷ 0 ∷ 1 ∷ 10 ∷ 0 ∷ 0 ∷ 2
+    ∷ 0 ∷ port ∷ 0 ∷ 9 ∷ 0 ∷ 0 ∷ 0 ∷ 0 ∷ 0 ∷ 0 ∷ 0 ∷ 0 ∷ 0x50 ∷ 2 ∷ 0 ∷ 0 ∷ 0 ∷ 0 ∷ 0 ∷ 0 ∷ []
+
+-- who called from port 7 was refused, and calls from port 8
+calls_once_more : (sides_for (first_sides (call 7)) (call 8)).first.port ≡ 8
+unfolding source target tcp_in header_len total_len two four
+calls_once_more = refl
+
+-- where a byte came from port 7, that connection stays
+had_a_byte :
+    (sides_for (record (first_sides (call 7)) { first_way = Some There }) (call 8)).first.port ≡ 7
+unfolding source target tcp_in header_len total_len two four
+had_a_byte = refl

@@ -3,7 +3,7 @@ use Rattle.std.specs.Prelude.{ℕ, Bool, if◌then◌else◌, List, [], Option, 
 use Rattle.ym_told.specs.BothStand.{other_way}
 use Rattle.ym_told.specs.declared.way.Direction.{Direction}
 use Rattle.ym_capture.specs.PacketParts.{ip_in, is_tcp, fault_in}
-use Rattle.ym_capture.specs.TwoSides.{first_sides, behind, fresh_of, way_of}
+use Rattle.ym_capture.specs.TwoSides.{first_sides, sides_for, behind, fresh_of, way_of}
 use Rattle.ym_capture.specs.declared.connection.Connection.{Connection}
 use Rattle.ym_capture.specs.declared.fault.CaptureFault.{CaptureFault}
 use Rattle.ym_capture.specs.declared.head.Link.{Link}
@@ -13,10 +13,11 @@ abbrev pub none_yet : Link → Bool → Connection
 none_yet link turned = record { link = link; turned = turned; sides = None }
 
 abbrev pub sides_by : Option Sides → List ℕ → Sides
-sides_by (Some sides) ip = sides
+sides_by (Some sides) ip = sides_for sides ip
 sides_by None ip = first_sides ip
 
--- the first packet of TCP says between which ends it is
+-- The first packet of TCP says between which ends it is; or where no byte of that connection came,
+-- the first one of the next.
 abbrev pub sides_at : Connection → List ℕ → Sides
 sides_at at ip = sides_by at.sides ip
 

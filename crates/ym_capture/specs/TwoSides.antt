@@ -57,6 +57,15 @@ side_of sides ip =
     if same_end (source ip) sides.second && same_end (target ip) sides.first then Some Second else
     None
 
+abbrev pub or_next : Option Direction → Option Side → Sides → List ℕ → Sides
+or_next None None sides ip = first_sides ip
+or_next None (Some side) sides ip = sides
+or_next (Some way) side sides ip = sides
+
+-- A packet of another connection begins that, where no byte of this one came: this was refused.
+abbrev pub sides_for : Sides → List ℕ → Sides
+sides_for sides ip = or_next sides.first_way (side_of sides ip) sides ip
+
 abbrev pub next_for : Sides → Side → Option ℕ
 next_for sides First = sides.first_next
 next_for sides Second = sides.second_next

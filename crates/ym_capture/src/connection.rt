@@ -31,12 +31,13 @@ impl Connection {
         }
     }
 
-    /// Its two ends, of which this packet may be the first.
+    /// Its two ends, of which this packet may be the first. A connection of which no byte came
+    /// gives way to the next: so it is where somebody calls before anybody listens.
     fn sides_at(self, ip: &[u8]) -> Sides
         ensures { result ≡ sides_by self ip.now }
     {
         match self.sides {
-            Some(sides) => sides,
+            Some(sides) => sides.at(ip),
             None => Sides::of(ip),
         }
     }

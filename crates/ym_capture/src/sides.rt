@@ -2,7 +2,7 @@
 
 ghost use Rattle.std.specs.Prelude.{◌≡◌};
 ghost use Rattle.ym_capture.specs.TwoSides.{same_end, source as source_of, target as target_of};
-ghost use Rattle.ym_capture.specs.TwoSides.{first_sides, side_of as side_by, next_for, with_next as with_number};
+ghost use Rattle.ym_capture.specs.TwoSides.{first_sides, side_of as side_by, sides_for as sides_with, next_for, with_next as with_number};
 ghost use Rattle.ym_capture.specs.TwoSides.{first_way_of as way_from, way_of as way_at};
 ghost use Rattle.ym_capture.specs.TwoSides.{asks as is_ask, begins as is_begin};
 ghost use Rattle.ym_capture.specs.TwoSides.{behind as behind_ip, behind_side, fresh_of};
@@ -151,6 +151,18 @@ impl Sides {
             return Some(Side::Second);
         }
         None
+    }
+
+    /// The connection where this packet is the next: this one, or its own, where it is of another
+    /// and no byte of this one came.
+    pub(crate) fn at(self, ip: &[u8]) -> Sides
+        ensures { result ≡ sides_with self ip.now }
+    {
+        match (self.first_way, self.side_of(ip)) {
+            (None, None) => Sides::of(ip),
+            (None, Some(_)) => self,
+            (Some(_), _) => self,
+        }
     }
 
     /// The number of the next byte from this end.
