@@ -99,6 +99,8 @@ class SideBySide:
 
     def __init__(self):
         self.begun, self.pools, self.again = {}, {}, 0
+        # It beats from now on: it knows nothing of what was before its first use.
+        beating()
 
     def begin(self, folder, items):
         """Begins the tests of a folder."""
