@@ -140,7 +140,7 @@ def test_too_many_files():
 @sentence("nobody listens")
 def test_nobody_listens():
     with one_file() as path:
-        run("send", "--port", "1", path).wants(3, "", DEVICE)
+        run("send", "--port", free_port(), path).wants(3, "", DEVICE)
 
 
 @cases(
