@@ -15,7 +15,8 @@ ASKS_AFTER = 2.0
 # Such an ask comes sooner than one of a receiver that asks every three seconds. A busy machine can
 # be later with it: such a session shows nothing, and another one is made.
 LATEST, TRIES = 2.2, 5
-# A line that is let clear behind two copies is so for four seconds, and none of this is waited.
+# A line that is let clear behind two copies is so for four seconds, and none of this is waited. A
+# busy machine can be later with it, too.
 SOON = 2.0
 # So long the ACK of block 1 waits for a C at most, on a busy machine too.
 MOMENT = 1.0
@@ -74,6 +75,9 @@ def test_asked_again(was_slow):
             continue
         if peer.asked_again <= LATEST:
             ended.wants(0, "sender done 1 finished\n")
-            assert peer.led_on < SOON, "block 1 came %.1f s later" % peer.led_on
-            return
-    raise AssertionError("this machine was later than %.1f s, %d times" % (LATEST, TRIES))
+            if peer.led_on < SOON:
+                return
+    raise AssertionError(
+        "the last of %d times it was asked again after %.1f s, and block 1 came %.1f s behind that"
+        % (TRIES, peer.asked_again, peer.led_on)
+    )

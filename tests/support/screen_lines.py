@@ -9,7 +9,9 @@ from support.program import LIMIT
 
 
 WIDTHS = (40, 80, 200)
-PACE = 0.15
+# How long a peer takes for each frame: longer than a terminal waits between two showings, which is
+# 0.1 seconds, by more than a busy machine is late with one. Whom an end waits for is shown after 1.
+PACE = 0.5
 
 
 def takes(count, seen):

@@ -82,8 +82,9 @@ def test_names_on_a_terminal():
 
 # ---- How far a file is
 
-# How long a peer takes for each answer: longer than a terminal waits between two showings.
-PACE = 0.15
+# How long a peer takes for each answer: longer than a terminal waits between two showings, which is
+# 0.1 seconds, by more than a busy machine is late with one.
+PACE = 0.5
 
 # The whole file, in as many seconds and, where they were enough to tell, at such a rate.
 WHOLE = rb"first\.bin: 5120 bytes in \d+\.\d s(, \d+ k?B/s)?"
