@@ -27,7 +27,7 @@ const CABLE = "Check the cable, and that nothing else has the port open.";
 
 const FAULTS = {
   "name-empty": "The name is empty.",
-  "name-long": "The name is too long: 255 bytes are the most, and name and length have to fit into one block.",
+  "name-long": "The name is too long: 255 bytes are the most.",
   "name-unsafe": "The name has a slash or a control character, or is “.” or “..”.",
   "no-length": "The sender did not say how long the file is. This page takes only files whose length is stated.",
   "length-large": "The length is too large.",
@@ -42,7 +42,7 @@ const FAILED = {
   "too-many-errors": (about) =>
     about.answered
       ? ["Too much of it arrived damaged", "Ten times in a row nothing came that could be used.", [SPEED, CABLE, "Try a lower speed, on both sides."]]
-      : ["The device sent nothing that is a file", "This page asked ten times, and no file was offered.", ["Start sending on the device: sb FILE at a Linux shell.", "It has to send by YMODEM (a batch). XMODEM and ZMODEM are other protocols.", SPEED]],
+      : ["The device sent nothing that is a file", "This page asked for a quarter of an hour, and no file was offered.", ["Start sending on the device: sb FILE at a Linux shell.", "It has to send by YMODEM (a batch). XMODEM and ZMODEM are other protocols.", SPEED]],
   cancelled: () => ["The device cancelled", "It sent its signal to stop.", ["Look at what it printed, in the terminal: often there was no room, or the file was there already.", "Start again once that is solved."]],
   "out-of-step": () => ["The two sides lost step", "A block came that does not follow the one before, so the file could not be trusted any more.", ["Start the transfer again from the beginning, on both sides.", CABLE]],
   "too-many-files": () => ["Too many files", "A batch holds 65,535 files at most.", ["Send them in several batches."]],
