@@ -1,21 +1,30 @@
-# make play              plays the example session: by the program where it is built, else by a build without proofs (about a minute)
+# make play              plays the example session: by the program where it is built, else by a
+#                        build without proofs (about a minute)
 # make build             proves and builds the program
-# make check             while you write: proves what changed, and tries the tests of the crates that changed since the last green run
-# make layout            whether each source is laid out as `rt fmt` does it, which the gate wants, the version is spelled alike, and the crates
-#                        and the pages keep their house (tools/house.py): a second
-# make test              everything that is checked before a change lands: the gate, whose last line is 'N passed, M failed', and beside it
-#                        want of memory, the library, the page, and the program that it proved on sockets and files
+# make check             while you write: proves what changed, and tries the tests of the crates
+#                        that changed since the last green run
+# make layout            whether each source is laid out as `rt fmt` does it, which the gate wants,
+#                        the version is spelled alike, and the crates and the pages keep their house
+#                        (tools/house.py): a second
+# make test              everything that is checked before a change lands: the gate, whose last line
+#                        is 'N passed, M failed', and beside it want of memory, the library, the
+#                        page, and the program that it proved on sockets and files
 # make memory            each growth of memory refused in turn, alone
-# make edits             tries every edit of the crates, many in a check; the gate tries a few of them.
-#                        CRATES="A B" takes those of these crates, ANEW=1 also what was settled
-# make plants            plants wrong bodies that no contract refuses, and tells for each by which test it is caught (docs/plants.md).
-#                        CRATES="A B" takes those of these crates, or of share or include; TESTS=1 asks the tests alone
+# make edits             tries every edit of the crates, many in a check; the gate tries a few of
+#                        them. CRATES="A B" takes those of these crates, ANEW=1 also what was
+#                        settled
+# make plants            plants wrong bodies that no contract refuses, and tells for each by which
+#                        test it is caught (docs/plants.md). CRATES="A B" takes those of these
+#                        crates, or of share or include; TESTS=1 asks the tests alone
 # make interop           the program against lrzsz, which has to be installed
-# make install           puts the program, ymodem-tty, the manual pages and the completion below $(DESTDIR)$(PREFIX)
+# make install           puts the program, ymodem-tty, ymodem-judge, the manual pages and the
+#                        completion below $(DESTDIR)$(PREFIX)
 # make portable          the library for C as files for every processor, 32 bits too: out/portable
-# make deb, make dist    the same as a Debian package, with one of the library for C beside it, and as a tar file, in out/
+# make deb, make dist    the same as a Debian package, with one of the library for C beside it, and
+#                        as a tar file, in out/
 # make charts            draws the charts of docs/pictures from the traces that the program prints
-# make recording         records a transfer anew, and draws it: docs/pictures/transfer.svg, which the README shows
+# make recording         records a transfer anew, and draws it: docs/pictures/transfer.svg, which
+#                        the README shows
 # make bench             measures the program
 # All need the toolchain: `rt` on the path, and Python 3. Tests need pytest (tools/packages.sh).
 
@@ -96,12 +105,15 @@ clean:
 # ---- The library for C
 
 # make lib               proves and builds it: out/lib/TARGET/libymodem.a for each of TARGETS
-# make test-lib          the checks of the library, which `make test` runs too: on this machine, on a board without an operating system (QEMU), and
-#                        of `ymodem send` to U-Boot
-# make portable          the same library as out/portable/ymodem.c, ymodem.h and ymodem_io.h, for any C99 compiler and little-endian processor
-#                        of 32 or 64 bits; needs wasm-opt and wasm2c (Debian's binaryen and wabt)
-# make test-portable     all checks of these files, and on boards in QEMU; `make test` makes the short ones
-# make install-lib       puts the archive of TARGET, the headers and the file for pkg-config below $(DESTDIR)$(PREFIX)
+# make test-lib          the checks of the library, which `make test` runs too: on this machine, on
+#                        a board without an operating system (QEMU), and of `ymodem send` to U-Boot
+# make portable          the same library as out/portable/ymodem.c, ymodem.h and ymodem_io.h, for
+#                        any C99 compiler and little-endian processor of 32 or 64 bits; needs
+#                        wasm-opt and wasm2c (Debian's binaryen and wabt)
+# make test-portable     all checks of these files, and on boards in QEMU; `make test` makes the
+#                        short ones
+# make install-lib       puts the archive of TARGET, the headers and the file for pkg-config below
+#                        $(DESTDIR)$(PREFIX)
 
 TARGETS = x86_64-unknown-linux-gnu aarch64-unknown-linux-gnu wasm64-unknown-unknown
 TARGET = x86_64-unknown-linux-gnu

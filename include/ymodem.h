@@ -24,7 +24,8 @@
 /* The version of this header, and of the library and the program beside it. */
 #define YM_VERSION "0.2.0"
 
-/* At the first member of a struct: at a multiple of 8, on i386 too, where `uint64_t` is at one of 4. */
+/* At the first member of a struct: at a multiple of 8, on i386 too, where `uint64_t` is at one of
+   4. */
 #if defined(__cplusplus) && __cplusplus >= 201103L
 #define YM_ALIGNED alignas(8)
 #elif defined(__STDC_VERSION__) && __STDC_VERSION__ >= 201112L
@@ -73,7 +74,8 @@ typedef struct ym_stand {
     uint32_t unused;
 } ym_stand;
 
-/* A receiver, and the bytes of the delivery that is coming. Read it, and let the functions write it. */
+/* A receiver, and the bytes of the delivery that is coming. Read it, and let the functions write
+   it. */
 typedef struct ym_receiver {
     YM_ALIGNED ym_stand stand;     /* where it stands */
     ym_stand next;      /* where it will stand once ym_receiver_answer is called */
@@ -86,18 +88,20 @@ typedef struct ym_receiver {
 typedef struct ym_ask {
     YM_ALIGNED uint64_t length;    /* YM_BEGIN: the length of the file */
     uint64_t time;      /* YM_BEGIN, where stamp is 1 or 2: seconds since 1970 */
-    uint64_t count;     /* YM_BEGIN, YM_ADD: how many bytes the name has, or are to be stored; they stand at held + at */
+    uint64_t count;     /* YM_BEGIN, YM_ADD: how many bytes the name has, or are to be stored; they
+                           stand at held + at */
     uint32_t kind;      /* enum ym_kind */
     uint32_t at;
     uint32_t stamp;     /* YM_BEGIN: 0 none, 1 a time, 2 a time and a mode */
     uint32_t mode;      /* YM_BEGIN, where stamp is 2 */
-    uint32_t bad;       /* 1: no frame was heard. Where bytes came (len is not 0), and bad or the receiver's
-                           stand.retries is not 0, read on until the line has been quiet for a second,
-                           and then answer */
+    uint32_t bad;       /* 1: no frame was heard. Where bytes came (len is not 0), and bad or the
+                           receiver's stand.retries is not 0, read on until the line has been quiet
+                           for a second, and then answer */
     uint32_t unused;
 } ym_ask;
 
-/* Makes a receiver that awaits its first file, whatever stood there. confirm 0: the first EOT of a file is questioned. */
+/* Makes a receiver that awaits its first file, whatever stood there. confirm 0: the first EOT of a
+   file is questioned. */
 void ym_receiver_init(ym_receiver *receiver, uint32_t confirm);
 
 /* Takes bytes as they come, and tells how many it took. Call it again with the rest; 0 where the
@@ -156,18 +160,22 @@ typedef struct ym_fill {
 /* Makes a sender that waits for the first C. */
 void ym_sender_init(ym_sender *sender, const uint64_t *blocks, size_t files);
 
-/* 1: these bytes can be heard now; 0: read on until the line is quiet, or the wait for a reply is over. */
-uint32_t ym_sender_settled(const ym_sender *sender, const uint64_t *blocks, size_t files, const uint8_t *bytes, size_t len);
+/* 1: these bytes can be heard now; 0: read on until the line is quiet, or the wait for a reply is
+   over. */
+uint32_t ym_sender_settled(const ym_sender *sender, const uint64_t *blocks, size_t files,
+    const uint8_t *bytes, size_t len);
 
 /* Hears a delivery, of no bytes too, and tells what is to be filled by ym_sender_header or
    ym_sender_block. Where nothing is, the frame stays as it was. Rubbish becomes a sender that has
    ended. */
-void ym_sender_hear(ym_sender *sender, const uint64_t *blocks, size_t files, const uint8_t *bytes, size_t len, ym_fill *fill);
+void ym_sender_hear(ym_sender *sender, const uint64_t *blocks, size_t files, const uint8_t *bytes,
+    size_t len, ym_fill *fill);
 
 /* Makes the frame of a file's block 0, once, where ym_sender_hear told YM_FILL_HEADER: stamp 0
    none, 1 the time, 2 the time and the mode. Answers 0, or an enum ym_fault, the first that
    applies, or YM_NOT_NOW, and then has done nothing: the frame is empty until it is filled. */
-uint32_t ym_sender_header(ym_sender *sender, const uint8_t *name, size_t name_len, uint64_t length, uint32_t stamp, uint64_t time, uint32_t mode);
+uint32_t ym_sender_header(ym_sender *sender, const uint8_t *name, size_t name_len, uint64_t length,
+    uint32_t stamp, uint64_t time, uint32_t mode);
 
 /* Makes the frame of the data block that the sender stands at, once, where ym_sender_hear told
    YM_FILL_BLOCK: 128 or 1024 bytes, the file's last ones filled up with 1A. Answers 0, or 1 where
@@ -188,7 +196,8 @@ enum ym_front_kind { YM_FRONT_OPEN, YM_FRONT_BLOCK, YM_FRONT_EOT, YM_FRONT_CANCE
 typedef struct ym_front {
     YM_ALIGNED uint32_t kind;      /* enum ym_front_kind; YM_FRONT_OPEN: it may go on to a frame */
     uint32_t number;    /* YM_FRONT_BLOCK: the block's number, 0 to 255 */
-    uint64_t size;      /* YM_FRONT_BLOCK: its body's bytes, 128 or 1024, which stand behind the first three bytes */
+    uint64_t size;      /* YM_FRONT_BLOCK: its body's bytes, 128 or 1024, which stand behind the
+                           first three bytes */
     uint64_t length;    /* how many bytes the frame has; without one: where no frame can go on */
 } ym_front;
 
@@ -201,7 +210,8 @@ void ym_frame_read(const uint8_t *bytes, size_t len, ym_front *front);
 /* Makes the frame of the block of this number, modulo 256, and this body at the front of `frame`,
    and answers its length, 133 or 1029. 0 where the body has neither 128 nor 1024 bytes, or the
    frame has no room. The bytes behind stay as they were. */
-size_t ym_frame_write(uint32_t number, const uint8_t *body, size_t len, uint8_t *frame, size_t room);
+size_t ym_frame_write(uint32_t number, const uint8_t *body, size_t len, uint8_t *frame,
+    size_t room);
 
 /* ---- Frames in pieces ---- */
 
@@ -210,7 +220,8 @@ enum ym_why { YM_WHY_FIRST_BYTE = 1, YM_WHY_COMPLEMENT, YM_WHY_CHECK, YM_WHY_SEC
 
 /* A reader, and the bytes of the frame that is coming. Read it, and let the functions write it. */
 typedef struct ym_reader {
-    YM_ALIGNED uint64_t place;     /* where why is not 0: the place of the first byte that no frame can have there */
+    YM_ALIGNED uint64_t place;     /* where why is not 0: the place of the first byte that no frame
+                                      can have there */
     uint32_t len;       /* how many bytes are held; 0 behind a whole frame */
     uint32_t why;       /* 0, or an enum ym_why */
     uint8_t held[1029];
@@ -233,8 +244,10 @@ typedef struct ym_header {
     YM_ALIGNED uint64_t length;    /* YM_HEADER_FILE: the length of the file */
     uint64_t time;      /* YM_HEADER_FILE, where stamp is 1 or 2: seconds since 1970 */
     uint32_t kind;      /* enum ym_header_kind */
-    uint32_t fault;     /* YM_HEADER_NONE: enum ym_fault; 0 where the body has neither 128 nor 1024 bytes */
-    uint32_t name_len;  /* YM_HEADER_FILE: how many bytes the name has, which stands at the front of the body */
+    uint32_t fault;     /* YM_HEADER_NONE: enum ym_fault; 0 where the body has neither 128 nor 1024
+                           bytes */
+    uint32_t name_len;  /* YM_HEADER_FILE: how many bytes the name has, which stands at the front of
+                           the body */
     uint32_t stamp;     /* YM_HEADER_FILE: 0 none, 1 a time, 2 a time and a mode */
     uint32_t mode;      /* YM_HEADER_FILE, where stamp is 2 */
     uint32_t unused;
@@ -247,7 +260,8 @@ void ym_header_read(const uint8_t *body, size_t len, ym_header *header);
    Answers how many it has, 128 or 1024; or why there is no such header, an enum ym_fault; or 0
    where there is less room. The bytes behind stay as they were, and where it answers no size, all
    of them. The body that ends a batch is 128 bytes 00. */
-uint32_t ym_header_write(const uint8_t *name, size_t name_len, uint64_t length, uint32_t stamp, uint64_t time, uint32_t mode, uint8_t *body, size_t room);
+uint32_t ym_header_write(const uint8_t *name, size_t name_len, uint64_t length, uint32_t stamp,
+    uint64_t time, uint32_t mode, uint8_t *body, size_t room);
 
 /* ---- The line ----
 
@@ -284,8 +298,9 @@ uint64_t ym_line_waited(ym_line *line, uint64_t until, uint64_t clock);
 /* Until when a read waits that began then (enum ym_wait). */
 uint64_t ym_line_until(const ym_line *line, uint32_t wait, uint64_t start);
 
-/* Takes that a wait is over now, in which nothing came that is to be heard, or that the line closed.
-   Tells what that is (enum ym_vain): it waits on; an ACK that came before is heard; or nothing is. */
+/* Takes that a wait is over now, in which nothing came that is to be heard, or that the line
+   closed. Tells what that is (enum ym_vain): it waits on; an ACK that came before is heard; or
+   nothing is. */
 uint32_t ym_line_expired(ym_line *line, uint32_t wait, uint64_t now);
 
 /* Takes bytes that came now, where `written` was written last, and puts what is to be heard of them
