@@ -1,7 +1,7 @@
 //! `explain`: tells what passed on a line, as a record or a capture of both ways says it, or files
 //! of bytes.
 
-ghost use Rattle.std.specs.Prelude.{◌≡◌, ◌≤◌, ◌⊎◌, ℕ, IfOk, Result, option_map};
+ghost use Rattle.std.specs.Prelude.{◌≡◌, ◌≤◌, ℕ, IfOk, Result, option_map};
 ghost use Rattle.ym_answer.specs.Desk.{Desk, desk};
 ghost use Rattle.ym_answer.specs.Page.{page};
 ghost use Rattle.ym_answer.specs.declared.command_fault.CommandFault.{CommandFault};
