@@ -239,6 +239,12 @@ def test_is_made_anew():
 
 
 @contextlib.contextmanager
+def pipe(path):
+    os.mkfifo(path)
+    yield
+
+
+@contextlib.contextmanager
 def locked(path):
     with open(path, "wb") as it:
         fcntl.flock(it, fcntl.LOCK_EX)
@@ -265,6 +271,12 @@ def nobody_called(listener):
         "a record: none in place of a folder",
         "to",
         "cannot record in '%(path)s': not a regular file" + REASON,
+    ),
+    case(
+        "a record: none in a pipe",
+        "pipe",
+        "cannot record in '%(path)s': not a regular file" + REASON,
+        pipe,
     ),
     case(
         "a record: none in a file that is sent",
@@ -298,6 +310,109 @@ def test_is_not_made(path, message, held=contextlib.nullcontext):
                 with running("receive", *words) as receive:
                     ends_well(receive, 3, wanted)
         assert stored(os.path.join(top, "from")) == dict(FILES), "what was to be sent has gone"
+
+
+@sentence("a record: /dev/null takes it")
+def test_is_let_go():
+    """A device that takes what comes is written to."""
+    with place() as top:
+        port, to = free_port(), os.path.join(top, "to")
+        with running("receive", "--eager", "--port", port, to) as receive:
+            with call(top, *sent(top), record="/dev/null", port=port) as send:
+                ends_well(send)
+            ends_well(receive)
+        assert stored(to) == dict(FILES), "other files came"
+
+
+PART = "cannot record in '%s', which is named as a part of a file: name another file\n" + FAULT
+
+
+@cases(
+    case("a record: none with the name of a part: receive", "receive", ("--port", "1")),
+    case("a record: none with the name of a part: --keep", "receive", ("--keep", "--port", "1")),
+    case("a record: none with the name of a part: rb", "rb", ("--line", "/dev/null")),
+)
+def test_is_no_part(command, words):
+    """Where files are received no record has the name of a part: `--discard-parts` and `rb` remove
+    what has one, as soon as the record is not written any more."""
+    with place() as top:
+        to = os.path.join(top, "to")
+        path = os.path.join(to, "a.txt.part")
+        write_files(to, [("a.txt.part", b"left by an earlier run")])
+        with running(command, *words, "--record", path, to) as end:
+            ends_well(end, 3, PART % path)
+        assert stored(to) == {"a.txt.part": b"left by an earlier run"}, "something else is there"
+
+
+@sentence("a record: a sender's may have the name of a part")
+def test_may_be_a_part():
+    """A sender removes nothing."""
+    with place() as top:
+        port, to = free_port(), os.path.join(top, "to")
+        with running("receive", "--eager", "--port", port, to) as receive:
+            with call(top, *sent(top), record="here.part", port=port) as send:
+                ends_well(send)
+            ends_well(receive)
+        whole(top, "here.part")
+
+
+# ---- What is there before
+
+EARLIER = b"0.000000 < 43\n0.500000 < 43\n"
+
+
+@cases(
+    case(
+        "a record: what was there stays: send",
+        lambda top, taken: ("send", "--port", free_port(), *sent(top)),
+    ),
+    case(
+        "a record: what was there stays: receive",
+        lambda top, taken: ("receive", "--port", taken, os.path.join(top, "to")),
+    ),
+    case(
+        "a record: what was there stays: sb",
+        lambda top, taken: ("sb", "--line", "/dev/null", *sent(top)),
+    ),
+    case(
+        "a record: what was there stays: rb",
+        lambda top, taken: ("rb", "--line", "/dev/null", os.path.join(top, "to")),
+    ),
+)
+def test_stays_without_a_line(words_of):
+    """A record that is there is made anew when the line is there, and not before: words that are
+    mistyped cost none."""
+    with place() as top, socket.create_server(("127.0.0.1", 0)) as listener:
+        path = os.path.join(top, "earlier")
+        write_files(top, [("earlier", EARLIER)])
+        words = words_of(top, listener.getsockname()[1])
+        with running(words[0], "--record", path, *words[1:]) as end:
+            assert end.ended().status == 3, "it has not failed"
+        with open(path, "rb") as it:
+            assert it.read() == EARLIER, "the record that was there has gone"
+
+
+def listens(port):
+    """Whether somebody listens there."""
+    with open("/proc/net/tcp", encoding="ascii") as it:
+        ends = [line.split()[1:4] for line in it][1:]
+    return any(here.endswith(":%04X" % port) and state == "0A" for here, _, state in ends)
+
+
+@sentence("a record: what was there stays until somebody connects")
+def test_stays_until_a_call():
+    """A receiver that nobody calls leaves the record that was there."""
+    with place() as top:
+        path, port = os.path.join(top, "earlier"), free_port()
+        write_files(top, [("earlier", EARLIER)])
+        words = ("receive", "--port", port, "--record", path, os.path.join(top, "to"))
+        with running(*words) as receive:
+            # By then the record is open.
+            wait_until(lambda: listens(port), "it listens", receive)
+            receive.child.send_signal(signal.SIGTERM)
+            receive.ended()
+        with open(path, "rb") as it:
+            assert it.read() == EARLIER, "the record that was there has gone"
 
 
 # ---- A record of which a write fails

@@ -16,7 +16,7 @@ use ym_answer::CommandFault;
 use ym_ends::AtPort;
 use ym_host::SocketWire;
 use ym_port::Role;
-use ym_record::Records;
+use ym_record::{Beside, Records};
 use ym_streams::{Output, Outputs, StreamFault};
 use ym_teller::Teller;
 
@@ -169,7 +169,7 @@ where
 {
     let AtPort { port, order } = asked;
     look_at(rt, rt.alloc(), order.dir, teller)?;
-    let records = Records::open(rt, rt.alloc(), order.record_path, &[], teller)?;
+    let records = Records::open(rt, rt.alloc(), order.record_path, Beside::Received, teller)?;
     let connections = listen(rt, port, teller)?;
     let intake = Intake {
         connections,

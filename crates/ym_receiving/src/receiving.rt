@@ -210,6 +210,7 @@ where
         (page (O.contents out.new) (O.failures out.new)) }
 {
     let Recorded { order, records } = asked;
+    records.start();
     let wire = RecordedWire::new(wire, rt, Role::Receiver, &mut records.recorder);
     let answer = receive_at(rt, wire, order, out, teller);
     records.end(matches!(answer, Ok(0)), teller);

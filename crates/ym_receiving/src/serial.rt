@@ -13,7 +13,7 @@ use ym_answer::CommandFault;
 use ym_ends::{OnLine, open_line};
 use ym_host::TtyWire;
 use ym_port::Role;
-use ym_record::Records;
+use ym_record::{Beside, Records};
 use ym_streams::Output;
 use ym_teller::Teller;
 
@@ -68,6 +68,6 @@ where
 {
     let order = asked.order;
     look_at(rt, rt.alloc(), order.dir, teller)?;
-    let mut records = Records::open(rt, rt.alloc(), order.record_path, &[], teller)?;
+    let mut records = Records::open(rt, rt.alloc(), order.record_path, Beside::Received, teller)?;
     receive_over(rt, asked, &mut records, out, teller)
 }

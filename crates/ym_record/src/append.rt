@@ -27,3 +27,11 @@ impl Append for File {
         self.write_all(bytes)
     }
 }
+
+/// Empties a file. A device, as a terminal or `/dev/null`, has nothing to be cut.
+pub(crate) fn empty(file: &File) -> io::Result<()> {
+    if file.metadata()?.is_file() {
+        file.set_len(0)?;
+    }
+    Ok(())
+}

@@ -11,7 +11,7 @@ mod recorder;
 mod records;
 
 pub use append::Append;
-pub use opening::{RecordRefusal, WhatIsThere, open_record};
+pub use opening::{Beside, RecordRefusal, WhatIsThere, open_record};
 pub use recorded_wire::RecordedWire;
 pub use recorder::Recorder;
 pub use records::Records;

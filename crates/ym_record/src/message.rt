@@ -11,6 +11,8 @@ pub(crate) enum RecordMessage<'a> {
     Dash,
     /// At this path is one of the files that are sent.
     IsSent(&'a str),
+    /// This path ends as the name of a part of a file does.
+    IsPart(&'a str),
     /// At this path is a file that stays.
     IsThere(&'a str),
     /// Another program holds the file at this path.
@@ -35,6 +37,14 @@ impl fmt::Display for RecordMessage<'_> {
                 write!(
                     f,
                     "cannot record in '{path}', which is to be sent: name another file"
+                )
+            }
+            RecordMessage::IsPart(path) => {
+                let path = Shown(path);
+                write!(
+                    f,
+                    "cannot record in '{path}', which is named as a part of a file: name another \
+                     file"
                 )
             }
             RecordMessage::IsThere(path) => {

@@ -4,9 +4,10 @@ ghost use Rattle.std.specs.Prelude.{◌≡◌, [], true, false, Some, None, IfOk
 ghost use Rattle.ym_record.specs.RecordGrowth.{GoesOnBy, SaysWhy};
 ghost use Rattle.ym_capture.specs.RecordText.{line_of};
 
-use crate::append::Append;
+use crate::append::{Append, empty};
 use crate::lines::Lines;
 use std::alloc::{AllocError, Global};
+use std::fs::File;
 use std::io;
 use ym_told::Direction;
 
@@ -98,6 +99,23 @@ impl<A: Append + Drop> Recorder<A> {
             None => return,
         };
         if let Err(error) = written {
+            self.end(error);
+        }
+    }
+}
+
+impl Recorder<File> {
+    /// What its file had before goes, where one is made.
+    pub(crate) fn make_anew(&mut self)
+        ensures lines { self.new.lines ≡ self.old.lines }
+        ensures none { is_some self.old.to ≡ false → is_some self.new.to ≡ false }
+        ensures why { SaysWhy (is_some self.old.to) (is_some self.new.to) self.new.fault }
+    {
+        let emptied = match &self.to {
+            Some(file) => empty(file),
+            None => return,
+        };
+        if let Err(error) = emptied {
             self.end(error);
         }
     }

@@ -4,7 +4,7 @@ ghost use Rattle.std.specs.Prelude.{◌≡◌, [], true, false, None, IfOk, is_s
 ghost use Rattle.ym_record.specs.RecordNames.{name_of};
 
 use crate::message::RecordMessage;
-use crate::opening::{RecordRefusal, WhatIsThere, open_record};
+use crate::opening::{Beside, RecordRefusal, WhatIsThere, open_record};
 use crate::recorder::Recorder;
 use std::alloc::{AllocError, Global};
 use std::fmt::Display;
@@ -45,6 +45,7 @@ fn message_of<'a>(path: &'a str, refusal: &RecordRefusal) -> RecordMessage<'a> {
     match refusal {
         RecordRefusal::Dash => RecordMessage::Dash,
         RecordRefusal::IsSent => RecordMessage::IsSent(path),
+        RecordRefusal::IsPart => RecordMessage::IsPart(path),
         RecordRefusal::IsThere => RecordMessage::IsThere(path),
         RecordRefusal::InUse => RecordMessage::InUse(path),
         RecordRefusal::System(error) => RecordMessage::CannotOpen(path, Reason::of(error)),
@@ -54,7 +55,9 @@ fn message_of<'a>(path: &'a str, refusal: &RecordRefusal) -> RecordMessage<'a> {
 /// The same as an error.
 fn error_of(refusal: RecordRefusal) -> io::Error {
     match refusal {
-        RecordRefusal::Dash | RecordRefusal::IsSent => io::Error::from(ErrorKind::InvalidInput),
+        RecordRefusal::Dash | RecordRefusal::IsSent | RecordRefusal::IsPart => {
+            io::Error::from(ErrorKind::InvalidInput)
+        }
         RecordRefusal::IsThere => io::Error::from(ErrorKind::AlreadyExists),
         RecordRefusal::InUse => io::Error::from(ErrorKind::ResourceBusy),
         RecordRefusal::System(error) => error,
@@ -106,7 +109,7 @@ impl<'a> Records<'a> {
     }
 
     /// The record of the first connection, where a path is given. It is none of the files that are
-    /// sent.
+    /// sent or received. What its file has stays until [`Records::start`].
     ///
     /// # Errors
     ///
@@ -115,7 +118,7 @@ impl<'a> Records<'a> {
         rt: &R,
         alloc: Global,
         path: Option<&'a str>,
-        sent: &[&str],
+        beside: Beside<'_>,
         teller: &mut Teller<E>,
     ) -> io::Result<Records<'a>>
         ensures path { IfOk result (λ it. it.path ≡ path.entry) }
@@ -125,7 +128,7 @@ impl<'a> Records<'a> {
             return Ok(Records::none(alloc));
         };
         let name = name_of(alloc, asked, 1)?;
-        let there = WhatIsThere::Goes(sent);
+        let there = WhatIsThere::Goes(beside);
         let recorder = recorder_at(rt, alloc, name.as_str(), there, teller)?;
         Ok(Records {
             path,
@@ -176,6 +179,15 @@ impl<'a> Records<'a> {
             Ok(name) => self.turn_to(rt, alloc, name, teller),
             Err(_) => self.recorder = Recorder::none(alloc),
         }
+    }
+
+    /// The line is there, and what passes on it is recorded from now on. What the file of the
+    /// record had goes now, and not before: until the line is there the words may be found wrong.
+    pub fn start(&mut self)
+        ensures path { self.new.path ≡ self.old.path }
+        ensures none { is_some self.old.recorder.to ≡ false → is_some self.new.recorder.to ≡ false }
+    {
+        self.recorder.make_anew();
     }
 
     /// A connection has ended. What waits is written. That the record is not whole is told, and

@@ -31,7 +31,7 @@ use ym_link::laws::a_step_keeps_the_batch;
 use ym_link::{BatchFault, EndFault, Port, SendState, SenderFrom, SourceFile, send_over};
 use ym_pair::laws::a_sender_was_acknowledged;
 use ym_port::{Role, TimedPort};
-use ym_record::{RecordedWire, Records};
+use ym_record::{Beside, RecordedWire, Records};
 use ym_show::{Meter, SendWatch, Sending, WatchedPort};
 use ym_streams::{Output, StreamFault};
 use ym_teller::Teller;
@@ -332,6 +332,7 @@ where
         (page (O.contents out.new) (O.failures out.new)) }
 {
     let Outgoing { sender, records } = outgoing;
+    records.start();
     let wire = RecordedWire::new(wire, rt, Role::Sender, &mut records.recorder);
     let port = TimedPort::new(wire, Role::Sender);
     let answer = send_on(rt, port, sender, out, teller);
@@ -367,7 +368,8 @@ where
     let alloc = rt.alloc();
     let batch = open_batch(rt, alloc, order.paths, teller)?;
     let sender = sender_of(batch, order.shape)?;
-    let records = Records::open(rt, alloc, order.record_path, order.paths, teller)?;
+    let beside = Beside::Sent(order.paths);
+    let records = Records::open(rt, alloc, order.record_path, beside, teller)?;
     Ok(Outgoing { sender, records })
 }
 
