@@ -118,9 +118,9 @@ It prints a line for each frame and each answer, and a last one that says what
 went wrong, and what to try. With --chart that is drawn too, as a picture in
 SVG. No file that is there is overwritten.
 
-Exit status: 0 where all of it was told, 1 where a file cannot be read or is no
-record, or the chart cannot be written, 2 where the words are refused, 3 where
-it cannot print, or at want of memory.
+Exit status: 0 where all of it was told, 1 where a file cannot be read, is no
+record or was cut, or the chart cannot be written, 2 where the words are
+refused, 3 where it cannot print, or at want of memory.
 
 Examples:
   ymodem explain session.record
@@ -132,8 +132,9 @@ pub(crate) static JUDGE_ABOUT: &str = "Tries a sender or a receiver of YMODEM by
 
 pub(crate) static JUDGE_HELP: &str =
     "It plays each case to the peer and prints a line for it: what the reference
-does there, what the peer did, and `conforms`, `differs (harmless)` or `loses
-data`. The last lines say what to avoid with this peer.
+does there, what the peer did, and `conforms`, `differs (harmless)`, `loses data`
+or `no answer`; or `not tried`, where the session never came to its place. The
+last lines say what to avoid with this peer.
 
 The peer has to be started anew for each case: standard error says when. It is
 waited for 30 seconds. `ymodem-judge` starts a peer by a command and runs this.
