@@ -28,6 +28,7 @@ from support.recorded_ends import LOADY, board, nobody, our_receiver, our_sender
 WHOLE = "the session is whole: nothing went wrong"
 MENDED = "the session is whole: what came damaged was sent again"
 NOBODY_ASKED = "no receiver asked for a file: start one, and see that its line is connected"
+EOT_ALONE = "EOT came and no block: start both ends again, and record from before they start"
 NOBODY_ANSWERED = "the receiver asked and no frame came: start the sender"
 ECHO = "what the sender wrote came back: start the receiver at the other end first"
 FLOW = "frames came short, and no 11 or 13 in them: turn XON/XOFF off at both ends and between them"
@@ -59,6 +60,14 @@ class Line:
         if data:
             self.passed += len(data)
             self.lines.append("%.6f %s %s" % (time.monotonic() - self.began, way, data.hex()))
+
+
+class Late(Line):
+    """A line of which the record begins with the EOT of a file."""
+
+    def note(self, way, data):
+        if self.lines or data == b"\x04":
+            super().note(way, data)
 
 
 def carry(line, sender, receiver, seconds, then=None):
@@ -166,6 +175,17 @@ class Doubled:
             self.count += 1
             return data.replace(b"\x06", b"\x06\x06")
         return data
+
+
+class Unheard:
+    """Loses each ACK from this number on."""
+
+    def __init__(self, number):
+        self.number, self.count = number, 0
+
+    def __call__(self, data):
+        self.count += data.count(b"\x06")
+        return data.replace(b"\x06", b"") if self.count >= self.number else data
 
 
 class TakenBack:
@@ -278,6 +298,8 @@ SESSIONS = {
     "nobody-asked": (NOBODY_ASKED, lambda: between(piped("sb"), nobody, seconds=3)),
     "nobody-asked-shell": (NOBODY_ASKED, lambda: between(SB, SHELL, seconds=5)),
     "nobody-asked-u-boot": (NOBODY_ASKED, lambda: between(SB, board("echo ready"), seconds=5)),
+    # a sender at the end of its file
+    "eot-alone": (EOT_ALONE, lambda: between(SB, RB, Late(back=Unheard(26)), seconds=40)),
     # what is written comes back
     "echo": (ECHO, lambda: echoed(SB)),
     "echo-1k": (ECHO, lambda: echoed(SB_LONG)),

@@ -332,6 +332,18 @@ def test_one_way_is_told(name, way, sentence):
     assert lines and lines[-1] == sentence, "told %r, wanted %r" % (lines[-1:], sentence)
 
 
+@sentence("EOT alone, one way, is no missing frame")
+def test_eot_alone_is_told():
+    with tempfile.TemporaryDirectory() as folder:
+        path = os.path.join(folder, "one")
+        with open(path, "wb") as it:
+            it.write(b"\x04\x04")
+        lines = told("--there", path)
+    assert lines[-1] == (
+        "EOT came and no block: start both ends again, and record from before they start"
+    ), ("told %r" % lines)
+
+
 # What a board at picocom's line writes, and what a sender on it does.
 PICOCOM = (
     ("nobody-answered", "back", "the receiver asked and no frame came: start the sender"),

@@ -4,7 +4,7 @@ use Rattle.ym_explain.specs.Asking.{is_by_g}
 use Rattle.ym_explain.specs.declared.verdict.TheConstants.{ORDER, ORDER_THERE, ORDER_BACK}
 use Rattle.ym_explain.specs.declared.signs.Signs.{Signs}
 use Rattle.ym_explain.specs.declared.verdict.Verdict.{Verdict}
-use Rattle.ym_explain.specs.declared.verdict.Verdict.TheVariants.{Whole, Mended, Repeated, SenderDone, Zmodem, Echo, SevenBits, Noise, Xmodem, XmodemReceiver, YmodemGReceiver, NobodyAsked, NobodySent, NobodyAnswered, FlowControl, SubEaten, EatenBytes, NoRoom, CutLength, TooManyErrors, Damage, FellSilent, SenderCancelled, ReceiverCancelled, ReplyAhead, Stopped, Unheard}
+use Rattle.ym_explain.specs.declared.verdict.Verdict.TheVariants.{Whole, Mended, Repeated, SenderDone, Zmodem, Echo, SevenBits, Noise, Xmodem, XmodemReceiver, YmodemGReceiver, NobodyAsked, EotAlone, NobodySent, NobodyAnswered, FlowControl, SubEaten, EatenBytes, NoRoom, CutLength, TooManyErrors, Damage, FellSilent, SenderCancelled, ReceiverCancelled, ReplyAhead, Stopped, Unheard}
 use Rattle.ym_explain.specs.declared.verdict.Ways.{Ways}
 use Rattle.ym_explain.specs.declared.verdict.Ways.TheVariants.{Both, There, Back}
 
@@ -28,6 +28,7 @@ shows Xmodem seen = seen.unnamed
 shows XmodemReceiver seen = seen.nak_first && not seen.asked
 shows YmodemGReceiver seen = is_by_g seen.asking
 shows NobodyAsked seen = not seen.asked
+shows EotAlone seen = seen.eot && not seen.framed && not seen.damaged
 shows NobodySent seen = not seen.framed && not seen.damaged
 shows NobodyAnswered seen = not seen.framed && not seen.damaged && not seen.ahead
 shows FlowControl seen = seen.short && not seen.flow && seen.sub

@@ -5,7 +5,7 @@ use Rattle.ym_frame.specs.declared.frame.Item.{Item}
 use Rattle.ym_frame.specs.declared.frame.Item.TheVariants as item
 use Rattle.ym_explain.specs.Answered.{byte_line}
 use Rattle.ym_explain.specs.Evidence.{first_shown}
-use Rattle.ym_explain.specs.declared.verdict.TheConstants.{ORDER}
+use Rattle.ym_explain.specs.declared.verdict.TheConstants.{ORDER, ORDER_THERE}
 use Rattle.ym_explain.specs.Noting.{nothing_seen, seen_of}
 use Rattle.ym_explain.specs.Telling.{tells, told_of}
 use Rattle.ym_explain.specs.declared.answered.AnswerLine.TheVariants as line
@@ -118,6 +118,17 @@ nothing = refl
 
 only_asked : verdict_on (sign.Answer Start ∷ sign.Answer Start ∷ []) ≡ verdict.NobodyAnswered
 only_asked = refl
+
+-- the sender is at the end of its file, and the receiver begins; with nobody there it has no peer
+eot_alone :
+    verdict_on (sign.Answer Start ∷ sign.Eot ∷ sign.Answer Start ∷ sign.Eot ∷ []) ≡ verdict.EotAlone
+eot_alone = refl
+
+eot_to_nobody : verdict_on (sign.Eot ∷ sign.Eot ∷ []) ≡ verdict.NobodyAsked
+eot_to_nobody = refl
+
+eot_alone_there : first_shown (seen_of nothing_seen (sign.Eot ∷ [])) ORDER_THERE ≡ verdict.EotAlone
+eot_alone_there = refl
 
 -- 01 00 7F, of which the last has lost its highest bit
 seven_bits :

@@ -17,6 +17,7 @@ abbrev pub nothing_seen : Signs
 nothing_seen = record {
   asked = false;
   framed = false;
+  eot = false;
   damaged = false;
   headed = false;
   unmended = false;
@@ -52,6 +53,9 @@ one_more out = min (out + 1) 255
 -- any frame has no answer yet
 abbrev pub with_frame : Signs → Signs
 with_frame seen = record seen { out = one_more seen.out; unanswered = one_more seen.unanswered }
+
+abbrev pub with_eot : Signs → Signs
+with_eot seen = record (with_frame seen) { eot = true }
 
 -- the end of the batch does not count
 abbrev pub without_end : Signs → Signs
@@ -162,7 +166,7 @@ with_answer seen Can = seen
 abbrev pub noted : Signs → Sign → Signs
 noted seen (sign.Byte byte) = with_byte seen byte
 noted seen (sign.Block at kind) = with_block seen at kind
-noted seen sign.Eot = with_frame seen
+noted seen sign.Eot = with_eot seen
 noted seen sign.SenderCancel = record (without_end seen) {
   sender_cancelled = seen.sender_cancelled || not seen.receiver_cancelled;
 }

@@ -1,7 +1,7 @@
 -- The sentence of each verdict: what went wrong, and what to try.
 use Rattle.std.specs.Prelude.{ℕ, List, ◌++◌, codes}
 use Rattle.ym_explain.specs.declared.verdict.Verdict.{Verdict}
-use Rattle.ym_explain.specs.declared.verdict.Verdict.TheVariants.{Whole, Mended, Repeated, SenderDone, Zmodem, Echo, SevenBits, Noise, Xmodem, XmodemReceiver, YmodemGReceiver, NobodyAsked, NobodySent, NobodyAnswered, FlowControl, SubEaten, EatenBytes, NoRoom, CutLength, TooManyErrors, Damage, FellSilent, SenderCancelled, ReceiverCancelled, ReplyAhead, Stopped, Unheard}
+use Rattle.ym_explain.specs.declared.verdict.Verdict.TheVariants.{Whole, Mended, Repeated, SenderDone, Zmodem, Echo, SevenBits, Noise, Xmodem, XmodemReceiver, YmodemGReceiver, NobodyAsked, EotAlone, NobodySent, NobodyAnswered, FlowControl, SubEaten, EatenBytes, NoRoom, CutLength, TooManyErrors, Damage, FellSilent, SenderCancelled, ReceiverCancelled, ReplyAhead, Stopped, Unheard}
 
 abbrev pub verdict_text : Verdict → List ℕ
 verdict_text Whole = codes "the session is whole: nothing went wrong"
@@ -24,6 +24,8 @@ verdict_text YmodemGReceiver =
     codes "the receiver asks by G, as YMODEM-g does: start it as a receiver of YMODEM"
 verdict_text NobodyAsked =
     codes "no receiver asked for a file: start one, and see that its line is connected"
+verdict_text EotAlone =
+    codes "EOT came and no block: start both ends again, and record from before they start"
 verdict_text NobodySent =
     codes "no frame is in the file: see which way it has, and whether a sender was started"
 verdict_text NobodyAnswered = codes "the receiver asked and no frame came: start the sender"

@@ -1,7 +1,7 @@
 //! What was seen of a session so far.
 
 ghost use Rattle.std.specs.Prelude.{◌≡◌};
-ghost use Rattle.ym_explain.specs.Noting.{noted, nothing_seen, without_end, with_byte, with_bytes, with_answer_junk, with_frame, with_damage, in_batch as in_batch_of, with_block, with_answer, with_ack, with_nak};
+ghost use Rattle.ym_explain.specs.Noting.{noted, nothing_seen, without_end, with_byte, with_bytes, with_answer_junk, with_frame, with_eot, with_damage, in_batch as in_batch_of, with_block, with_answer, with_ack, with_nak};
 
 use crate::asking::Asking;
 use crate::told::{FrameKind, SendPosition};
@@ -58,6 +58,8 @@ pub struct Signs {
     pub asked: bool,
     /// A block came whole.
     pub framed: bool,
+    /// An EOT came.
+    pub eot: bool,
     /// A frame came damaged.
     pub damaged: bool,
     /// One of those had a number whose complement agrees.
@@ -120,6 +122,7 @@ impl Signs {
         Signs {
             asked: false,
             framed: false,
+            eot: false,
             damaged: false,
             headed: false,
             unmended: false,
@@ -158,7 +161,7 @@ impl Signs {
             Sign::Byte(byte) => return self.note_byte(byte),
             Sign::Block { position, kind } => return self.note_block(position, kind),
             Sign::Answer(control) => return self.note_answer(control),
-            Sign::Eot => return self.note_frame(),
+            Sign::Eot => return self.note_eot(),
             Sign::SenderCancel => {
                 seen = self.unended();
                 seen.sender_cancelled = self.sender_cancelled || !self.receiver_cancelled;
@@ -233,6 +236,15 @@ impl Signs {
         let mut seen = self;
         seen.out = self.out.saturating_add(1);
         seen.unanswered = self.unanswered.saturating_add(1);
+        seen
+    }
+
+    /// The same behind an EOT.
+    fn note_eot(self) -> Signs
+        ensures { result ≡ with_eot self }
+    {
+        let mut seen = self.note_frame();
+        seen.eot = true;
         seen
     }
 

@@ -33,6 +33,8 @@ pub enum Verdict {
     YmodemGReceiver,
     /// No receiver asked for a file.
     NobodyAsked,
+    /// EOT came, and no block.
+    EotAlone,
     /// No frame came.
     NobodySent,
     /// The receiver asked, and no sender wrote.
@@ -68,7 +70,9 @@ pub enum Verdict {
 /// The verdicts in the order in which they are looked for, where both ways are known: what keeps a
 /// session from beginning comes before what stops it. Who asks by G has not asked by C, so that
 /// comes before `NobodyAsked`; a NAK before any block is of XMODEM, whatever came beside it.
-pub const ORDER: [Verdict; 24] = [
+/// EOT alone is of a sender that is there, at the end of its file, so it comes before
+/// `NobodyAnswered`. It comes behind `NobodyAsked`: a byte 04 that a shell takes is of no sender.
+pub const ORDER: [Verdict; 25] = [
     Verdict::Whole,
     Verdict::Mended,
     Verdict::Repeated,
@@ -80,6 +84,7 @@ pub const ORDER: [Verdict; 24] = [
     Verdict::XmodemReceiver,
     Verdict::YmodemGReceiver,
     Verdict::NobodyAsked,
+    Verdict::EotAlone,
     Verdict::NobodyAnswered,
     Verdict::FlowControl,
     Verdict::SubEaten,
@@ -96,7 +101,7 @@ pub const ORDER: [Verdict; 24] = [
 ];
 
 /// The same where only the way from the sender is known.
-pub const ORDER_THERE: [Verdict; 14] = [
+pub const ORDER_THERE: [Verdict; 15] = [
     Verdict::Zmodem,
     Verdict::SevenBits,
     Verdict::Noise,
@@ -109,6 +114,7 @@ pub const ORDER_THERE: [Verdict; 14] = [
     Verdict::EatenBytes,
     Verdict::Damage,
     Verdict::SenderCancelled,
+    Verdict::EotAlone,
     Verdict::NobodySent,
     Verdict::Unheard,
 ];
@@ -188,6 +194,7 @@ impl Verdict {
             Verdict::XmodemReceiver => seen.nak_first && !seen.asked,
             Verdict::YmodemGReceiver => seen.asking.is_by_g(),
             Verdict::NobodyAsked => !seen.asked,
+            Verdict::EotAlone => seen.eot && !seen.framed && !seen.damaged,
             Verdict::NobodySent => !seen.framed && !seen.damaged,
             Verdict::NobodyAnswered => !seen.framed && !seen.damaged && !seen.ahead,
             Verdict::FlowControl => seen.short && !seen.flow && seen.sub,
@@ -241,6 +248,9 @@ impl Verdict {
             }
             Verdict::NobodyAsked => {
                 "no receiver asked for a file: start one, and see that its line is connected"
+            }
+            Verdict::EotAlone => {
+                "EOT came and no block: start both ends again, and record from before they start"
             }
             Verdict::NobodySent => {
                 "no frame is in the file: see which way it has, and whether a sender was started"
