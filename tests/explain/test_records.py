@@ -57,12 +57,21 @@ def batch(eots=2):
     return b"".join(it * eots if it == bytes((EOT,)) else it for it in frames)
 
 
+def once(there):
+    """What a sender wrote, with its first block 0 once: it answers each C that came before it began,
+    which is more than one where it began three seconds late."""
+    first = frames_of(FILES)[0]
+    while there.startswith(2 * first):
+        there = there[len(first) :]
+    return there
+
+
 def whole(top, record, eots=2):
     """What a record of the whole batch has of each way: its frames and nothing else went there, by
     the rules of frames. It says so, and its moments do not go back."""
     path = os.path.join(top, record)
     there, back = ways(text_of(path))
-    assert there == batch(eots), "it has other frames than the batch: %r" % there[:80]
+    assert once(there) == batch(eots), "it has other frames than the batch: %r" % there[:80]
     assert set(back) <= set(b"C\x06\x15"), "it has other answers: %r" % back[:80]
     assert told(path)[-1] == WHOLE, "it is told as %r" % told(path)[-1]
     moments = [float(it) for it, _, _ in PIECE.findall(text_of(path))]
