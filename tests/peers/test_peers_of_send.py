@@ -107,7 +107,8 @@ CLOSED = ("fault: closed\n", "fault: device\n")
     case("send: the peer sends junk without end", never_stops, 1, "sender done 0 no-reply\n"),
     case(
         "send: the peer sends much junk and closes",
-        floods,
+        # All of it has to be heard before `send` has waited ten times, on a busy machine, too.
+        lambda end: floods(end, 1024),
         3,
         "sender done 0 running\n",
         ("fault: closed\n", "fault: device\n"),

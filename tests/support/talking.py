@@ -59,10 +59,11 @@ def reset(end):
     end.close()
 
 
-def floods(end):
+def floods(end, count=4096):
+    """So many deliveries of junk, in one call: in a call for each they take long beside hundreds of
+    other tests."""
     with contextlib.suppress(OSError):
-        for _ in range(4096):
-            end.sendall(JUNK)
+        end.sendall(count * JUNK)
 
 
 def never_stops(end):
