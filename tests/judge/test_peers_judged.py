@@ -25,21 +25,21 @@ def of_others(found):
         "judge: receive conforms in every case",
         "receiver",
         OURS + " receive --eager --port $PORT .",
-        tries=4,
+        tries=3,
     ),
-    case("judge: send conforms in every case", "sender", OURS + " send --port $PORT $FILE", tries=4),
+    case("judge: send conforms in every case", "sender", OURS + " send --port $PORT $FILE", tries=3),
     case("judge: a plain receiver conforms", "receiver", PEER + " receiver"),
     case("judge: a plain sender conforms", "sender", PEER + " sender"),
 )
 def test_conforms(kind, command, tries=1):
     """Each case conforms. The times of `receive` are those of a line: it asks after three seconds,
     also where `judge` is late with a frame since the machine is busy. So a case that does not
-    conform is tried again, beside one other: a fault shows each time."""
+    conform is tried again, beside three others: a fault shows each time."""
     status, found = judged_by_all(kind, command)
     for _ in range(tries - 1):
         if of_others(found):
             words = [word for it in of_others(found) for word in ("--only", it["case"])]
-            status, again = judged(kind, command, "--jobs", "2", *words)
+            status, again = judged(kind, command, "--jobs", "4", *words)
             found |= again
     wrong = [told(it) for it in of_others(found)]
     assert not wrong, "; ".join(wrong)
