@@ -65,6 +65,7 @@ impl<A: Append + Drop> Recorder<A> {
     /// It ends, for this reason.
     fn end(&mut self, why: io::Error)
         ensures ended { self.new.to ≡ None }
+        ensures lines { self.new.lines ≡ self.old.lines }
         ensures why { self.new.fault ≡ Some why }
     {
         self.to = None;
