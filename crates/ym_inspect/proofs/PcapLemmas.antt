@@ -1,6 +1,6 @@
 -- Packets, one behind another, and what is told of them.
-use Rattle.std.proofs.Common.{◌≡◌, ◌∙◌, ◌+◌, ◌-◌, ◌<◌, ◌≤◌, ◌⊎◌, inl, inr, ◌++◌, [], ℕ, Bool, List, length, take, drop, min, Option, Some, None, Result, Ok, Err, refl, sym, subst, ap, append_assoc, arith, take-append-drop, length-take-le, length-take, length-drop, drop-drop}
-use Rattle.std.specs.Prelude.{◌≢◌, IfErr, OnOk}
+use Rattle.std.proofs.Common.{◌≡◌, ◌∙◌, ◌+◌, ◌-◌, ◌<◌, ◌≤◌, inl, inr, ◌++◌, [], ℕ, Bool, List, length, take, drop, min, Option, Some, Ok, Err, refl, sym, subst, ap, append_assoc, arith, take-append-drop, length-take-le, length-take, length-drop, drop-drop}
+use Rattle.std.specs.Prelude.{◌≢◌}
 use Rattle.std.proofs.lemmas.List.{append-nil, take_all, take-append-le}
 use Rattle.std.specs.Io.KnownBytes.{Consumes, IsAtEnd}
 use Rattle.ym_capture.specs.CaptureHead.{form_of}

@@ -1,8 +1,8 @@
 -- The lines of a record, read back character by character.
 use Rattle.std.proofs.Common.{◌≡◌, ◌∙◌, ◌+◌, ◌-◌, ◌*◌, ◌/◌, ◌%◌, ◌^◌, ◌<◌, ◌≤◌, ◌==◌, ◌++◌, ◌∷◌}
-use Rattle.std.proofs.Common.{[], ℕ, zero, suc, List, Bool, true, false, if◌then◌else◌, Option}
+use Rattle.std.proofs.Common.{[], ℕ, zero, suc, List, Bool, true, false, if◌then◌else◌}
 use Rattle.std.proofs.Common.{Some, None, Result, Ok, refl, sym, ap, append_assoc, arith}
-use Rattle.std.specs.Prelude.{All, decimal, nat_le, slice_index}
+use Rattle.std.specs.Prelude.{All, decimal, nat_le, option_to_list, slice_index}
 use Rattle.std.proofs.lemmas.Bool.{le-leb, leb-true, ne_eqb}
 use Rattle.std.proofs.lemmas.Fmt.{decimal_by_steps}
 use Rattle.std.proofs.lemmas.List.{append-nil}

@@ -227,9 +227,10 @@ pub also_ok : {A : Type 0} (r : Result A InspectFault) (P Q : A → Type 0) → 
 also_ok (Ok a) P Q p f = f a p
 also_ok (Err fault) P Q p f = tt
 
-pub on_ok : {A : Type 0} (r : Result A InspectFault) (P Q R : Type 0) → OnOk r P → OnOk r Q → (P → Q → R) → OnOk r R
-on_ok (Ok a) P Q R p q f = f p q
-on_ok (Err fault) P Q R p q f = tt
+pub on_ok_four :
+    {A : Type 0} (result : Result A InspectFault) (P Q R S T : Type 0) → OnOk result P → OnOk result Q → OnOk result R → OnOk result S → (P → Q → R → S → T) → OnOk result T
+on_ok_four (Ok a) P Q R S T p q r s f = f p q r s
+on_ok_four (Err fault) P Q R S T p q r s f = tt
 
 pub on_ok_one : {A : Type 0} (r : Result A InspectFault) (P R : Type 0) → OnOk r P → (P → R) → OnOk r R
 on_ok_one (Ok a) P R p f = f p

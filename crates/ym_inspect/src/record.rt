@@ -221,17 +221,19 @@ impl Recording {
     /// Tells the end of what its lines say that have one. A last line without one is a fault.
     fn end<O: Output>(&mut self, out: &mut O) -> Result<Verdict, InspectFault>
         ensures ends { IfOk result (λ verdict.
-            (before : Option (List ℕ)) (held : List ℕ) (read : List (Direction × ℕ))
+            (before : Option (List ℕ)) (read : List (Direction × ℕ))
             → SoFar before self.old.inspection (O.contents out.old) read
-            → (at_record_end (Ok (so_much self.old.state self.old.number held read)) ≡ Ok read)
+            → (at_record_end
+            (Ok (so_much self.old.state self.old.number self.old.held.items read)) ≡ Ok read)
             × Explains Ways.Both read before verdict (O.contents out.new)) }
         ensures last { IfOk result (λ verdict. TellsLast Ways.Both verdict (O.contents out.new)) }
         ensures line { IfErr result (λ fault. (number : ℕ) (why : RecordFault)
             → fault ≢ InspectFault.Line number why) }
         ensures cut { IfErr result (λ fault.
-            (before : Option (List ℕ)) (held : List ℕ) (read : List (Direction × ℕ))
+            (before : Option (List ℕ)) (read : List (Direction × ℕ))
             → SoFar before self.old.inspection (O.contents out.old) read → EndsCut fault
-            (Ok (so_much self.old.state self.old.number held read)) before (O.contents out.new)) }
+            (Ok (so_much self.old.state self.old.number self.old.held.items read)) before
+            (O.contents out.new)) }
         ensures failed { CountsWrites result (O.failures out.old) (O.failures out.new) }
         ensures why { result ≢ Err InspectFault.Read }
     {

@@ -1,4 +1,4 @@
-use Rattle.std.proofs.Common.{◌≡◌, ◌∙◌, ◌++◌, ℕ, List, Err, sym, subst, ap, rules}
+use Rattle.std.proofs.Common.{◌∙◌, ◌++◌, ℕ, List, Err, sym, subst, ap, rules}
 use Rattle.ym_capture.specs.CaptureHead.{kind_of}
 use Rattle.ym_capture.specs.declared.head.CaptureKind.{CaptureKind}
 use Rattle.ym_inspect.specs.FirstBytes.{Begins}

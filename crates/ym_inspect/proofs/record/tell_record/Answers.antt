@@ -1,5 +1,5 @@
-use Rattle.std.proofs.Common.{◌≡◌, ◌∙◌, [], Ok, Err, ap, rules}
-use Rattle.ym_inspect.specs.RecordRead.{at_record_end, so_much}
+use Rattle.std.proofs.Common.{◌∙◌, [], Err, ap, rules}
+use Rattle.ym_inspect.specs.RecordRead.{at_record_end}
 use Rattle.ym_inspect.specs.declared.fault.InspectFault.{InspectFault}
 use Rattle.ym_inspect.proofs.RecordLemmas.{also_err, also_ok, begins, cut_of, first_wrong, if_err, in_two, never_cut, none_so_far, wrong_behind, wrong_in_front}
 use Rattle.ym_inspect.proofs.record.tell_record.Goals as goal
@@ -42,7 +42,7 @@ returns-clause-told g c =
     let goes = c.in_ok-read_all.ensures.read b.rest before took.read b.left_is took.so_far in
     let whole = begins _ _ _ text new.state new.number new.held
     ∙ in_two _ c.args.prefix.now b.rest text _ _ b.split took.much_is goes.much_is in
-    let done = ends before _ goes.read goes.so_far in
+    let done = ends before goes.read goes.so_far in
     record { read = goes.read; says = ap at_record_end whole ∙ done.0; explains = done.1 })
 
 pub returns-clause-line : goal.returns-clause-line
@@ -58,4 +58,4 @@ returns-clause-cut g c =
     let goes = c.in_ok-read_all.ensures.read b.rest before took.read b.left_is took.so_far in
     let whole = begins _ _ _ text new.state new.number new.held
     ∙ in_two _ c.args.prefix.now b.rest text _ _ b.split took.much_is goes.much_is in
-    cut_of fault text _ before _ whole (cut before _ goes.read goes.so_far))
+    cut_of fault text _ before _ whole (cut before goes.read goes.so_far))

@@ -1,15 +1,13 @@
-use Rattle.std.proofs.Common.{◌≡◌, Bool, true, false, refl, ap, rules}
+use Rattle.std.proofs.Common.{◌≡◌, Bool, false, ap, rules}
 use Rattle.ym_inspect.specs.Recorded.{is_open}
 use Rattle.ym_inspect.specs.RecordRead.{ended, so_much}
-use Rattle.ym_inspect.specs.declared.fault.InspectFault.{InspectFault}
-use Rattle.ym_inspect.proofs.RecordLemmas.{if_err, never_cut}
 use Rattle.ym_inspect.proofs.record.Recording.end.Goals as goal
 
 pub returns-clause-ends : goal.returns-clause-ends
-returns-clause-ends g c = λ before held read so.
+returns-clause-ends g c = λ before read so.
     let s = c.args.self.now in
     let e : is_open s.state ≡ false = search rules in (
-      ap (λ (b : Bool). ended (so_much s.state s.number held read) b) e,
+      ap (λ (b : Bool). ended (so_much s.state s.number s.held.items read) b) e,
       record {
         at_end = s.inspection;
         between = g.O.Output.contents c.args.out.now;
