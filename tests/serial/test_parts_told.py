@@ -72,6 +72,24 @@ def test_names_its_own(words, told):
         wants_same({"named": named(said)}, {"named": [told + OWN]})
 
 
+@cases(
+    case("ymodem-tty receive, stopped, names its part of a folder behind a link", "in", "link"),
+    case("ymodem-tty receive, stopped, names its part of a folder of two lines", "two\nlines", None),
+)
+def test_names_it_in_full(folder, link):
+    """The path leads to the part."""
+    with folders() as (here, there):
+        os.mkdir(os.path.join(there, folder))
+        if link:
+            os.symlink(folder, os.path.join(there, link))
+        into = link or folder
+        with in_the_middle(here, there, [into]) as script:
+            wait_until(lambda: is_begun(os.path.join(there, folder)), "the part has something")
+            script.send_signal(signal.SIGINT)
+            said = wants_status("ymodem-tty", script, -signal.SIGINT)
+        assert "ymodem-tty: '%s/%s' is left of a file: " % (into, OWN) in said, "it said %r" % said
+
+
 @sentence("ymodem-tty receive, stopped with all that it started, names what is new")
 def test_names_what_is_new():
     """The signal may have ended the program before it is looked at. What was there before, and is

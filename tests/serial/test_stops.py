@@ -43,6 +43,8 @@ PROMPT = 0.7
 # Seconds in which an end that was cancelled has ended, also on a busy machine. Where CAN CAN is
 # lost, lrzsz's `rb` takes 50 or more.
 SOON = 40
+KILLED = "ymodem-tty: ymodem was killed, and the other end was told\n"
+NOT_TOLD = "ymodem-tty: interrupted, and the other end could not be told\n"
 
 
 def places(eots):
@@ -147,6 +149,8 @@ def wants_front(files, kept):
     case("ymodem-tty send, interrupted", ["send", "one.bin"], signal.SIGINT),
     case("ymodem-tty receive, ended", ["receive"], signal.SIGTERM),
     case("ymodem-tty receive, whose terminal is gone", ["receive"], signal.SIGHUP),
+    case("ymodem-tty send, ended by USR1", ["send", "one.bin"], signal.SIGUSR1),
+    case("ymodem-tty receive, ended by PIPE", ["receive"], signal.SIGPIPE),
 )
 def test_interrupted(words, by):
     """Over pipes: the other end is told, and nothing is left behind."""
@@ -158,6 +162,18 @@ def test_interrupted(words, by):
             wants_status("ymodem-tty", script, -by)
             assert script.stdout.read().endswith(CANCEL), "the other end was not told"
             assert not left_of(script.pid), "left behind: %r" % left_of(script.pid)
+
+
+@sentence("ymodem-tty receive, ended, whose line nobody reads any more")
+def test_nobody_reads():
+    """The signal is the status, and that nobody was told is said."""
+    with folders() as (here, _), piped([SCRIPT, "receive"], here) as script:
+        wait_until(lambda: is_running(script.pid), "a transfer began")
+        assert script.stdout.read(1) == b"C", "it does not ask"
+        script.stdout.close()
+        script.send_signal(signal.SIGTERM)
+        said = wants_status("ymodem-tty", script, -signal.SIGTERM)
+        wants_same({"said": said}, {"said": NOT_TOLD})
 
 
 # Tells that it runs, and heeds no signal that may be unheeded: so it is with one that comes while
@@ -182,6 +198,24 @@ def test_signal_is_lost():
             script.send_signal(signal.SIGTERM)
             wants_status("ymodem-tty", script, -signal.SIGTERM)
             wants_same({"left": left_of(script.pid)}, {"left": []})
+        wants_same({"settings": settings(it.path)}, {"settings": before})
+
+
+@cases(
+    case("ymodem-tty send, whose program is killed", ["send", "one.bin"], signal.SIGKILL),
+    case("ymodem-tty receive, whose program is ended", ["receive"], signal.SIGTERM),
+)
+def test_program_is_killed(words, by):
+    """The other end is told, and the line gets its settings back. The status is that of a shell."""
+    with folders() as (here, _), plug() as it:
+        write_files(here, FEW)
+        before = settings(it.path)
+        with piped([SCRIPT, "--device", it.path, *words], here) as script:
+            wait_until(lambda: has_open(runs(script.pid), it.path), "the program has the line open")
+            os.kill(runs(script.pid)[0], by)
+            said = wants_status("ymodem-tty", script, 128 + by)
+        wants_same({"said": said.splitlines(True)[-1]}, {"said": KILLED})
+        End(it).wants(CANCEL)
         wants_same({"settings": settings(it.path)}, {"settings": before})
 
 
@@ -248,7 +282,7 @@ def test_line_goes_meanwhile(hangs_up):
             else:
                 os.remove(link)
             said = wants_status("ymodem-tty", script, -signal.SIGTERM)
-        assert "ymodem-tty: interrupted" in said, "it said %r" % said
+        wants_same({"said": said.splitlines(True)[-1]}, {"said": NOT_TOLD})
         assert not os.path.exists(link), "a file stands where the line was"
 
 
