@@ -79,8 +79,15 @@ def test_too_large():
 THIS_TERMINAL = b"ymodem-tty: the line is this terminal: ^X ^X ends it\n"
 
 
-@sentence("ymodem-tty receive, at the terminal that is the line")
-def test_same_terminal():
+# Begins a session of which this terminal is the controlling one, as a login does.
+LOGIN = ["setsid", "--ctty", "--wait"]
+
+
+@cases(
+    case("ymodem-tty receive, at the terminal that is the line", [SCRIPT]),
+    case("the same, which is named as one's own", [*LOGIN, SCRIPT, "--device", "/dev/tty"]),
+)
+def test_same_terminal(words):
     """As after a login over the line: while files go the line has what the ends write, and no
     more."""
     with folders() as (here, there), cable() as it:
@@ -88,7 +95,7 @@ def test_same_terminal():
         far = os.open(it.far.path, os.O_RDWR | os.O_NOCTTY)
         how = {"stdin": far, "stdout": far, "stderr": far, "env": ENVIRONMENT}
         sent = [PROGRAM, "sb", "--line", it.near.path, *write_files(here, FILES)]
-        with started([SCRIPT, "receive"], there, **how) as script, started(sent, here) as sender:
+        with started([*words, "receive"], there, **how) as script, started(sent, here) as sender:
             os.close(far)
             assert script.wait(LIMIT) == 0, "its status"
             ends_with(sender, 0)
