@@ -59,6 +59,20 @@ def test_was_started(command, status):
 
 
 @cases(
+    case("judge: a shell that cannot read the command", "(", "yntax error"),
+    case("judge: a sender that finds no file", "%s sb none" % PROGRAM, "fault: device"),
+    case("judge: a peer that fails and says nothing", "exit 4", "its status is 4"),
+)
+def test_has_failed(command, said):
+    """A peer that ends before it answers, and not well: what it said last is told."""
+    done = judge(*ONE_CASE, "sender", command)
+    wants_same({"status": done.returncode}, {"status": 1})
+    begin = "ymodem-judge: plain: the peer has ended: "
+    assert done.stderr.startswith(begin) and said in done.stderr, repr(done.stderr)
+    assert done.stderr.count("\n") == 1, repr(done.stderr)
+
+
+@cases(
     case("judge: a ymodem that is not there", "/none", 127, "is missing, which YMODEM names"),
     case("judge: a ymodem not on the path", "no-such", 127, "is missing, which YMODEM names"),
     case("judge: a ymodem that may not be run", "/dev/null", 126, "cannot be run"),
