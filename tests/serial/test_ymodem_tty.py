@@ -225,6 +225,31 @@ def test_busy():
             wants_same({"calls of stty": changes}, {"calls of stty": []})
 
 
+# Tells that it runs, and waits until it may end, as one that finds its line busy.
+LATE = """#!/bin/sh
+echo > told
+until [ -e go ]; do sleep 0.1; done
+exit 3
+"""
+
+
+@sentence("ymodem-tty of a device that another program has got meanwhile")
+def test_got_meanwhile():
+    """Two are started at once, and the other one is first: the line stays as that needs it."""
+    with folders() as (here, there), plug() as it:
+        write_files(there, [("late", LATE.encode())])
+        program = os.path.join(there, "late")
+        os.chmod(program, 0o755)
+        words = [SCRIPT, "--device", it.path, "receive"]
+        with piped(words, here, {**ENVIRONMENT, "YMODEM": program}) as script:
+            wait_until(lambda: os.path.exists(os.path.join(here, "told")), "the program runs")
+            needed, held = settings(it.path), lock(it.path)
+            write_files(here, [("go", b"")])
+            wants_status("ymodem-tty", script, 3)
+            wants_same({"settings": settings(it.path)}, {"settings": needed})
+            os.close(held)
+
+
 @cases(
     case(
         "a line that is set",
