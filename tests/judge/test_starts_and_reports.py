@@ -169,6 +169,18 @@ def test_has_no_room():
     assert (done.returncode, bool(one)) == (3, True), "it said %r" % done.stderr
 
 
+# Starts a command that may store less than its peer says.
+WITH_LITTLE_ROOM = ["sh", "-c", 'ulimit -f 2000; exec "$@"', "sh"]
+
+
+@sentence("judge: a peer that says more than there is room for")
+def test_says_much():
+    """What it says is not stored, and the case is tried."""
+    command = "head -c 3000000 /dev/zero >&2; %s receiver" % PEER
+    done = judge(*ONE_CASE, "receiver", command, before=WITH_LITTLE_ROOM)
+    wants_same({"ended": (done.returncode, done.stderr)}, {"ended": (0, "")})
+
+
 def full():
     """A device that is full."""
     if not os.path.exists("/dev/full"):
