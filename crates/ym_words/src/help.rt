@@ -132,9 +132,9 @@ pub(crate) static JUDGE_ABOUT: &str = "Tries a sender or a receiver of YMODEM by
 
 pub(crate) static JUDGE_HELP: &str =
     "It plays each case to the peer and prints a line for it: what the reference
-does there, what the peer did, and `conforms`, `differs (harmless)`, `loses data`
-or `no answer`; or `not tried`, where the session never came to its place. The
-last lines say what to avoid with this peer.
+does there, what the peer did, and `conforms`, `differs (harmless)`, `loses
+data` or `no answer`; or `not tried`, where the session never came to its
+place. The last lines say what to avoid with this peer.
 
 The peer has to be started anew for each case: standard error says when. It is
 waited for 30 seconds. `ymodem-judge` starts a peer by a command and runs this.
