@@ -15,7 +15,7 @@ SCRIPT = os.path.join("share", "ymodem-tty")
 # What has lines for people: the sources of their texts, but for those of how far a file is, and of
 # how names are shown.
 SOURCES = ("crates/ym_text/src", "crates/ym_header/src/fault.rt", "crates/ym_play/src/fault.rt")
-SOURCES += ("crates/ym_record/src/message.rt",)
+SOURCES += ("crates/ym_record/src/message.rt", "crates/ym_show/src/surplus.rt")
 REPORT = "crates/ym_judge/src/report.rt"
 FAULTS = ("crates/ym_answer/src/command_fault.rt", "crates/ym_explained/src")
 FAULTS += ("crates/ym_judged/src", "crates/ym_command/src", "crates/ymodem/src")

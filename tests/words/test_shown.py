@@ -252,6 +252,12 @@ def test_counts_repeats(count):
         assert re.fullmatch(wanted, ended.err.splitlines()[-1].encode()), "it told %r" % ended.err
 
 
+SURPLUS = (
+    "more came of '%s' than the length that its sender stated, %d, and was dropped; "
+    "send a file that does not grow, and no pipe"
+)
+
+
 @cases(
     case("counts no data past a length as repeats", 0, b""),
     case("counts a repeat between data past a length", 1, b", 1 repeated"),
@@ -274,4 +280,6 @@ def test_counts_no_data_past_a_length(repeats, counted):
         wants_stored(there, [("a", b"abc")])
     ended.wants(0, "file a 3 - -\nreceiver files 1 finished\n", ended.err)
     told = rb"a: 3 bytes in \d+\.\d s(, \d+ k?B/s)?" + counted
-    assert re.fullmatch(told, ended.err.splitlines()[-1].encode()), "it told %r" % ended.err
+    whole, dropped = ended.err.splitlines()[-2:]
+    assert re.fullmatch(told, whole.encode()), "it told %r" % ended.err
+    assert dropped == SURPLUS % ("a", 3), "it told %r" % ended.err

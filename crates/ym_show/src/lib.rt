@@ -5,6 +5,7 @@ mod meter;
 mod receive_watch;
 mod send_watch;
 mod sink_watch;
+mod surplus;
 mod watched_port;
 
 pub use meter::Meter;

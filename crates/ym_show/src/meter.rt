@@ -1,5 +1,6 @@
 //! How far files are, shown to somebody who looks.
 
+use crate::surplus::Surplus;
 use std::alloc::Global;
 use std::io::Write;
 use std::time::{Clock, Duration, Instant};
@@ -30,6 +31,8 @@ struct Course {
     newer: Mark,
     /// When it was last shown.
     shown: Instant,
+    /// Blocks came behind its length.
+    has_surplus: bool,
 }
 
 /// What an end heard of late.
@@ -126,6 +129,7 @@ impl<'t, E: Write + Drop, C: Clock + Drop> Meter<'t, E, C> {
             older: mark,
             newer: mark,
             shown: now,
+            has_surplus: false,
         });
     }
 
@@ -161,10 +165,12 @@ impl<'t, E: Write + Drop, C: Clock + Drop> Meter<'t, E, C> {
             millis: millis_between(course.start, now),
             repeats,
         };
-        self.teller.tell(WholeFile {
-            name: course.name.as_str(),
-            took,
-        });
+        let name = course.name.as_str();
+        self.teller.tell(WholeFile { name, took });
+        if course.has_surplus {
+            let length = course.length;
+            self.teller.tell(Surplus { name, length });
+        }
     }
 
     /// How long it is since this time, in milliseconds; or nothing where there is no clock.
@@ -223,6 +229,9 @@ impl<'t, E: Write + Drop, C: Clock + Drop> Meter<'t, E, C> {
     /// The delivery that came last is a block behind the length of its file.
     pub fn pass(&mut self) {
         self.quiet.came = self.quiet.before.with_past();
+        if let Some(course) = &mut self.course {
+            course.has_surplus = true;
+        }
     }
 
     /// The line echoes. That is told once.
