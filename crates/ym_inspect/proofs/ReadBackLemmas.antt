@@ -31,43 +31,43 @@ chars_append much [] ys = refl
 chars_append much (x ∷ xs) ys = chars_append (and_char much x) xs ys
 
 -- a character that ends no line
-further_by : (state : InLine) (c number : ℕ) (held : List ℕ) (read : List (Direction × ℕ))
+further_by : (state : InLine) (c number : ℕ) (buffered : List ℕ) (read : List (Direction × ℕ))
     (new : Stepped) → (c ≡ 10 → ⊥)
-    → behind_char (so_much state number held read) c (Ok new)
-    ≡ Ok (so_much new.state number (held ++ option_to_list new.byte) read)
-further_by state c number held read new ne =
-    ap (λ (b : Bool). Ok (if b then behind_line (so_much state number held read) new.state
-    else further (so_much state number held read) new)) (ne_eqb c 10 ne)
+    → behind_char (so_much state number buffered read) c (Ok new)
+    ≡ Ok (so_much new.state number (buffered ++ option_to_list new.byte) read)
+further_by state c number buffered read new ne =
+    ap (λ (b : Bool). Ok (if b then behind_line (so_much state number buffered read) new.state
+    else further (so_much state number buffered read) new)) (ne_eqb c 10 ne)
 
 -- and that completes no byte
-passes : (state new : InLine) (c number : ℕ) (held : List ℕ) (read : List (Direction × ℕ))
+passes : (state new : InLine) (c number : ℕ) (buffered : List ℕ) (read : List (Direction × ℕ))
     → after_char state c ≡ goes_to new → (c ≡ 10 → ⊥)
-    → and_char (Ok (so_much state number held read)) c ≡ Ok (so_much new number held read)
-passes state new c number held read e ne =
-    ap (behind_char (so_much state number held read) c) e
-    ∙ further_by state c number held read (record { state = new; byte = None }) ne
-    ∙ ap (λ (bs : List ℕ). Ok (so_much new number bs read)) (append-nil held)
+    → and_char (Ok (so_much state number buffered read)) c ≡ Ok (so_much new number buffered read)
+passes state new c number buffered read e ne =
+    ap (behind_char (so_much state number buffered read) c) e
+    ∙ further_by state c number buffered read (record { state = new; byte = None }) ne
+    ∙ ap (λ (bs : List ℕ). Ok (so_much new number bs read)) (append-nil buffered)
 
 uncapped : (n : ℕ) → n < 2 ^ 64 → capped n ≡ n
 uncapped n h = omega arith
 
 -- ---- Seconds
 
-first_digit : (d number : ℕ) (held : List ℕ) (read : List (Direction × ℕ)) → d < 10
-    → and_char (Ok (so_much line.Start number held read)) (48 + d)
-    ≡ Ok (so_much (line.Seconds (d * 1000000)) number held read)
-first_digit d number held read h =
+first_digit : (d number : ℕ) (buffered : List ℕ) (read : List (Direction × ℕ)) → d < 10
+    → and_char (Ok (so_much line.Start number buffered read)) (48 + d)
+    ≡ Ok (so_much (line.Seconds (d * 1000000)) number buffered read)
+first_digit d number buffered read h =
     let low : nat_le 48 (48 + d) ≡ true = le-leb 48 (48 + d) (omega arith) in
     let high : nat_le (48 + d) 57 ≡ true = le-leb (48 + d) 57 (omega arith) in
     let value : 48 + d - 48 ≡ d = omega arith in
     let e : at_start (48 + d) ≡ goes_to (line.Seconds (d * 1000000)) = rw (low, high, value) refl in
-    passes line.Start (line.Seconds (d * 1000000)) (48 + d) number held read e (λ ten. omega arith)
+    passes line.Start (line.Seconds (d * 1000000)) (48 + d) number buffered read e (λ ten. omega arith)
 
-next_digit : (n d number : ℕ) (held : List ℕ) (read : List (Direction × ℕ)) → d < 10
+next_digit : (n d number : ℕ) (buffered : List ℕ) (read : List (Direction × ℕ)) → d < 10
     → (n * 10 + d) * 1000000 < 2 ^ 64
-    → and_char (Ok (so_much (line.Seconds (n * 1000000)) number held read)) (48 + d)
-    ≡ Ok (so_much (line.Seconds ((n * 10 + d) * 1000000)) number held read)
-next_digit n d number held read h fits =
+    → and_char (Ok (so_much (line.Seconds (n * 1000000)) number buffered read)) (48 + d)
+    ≡ Ok (so_much (line.Seconds ((n * 10 + d) * 1000000)) number buffered read)
+next_digit n d number buffered read h fits =
     let low : nat_le 48 (48 + d) ≡ true = le-leb 48 (48 + d) (omega arith) in
     let high : nat_le (48 + d) 57 ≡ true = le-leb (48 + d) 57 (omega arith) in
     let value : 48 + d - 48 ≡ d = omega arith in
@@ -76,43 +76,43 @@ next_digit n d number held read h fits =
     let sum : n * 1000000 * 10 + d * 1000000 ≡ (n * 10 + d) * 1000000 = omega arith in
     let e : in_seconds (n * 1000000) (48 + d) ≡ goes_to (line.Seconds ((n * 10 + d) * 1000000)) =
     rw (low, high, value, tens, all, sum) refl in
-    passes (line.Seconds (n * 1000000)) (line.Seconds ((n * 10 + d) * 1000000)) (48 + d) number held read e
+    passes (line.Seconds (n * 1000000)) (line.Seconds ((n * 10 + d) * 1000000)) (48 + d) number buffered read e
     (λ ten. omega arith)
 
 -- these digits are those of a number of seconds
 abbrev AreSeconds : ℕ → List ℕ → Type 0
 AreSeconds n ds =
-    (number : ℕ) (held : List ℕ) (read : List (Direction × ℕ)) → n * 1000000 < 2 ^ 64
-    → and_chars (Ok (so_much line.Start number held read)) ds
-    ≡ Ok (so_much (line.Seconds (n * 1000000)) number held read)
+    (number : ℕ) (buffered : List ℕ) (read : List (Direction × ℕ)) → n * 1000000 < 2 ^ 64
+    → and_chars (Ok (so_much line.Start number buffered read)) ds
+    ≡ Ok (so_much (line.Seconds (n * 1000000)) number buffered read)
 
 one_digit : (n : ℕ) → n < 10 → AreSeconds n ((48 + n) ∷ [])
-one_digit n h = λ number held read fits. first_digit n number held read h
+one_digit n h = λ number buffered read fits. first_digit n number buffered read h
 
 more_digits : (n : ℕ) (ds : List ℕ) → 10 ≤ n → AreSeconds (n / 10) ds
     → AreSeconds n (ds ++ (48 + n % 10) ∷ [])
-more_digits n ds large before = λ number held read fits.
+more_digits n ds large before = λ number buffered read fits.
     let whole : n / 10 * 10 + n % 10 ≡ n = omega arith in
     let prefix : n / 10 * 1000000 < 2 ^ 64 = omega arith in
     let last : n % 10 < 10 = omega arith in
-    chars_append (Ok (so_much line.Start number held read)) ds ((48 + n % 10) ∷ [])
-    ∙ ap (λ (much : Result SoMuch InspectFault). and_char much (48 + n % 10)) (before number held read prefix)
-    ∙ next_digit (n / 10) (n % 10) number held read last (omega arith)
-    ∙ ap (λ (m : ℕ). Ok (so_much (line.Seconds (m * 1000000)) number held read)) whole
+    chars_append (Ok (so_much line.Start number buffered read)) ds ((48 + n % 10) ∷ [])
+    ∙ ap (λ (much : Result SoMuch InspectFault). and_char much (48 + n % 10)) (before number buffered read prefix)
+    ∙ next_digit (n / 10) (n % 10) number buffered read last (omega arith)
+    ∙ ap (λ (m : ℕ). Ok (so_much (line.Seconds (m * 1000000)) number buffered read)) whole
 
-seconds_read : (n number : ℕ) (held : List ℕ) (read : List (Direction × ℕ)) → n * 1000000 < 2 ^ 64
-    → and_chars (Ok (so_much line.Start number held read)) (decimal n)
-    ≡ Ok (so_much (line.Seconds (n * 1000000)) number held read)
-seconds_read n number held read fits =
-    decimal_by_steps AreSeconds one_digit more_digits n (omega arith) number held read fits
+seconds_read : (n number : ℕ) (buffered : List ℕ) (read : List (Direction × ℕ)) → n * 1000000 < 2 ^ 64
+    → and_chars (Ok (so_much line.Start number buffered read)) (decimal n)
+    ≡ Ok (so_much (line.Seconds (n * 1000000)) number buffered read)
+seconds_read n number buffered read fits =
+    decimal_by_steps AreSeconds one_digit more_digits n (omega arith) number buffered read fits
 
 -- ---- Behind the point
 
-fraction_digit : (m unit d number : ℕ) (held : List ℕ) (read : List (Direction × ℕ)) → d < 10
+fraction_digit : (m unit d number : ℕ) (buffered : List ℕ) (read : List (Direction × ℕ)) → d < 10
     → m + unit * d < 2 ^ 64
-    → and_char (Ok (so_much (line.Fraction m unit) number held read)) (48 + d)
-    ≡ Ok (so_much (line.Fraction (m + unit * d) (unit / 10)) number held read)
-fraction_digit m unit d number held read h fits =
+    → and_char (Ok (so_much (line.Fraction m unit) number buffered read)) (48 + d)
+    ≡ Ok (so_much (line.Fraction (m + unit * d) (unit / 10)) number buffered read)
+fraction_digit m unit d number buffered read h fits =
     let low : nat_le 48 (48 + d) ≡ true = le-leb 48 (48 + d) (omega arith) in
     let high : nat_le (48 + d) 57 ≡ true = le-leb (48 + d) 57 (omega arith) in
     let value : 48 + d - 48 ≡ d = omega arith in
@@ -120,32 +120,32 @@ fraction_digit m unit d number held read h fits =
     let all = uncapped (m + unit * d) fits in
     let e : in_fraction m unit (48 + d) ≡ goes_to (line.Fraction (m + unit * d) (unit / 10)) =
     rw (low, high, value, more, all) refl in
-    passes (line.Fraction m unit) (line.Fraction (m + unit * d) (unit / 10)) (48 + d) number held read e
+    passes (line.Fraction m unit) (line.Fraction (m + unit * d) (unit / 10)) (48 + d) number buffered read e
     (λ ten. omega arith)
 
 abbrev sixth : ℕ → ℕ → ℕ → ℕ → ℕ → ℕ → ℕ → ℕ
 sixth m a b c d e f =
     m + 100000 * a + 10000 * b + 1000 * c + 100 * d + 10 * e + 1 * f
 
-six_digits : (m a b c d e f number : ℕ) (held : List ℕ) (read : List (Direction × ℕ)) → a < 10 → b < 10 → c < 10
+six_digits : (m a b c d e f number : ℕ) (buffered : List ℕ) (read : List (Direction × ℕ)) → a < 10 → b < 10 → c < 10
     → d < 10 → e < 10 → f < 10 → sixth m a b c d e f < 2 ^ 64
-    → and_chars (Ok (so_much (line.Fraction m 100000) number held read))
+    → and_chars (Ok (so_much (line.Fraction m 100000) number buffered read))
     ((48 + a) ∷ (48 + b) ∷ (48 + c) ∷ (48 + d) ∷ (48 + e) ∷ (48 + f) ∷ [])
-    ≡ Ok (so_much (line.Fraction (sixth m a b c d e f) 0) number held read)
-six_digits m a b c d e f number held read ha hb hc hd he hf fits =
+    ≡ Ok (so_much (line.Fraction (sixth m a b c d e f) 0) number buffered read)
+six_digits m a b c d e f number buffered read ha hb hc hd he hf fits =
     ap (λ (x : Result SoMuch InspectFault).
     and_chars x ((48 + b) ∷ (48 + c) ∷ (48 + d) ∷ (48 + e) ∷ (48 + f) ∷ []))
-    (fraction_digit m 100000 a number held read ha (omega arith))
+    (fraction_digit m 100000 a number buffered read ha (omega arith))
     ∙ ap (λ (x : Result SoMuch InspectFault).
     and_chars x ((48 + c) ∷ (48 + d) ∷ (48 + e) ∷ (48 + f) ∷ []))
-    (fraction_digit (m + 100000 * a) 10000 b number held read hb (omega arith))
+    (fraction_digit (m + 100000 * a) 10000 b number buffered read hb (omega arith))
     ∙ ap (λ (x : Result SoMuch InspectFault). and_chars x ((48 + d) ∷ (48 + e) ∷ (48 + f) ∷ []))
-    (fraction_digit (m + 100000 * a + 10000 * b) 1000 c number held read hc (omega arith))
+    (fraction_digit (m + 100000 * a + 10000 * b) 1000 c number buffered read hc (omega arith))
     ∙ ap (λ (x : Result SoMuch InspectFault). and_chars x ((48 + e) ∷ (48 + f) ∷ []))
-    (fraction_digit (m + 100000 * a + 10000 * b + 1000 * c) 100 d number held read hd (omega arith))
+    (fraction_digit (m + 100000 * a + 10000 * b + 1000 * c) 100 d number buffered read hd (omega arith))
     ∙ ap (λ (x : Result SoMuch InspectFault). and_chars x ((48 + f) ∷ []))
-    (fraction_digit (m + 100000 * a + 10000 * b + 1000 * c + 100 * d) 10 e number held read he (omega arith))
-    ∙ fraction_digit (m + 100000 * a + 10000 * b + 1000 * c + 100 * d + 10 * e) 1 f number held read hf
+    (fraction_digit (m + 100000 * a + 10000 * b + 1000 * c + 100 * d) 10 e number buffered read he (omega arith))
+    ∙ fraction_digit (m + 100000 * a + 10000 * b + 1000 * c + 100 * d + 10 * e) 1 f number buffered read hf
     (omega arith)
 
 -- ---- A moment
@@ -172,58 +172,58 @@ digits_of_micros n =
 below_ten : (n : ℕ) → n % 10 < 10
 below_ten n = omega arith
 
-point_read : (m number : ℕ) (held : List ℕ) (read : List (Direction × ℕ))
-    → and_char (Ok (so_much (line.Seconds m) number held read)) 0x2e
-    ≡ Ok (so_much (line.Fraction m 100000) number held read)
-point_read m number held read =
-    passes (line.Seconds m) (line.Fraction m 100000) 0x2e number held read refl (λ ten. omega arith)
+point_read : (m number : ℕ) (buffered : List ℕ) (read : List (Direction × ℕ))
+    → and_char (Ok (so_much (line.Seconds m) number buffered read)) 0x2e
+    ≡ Ok (so_much (line.Fraction m 100000) number buffered read)
+point_read m number buffered read =
+    passes (line.Seconds m) (line.Fraction m 100000) 0x2e number buffered read refl (λ ten. omega arith)
 
-fraction_read : (n number : ℕ) (held : List ℕ) (read : List (Direction × ℕ)) → n < 2 ^ 64
-    → and_chars (Ok (so_much (line.Seconds (n / 1000000 * 1000000)) number held read)) (fraction n)
-    ≡ Ok (so_much (line.Fraction n 0) number held read)
-fraction_read n number held read fits =
+fraction_read : (n number : ℕ) (buffered : List ℕ) (read : List (Direction × ℕ)) → n < 2 ^ 64
+    → and_chars (Ok (so_much (line.Seconds (n / 1000000 * 1000000)) number buffered read)) (fraction n)
+    ≡ Ok (so_much (line.Fraction n 0) number buffered read)
+fraction_read n number buffered read fits =
     let whole = digits_of_micros n in
     let digits : List ℕ = last_digit (n / 100000) ∷ last_digit (n / 10000) ∷ last_digit (n / 1000)
     ∷ last_digit (n / 100) ∷ last_digit (n / 10) ∷ last_digit n ∷ [] in
     ap (λ (x : Result SoMuch InspectFault). and_chars x digits)
-    (point_read (n / 1000000 * 1000000) number held read)
+    (point_read (n / 1000000 * 1000000) number buffered read)
     ∙ six_digits (n / 1000000 * 1000000) (n / 100000 % 10) (n / 10000 % 10) (n / 1000 % 10)
-    (n / 100 % 10) (n / 10 % 10) (n % 10) number held read (below_ten _) (below_ten _) (below_ten _)
+    (n / 100 % 10) (n / 10 % 10) (n % 10) number buffered read (below_ten _) (below_ten _) (below_ten _)
     (below_ten _) (below_ten _) (below_ten _) (rw whole fits)
-    ∙ ap (λ (m : ℕ). Ok (so_much (line.Fraction m 0) number held read)) whole
+    ∙ ap (λ (m : ℕ). Ok (so_much (line.Fraction m 0) number buffered read)) whole
 
-moment_read : (n number : ℕ) (held : List ℕ) (read : List (Direction × ℕ)) → n < 2 ^ 64
-    → and_chars (Ok (so_much line.Start number held read)) (moment_text n)
-    ≡ Ok (so_much (line.Fraction n 0) number held read)
-moment_read n number held read fits =
-    chars_append (Ok (so_much line.Start number held read)) (decimal (n / 1000000)) (fraction n)
+moment_read : (n number : ℕ) (buffered : List ℕ) (read : List (Direction × ℕ)) → n < 2 ^ 64
+    → and_chars (Ok (so_much line.Start number buffered read)) (moment_text n)
+    ≡ Ok (so_much (line.Fraction n 0) number buffered read)
+moment_read n number buffered read fits =
+    chars_append (Ok (so_much line.Start number buffered read)) (decimal (n / 1000000)) (fraction n)
     ∙ ap (λ (x : Result SoMuch InspectFault). and_chars x (fraction n))
-    (seconds_read (n / 1000000) number held read (omega arith))
-    ∙ fraction_read n number held read fits
+    (seconds_read (n / 1000000) number buffered read (omega arith))
+    ∙ fraction_read n number buffered read fits
 
-mark_read : (n : ℕ) (way : Direction) (number : ℕ) (held : List ℕ) (read : List (Direction × ℕ))
-    → and_chars (Ok (so_much (line.Fraction n 0) number held read)) (mark way)
-    ≡ Ok (so_much (line.Bytes n way) number held read)
-mark_read n There number held read =
+mark_read : (n : ℕ) (way : Direction) (number : ℕ) (buffered : List ℕ) (read : List (Direction × ℕ))
+    → and_chars (Ok (so_much (line.Fraction n 0) number buffered read)) (mark way)
+    ≡ Ok (so_much (line.Bytes n way) number buffered read)
+mark_read n There number buffered read =
     ap (λ (x : Result SoMuch InspectFault). and_chars x (0x3e ∷ 0x20 ∷ []))
-    (passes (line.Fraction n 0) (line.Moment n) 0x20 number held read refl (λ ten. omega arith))
+    (passes (line.Fraction n 0) (line.Moment n) 0x20 number buffered read refl (λ ten. omega arith))
     ∙ ap (λ (x : Result SoMuch InspectFault). and_char x 0x20)
-    (passes (line.Moment n) (line.Bytes n There) 0x3e number held read refl (λ ten. omega arith))
-    ∙ passes (line.Bytes n There) (line.Bytes n There) 0x20 number held read refl (λ ten. omega arith)
-mark_read n Back number held read =
+    (passes (line.Moment n) (line.Bytes n There) 0x3e number buffered read refl (λ ten. omega arith))
+    ∙ passes (line.Bytes n There) (line.Bytes n There) 0x20 number buffered read refl (λ ten. omega arith)
+mark_read n Back number buffered read =
     ap (λ (x : Result SoMuch InspectFault). and_chars x (0x3c ∷ 0x20 ∷ []))
-    (passes (line.Fraction n 0) (line.Moment n) 0x20 number held read refl (λ ten. omega arith))
+    (passes (line.Fraction n 0) (line.Moment n) 0x20 number buffered read refl (λ ten. omega arith))
     ∙ ap (λ (x : Result SoMuch InspectFault). and_char x 0x20)
-    (passes (line.Moment n) (line.Bytes n Back) 0x3c number held read refl (λ ten. omega arith))
-    ∙ passes (line.Bytes n Back) (line.Bytes n Back) 0x20 number held read refl (λ ten. omega arith)
+    (passes (line.Moment n) (line.Bytes n Back) 0x3c number buffered read refl (λ ten. omega arith))
+    ∙ passes (line.Bytes n Back) (line.Bytes n Back) 0x20 number buffered read refl (λ ten. omega arith)
 
-pub head_read : (n : ℕ) (way : Direction) (number : ℕ) (held : List ℕ) (read : List (Direction × ℕ)) → n < 2 ^ 64
-    → and_chars (Ok (so_much line.Start number held read)) (head_of n way)
-    ≡ Ok (so_much (line.Bytes n way) number held read)
-head_read n way number held read fits =
-    chars_append (Ok (so_much line.Start number held read)) (moment_text n) (mark way)
-    ∙ ap (λ (x : Result SoMuch InspectFault). and_chars x (mark way)) (moment_read n number held read fits)
-    ∙ mark_read n way number held read
+pub head_read : (n : ℕ) (way : Direction) (number : ℕ) (buffered : List ℕ) (read : List (Direction × ℕ)) → n < 2 ^ 64
+    → and_chars (Ok (so_much line.Start number buffered read)) (head_of n way)
+    ≡ Ok (so_much (line.Bytes n way) number buffered read)
+head_read n way number buffered read fits =
+    chars_append (Ok (so_much line.Start number buffered read)) (moment_text n) (mark way)
+    ∙ ap (λ (x : Result SoMuch InspectFault). and_chars x (mark way)) (moment_read n number buffered read fits)
+    ∙ mark_read n way number buffered read
 
 -- ---- Bytes
 
@@ -263,63 +263,63 @@ digit_at (suc (suc (suc (suc (suc (suc (suc (suc (suc (suc (suc (suc (suc (suc (
 digit_at (suc (suc (suc (suc (suc (suc (suc (suc (suc (suc (suc (suc (suc (suc (suc (suc k)))))))))))))))) h =
     absurd (omega arith)
 
-high_read : (n : ℕ) (way : Direction) (c k number : ℕ) (held : List ℕ) (read : List (Direction × ℕ)) → IsDigitOf k c
-    → and_char (Ok (so_much (line.Bytes n way) number held read)) c
-    ≡ Ok (so_much (line.Half n way k) number held read)
-high_read n way c k number held read is =
+high_read : (n : ℕ) (way : Direction) (c k number : ℕ) (buffered : List ℕ) (read : List (Direction × ℕ)) → IsDigitOf k c
+    → and_char (Ok (so_much (line.Bytes n way) number buffered read)) c
+    ≡ Ok (so_much (line.Half n way k) number buffered read)
+high_read n way c k number buffered read is =
     let above = is.printed in
     let space : (c == 32) ≡ false = ne_eqb c 32 (λ e. omega arith) in
     let back : (c == 13) ≡ false = ne_eqb c 13 (λ e. omega arith) in
     let end : (c == 10) ≡ false = ne_eqb c 10 (λ e. omega arith) in
     let e : in_bytes n way c ≡ with_high n way (digit_value c) = rw (space, back, end) refl in
-    passes (line.Bytes n way) (line.Half n way k) c number held read (e ∙ ap (with_high n way) is.value)
+    passes (line.Bytes n way) (line.Half n way k) c number buffered read (e ∙ ap (with_high n way) is.value)
     (λ ten. omega arith)
 
-low_read : (n : ℕ) (way : Direction) (high c k number : ℕ) (held : List ℕ) (read : List (Direction × ℕ)) → IsDigitOf k c
-    → and_char (Ok (so_much (line.Half n way high) number held read)) c
-    ≡ Ok (so_much (line.Bytes n way) number (held ++ (high % 16 * 16 + k % 16) ∷ []) read)
-low_read n way high c k number held read is =
+low_read : (n : ℕ) (way : Direction) (high c k number : ℕ) (buffered : List ℕ) (read : List (Direction × ℕ)) → IsDigitOf k c
+    → and_char (Ok (so_much (line.Half n way high) number buffered read)) c
+    ≡ Ok (so_much (line.Bytes n way) number (buffered ++ (high % 16 * 16 + k % 16) ∷ []) read)
+low_read n way high c k number buffered read is =
     let above = is.printed in
-    ap (behind_char (so_much (line.Half n way high) number held read) c) (ap (with_low n way high c) is.value)
-    ∙ further_by (line.Half n way high) c number held read
+    ap (behind_char (so_much (line.Half n way high) number buffered read) c) (ap (with_low n way high c) is.value)
+    ∙ further_by (line.Half n way high) c number buffered read
     (record { state = line.Bytes n way; byte = Some (high % 16 * 16 + k % 16) }) (λ ten. omega arith)
 
 abbrev IsByte : ℕ → Type 0
 IsByte byte = byte < 256
 
-byte_read : (n : ℕ) (way : Direction) (b number : ℕ) (held : List ℕ) (read : List (Direction × ℕ)) → b < 256
-    → and_chars (Ok (so_much (line.Bytes n way) number held read))
+byte_read : (n : ℕ) (way : Direction) (b number : ℕ) (buffered : List ℕ) (read : List (Direction × ℕ)) → b < 256
+    → and_chars (Ok (so_much (line.Bytes n way) number buffered read))
     (slice_index lower_digits (b / 16) ∷ slice_index lower_digits (b % 16) ∷ [])
-    ≡ Ok (so_much (line.Bytes n way) number (held ++ b ∷ []) read)
-byte_read n way b number held read h =
+    ≡ Ok (so_much (line.Bytes n way) number (buffered ++ b ∷ []) read)
+byte_read n way b number buffered read h =
     let high : b / 16 < 16 = omega arith in
     let low : b % 16 < 16 = omega arith in
     let whole : b / 16 % 16 * 16 + b % 16 % 16 ≡ b = omega arith in
     ap (λ (x : Result SoMuch InspectFault). and_char x (slice_index lower_digits (b % 16)))
-    (high_read n way (slice_index lower_digits (b / 16)) (b / 16) number held read (digit_at (b / 16) high))
-    ∙ low_read n way (b / 16) (slice_index lower_digits (b % 16)) (b % 16) number held read
+    (high_read n way (slice_index lower_digits (b / 16)) (b / 16) number buffered read (digit_at (b / 16) high))
+    ∙ low_read n way (b / 16) (slice_index lower_digits (b % 16)) (b % 16) number buffered read
     (digit_at (b % 16) low)
-    ∙ ap (λ (v : ℕ). Ok (so_much (line.Bytes n way) number (held ++ v ∷ []) read)) whole
+    ∙ ap (λ (v : ℕ). Ok (so_much (line.Bytes n way) number (buffered ++ v ∷ []) read)) whole
 
-hex_read : (n : ℕ) (way : Direction) (bytes : List ℕ) (number : ℕ) (held : List ℕ) (read : List (Direction × ℕ))
+hex_read : (n : ℕ) (way : Direction) (bytes : List ℕ) (number : ℕ) (buffered : List ℕ) (read : List (Direction × ℕ))
     → All IsByte bytes
-    → and_chars (Ok (so_much (line.Bytes n way) number held read)) (encode_lower bytes)
-    ≡ Ok (so_much (line.Bytes n way) number (held ++ bytes) read)
+    → and_chars (Ok (so_much (line.Bytes n way) number buffered read)) (encode_lower bytes)
+    ≡ Ok (so_much (line.Bytes n way) number (buffered ++ bytes) read)
 unfolding encode_with
-hex_read n way [] number held read h =
-    ap (λ (bs : List ℕ). Ok (so_much (line.Bytes n way) number bs read)) (sym (append-nil held))
-hex_read n way (b ∷ rest) number held read h =
+hex_read n way [] number buffered read h =
+    ap (λ (bs : List ℕ). Ok (so_much (line.Bytes n way) number bs read)) (sym (append-nil buffered))
+hex_read n way (b ∷ rest) number buffered read h =
     ap (λ (x : Result SoMuch InspectFault). and_chars x (encode_lower rest))
-    (byte_read n way b number held read (All-head IsByte b rest h))
-    ∙ hex_read n way rest number (held ++ b ∷ []) read (All-tail IsByte b rest h)
-    ∙ ap (λ (bs : List ℕ). Ok (so_much (line.Bytes n way) number bs read)) (append_assoc held (b ∷ []) rest)
+    (byte_read n way b number buffered read (All-head IsByte b rest h))
+    ∙ hex_read n way rest number (buffered ++ b ∷ []) read (All-tail IsByte b rest h)
+    ∙ ap (λ (bs : List ℕ). Ok (so_much (line.Bytes n way) number bs read)) (append_assoc buffered (b ∷ []) rest)
 
 -- ---- Lines
 
-end_read : (n : ℕ) (way : Direction) (number : ℕ) (held : List ℕ) (read : List (Direction × ℕ))
-    → and_char (Ok (so_much (line.Bytes n way) number held read)) 10
-    ≡ Ok (so_much line.Start (capped (number + 1)) [] (read ++ tagged way held))
-end_read n way number held read = refl
+end_read : (n : ℕ) (way : Direction) (number : ℕ) (buffered : List ℕ) (read : List (Direction × ℕ))
+    → and_char (Ok (so_much (line.Bytes n way) number buffered read)) 10
+    ≡ Ok (so_much line.Start (capped (number + 1)) [] (read ++ tagged way buffered))
+end_read n way number buffered read = refl
 
 line_read : (p : Piece) (number : ℕ) (read : List (Direction × ℕ)) → IsPiece p
     → and_chars (Ok (so_much line.Start number [] read)) (line_of p.at p.way p.bytes)

@@ -44,17 +44,17 @@ in_nothing (Some way) = refl
 
 -- all of it was told
 pub line_told :
-    (state : InLine) (way : Direction) (held : List ℕ) (at : Parts) (out : Option (List ℕ)) (new : Parts) (after : Option (List ℕ)) → way_in state ≡ Some way
-    → Tells at out (tagged way held) new after → Tells at out (in_line (way_in state) held) new after
-line_told state way held at out new after e t = subst (λ (w : Option Direction). Tells at out (in_line w held) new after) (sym e) t
+    (state : InLine) (way : Direction) (buffered : List ℕ) (at : Parts) (out : Option (List ℕ)) (new : Parts) (after : Option (List ℕ)) → way_in state ≡ Some way
+    → Tells at out (tagged way buffered) new after → Tells at out (in_line (way_in state) buffered) new after
+line_told state way buffered at out new after e t = subst (λ (w : Option Direction). Tells at out (in_line w buffered) new after) (sym e) t
 
 -- it says nothing: it has no way
-pub no_way_told : (state : InLine) (held : List ℕ) (at : Parts) (out : Option (List ℕ)) → way_in state ≡ None → Tells at out (in_line (way_in state) held) at out
-no_way_told state held at out e = subst (λ (w : Option Direction). Tells at out (in_line w held) at out) (sym e) (nothing at out)
+pub no_way_told : (state : InLine) (buffered : List ℕ) (at : Parts) (out : Option (List ℕ)) → way_in state ≡ None → Tells at out (in_line (way_in state) buffered) at out
+no_way_told state buffered at out e = subst (λ (w : Option Direction). Tells at out (in_line w buffered) at out) (sym e) (nothing at out)
 
 -- or no byte
-pub no_byte_told : (state : InLine) (held : List ℕ) (at : Parts) (out : Option (List ℕ)) → held ≡ [] → Tells at out (in_line (way_in state) held) at out
-no_byte_told state held at out e =
+pub no_byte_told : (state : InLine) (buffered : List ℕ) (at : Parts) (out : Option (List ℕ)) → buffered ≡ [] → Tells at out (in_line (way_in state) buffered) at out
+no_byte_told state buffered at out e =
     subst (λ (bs : List ℕ). Tells at out (in_line (way_in state) bs) at out) (sym e)
     (subst (λ (zs : List (Direction × ℕ)). Tells at out zs at out) (sym (in_nothing (way_in state))) (nothing at out))
 
@@ -62,22 +62,22 @@ no_byte_told state held at out e =
 
 -- one that does or does not end its line
 by_end :
-    (state : InLine) (number : ℕ) (held : List ℕ) (read : List (Direction × ℕ)) (c : ℕ) (new : Stepped) (ends : Bool) → after_char state c ≡ Ok new → (c == 10) ≡ ends
-    → and_char (Ok (so_much state number held read)) c
-    ≡ Ok (if ends then behind_line (so_much state number held read) new.state else further (so_much state number held read) new)
-by_end state number held read c new ends e f =
-    ap (λ (r : Result Stepped RecordFault). behind_char (so_much state number held read) c r) e
-    ∙ ap (λ (b : Bool). Ok (if b then behind_line (so_much state number held read) new.state else further (so_much state number held read) new)) f
+    (state : InLine) (number : ℕ) (buffered : List ℕ) (read : List (Direction × ℕ)) (c : ℕ) (new : Stepped) (ends : Bool) → after_char state c ≡ Ok new → (c == 10) ≡ ends
+    → and_char (Ok (so_much state number buffered read)) c
+    ≡ Ok (if ends then behind_line (so_much state number buffered read) new.state else further (so_much state number buffered read) new)
+by_end state number buffered read c new ends e f =
+    ap (λ (r : Result Stepped RecordFault). behind_char (so_much state number buffered read) c r) e
+    ∙ ap (λ (b : Bool). Ok (if b then behind_line (so_much state number buffered read) new.state else further (so_much state number buffered read) new)) f
 
 -- so it goes on in a line
 pub goes_on_in_line :
-    (before : Option (List ℕ)) (at : Parts) (state : InLine) (number : ℕ) (held : List ℕ) (out : Option (List ℕ)) (read : List (Direction × ℕ)) (c : ℕ) (new : Stepped)
+    (before : Option (List ℕ)) (at : Parts) (state : InLine) (number : ℕ) (buffered : List ℕ) (out : Option (List ℕ)) (read : List (Direction × ℕ)) (c : ℕ) (new : Stepped)
     (new_at : Parts) (new_state : InLine) (new_number : ℕ) (new_held : List ℕ) → after_char state c ≡ Ok new → (c ≡ 10 → ⊥)
-    → new_at ≡ at → new_state ≡ new.state → new_number ≡ number → new_held ≡ held ++ option_to_list new.byte
-    → SoFar before at out read → GoesOn before (and_char (Ok (so_much state number held read)) c) new_at new_state new_number new_held out
-goes_on_in_line before at state number held out read c new new_at new_state new_number new_held e goes a s n h so = record {
+    → new_at ≡ at → new_state ≡ new.state → new_number ≡ number → new_held ≡ buffered ++ option_to_list new.byte
+    → SoFar before at out read → GoesOn before (and_char (Ok (so_much state number buffered read)) c) new_at new_state new_number new_held out
+goes_on_in_line before at state number buffered out read c new new_at new_state new_number new_held e goes a s n h so = record {
   read = read;
-  much_is = by_end state number held read c new false e (no_end c goes)
+  much_is = by_end state number buffered read c new false e (no_end c goes)
       ∙ ap (λ (bs : List ℕ). Ok (so_much new.state number bs read)) (sym h)
       ∙ ap (λ (m : ℕ). Ok (so_much new.state m new_held read)) (sym n)
       ∙ ap (λ (l : InLine). Ok (so_much l new_number new_held read)) (sym s);
@@ -86,19 +86,19 @@ goes_on_in_line before at state number held out read c new new_at new_state new_
 
 -- and so behind a line, of which all was told
 pub goes_on_behind_line :
-    (before : Option (List ℕ)) (at : Parts) (state : InLine) (number : ℕ) (held : List ℕ) (out : Option (List ℕ)) (read : List (Direction × ℕ)) (c : ℕ) (new : Stepped)
+    (before : Option (List ℕ)) (at : Parts) (state : InLine) (number : ℕ) (buffered : List ℕ) (out : Option (List ℕ)) (read : List (Direction × ℕ)) (c : ℕ) (new : Stepped)
     (new_at : Parts) (new_state : InLine) (new_number : ℕ) (new_held : List ℕ) (after : Option (List ℕ)) → after_char state c ≡ Ok new → c ≡ 10
-    → Tells at out (in_line (way_in state) held) new_at after → new_state ≡ new.state → new_number ≡ capped (number + 1) → new_held ≡ []
-    → SoFar before at out read → GoesOn before (and_char (Ok (so_much state number held read)) c) new_at new_state new_number new_held after
-goes_on_behind_line before at state number held out read c new new_at new_state new_number new_held after e ends t s n h so =
-    let all = read ++ in_line (way_in state) held in
+    → Tells at out (in_line (way_in state) buffered) new_at after → new_state ≡ new.state → new_number ≡ capped (number + 1) → new_held ≡ []
+    → SoFar before at out read → GoesOn before (and_char (Ok (so_much state number buffered read)) c) new_at new_state new_number new_held after
+goes_on_behind_line before at state number buffered out read c new new_at new_state new_number new_held after e ends t s n h so =
+    let all = read ++ in_line (way_in state) buffered in
     record {
       read = all;
-      much_is = by_end state number held read c new true e (is_end c ends)
+      much_is = by_end state number buffered read c new true e (is_end c ends)
           ∙ ap (λ (bs : List ℕ). Ok (so_much new.state (capped (number + 1)) bs all)) (sym h)
           ∙ ap (λ (m : ℕ). Ok (so_much new.state m new_held all)) (sym n)
           ∙ ap (λ (l : InLine). Ok (so_much l new_number new_held all)) (sym s);
-      so_far = tells_on nothing_buffered before read at out (in_line (way_in state) held) new_at after so t;
+      so_far = tells_on nothing_buffered before read at out (in_line (way_in state) buffered) new_at after so t;
     }
 
 -- what is of telling is no fault of a line
@@ -111,57 +111,57 @@ at_front : (xs : List ℕ) (i : ℕ) → i < length xs → drop i xs ≡ get_or 
 at_front xs i within = rw add-one (drop-cons xs i 0 within)
 
 -- what was read of them, where this is left
-pub record Walked (before : Option (List ℕ)) (much : Result SoMuch InspectFault) (rest : List ℕ) (at : Parts) (state : InLine) (number : ℕ) (held : List ℕ) (out : Option (List ℕ))
+pub record Walked (before : Option (List ℕ)) (much : Result SoMuch InspectFault) (rest : List ℕ) (at : Parts) (state : InLine) (number : ℕ) (buffered : List ℕ) (out : Option (List ℕ))
     : Type 0 where
   pub read : List (Direction × ℕ)
-  pub much_is : much ≡ and_chars (Ok (so_much state number held read)) rest
+  pub much_is : much ≡ and_chars (Ok (so_much state number buffered read)) rest
   pub so_far : SoFar before at out read
 
 pub walked_on :
-    (before : Option (List ℕ)) (much : Result SoMuch InspectFault) (xs : List ℕ) (i : ℕ) (at : Parts) (state : InLine) (number : ℕ) (held : List ℕ) (out : Option (List ℕ))
+    (before : Option (List ℕ)) (much : Result SoMuch InspectFault) (xs : List ℕ) (i : ℕ) (at : Parts) (state : InLine) (number : ℕ) (buffered : List ℕ) (out : Option (List ℕ))
     (new : Parts) (new_state : InLine) (new_number : ℕ) (new_held : List ℕ) (after : Option (List ℕ)) → i < length xs
-    → (walked : Walked before much (drop i xs) at state number held out)
-    → GoesOn before (and_char (Ok (so_much state number held walked.read)) (get_or xs i 0)) new new_state new_number new_held after
+    → (walked : Walked before much (drop i xs) at state number buffered out)
+    → GoesOn before (and_char (Ok (so_much state number buffered walked.read)) (get_or xs i 0)) new new_state new_number new_held after
     → Walked before much (drop (i + 1) xs) new new_state new_number new_held after
-walked_on before much xs i at state number held out new new_state new_number new_held after within walked goes = record {
+walked_on before much xs i at state number buffered out new new_state new_number new_held after within walked goes = record {
   read = goes.read;
-  much_is = walked.much_is ∙ ap (λ (zs : List ℕ). and_chars (Ok (so_much state number held walked.read)) zs) (at_front xs i within)
+  much_is = walked.much_is ∙ ap (λ (zs : List ℕ). and_chars (Ok (so_much state number buffered walked.read)) zs) (at_front xs i within)
       ∙ ap (λ (m : Result SoMuch InspectFault). and_chars m (drop (i + 1) xs)) goes.much_is;
   so_far = goes.so_far;
 }
 
 pub walked_wrong :
-    (before : Option (List ℕ)) (much : Result SoMuch InspectFault) (xs : List ℕ) (i : ℕ) (at : Parts) (state : InLine) (number : ℕ) (held : List ℕ) (out : Option (List ℕ))
-    (fault : InspectFault) → i < length xs → (walked : Walked before much (drop i xs) at state number held out)
-    → SaysLine fault (and_char (Ok (so_much state number held walked.read)) (get_or xs i 0)) → SaysLine fault much
-walked_wrong before much xs i at state number held out fault within walked says = λ n why e.
-    walked.much_is ∙ ap (λ (zs : List ℕ). and_chars (Ok (so_much state number held walked.read)) zs) (at_front xs i within)
+    (before : Option (List ℕ)) (much : Result SoMuch InspectFault) (xs : List ℕ) (i : ℕ) (at : Parts) (state : InLine) (number : ℕ) (buffered : List ℕ) (out : Option (List ℕ))
+    (fault : InspectFault) → i < length xs → (walked : Walked before much (drop i xs) at state number buffered out)
+    → SaysLine fault (and_char (Ok (so_much state number buffered walked.read)) (get_or xs i 0)) → SaysLine fault much
+walked_wrong before much xs i at state number buffered out fault within walked says = λ n why e.
+    walked.much_is ∙ ap (λ (zs : List ℕ). and_chars (Ok (so_much state number buffered walked.read)) zs) (at_front xs i within)
     ∙ ap (λ (m : Result SoMuch InspectFault). and_chars m (drop (i + 1) xs)) (says n why e) ∙ fault_stays fault (drop (i + 1) xs)
 
 -- all of them were
 pub walked_end :
-    (before : Option (List ℕ)) (much : Result SoMuch InspectFault) (xs : List ℕ) (i : ℕ) (at : Parts) (state : InLine) (number : ℕ) (held : List ℕ) (out : Option (List ℕ))
-    → length xs ≤ i → Walked before much (drop i xs) at state number held out → GoesOn before much at state number held out
-walked_end before much xs i at state number held out above walked = record {
+    (before : Option (List ℕ)) (much : Result SoMuch InspectFault) (xs : List ℕ) (i : ℕ) (at : Parts) (state : InLine) (number : ℕ) (buffered : List ℕ) (out : Option (List ℕ))
+    → length xs ≤ i → Walked before much (drop i xs) at state number buffered out → GoesOn before much at state number buffered out
+walked_end before much xs i at state number buffered out above walked = record {
   read = walked.read;
-  much_is = walked.much_is ∙ ap (λ (zs : List ℕ). and_chars (Ok (so_much state number held walked.read)) zs) (drop_all i xs above);
+  much_is = walked.much_is ∙ ap (λ (zs : List ℕ). and_chars (Ok (so_much state number buffered walked.read)) zs) (drop_all i xs above);
   so_far = walked.so_far;
 }
 
 -- ---- A whole record, in pieces
 
 -- what was read of a text, and what is left of it
-pub record ReadSome (text : List ℕ) (start : SoMuch) (before remaining : Option (List ℕ)) (at : Parts) (state : InLine) (number : ℕ) (held : List ℕ) (out : Option (List ℕ)) : Type 0 where
+pub record ReadSome (text : List ℕ) (start : SoMuch) (before remaining : Option (List ℕ)) (at : Parts) (state : InLine) (number : ℕ) (buffered : List ℕ) (out : Option (List ℕ)) : Type 0 where
   pub taken : List ℕ
   pub rest : List ℕ
   pub split : text ≡ taken ++ rest
   pub left : remaining ≡ Some rest
-  pub goes : GoesOn before (and_chars (Ok start) taken) at state number held out
+  pub goes : GoesOn before (and_chars (Ok start) taken) at state number buffered out
 
 pub read_none :
-    (text : List ℕ) (before remaining : Option (List ℕ)) (at : Parts) (state : InLine) (number : ℕ) (held : List ℕ) (out : Option (List ℕ)) (read : List (Direction × ℕ))
-    → remaining ≡ Some text → SoFar before at out read → ReadSome text (so_much state number held read) before remaining at state number held out
-read_none text before remaining at state number held out read e so = record {
+    (text : List ℕ) (before remaining : Option (List ℕ)) (at : Parts) (state : InLine) (number : ℕ) (buffered : List ℕ) (out : Option (List ℕ)) (read : List (Direction × ℕ))
+    → remaining ≡ Some text → SoFar before at out read → ReadSome text (so_much state number buffered read) before remaining at state number buffered out
+read_none text before remaining at state number buffered out read e so = record {
   taken = [];
   rest = text;
   split = refl;
@@ -170,12 +170,12 @@ read_none text before remaining at state number held out read e so = record {
 }
 
 pub read_more :
-    (text : List ℕ) (start : SoMuch) (before remaining : Option (List ℕ)) (at : Parts) (state : InLine) (number : ℕ) (held : List ℕ) (out left : Option (List ℕ)) (more : List ℕ)
+    (text : List ℕ) (start : SoMuch) (before remaining : Option (List ℕ)) (at : Parts) (state : InLine) (number : ℕ) (buffered : List ℕ) (out left : Option (List ℕ)) (more : List ℕ)
     (new : Parts) (new_state : InLine) (new_number : ℕ) (new_held : List ℕ) (after : Option (List ℕ))
-    → (some : ReadSome text start before remaining at state number held out) → Consumes remaining left more
-    → GoesOn before (and_chars (Ok (so_much state number held some.goes.read)) more) new new_state new_number new_held after
+    → (some : ReadSome text start before remaining at state number buffered out) → Consumes remaining left more
+    → GoesOn before (and_chars (Ok (so_much state number buffered some.goes.read)) more) new new_state new_number new_held after
     → ReadSome text start before left new new_state new_number new_held after
-read_more text start before remaining at state number held out left more new new_state new_number new_held after some con goes =
+read_more text start before remaining at state number buffered out left more new new_state new_number new_held after some con goes =
     let known : Consumes (Some some.rest) left more = subst (λ (r : Option (List ℕ)). Consumes r left more) some.left con in
     let rests : (ys : List ℕ) × (left ≡ Some ys) × (some.rest ≡ more ++ ys) = consumed left some.rest more known in
     record {
@@ -191,28 +191,28 @@ read_more text start before remaining at state number held out left more new new
     }
 
 pub read_wrong :
-    (text : List ℕ) (start : SoMuch) (before remaining : Option (List ℕ)) (at : Parts) (state : InLine) (number : ℕ) (held : List ℕ) (out left : Option (List ℕ)) (more : List ℕ)
-    (fault : InspectFault) → (some : ReadSome text start before remaining at state number held out) → Consumes remaining left more
-    → SaysLine fault (and_chars (Ok (so_much state number held some.goes.read)) more) → SaysLine fault (and_chars (Ok start) text)
-read_wrong text start before remaining at state number held out left more fault some con says = λ n why e.
+    (text : List ℕ) (start : SoMuch) (before remaining : Option (List ℕ)) (at : Parts) (state : InLine) (number : ℕ) (buffered : List ℕ) (out left : Option (List ℕ)) (more : List ℕ)
+    (fault : InspectFault) → (some : ReadSome text start before remaining at state number buffered out) → Consumes remaining left more
+    → SaysLine fault (and_chars (Ok (so_much state number buffered some.goes.read)) more) → SaysLine fault (and_chars (Ok start) text)
+read_wrong text start before remaining at state number buffered out left more fault some con says = λ n why e.
     let known : Consumes (Some some.rest) left more = subst (λ (r : Option (List ℕ)). Consumes r left more) some.left con in
     let rests : (ys : List ℕ) × (left ≡ Some ys) × (some.rest ≡ more ++ ys) = consumed left some.rest more known in
     ap (λ (zs : List ℕ). and_chars (Ok start) zs) (some.split ∙ ap (λ (ys : List ℕ). some.taken ++ ys) rests.2)
     ∙ chars_append (Ok start) some.taken (more ++ rests.0)
     ∙ ap (λ (m : Result SoMuch InspectFault). and_chars m (more ++ rests.0)) some.goes.much_is
-    ∙ chars_append (Ok (so_much state number held some.goes.read)) more rests.0
+    ∙ chars_append (Ok (so_much state number buffered some.goes.read)) more rests.0
     ∙ ap (λ (m : Result SoMuch InspectFault). and_chars m rests.0) (says n why e) ∙ fault_stays fault rests.0
 
 pub read_whole :
-    (text : List ℕ) (start : SoMuch) (before remaining : Option (List ℕ)) (at : Parts) (state : InLine) (number : ℕ) (held : List ℕ) (out left : Option (List ℕ))
-    → ReadSome text start before remaining at state number held out → Consumes remaining left [] → IsAtEnd left
-    → GoesOn before (and_chars (Ok start) text) at state number held out
-read_whole text start before remaining at state number held out left some con at_end =
+    (text : List ℕ) (start : SoMuch) (before remaining : Option (List ℕ)) (at : Parts) (state : InLine) (number : ℕ) (buffered : List ℕ) (out left : Option (List ℕ))
+    → ReadSome text start before remaining at state number buffered out → Consumes remaining left [] → IsAtEnd left
+    → GoesOn before (and_chars (Ok start) text) at state number buffered out
+read_whole text start before remaining at state number buffered out left some con at_end =
     let known : Consumes (Some some.rest) left [] = subst (λ (r : Option (List ℕ)). Consumes r left []) some.left con in
     let rests : (ys : List ℕ) × (left ≡ Some ys) × (some.rest ≡ [] ++ ys) = consumed left some.rest [] known in
     let none : IsAtEnd (Some rests.0) = subst (λ (r : Option (List ℕ)). IsAtEnd r) rests.1 at_end in
     let whole : text ≡ some.taken = some.split ∙ ap (λ (ys : List ℕ). some.taken ++ ys) (rests.2 ∙ none) ∙ append-nil some.taken in
-    subst (λ (zs : List ℕ). GoesOn before (and_chars (Ok start) zs) at state number held out) (sym whole) some.goes
+    subst (λ (zs : List ℕ). GoesOn before (and_chars (Ok start) zs) at state number buffered out) (sym whole) some.goes
 
 -- ---- What a call gave
 
@@ -242,17 +242,17 @@ pub none_so_far : (before : Option (List ℕ)) (at : Parts) → at ≡ nothing_b
 none_so_far before at a = subst (λ (q : Parts). SoFar before q before []) (sym a) (nothing nothing_buffered before)
 
 pub begins :
-    (state : InLine) (number : ℕ) (held text : List ℕ) → state ≡ line.Start → number ≡ 1 → held ≡ []
-    → and_chars (Ok no_line) text ≡ and_chars (Ok (so_much state number held [])) text
-begins state number held text s n h =
-    sym (ap (λ (l : InLine). and_chars (Ok (so_much l number held [])) text) s
-    ∙ ap (λ (m : ℕ). and_chars (Ok (so_much line.Start m held [])) text) n
+    (state : InLine) (number : ℕ) (buffered text : List ℕ) → state ≡ line.Start → number ≡ 1 → buffered ≡ []
+    → and_chars (Ok no_line) text ≡ and_chars (Ok (so_much state number buffered [])) text
+begins state number buffered text s n h =
+    sym (ap (λ (l : InLine). and_chars (Ok (so_much l number buffered [])) text) s
+    ∙ ap (λ (m : ℕ). and_chars (Ok (so_much line.Start m buffered [])) text) n
     ∙ ap (λ (bs : List ℕ). and_chars (Ok (so_much line.Start 1 bs [])) text) h)
 
 pub first_wrong :
-    (state : InLine) (number : ℕ) (held : List ℕ) (fault : InspectFault) (text : List ℕ) → state ≡ line.Start → number ≡ 1 → held ≡ []
-    → SaysLine fault (and_chars (Ok (so_much state number held [])) text) → IsFirstLine fault text
-first_wrong state number held fault text s n h says = λ m why e. ap at_record_end (begins state number held text s n h ∙ says m why e)
+    (state : InLine) (number : ℕ) (buffered : List ℕ) (fault : InspectFault) (text : List ℕ) → state ≡ line.Start → number ≡ 1 → buffered ≡ []
+    → SaysLine fault (and_chars (Ok (so_much state number buffered [])) text) → IsFirstLine fault text
+first_wrong state number buffered fault text s n h says = λ m why e. ap at_record_end (begins state number buffered text s n h ∙ says m why e)
 
 -- where it is no fault that a line has no end
 pub never_cut : (fault : InspectFault) (much : Result SoMuch InspectFault) (before after : Option (List ℕ)) → ((number : ℕ) → fault ≡ Cut number → ⊥) → EndsCut fault much before after

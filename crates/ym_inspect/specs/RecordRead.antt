@@ -34,12 +34,12 @@ in_line None bytes = []
 pub record SoMuch : Type 0 where
   pub state : InLine
   pub number : ℕ
-  pub held : List ℕ
+  pub buffered : List ℕ
   pub read : List (Direction × ℕ)
 
 abbrev pub so_much : InLine → ℕ → List ℕ → List (Direction × ℕ) → SoMuch
-so_much state number held read =
-    record { state = state; number = number; held = held; read = read }
+so_much state number buffered read =
+    record { state = state; number = number; buffered = buffered; read = read }
 
 abbrev pub no_line : SoMuch
 no_line = so_much line.Start 1 [] []
@@ -47,12 +47,12 @@ no_line = so_much line.Start 1 [] []
 -- With its end a line says its bytes, each with its way.
 abbrev pub behind_line : SoMuch → InLine → SoMuch
 behind_line at state =
-    so_much state (capped (at.number + 1)) [] (at.read ++ in_line (way_in at.state) at.held)
+    so_much state (capped (at.number + 1)) [] (at.read ++ in_line (way_in at.state) at.buffered)
 
 -- in the line under way, which has a byte more, or none
 abbrev pub further : SoMuch → Stepped → SoMuch
 further at stepped =
-    so_much stepped.state at.number (at.held ++ option_to_list stepped.byte) at.read
+    so_much stepped.state at.number (at.buffered ++ option_to_list stepped.byte) at.read
 
 -- behind a character, which completes a byte or none
 abbrev pub behind_char : SoMuch → ℕ → Result Stepped RecordFault → Result SoMuch InspectFault
@@ -94,9 +94,9 @@ SaysLine fault at = (number : ℕ) (why : RecordFault) → fault ≡ Line number
 
 -- So much was read, and what was told of it goes on.
 pub record GoesOn (before : Option (List ℕ)) (much : Result SoMuch InspectFault) (at : Parts)
-    (state : InLine) (number : ℕ) (held : List ℕ) (out : Option (List ℕ)) : Type 0 where
+    (state : InLine) (number : ℕ) (buffered : List ℕ) (out : Option (List ℕ)) : Type 0 where
   pub read : List (Direction × ℕ)
-  pub much_is : much ≡ Ok (so_much state number held read)
+  pub much_is : much ≡ Ok (so_much state number buffered read)
   pub so_far : SoFar before at out read
 
 -- all that a record says is told in its order, and nothing else

@@ -16,8 +16,8 @@ pub fn a_record_says_what_passed()
 
 /// Who has read a line up to its bytes has read the moment and the way of its piece.
 pub fn a_line_says_when()
-    ensures { (p : Piece) (number : ℕ) (held : List ℕ) (read : List (Direction × ℕ))
+    ensures { (p : Piece) (number : ℕ) (buffered : List ℕ) (read : List (Direction × ℕ))
         → IsPiece p
-        → and_chars (Ok (so_much Start number held read)) (head_of p.at p.way)
-        ≡ Ok (so_much (Bytes p.at p.way) number held read) }
+        → and_chars (Ok (so_much Start number buffered read)) (head_of p.at p.way)
+        ≡ Ok (so_much (Bytes p.at p.way) number buffered read) }
 {}

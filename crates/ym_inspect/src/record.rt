@@ -37,9 +37,9 @@ struct Recording {
     inspection: Inspection,
     state: InLine,
     number: u64,
-    /// The bytes of the line under way. They are held until its end came: a line without one was
+    /// The bytes of the line under way. They are kept until its end came: a line without one was
     /// cut, and what it has may be a part of what it was to say.
-    held: Vec<u8>,
+    buffered: Vec<u8>,
 }
 
 impl Recording {
@@ -48,13 +48,13 @@ impl Recording {
         ensures inspection { result.inspection ≡ nothing_buffered }
         ensures state { result.state ≡ InLine.Start }
         ensures number { result.number ≡ 1 }
-        ensures held { result.held.items ≡ [] }
+        ensures buffered { result.buffered.items ≡ [] }
     {
         Recording {
             inspection: Inspection::new(alloc),
             state: InLine::Start,
             number: 1,
-            held: Vec::new(alloc),
+            buffered: Vec::new(alloc),
         }
     }
 
@@ -71,8 +71,8 @@ impl Recording {
     /// What a character of it leaves.
     fn stepped(&self, character: u8) -> Result<Stepped, InspectFault>
         ensures ok { IfOk result (λ stepped. after_char self.now.state character ≡ Ok stepped) }
-        ensures err { IfErr result (λ fault. (held : List ℕ) (read : List (Direction × ℕ)) →
-            and_char (Ok (so_much self.now.state self.now.number held read)) character
+        ensures err { IfErr result (λ fault. (buffered : List ℕ) (read : List (Direction × ℕ)) →
+            and_char (Ok (so_much self.now.state self.now.number buffered read)) character
             ≡ Err fault) }
         ensures why { IfErr result (λ fault. (why : RecordFault)
             × (fault ≡ InspectFault.Line self.now.number why)) }
@@ -86,7 +86,7 @@ impl Recording {
     /// Tells what the line under way says, if it has a way.
     fn tell_line<O: Output>(&mut self, out: &mut O) -> Result<(), InspectFault>
         ensures tells { OnOk result (Tells self.old.inspection (O.contents out.old)
-            (in_line (way_in self.old.state) self.old.held.items)
+            (in_line (way_in self.old.state) self.old.buffered.items)
             self.new.inspection (O.contents out.new)) }
         ensures number { self.new.number ≡ self.old.number }
         ensures failed { CountsWrites result (O.failures out.old) (O.failures out.new) }
@@ -95,25 +95,25 @@ impl Recording {
         let Some((at, way)) = line_at(self.state) else {
             return Ok(());
         };
-        if self.held.is_empty() {
+        if self.buffered.is_empty() {
             return Ok(());
         }
-        self.inspection.take(way, at, self.held.as_slice(), out)
+        self.inspection.take(way, at, self.buffered.as_slice(), out)
     }
 
     /// Ends the line under way, behind which it is so.
     fn end_line<O: Output>(&mut self, state: InLine, out: &mut O) -> Result<(), InspectFault>
         ensures tells { OnOk result (Tells self.old.inspection (O.contents out.old)
-            (in_line (way_in self.old.state) self.old.held.items)
+            (in_line (way_in self.old.state) self.old.buffered.items)
             self.new.inspection (O.contents out.new)) }
         ensures state { OnOk result (self.new.state ≡ state) }
         ensures number { OnOk result (self.new.number ≡ capped (self.old.number + 1)) }
-        ensures held { OnOk result (self.new.held.items ≡ []) }
+        ensures buffered { OnOk result (self.new.buffered.items ≡ []) }
         ensures failed { CountsWrites result (O.failures out.old) (O.failures out.new) }
         ensures why { IsOfTelling result }
     {
         self.tell_line(out)?;
-        self.held.clear();
+        self.buffered.clear();
         self.number = self.number.saturating_add(1);
         self.state = state;
         Ok(())
@@ -124,11 +124,11 @@ impl Recording {
         ensures inspection { OnOk result (self.new.inspection ≡ self.old.inspection) }
         ensures state { OnOk result (self.new.state ≡ stepped.state) }
         ensures number { OnOk result (self.new.number ≡ self.old.number) }
-        ensures held { OnOk result
-            (self.new.held.items ≡ self.old.held.items ++ option_to_list stepped.byte) }
+        ensures buffered { OnOk result
+            (self.new.buffered.items ≡ self.old.buffered.items ++ option_to_list stepped.byte) }
     {
         if let Some(byte) = stepped.byte {
-            self.held.push(byte)?;
+            self.buffered.push(byte)?;
         }
         self.state = stepped.state;
         Ok(())
@@ -139,12 +139,12 @@ impl Recording {
         ensures read { OnOk result ((before : Option (List ℕ)) (read : List (Direction × ℕ))
             → SoFar before self.old.inspection (O.contents out.old) read
             → GoesOn before
-            (and_char (Ok (so_much self.old.state self.old.number self.old.held.items read))
+            (and_char (Ok (so_much self.old.state self.old.number self.old.buffered.items read))
             character)
-            self.new.inspection self.new.state self.new.number self.new.held.items
+            self.new.inspection self.new.state self.new.number self.new.buffered.items
             (O.contents out.new)) }
         ensures line { IfErr result (λ fault. (read : List (Direction × ℕ)) → SaysLine fault
-            (and_char (Ok (so_much self.old.state self.old.number self.old.held.items read))
+            (and_char (Ok (so_much self.old.state self.old.number self.old.buffered.items read))
             character)) }
         ensures uncut { (number : ℕ) → result ≢ Err (InspectFault.Cut number) }
         ensures failed { CountsWrites result (O.failures out.old) (O.failures out.new) }
@@ -163,14 +163,14 @@ impl Recording {
         ensures read { OnOk result ((before : Option (List ℕ)) (read : List (Direction × ℕ))
             → SoFar before self.old.inspection (O.contents out.old) read
             → GoesOn before
-            (and_chars (Ok (so_much self.old.state self.old.number self.old.held.items read))
+            (and_chars (Ok (so_much self.old.state self.old.number self.old.buffered.items read))
             characters.now)
-            self.new.inspection self.new.state self.new.number self.new.held.items
+            self.new.inspection self.new.state self.new.number self.new.buffered.items
             (O.contents out.new)) }
         ensures line { IfErr result (λ fault.
             (before : Option (List ℕ)) (read : List (Direction × ℕ))
             → SoFar before self.old.inspection (O.contents out.old) read → SaysLine fault
-            (and_chars (Ok (so_much self.old.state self.old.number self.old.held.items read))
+            (and_chars (Ok (so_much self.old.state self.old.number self.old.buffered.items read))
             characters.now)) }
         ensures uncut { (number : ℕ) → result ≢ Err (InspectFault.Cut number) }
         ensures failed { CountsWrites result (O.failures out.old) (O.failures out.new) }
@@ -193,15 +193,15 @@ impl Recording {
             → I.remaining input.old ≡ Some text
             → SoFar before self.old.inspection (O.contents out.old) read
             → GoesOn before
-            (and_chars (Ok (so_much self.old.state self.old.number self.old.held.items read))
+            (and_chars (Ok (so_much self.old.state self.old.number self.old.buffered.items read))
             text)
-            self.new.inspection self.new.state self.new.number self.new.held.items
+            self.new.inspection self.new.state self.new.number self.new.buffered.items
             (O.contents out.new)) }
         ensures line { IfErr result (λ fault.
             (text : List ℕ) (before : Option (List ℕ)) (read : List (Direction × ℕ))
             → I.remaining input.old ≡ Some text
             → SoFar before self.old.inspection (O.contents out.old) read → SaysLine fault
-            (and_chars (Ok (so_much self.old.state self.old.number self.old.held.items read))
+            (and_chars (Ok (so_much self.old.state self.old.number self.old.buffered.items read))
             text)) }
         ensures uncut { (number : ℕ) → result ≢ Err (InspectFault.Cut number) }
         ensures reads { CountsReads result (I.failures input.old) (I.failures input.new) }
@@ -224,7 +224,7 @@ impl Recording {
             (before : Option (List ℕ)) (read : List (Direction × ℕ))
             → SoFar before self.old.inspection (O.contents out.old) read
             → (at_record_end
-            (Ok (so_much self.old.state self.old.number self.old.held.items read)) ≡ Ok read)
+            (Ok (so_much self.old.state self.old.number self.old.buffered.items read)) ≡ Ok read)
             × Explains Ways.Both read before verdict (O.contents out.new)) }
         ensures last { IfOk result (λ verdict. TellsLast Ways.Both verdict (O.contents out.new)) }
         ensures line { IfErr result (λ fault. (number : ℕ) (why : RecordFault)
@@ -232,7 +232,7 @@ impl Recording {
         ensures cut { IfErr result (λ fault.
             (before : Option (List ℕ)) (read : List (Direction × ℕ))
             → SoFar before self.old.inspection (O.contents out.old) read → EndsCut fault
-            (Ok (so_much self.old.state self.old.number self.old.held.items read)) before
+            (Ok (so_much self.old.state self.old.number self.old.buffered.items read)) before
             (O.contents out.new)) }
         ensures failed { CountsWrites result (O.failures out.old) (O.failures out.new) }
         ensures why { result ≢ Err InspectFault.Read }

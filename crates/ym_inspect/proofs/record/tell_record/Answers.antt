@@ -9,7 +9,7 @@ returns-in_err-take-clause-line g c =
     let new = c.new-recording.ensures in
     if_err c.from_residual.result c.in_err-take.field-0.0 _ (search rules) (λ text b.
     let so = none_so_far (g.O.Output.contents c.args.out.now) _ new.inspection in
-    first_wrong _ _ _ c.in_err-take.field-0.0 text new.state new.number new.held
+    first_wrong _ _ _ c.in_err-take.field-0.0 text new.state new.number new.buffered
     (wrong_in_front _ c.args.prefix.now b.rest text _ b.split (c.in_err-take.ensures.line _ [] so)))
 
 pub returns-in_err-take-clause-cut : goal.returns-in_err-take-clause-cut
@@ -23,7 +23,7 @@ returns-in_err-read_all-clause-line g c =
     if_err c.from_residual-in_err-read_all.result c.in_err-read_all.field-0.0 _ (search rules) (λ text b.
     let so = none_so_far (g.O.Output.contents c.args.out.now) _ new.inspection in
     let took = c.in_ok-take.ensures.read (g.O.Output.contents c.args.out.now) [] so in
-    first_wrong _ _ _ c.in_err-read_all.field-0.0 text new.state new.number new.held
+    first_wrong _ _ _ c.in_err-read_all.field-0.0 text new.state new.number new.buffered
     (wrong_behind _ c.args.prefix.now b.rest text _ _ b.split took.much_is
     (c.in_err-read_all.ensures.line b.rest _ took.read b.left_is took.so_far)))
 
@@ -40,7 +40,7 @@ returns-clause-told g c =
     let so = none_so_far before _ new.inspection in
     let took = c.in_ok-take.ensures.read before [] so in
     let goes = c.in_ok-read_all.ensures.read b.rest before took.read b.left_is took.so_far in
-    let whole = begins _ _ _ text new.state new.number new.held
+    let whole = begins _ _ _ text new.state new.number new.buffered
     ∙ in_two _ c.args.prefix.now b.rest text _ _ b.split took.much_is goes.much_is in
     let done = ends before goes.read goes.so_far in
     record { read = goes.read; says = ap at_record_end whole ∙ done.0; explains = done.1 })
@@ -56,6 +56,6 @@ returns-clause-cut g c =
     let so = none_so_far before _ new.inspection in
     let took = c.in_ok-take.ensures.read before [] so in
     let goes = c.in_ok-read_all.ensures.read b.rest before took.read b.left_is took.so_far in
-    let whole = begins _ _ _ text new.state new.number new.held
+    let whole = begins _ _ _ text new.state new.number new.buffered
     ∙ in_two _ c.args.prefix.now b.rest text _ _ b.split took.much_is goes.much_is in
     cut_of fault text _ before _ whole (cut before goes.read goes.so_far))

@@ -7,7 +7,7 @@ pub returns-clause-ends : goal.returns-clause-ends
 returns-clause-ends g c = λ before read so.
     let s = c.args.self.now in
     let e : is_open s.state ≡ false = search rules in (
-      ap (λ (b : Bool). ended (so_much s.state s.number s.held.items read) b) e,
+      ap (λ (b : Bool). ended (so_much s.state s.number s.buffered.items read) b) e,
       record {
         at_end = s.inspection;
         between = g.O.Output.contents c.args.out.now;

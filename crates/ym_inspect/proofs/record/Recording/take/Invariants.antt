@@ -9,7 +9,7 @@ abbrev pub invariant-loop-character : goal.invariant-loop-character
 invariant-loop-character g l = record {
   walked : (before : Option (List ℕ)) (read : List (Direction × ℕ))
       → SoFar before l.fn.self.inspection (g.O.Output.contents l.fn.out) read
-      → Walked before (and_chars (Ok (so_much l.fn.self.state l.fn.self.number l.fn.self.held.items read)) l.characters)
-      (drop l.character-index l.characters) l.self.inspection l.self.state l.self.number l.self.held.items (g.O.Output.contents l.out);
+      → Walked before (and_chars (Ok (so_much l.fn.self.state l.fn.self.number l.fn.self.buffered.items read)) l.characters)
+      (drop l.character-index l.characters) l.self.inspection l.self.state l.self.number l.self.buffered.items (g.O.Output.contents l.out);
   failures : g.O.Output.failures l.out ≡ g.O.Output.failures l.fn.out;
 }

@@ -10,7 +10,7 @@ returns-in_default-clause-tells g c =
 
 pub returns-then-is_empty-clause-tells : goal.returns-then-is_empty-clause-tells
 returns-then-is_empty-clause-tells g c =
-    let e : c.args.self.now.held.items ≡ [] = grind (arith, common_steps) in no_byte_told _ _ _ _ e
+    let e : c.args.self.now.buffered.items ≡ [] = grind (arith, common_steps) in no_byte_told _ _ _ _ e
 
 pub returns-clause-tells : goal.returns-clause-tells
 returns-clause-tells g c =
