@@ -89,6 +89,15 @@ def call(top, *words, record, port):
     return running("send", "--port", port, "--record", os.path.join(top, record), *words)
 
 
+def pass_with(top, record):
+    """The files pass from `send`, which records there, to `receive`."""
+    port = free_port()
+    with running("receive", "--eager", "--port", port, os.path.join(top, "to")) as receive:
+        with call(top, *sent(top), record=record, port=port) as send:
+            ends_well(send)
+        ends_well(receive)
+
+
 @sentence("a record: send and receive")
 def test_over_a_connection():
     """`send` and `receive` record alike what passed between them, also behind `--quiet`."""
@@ -325,12 +334,8 @@ def test_is_not_made(path, message, held=contextlib.nullcontext):
 def test_is_let_go():
     """A device that takes what comes is written to."""
     with place() as top:
-        port, to = free_port(), os.path.join(top, "to")
-        with running("receive", "--eager", "--port", port, to) as receive:
-            with call(top, *sent(top), record="/dev/null", port=port) as send:
-                ends_well(send)
-            ends_well(receive)
-        assert stored(to) == dict(FILES), "other files came"
+        pass_with(top, "/dev/null")
+        assert stored(os.path.join(top, "to")) == dict(FILES), "other files came"
 
 
 PART = "cannot record in '%s', which is named as a part of a file: name another file\n" + FAULT
@@ -357,11 +362,7 @@ def test_is_no_part(command, words):
 def test_may_be_a_part():
     """A sender removes nothing."""
     with place() as top:
-        port, to = free_port(), os.path.join(top, "to")
-        with running("receive", "--eager", "--port", port, to) as receive:
-            with call(top, *sent(top), record="here.part", port=port) as send:
-                ends_well(send)
-            ends_well(receive)
+        pass_with(top, "here.part")
         whole(top, "here.part")
 
 
