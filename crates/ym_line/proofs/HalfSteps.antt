@@ -14,8 +14,9 @@ use Rattle.ym_link.specs.Sender.{IsStep, IsFilled, counts}
 use Rattle.ym_file.specs.SourceFile.{filled}
 use Rattle.ym_core.specs.Standing.{hears}
 use Rattle.ym_core.specs.declared.position.Position.TheVariants.{Block}
-use Rattle.ym_line.specs.Rounds.{GoesThere}
-use Rattle.ym_line.specs.Turns.{IsReceiverStep, IsTurn}
+use Rattle.ym_line.specs.declared.delivery.Way.TheVariants.{Back}
+use Rattle.ym_line.specs.Rounds.{GoesBack, GoesThere, handed}
+use Rattle.ym_line.specs.Turns.{IsReceiverStep, IsTurn, handed_both}
 use Rattle.ym_line.proofs.Turns.{FrameFound, WithinReply, said-heard, came-within, controls-arrive}
 
 -- ---- What the laws below say
@@ -71,45 +72,50 @@ still-told true old new truth told =
 
 -- It leads from the state that a pair refined to where the machine's step leads, and its reply is the machine's.
 pub receiver-step : Laws → (confirm : Confirm) (files : Batch) (st : State) (delivery : Delivery) (old : Pair) (reply : Reply) (new : Pair) →
-    PairRefines confirm files st old → GoesThere delivery old reply new →
-    (half : IsReceiverStep confirm files st delivery old reply new) × (reply ≡ (receiver_step (frames_of files) confirm half.sink_failed (is_whole delivery) st).1)
+    PairRefines confirm files st old → GoesThere delivery old reply new → IsReceiverStep confirm files st delivery old reply new
 receiver-step laws confirm files st delivery old reply new refines goes =
     let whole = is_whole delivery in
     let says = laws.says files st old.sender refines.sender goes.keeps refines.told in
     let heard = said-heard laws.found files (said st) old.sender delivery says goes.bad in
     let answers = laws.receiver_follows confirm files whole st old.receiver reply new.receiver refines.batch refines.machine refines.receiver (rw heard at goes.hears) in
     let same_sender : new.sender ≡ old.sender = ap (λ (p : Pair). p.sender) goes.others in
-    let keeps = laws.keeps_sender files confirm answers.0 whole st in (
-      record {
-        goes = goes;
-        says = says;
-        sink_failed = answers.0;
-        sink = answers.1;
-        refines = record {
-          machine = laws.machine_there files confirm answers.0 whole st refines.machine;
-          batch = refines.batch;
-          told = rw same_sender refines.told;
-          sender = rw same_sender (sender-still files st (receiver_step (frames_of files) confirm answers.0 whole st).0 old.sender keeps refines.sender);
-          receiver = answers.2.refines;
-        };
-      },
-      answers.2.reply_is,
-    )
+    let keeps = laws.keeps_sender files confirm answers.0 whole st in
+    record {
+      there = (goes.shows, goes.short);
+      says = says;
+      sink_failed = answers.0;
+      reply_is = answers.2.reply_is;
+      others = goes.others;
+      sink = answers.1;
+      refines = record {
+        machine = laws.machine_there files confirm answers.0 whole st refines.machine;
+        batch = refines.batch;
+        told = rw same_sender refines.told;
+        sender = rw same_sender (sender-still files st (receiver_step (frames_of files) confirm answers.0 whole st).0 old.sender keeps refines.sender);
+        receiver = answers.2.refines;
+      };
+    }
 
 -- ---- A round
+
+-- the line was handed both deliveries, and nothing else is changed but the ends
+both-handed : (round : Round) (reply : Reply) (old between new : Pair) → GoesThere round.there old reply between → GoesBack round.back reply between new →
+    new ≡ record (handed_both round reply old) { sender = new.sender; receiver = new.receiver }
+both-handed round reply old between new there back =
+    let same_receiver : new.receiver ≡ between.receiver = ap (λ (p : Pair). p.receiver) back.others in
+    rw same_receiver (back.others ∙ ap (λ (p : Pair). record (handed Back (arrives round.back (reply_bytes reply)) p) { sender = new.sender }) there.others)
 
 pub goes-turn : Laws → (confirm : Confirm) (files : Batch) (st : State) (round : Round) (old new : Pair) (seen : Seen) →
     PairRefines confirm files st old → Goes round old seen new → (turn : Turn) × IsTurn confirm files st round turn old seen new
 goes-turn laws confirm files st round old new seen refines goes =
     let between = goes.between in
-    let both = receiver-step laws confirm files st round.there old seen.reply between refines goes.there in
-    let half = both.0 in
+    let half = receiver-step laws confirm files st round.there old seen.reply between refines goes.there in
     let answer = receiver_step (frames_of files) confirm half.sink_failed (is_whole round.there) st in
     let came = came_back (came_of round.back) answer.1 in
     let same_receiver : new.receiver ≡ between.receiver = ap (λ (p : Pair). p.receiver) goes.back.others in
     let bytes = arrives round.back (reply_bytes seen.reply) in
-    let came_is : controls_in bytes ≡ came = controls-arrive round.back seen.reply ∙ ap (came_back (came_of round.back)) both.1 in
-    let within : machine.is_within came (machine.controls answer.1) ≡ true = came-within laws.within laws.whole round.back answer.1 (subst (λ r. ShowsBack r round.back) both.1 goes.back.shows) in
+    let came_is : controls_in bytes ≡ came = controls-arrive round.back seen.reply ∙ ap (came_back (came_of round.back)) half.reply_is in
+    let within : machine.is_within came (machine.controls answer.1) ≡ true = came-within laws.within laws.whole round.back answer.1 (subst (λ r. ShowsBack r round.back) half.reply_is goes.back.shows) in
     let remnant : machine.IsRemnant (controls_in bytes) = rw came_is (laws.remnants answer.1 came within) in
     let source_failed = goes.back.hears.0 in
     let filled = source-truth source_failed _ between.sender.files new.sender.files goes.back.hears.1.files in
@@ -118,9 +124,12 @@ goes-turn laws confirm files st round old new seen refines goes =
     let keeps = laws.keeps_receiver files source_failed came answer.0 in (
       turn_of round half.sink_failed source_failed,
       record {
-        goes = goes;
+        there = half.there;
+        back = (goes.back.shows, goes.back.short);
         says = half.says;
-        reply_is = both.1;
+        reply_is = half.reply_is;
+        seen_is = goes.seen_is;
+        others = both-handed round seen.reply old between new goes.there goes.back;
         turn_is = refl;
         sink = rw same_receiver half.sink;
         source = source;
@@ -161,7 +170,7 @@ pub turns-damage : WithinReply → ((r : Reply) → machine.is_within (machine.c
     AreTurns confirm files st rounds turns old all new → IsDamage (frames_of files) confirm turns st
 turns-damage within whole confirm files [] [] st old new [] went = tt
 turns-damage within whole confirm files (round ∷ rounds) (turn ∷ turns) st old new (seen ∷ all) went =
-    let shown = came-within within whole round.back _ (subst (λ r. ShowsBack r round.back) went.1.reply_is went.1.goes.back.shows) in
+    let shown = came-within within whole round.back _ (subst (λ r. ShowsBack r round.back) went.1.reply_is went.1.back.0) in
     (rw (ap (λ (t : Turn). t.back) went.1.turn_is) shown, turns-damage within whole confirm files rounds turns (after_turn (frames_of files) confirm turn st) went.0 new all went.2)
 turns-damage within whole confirm files _ _ st old new _ went = absurd went
 

@@ -37,7 +37,7 @@ round-stops laws confirm files st n round old new fault refines (inl (inl stoppe
 round-stops laws confirm files st n round old new fault refines (inl (inr wanted)) =
     StopsInTurn.unheard wanted.0 (laws.says files st old.sender refines.sender wanted.3 refines.told) wanted.4
 round-stops laws confirm files st n round old new fault refines (inr stopped) =
-    StopsInTurn.half stopped.0 stopped.1 (receiver-step laws confirm files st round.there old stopped.1 stopped.0 refines stopped.2).0 stopped.3
+    StopsInTurn.half stopped.0 stopped.1 (receiver-step laws confirm files st round.there old stopped.1 stopped.0 refines stopped.2) stopped.3
 
 -- ---- A run
 

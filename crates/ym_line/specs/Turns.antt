@@ -1,6 +1,7 @@
 -- Two ends that refine a state of the machine of two counters, and rounds as turns of that machine.
 use Rattle.std.specs.Prelude.{◌≡◌, ◌⊎◌, map, length, ◌+◌, ℕ, Bool, true, false, List, [], ◌∷◌, Option, None, Some}
 use Rattle.ym_frame.specs.declared.control.Control.{Control}
+use Rattle.ym_frame.specs.Control.{reply_bytes}
 use Rattle.ym_frame.specs.declared.control.Reply.{Reply}
 use Rattle.ym_machine.specs.declared.confirm.Confirm.{Confirm}
 use Rattle.ym_machine.specs.Frames.{File, frames_of, IsPrefix}
@@ -25,8 +26,8 @@ use Rattle.ym_line.specs.declared.fault.LineFault.TheVariants.{Memory}
 use Rattle.ym_line.specs.declared.trace.Seen.{Seen}
 use Rattle.ym_line.specs.declared.trace.Trace.{Trace}
 use Rattle.ym_line.specs.Damage.{arrives, ShowsThere, ShowsBack, IsShort}
-use Rattle.ym_line.specs.declared.delivery.Way.TheVariants.{There}
-use Rattle.ym_line.specs.Rounds.{Pair, Goes, GoesThere, StopsHalf, handed, sent_by}
+use Rattle.ym_line.specs.declared.delivery.Way.TheVariants.{There, Back}
+use Rattle.ym_line.specs.Rounds.{Pair, StopsHalf, handed, seen_of, sent_by}
 
 -- ---- A pair at a state of the machine
 
@@ -39,6 +40,12 @@ pub record PairRefines (confirm : Confirm) (files : Batch) (st : State) (pair : 
   pub receiver : ReceiverRefines confirm files st pair.receiver.receiver pair.receiver.kept
 
 -- ---- A round as a turn
+
+-- the line was handed what arrives of the frame, and then what arrives of the reply
+abbrev pub handed_both : Round → Reply → Pair → Pair
+handed_both round reply pair =
+    handed Back (arrives round.back (reply_bytes reply))
+    (handed There (arrives round.there (sent_by pair.sender)) pair)
 
 abbrev pub is_whole : Delivery → Bool
 is_whole Whole = true
@@ -65,15 +72,19 @@ abbrev pub IsSourceTruth : Bool → List FileParts → List FileParts → Type 0
 IsSourceTruth false old new = (new ≡ old) ⊎ ((file : ℕ) × FilledAt file old new)
 IsSourceTruth true old new = (file : ℕ) × FailedAt file old new
 
--- What a round leaves, of a pair that refined a state: both ends have gone by their tables, the
--- sender had to send what the machine's has to say, the reply is the machine's, and the pair
--- refines the state that the machine's turn leads to. The two truths are those of the failure
--- counts.
+-- What a round leaves, of a pair that refined a state: the sender had to send what the machine's
+-- has to say, the reply is the machine's, the trace shows both, the line was handed what arrives of
+-- them, and the pair refines the state that the machine's turn leads to. The damage showed, and the
+-- two truths are those of the failure counts.
 pub record IsTurn (confirm : Confirm) (files : Batch) (st : State) (round : Round) (turn : Turn)
     (old : Pair) (seen : Seen) (new : Pair) : Type 0 where
-  pub goes : Goes round old seen new
+  pub there : ShowsThere round.there × IsShort round.there
+  pub back : ShowsBack seen.reply round.back × IsShort round.back
   pub says : IsSaid files (said st) (spoken old.sender)
   pub reply_is : seen.reply ≡ (answer_of (frames_of files) confirm turn st).1
+  pub seen_is : seen ≡ seen_of round old.sender seen.reply
+  pub others : new ≡
+      record (handed_both round seen.reply old) { sender = new.sender; receiver = new.receiver }
   pub turn_is : turn ≡ turn_of round turn.sink_failed turn.source_failed
   pub sink : Tells turn.sink_failed old.receiver.failures new.receiver.failures
   pub source : IsSourceTruth turn.source_failed old.sender.files new.sender.files
@@ -121,12 +132,17 @@ TakesATurn round old seen new =
 -- ---- A run that met a fault
 
 -- The receiver step of a turn, taken alone: the sender had to send what the machine's has to say,
--- and the pair refines the state that the machine's step leads to.
+-- the reply is the machine's, the line was handed what arrives, and the pair refines the state that
+-- the machine's step leads to.
 pub record IsReceiverStep (confirm : Confirm) (files : Batch) (st : State) (delivery : Delivery)
     (old : Pair) (reply : Reply) (new : Pair) : Type 0 where
-  pub goes : GoesThere delivery old reply new
+  pub there : ShowsThere delivery × IsShort delivery
   pub says : IsSaid files (said st) (spoken old.sender)
   pub sink_failed : Bool
+  pub reply_is : reply ≡
+      (receiver_step (frames_of files) confirm sink_failed (is_whole delivery) st).1
+  pub others : new ≡
+      record (handed There (arrives delivery (sent_by old.sender)) old) { receiver = new.receiver }
   pub sink : Tells sink_failed old.receiver.failures new.receiver.failures
   pub refines : PairRefines confirm files
       (receiver_step (frames_of files) confirm sink_failed (is_whole delivery) st).0 new

@@ -19,7 +19,7 @@ pub use direct::Direct;
 pub use fault::LineFault;
 pub use lines::{ReceiverLine, SenderLine};
 pub use needed::whole_rounds_needed;
-pub use rounds::{round, run};
+pub use rounds::{round, run, run_by_tables};
 pub use text::trace_text;
 pub use trace::{How, Seen, Trace, What};
 pub use ym_link::DELIVERY_LIMIT;

@@ -131,8 +131,10 @@ fn go_round<S: Source, K: Sink, C: Carrier>(
     })
 }
 
-/// All rounds of a list, one after another.
-fn go_all<S: Source, K: Sink, C: Carrier>(
+/// All rounds of a list, one after another, for any two ends: both go by their tables, round after
+/// round. A fault leaves what the rounds before it did, and what the steps before it did in its own
+/// round; rounds are numbered from 1. [`run`] is this, and has what follows of it.
+pub fn run_by_tables<S: Source, K: Sink, C: Carrier>(
     alloc: Global,
     sender: &mut SenderFrom<S>,
     receiver: &mut ReceiverInto<K>,
@@ -193,11 +195,10 @@ pub fn round<S: Source, K: Sink, C: Carrier>(
 /// rounds before it did, and what the steps before it did in its own round; rounds are numbered
 /// from 1.
 ///
-/// - What the two ends do is what their tables say, round after round (`gives`).
-/// - From any ends that refine a state of the machine of two counters, the rounds are turns of that
-///   machine, and the trace reports the state that they lead to (`machine`). Where a round meets a
-///   fault, those before it are turns, and of its own at most the receiver step was taken
-///   (`stopped`).
+/// - From any ends that refine a state of the machine of two counters, as new ones do, the rounds
+///   are turns of that machine: what the line is handed, the trace and the endings are its own
+///   (`machine`). Where a round meets a fault, those before it are turns, and of its round at most
+///   the receiver step was taken (`stopped`).
 /// - From new ends, whatever is lost or damaged and also where it met a fault, the files committed
 ///   are the first ones of the batch, each exact, and what the sender reports is among them
 ///   (`commits`, `reports`).
@@ -205,6 +206,8 @@ pub fn round<S: Source, K: Sink, C: Carrier>(
 ///   neither end gives up; with as many whole rounds as the batch needs, both finish; and with
 ///   whole rounds alone, they do not finish sooner (`neither_gives_up`, `both_finish`,
 ///   `not_sooner`).
+///
+/// What ends do that refine no such state is told by [`run_by_tables`], which this calls.
 ///
 /// All this rests on these premises: damage shows, and other damage is refused here by `NotDamage`
 /// and `TooLong`; the sources tell their bytes, and source, sink and carrier keep the contracts of
@@ -219,7 +222,6 @@ pub fn run<S: Source, K: Sink, C: Carrier>(
     ensures { let old : Pair = pair_of C.told C.failures sender.old receiver.old carrier.old in
         let new : Pair = pair_of C.told C.failures sender.new receiver.new carrier.new in
         record {
-          gives : RunGives rounds.now old result new;
           machine : IfOk result (λ trace. FollowsMachine rounds.now old trace new);
           stopped : IfErr result (λ fault. StopsWithMachine 1 rounds.now old fault new);
           commits : AreNew old → CommitsAPrefix old.sender.files new;
@@ -237,5 +239,5 @@ pub fn run<S: Source, K: Sink, C: Carrier>(
     rounds_are_turns();
     new_ends_commit_a_prefix();
     short_bad_runs_complete();
-    go_all(alloc, sender, receiver, rounds, carrier)
+    run_by_tables(alloc, sender, receiver, rounds, carrier)
 }

@@ -3,6 +3,7 @@
 use Rattle.std.specs.Prelude.{◌≡◌, ◌≢◌, ℕ, List, [], Option, None, Result, Ok, Err, string_bytes}
 use Rattle.ym_file.specs.Counts.{new_tally}
 use Rattle.ym_file.specs.MemSink.{kept_of}
+use Rattle.ym_machine.specs.Machine.{start}
 use Rattle.ym_core.specs.Receiver.{new_receiver}
 use Rattle.ym_core.specs.Standing.{new_standing}
 use Rattle.ym_file.specs.SourceFile.{counts_of}
@@ -10,9 +11,11 @@ use Rattle.ym_core.specs.declared.state.RecvState.{RecvState}
 use Rattle.ym_core.specs.declared.state.RecvState.TheVariants as recv
 use Rattle.ym_core.specs.declared.state.SendState.{SendState}
 use Rattle.ym_core.specs.declared.state.SendState.TheVariants as send
+use Rattle.ym_link.specs.SenderRefines.{Batch, batch_of}
 use Rattle.ym_line.specs.Promise.{CommitsAPrefix, ReportsCommitted}
-use Rattle.ym_line.specs.Rounds.{Pair, IsTrace, StopsIn}
+use Rattle.ym_line.specs.Rounds.{Pair}
 use Rattle.ym_line.specs.TraceText.{trace_text}
+use Rattle.ym_line.specs.Turns.{RunsAsMachine, StopsAsMachine}
 use Rattle.ym_line.specs.declared.delivery.Handed.{Handed}
 use Rattle.ym_line.specs.declared.fault.LineFault.{LineFault}
 use Rattle.ym_line.specs.declared.fault.LineFault.TheVariants as round
@@ -35,6 +38,10 @@ pub record IsNewPair (script : ScriptParts) (told : Option (List Handed)) (failu
   pub line_told : pair.told ≡ told
   pub line_failures : pair.failures ≡ failures
 
+-- the batch as the machine has it: each file's header, and the data blocks that it is cut into
+abbrev pub files_of : ScriptParts → Batch
+files_of script = batch_of script.shape script.batch
+
 abbrev pub status_with : SendState → RecvState → ℕ
 status_with send.Finished recv.Finished = 0
 status_with _ _ = 1
@@ -43,27 +50,28 @@ status_with _ _ = 1
 abbrev pub status_of : Trace → ℕ
 status_of trace = status_with trace.send trace.recv
 
--- The rounds of a script were run from new ends, with this trace: whatever its rounds are, a prefix
--- of its batch is committed, and no more files are reported than that.
+-- The rounds of a script were run from new ends, with this trace, as the machine of two counters
+-- runs them from its start. Whatever its rounds are, a prefix of its batch is committed, and no
+-- more files are reported than that.
 pub record IsRun (script : ScriptParts) (told : Option (List Handed)) (failures : ℕ) (trace : Trace)
     (new_told : Option (List Handed)) (new_failures : ℕ) : Type 0 where
   pub old : Pair
   pub new : Pair
   pub begins : IsNewPair script told failures old
-  pub runs : IsTrace script.rounds old trace new
+  pub runs : RunsAsMachine script.confirm (files_of script) start script.rounds old trace new
   pub commits : CommitsAPrefix script.batch new
   pub reports : ReportsCommitted trace new
   pub told_after : new.told ≡ new_told
   pub failures_after : new.failures ≡ new_failures
 
--- The rounds of a script were run from new ends, up to this fault, and a prefix of its batch is
--- committed.
+-- The rounds of a script were run from new ends up to this fault, as the machine runs them, and a
+-- prefix of its batch is committed.
 pub record IsStopped (script : ScriptParts) (told : Option (List Handed)) (failures : ℕ)
     (fault : LineFault) (new_told : Option (List Handed)) (new_failures : ℕ) : Type 0 where
   pub old : Pair
   pub new : Pair
   pub begins : IsNewPair script told failures old
-  pub stops : StopsIn 1 script.rounds old fault new
+  pub stops : StopsAsMachine script.confirm (files_of script) start 1 script.rounds old fault new
   pub commits : CommitsAPrefix script.batch new
   pub told_after : new.told ≡ new_told
   pub failures_after : new.failures ≡ new_failures

@@ -9,7 +9,7 @@ ghost use Rattle.ym_play.specs.Play.{PlayGives, RunsAs, status_of};
 use crate::fault::PlayFault;
 use crate::script::{Script, read_script};
 use std::alloc::Global;
-use ym_line::laws::made_ends_are_new;
+use ym_line::laws::{made_ends_are_new, new_ends_stand};
 use ym_line::{Carrier, LineFault, Trace, run, trace_text};
 use ym_link::{Confirm, Receiver, RecvState, SendState, Sender};
 
@@ -66,6 +66,7 @@ fn run_script<C: Carrier>(
     let mut sender = Sender::new(batch, shape).unwrap();
     let mut receiver = receiver_of(alloc, confirm);
     made_ends_are_new();
+    new_ends_stand();
     run(alloc, &mut sender, &mut receiver, &rounds, carrier)
 }
 

@@ -1,6 +1,7 @@
 //! A script, and how it is read from its bytes.
 
 ghost use Rattle.std.specs.Prelude.{◌≡◌, ◌≤◌, ◌+◌, ◌++◌, length, replicate, vec_len, IsSome, IfOk, OnOk, Ok};
+ghost use Rattle.ym_file.specs.SourceFile.{IsFile};
 ghost use Rattle.ym_play.specs.Command.{command_in, delivery_in, stamp_in};
 ghost use Rattle.ym_play.specs.PlayFault.{Gives, Reads};
 ghost use Rattle.ym_play.specs.Script.{empty, early, file_at, followed, line_read, lines_of, lines_read, script_of, whole_round, with_round, with_whole, with_written_file};
@@ -28,8 +29,9 @@ pub struct Script {
 }
 
 impl Model for Script {
-    ghost use Rattle.std.specs.Prelude.{◌≤◌, length};
+    ghost use Rattle.std.specs.Prelude.{◌≤◌, All, length};
     ghost use Rattle.ym_machine.specs.declared.limits.TheConstants.{MOST_FILES};
+    ghost use Rattle.ym_file.specs.SourceFile.{IsFile};
     ghost use Rattle.ym_link.specs.SenderRefines.{AllTold};
     ghost use Rattle.ym_play.specs.Script.{ScriptParts};
     ghost use Rattle.ym_play.specs.declared.limits.TheConstants.{MOST_ROUNDS};
@@ -46,7 +48,7 @@ impl Model for Script {
 
     ghost invariant = { λ s.
         (length s.batch.items ≤ MOST_FILES) × (length s.rounds.items ≤ MOST_ROUNDS) ×
-        AllTold s.batch.items };
+        AllTold s.batch.items × All IsFile s.batch.items };
 }
 
 /// The file that a name, bytes and a stamp write.
@@ -54,6 +56,7 @@ fn file_of(alloc: Global, name: &str, bytes: &str, stamp: StampText) -> Result<S
     ensures gives { Gives (λ file. file) result
         (file_at name.now bytes.now (stamp_in stamp.entry)) }
     ensures told { IfOk result (λ file. IsSome file.bytes) }
+    ensures within { IfOk result IsFile }
 {
     let bytes = bytes_of(alloc, bytes)?;
     let stamp = stamp_of(stamp)?;

@@ -24,5 +24,5 @@ returns c =
       go = λ round old new seen goes confirm files st refines. goes-turn laws confirm files st round old new seen refines goes;
       go_on = λ rounds old new trace gives confirm files st refines. run-turns laws confirm files st rounds old new trace refines gives;
       stop = λ n rounds old new fault stops confirm files st refines. run-stops laws confirm files rounds n st old new fault refines stops;
-      there = λ delivery old new reply goes confirm files st refines. (receiver-step laws confirm files st delivery old reply new refines goes).0;
+      there = λ delivery old new reply goes confirm files st refines. receiver-step laws confirm files st delivery old reply new refines goes;
     }

@@ -8,13 +8,12 @@ use Rattle.ym_line.proofs.rounds.run.Goals as goal
 pub returns : goal.returns
 returns g c =
     let old : Pair = record { sender = c.args.sender.now; receiver = c.args.receiver.now; told = g.C.Carrier.told c.args.carrier.now; failures = g.C.Carrier.failures c.args.carrier.now } in
-    let new : Pair = record { sender = c.go_all.new.sender; receiver = c.go_all.new.receiver; told = g.C.Carrier.told c.go_all.new.carrier; failures = g.C.Carrier.failures c.go_all.new.carrier } in
-    let gives = c.go_all.ensures in
+    let new : Pair = record { sender = c.run_by_tables.new.sender; receiver = c.run_by_tables.new.receiver; told = g.C.Carrier.told c.run_by_tables.new.carrier; failures = g.C.Carrier.failures c.run_by_tables.new.carrier } in
+    let gives = c.run_by_tables.ensures in
     let rounds = c.args.rounds.now in
-    let result = c.go_all.result in
+    let result = c.run_by_tables.result in
     let bursts = c.short_bad_runs_complete.ensures in
     record {
-      gives = gives;
       machine = trace-gives rounds old new result (λ trace. FollowsMachine rounds old trace new) gives (c.rounds_are_turns.ensures.go_on rounds old new);
       stopped = fault-gives rounds old new result (λ fault. StopsWithMachine 1 rounds old fault new) gives (c.rounds_are_turns.ensures.stop 1 rounds old new);
       commits = c.new_ends_commit_a_prefix.ensures.commits rounds old new result gives;

@@ -1,7 +1,7 @@
 -- The rounds so far have gone, with what was seen of each.
 use Rattle.std.proofs.Common.{take}
 use Rattle.ym_line.proofs.Names.{GoOn}
-use Rattle.ym_line.proofs.rounds.go_all.Given as goal
+use Rattle.ym_line.proofs.rounds.run_by_tables.Given as goal
 
 abbrev pub invariant-loop-i : goal.invariant-loop-i
 invariant-loop-i g l =

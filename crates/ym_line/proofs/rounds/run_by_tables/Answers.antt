@@ -3,7 +3,7 @@ use Rattle.std.proofs.lemmas.List.{take_more}
 use Rattle.std.proofs.lemmas.Result.{err_from_is_err_and}
 use Rattle.ym_line.proofs.Names.{Pair, Stops}
 use Rattle.ym_line.proofs.Runs.{GoOn-append, StopsIn-at}
-use Rattle.ym_line.proofs.rounds.go_all.Goals as goal
+use Rattle.ym_line.proofs.rounds.run_by_tables.Goals as goal
 
 pub returns-in_err-reserve : goal.returns-in_err-reserve
 returns-in_err-reserve g c =
