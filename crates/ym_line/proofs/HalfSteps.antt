@@ -103,7 +103,8 @@ both-handed : (round : Round) (reply : Reply) (old between new : Pair) → GoesT
     new ≡ record (handed_both round reply old) { sender = new.sender; receiver = new.receiver }
 both-handed round reply old between new there back =
     let same_receiver : new.receiver ≡ between.receiver = ap (λ (p : Pair). p.receiver) back.others in
-    rw same_receiver (back.others ∙ ap (λ (p : Pair). record (handed Back (arrives round.back (reply_bytes reply)) p) { sender = new.sender }) there.others)
+    back.others ∙ (ap (λ (p : Pair). record (handed Back (arrives round.back (reply_bytes reply)) p) { sender = new.sender }) there.others
+    ∙ ap (λ (r : ReceiverParts). record (handed_both round reply old) { sender = new.sender; receiver = r }) (sym same_receiver))
 
 pub goes-turn : Laws → (confirm : Confirm) (files : Batch) (st : State) (round : Round) (old new : Pair) (seen : Seen) →
     PairRefines confirm files st old → Goes round old seen new → (turn : Turn) × IsTurn confirm files st round turn old seen new
