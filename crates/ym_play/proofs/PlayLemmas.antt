@@ -42,7 +42,10 @@ pub at-start : NewStand → (script : ScriptParts) (told : Option (List Handed))
     → AreNew old → All IsFile script.batch → PairRefines script.confirm (files_of script) start old
 at-start stand script told failures old begins fresh within =
     let confirm : old.receiver.receiver.confirm ≡ script.confirm = ap (λ (r : Receiver). r.confirm) begins.receiver in
-    rw (confirm, begins.shape, begins.files) at (stand old fresh (rw begins.files within))
+    let stands = stand old fresh (rw begins.files within) in
+    let as_confirm = subst (λ c. PairRefines c (batch_of old.sender.shape old.sender.files) start old) confirm stands in
+    let as_shape = subst (λ s. PairRefines script.confirm (batch_of s old.sender.files) start old) begins.shape as_confirm in
+    subst (λ f. PairRefines script.confirm (batch_of script.shape f) start old) begins.files as_shape
 
 abbrev pub MachineGives : List Round → Pair → Result Trace LineFault → Pair → Type 0
 MachineGives rounds old (Ok trace) new = FollowsMachine rounds old trace new
