@@ -23,6 +23,13 @@ OWN_PART = (250 * "n" + ".part", DATA)
 PART_OF_FILE = (part_of("first"), b"left")
 DISCARD = ["--discard-parts"]
 FAULT = "fault: device\n"
+# A file, and one that a disk without upper and lower case has under the name of its part.
+TAKEN_FOR_PARTS = {
+    "in another case": ("first", "FIRST.Part"),
+    "with a dot behind it": ("first", "first.part."),
+    "in another case of Unicode": ("\u00e4", "\u00c4.part"),
+    "with a character that has no width": ("first", "first.pa\u200crt"),
+}
 
 # Its frames: block 0, and then its blocks. By the third of them the part is there and is not whole.
 IN_THE_FILE = 3
@@ -42,6 +49,16 @@ IN_THE_FILE = 3
         [(part_of("first"), b"a file"), *FILE],
         1,
         DISCARD,
+    ),
+    *(
+        case(
+            "parts: a file of the batch that is named as a part %s is none" % how,
+            [(stored_as, b"a file"), (name, DATA)],
+            1,
+            DISCARD,
+            [(part_of(name), b"a file")],
+        )
+        for how, (name, stored_as) in TAKEN_FOR_PARTS.items()
     ),
     case("parts: a NAME of 255 bytes that would be its own part's", [OWN_PART], 0),
 )
@@ -283,6 +300,12 @@ def long_names():
         DISCARD,
         [("other" + PART, b"left")],
         [("other" + PART, b"left")],
+    ),
+    case(
+        "parts: one of an earlier run is discarded, behind files of other names",
+        [("other" + PART, b"a file"), ("\u00e4.par", b"a file"), *FILE],
+        DISCARD,
+        [(part_of("first"), b"left")],
     ),
     case("names of 249 to 255 bytes", long_names()),
     case(

@@ -1,4 +1,5 @@
 mod FolderLemmas
+mod OneNameLemmas
 mod PlacedLemmas
 mod PutSoFarLemmas
 mod SinkLemmas

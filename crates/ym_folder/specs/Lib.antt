@@ -2,6 +2,8 @@ pub mod DirSink
 pub mod FilePlace
 pub mod Folder
 pub mod FolderExamples
+pub mod OneName
+pub mod OneNameExamples
 pub mod OpenPart
 pub mod Part
 pub mod SinkCalls

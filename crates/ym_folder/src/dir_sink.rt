@@ -1,16 +1,18 @@
 //! A sink that stores files in a folder.
 
-ghost use Rattle.std.specs.Prelude.{◌≡◌, ◌≢◌, ◌⊎◌, ◌++◌, ◌≤◌, ◌<◌, ℕ, List, [], true, false, None, Some, All, Err, IfSome, OnOk, OnErr, IfOk, option_map, unwrap_or, length as list_length};
+ghost use Rattle.std.specs.Prelude.{◌≡◌, ◌≢◌, ◌⊎◌, ◌++◌, ◌≤◌, ◌<◌, ℕ, List, [], true, false, None, Some, Err, IfSome, OnOk, OnErr, IfOk, option_map, unwrap_or, length as list_length};
 ghost use Rattle.std.specs.Io.KnownBytes.{append_known};
 ghost use Rattle.ym_file.specs.Counts.{Counted};
 ghost use Rattle.ym_file.specs.Kept.{IsNew, IsCoveredFile, begun, added, committed, room};
 ghost use Rattle.ym_folder.specs.DirSink.{kept_of, put, stands, IsTold, Keeps, Adds, IsOwn, IsStored};
 ghost use Rattle.ym_folder.specs.FilePlace.{name_of};
 ghost use Rattle.ym_folder.specs.Folder.{OthersStay, under, empty_in};
+ghost use Rattle.ym_folder.specs.OneName.{NoneMayBe};
 ghost use Rattle.ym_folder.specs.Part.{IsPartName};
 ghost use Rattle.ym_folder.specs.WriteBehind.{GrowsByPrefix};
 
 use crate::folder::Folder;
+use crate::one_name::may_be_one;
 use crate::open_part::{self, OpenPart, Standing};
 use crate::part::{make_part, places, remove_part, replace_part};
 use crate::place::FilePlace;
@@ -38,8 +40,8 @@ pub enum Durability {
 pub enum Leftover {
     /// NAME is refused.
     Refused,
-    /// The part is removed, unless somebody has it locked. One that is there because this sink
-    /// stored a file of that name is never removed.
+    /// The part is removed, unless somebody has it locked. One that may be a file that this sink
+    /// stored, as a disk takes names for one, is never removed.
     Discarded,
 }
 
@@ -49,7 +51,7 @@ pub enum StoreFault {
     /// The name of the file has been taken already.
     IsThere,
     /// The name of its part has been taken already. Where such parts are to be removed, somebody
-    /// has this one locked, or it is none.
+    /// has this one locked, or it is none, or may be a file that was stored.
     PartIsThere,
     /// What stands at the place of its part is no longer the file that was written.
     PartIsGone,
@@ -109,15 +111,16 @@ fn check_free<D: Folder>(folder: &D, at: &FilePlace) -> Result<(), StoreFault> {
     }
 }
 
-/// Whether a part of this name may be removed: where that is wanted, and none of the files that
-/// were stored has the name.
+/// Whether a part of this name may be removed: where that is wanted, and the disk can have none of
+/// the files that were stored under the name.
 fn may_discard(leftover: Leftover, stored: &[Header], part_name: &str) -> bool
     ensures asked { result ≡ true → leftover ≡ Leftover.Discarded }
-    ensures not_stored { result ≡ true →
-        All (λ header. header.name ≢ part_name.now) stored.now }
+    ensures not_stored { result ≡ true → NoneMayBe stored.now part_name.now }
 {
     matches!(leftover, Leftover::Discarded)
-        && stored.iter().all(|header| header.name() != part_name)
+        && stored
+            .iter()
+            .all(|header| !may_be_one(header.name(), part_name))
 }
 
 /// Makes a part new at this place, after one that an earlier run left there was removed where that

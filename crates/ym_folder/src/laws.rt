@@ -1,7 +1,8 @@
 //! Laws of the definitions: each is the promise of a function that does nothing.
 
-ghost use Rattle.std.specs.Prelude.{◌≡◌, ℕ, List, None, Some};
+ghost use Rattle.std.specs.Prelude.{◌≡◌, ℕ, List, None, Some, true};
 ghost use Rattle.ym_folder.specs.DirSink.{DirSinkParts, stands, IsSafe};
+ghost use Rattle.ym_folder.specs.OneName.{may_be_one};
 ghost use Rattle.ym_folder.specs.SinkCalls.{AreCalls, last_of, IsAsPromised};
 
 /// After any calls of a sink, of which one leads to the next, nothing that was there is
@@ -18,4 +19,9 @@ pub fn names_appear_whole()
     ensures { (sink : DirSinkParts) (calls : List DirSinkParts) → AreCalls sink calls →
         (name bytes : List ℕ) → stands (last_of sink calls) name ≡ Some bytes →
         IsAsPromised sink calls name bytes }
+{}
+
+/// A name may be one with itself: where names may not be one, they differ.
+pub fn a_name_may_be_itself()
+    ensures { (name : List ℕ) → may_be_one name name ≡ true }
 {}

@@ -5,6 +5,7 @@
 mod dir_sink;
 mod folder;
 pub mod laws;
+mod one_name;
 mod open_part;
 mod part;
 mod place;

@@ -77,6 +77,23 @@ fn a_stored_file_is_no_part(rt: HostRuntime) {
     assert!(rt; goes(&rt, "stored", Leftover::Discarded, &STORED_AS_PART));
 }
 
+/// What a disk that does not tell upper from lower case takes for one: here each stands by itself.
+static ALIKE: [Step; 6] = [
+    Step::Stores("A.Part", b"1", &[Act::Writes("a.part", "1")]),
+    Step::Refuses("a"),
+    Step::Acts(&[Act::Holds("a.part", b"1"), Act::Writes("b.part", "old")]),
+    // another name is none of the part
+    Step::Stores("b", b"2", &[]),
+    Step::Acts(&[Act::Lacks("b.part"), Act::Writes("\u{e4}.part", "1")]),
+    // what is one with a name that is not ASCII nobody knows
+    Step::Refuses("\u{e4}"),
+];
+
+#[test]
+fn a_stored_file_is_no_part_where_names_are_one(rt: HostRuntime) {
+    assert!(rt; goes(&rt, "alike", Leftover::Discarded, &ALIKE));
+}
+
 /// Two sinks leave each other's parts.
 static BOTH_STORE: [Step; 2] = [
     Step::Stores(
