@@ -139,7 +139,7 @@ def test_closed_part_is_named():
         os.chmod(path, 0o600)
         wants_stored(there, [PART_OF_FILE])
     wants_same({"status": ended.status}, {"status": 3})
-    why = "'%s' is in use by another program, may not be read, or is no" % part_of("first")
+    why = "'%s' is in use by another program, may not be read, is no" % part_of("first")
     assert why in ended.err and "move it away" in ended.err, "it told %r" % ended.err
 
 

@@ -27,8 +27,8 @@ IN_THE_MIDDLE = 150_000
 LEFT = part_of("first.bin")
 REPLACED = "'%s', left from an earlier run, was replaced\n" % LEFT
 HELD = (
-    "cannot store 'first.bin': '%s' is in use by another program, may not be read, or is no "
-    "regular file; wait for that program, or move it away\n" % LEFT
+    "cannot store 'first.bin': '%s' is in use by another program, may not be read, is no "
+    "regular file, or may be a file of this batch; wait for that program, or move it away\n" % LEFT
 )
 
 

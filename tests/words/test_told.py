@@ -69,7 +69,8 @@ def test_unsent(path, told):
         [("first.bin.part", b"held")],
         (
             "cannot store 'first.bin': 'first.bin.part' is in use by another program, may"
-            " not be read, or is no regular file; wait for that program, or move it away\n"
+            " not be read, is no regular file, or may be a file of this batch; wait for that"
+            " program, or move it away\n"
         ),
         lock=True,
     ),

@@ -78,7 +78,8 @@ static FILES: [(FileMessage, &str); 11] = [
     (
         FileMessage::PartIsInUse("a", "a.part"),
         "cannot store 'a': 'a.part' is in use by another program, may not be read, \
-        or is no regular file; wait for that program, or move it away",
+        is no regular file, or may be a file of this batch; wait for that program, \
+        or move it away",
     ),
     (
         FileMessage::PartIsReplaced("a.part"),

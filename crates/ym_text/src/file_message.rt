@@ -24,7 +24,8 @@ pub enum FileMessage<'a> {
     /// This name has a part, the second text, that an earlier run left, or that another receiver
     /// writes.
     PartIsLeft(&'a str, &'a str),
-    /// This name has a part, the second text, that may not be removed.
+    /// This name has a part, the second text, that may not be removed, or may be a file that the
+    /// same batch has brought.
     PartIsInUse(&'a str, &'a str),
     /// The part of this name, which an earlier run left, was removed for a file.
     PartIsReplaced(&'a str),
@@ -98,7 +99,8 @@ impl fmt::Display for FileMessage<'_> {
                 write!(
                     f,
                     "cannot store '{name}': '{part}' is in use by another program, may not be \
-                    read, or is no regular file; wait for that program, or move it away"
+                    read, is no regular file, or may be a file of this batch; wait for that \
+                    program, or move it away"
                 )
             }
             FileMessage::PartIsReplaced(part) => {
