@@ -1,8 +1,9 @@
 -- What a call of a sink keeps in its folder, and what it adds there.
-use Rattle.std.proofs.Common.{◌≡◌, ◌⊎◌, ℕ, List, [], ◌∷◌, None, Some, IfSome, sym, ◌∙◌, subst, inl, inr, ap, take}
+use Rattle.std.proofs.Common.{◌≡◌, ◌⊎◌, ℕ, List, [], ◌∷◌, true, false, None, Some, IfSome, sym, ◌∙◌, subst, inl, inr, ap, take}
 use Rattle.ym_header.specs.Header.{HeaderParts}
-use Rattle.ym_folder.specs.DirSink.{DirSinkParts, stands, put, IsOwn, IsSafe, Keeps, Adds}
+use Rattle.ym_folder.specs.DirSink.{DirSinkParts, stands, put, IsOwn, IsSafe, IsSafeNow, Keeps, Adds}
 use Rattle.ym_folder.specs.Folder.{under, has_links, OthersStay}
+use Rattle.ym_folder.specs.OneName.{may_be_one, SomeMayBe, NoneMayBe}
 use Rattle.ym_folder.specs.Part.{IsPartName, EndsInPart}
 use Rattle.ym_folder.specs.SinkCalls.{AreCalls, last_of, IsAsPromised}
 use Rattle.ym_folder.specs.Storing.{Stores}
@@ -16,6 +17,20 @@ ends_in_part name part is = (take is.0 name, is.4)
 -- where leftovers are discarded, what is safe is no part
 not_a_part : (leftover : Leftover) (name : List ℕ) → leftover ≡ Discarded → IsSafe leftover name → ¬ EndsInPart name
 not_a_part leftover name is safe = subst (λ (l : Leftover). IsSafe l name) is safe
+
+-- none of the files that were stored may be one that may
+none_some : (files : List HeaderParts) (name part : List ℕ) → name ≡ part → NoneMayBe files part → SomeMayBe files name → ⊥
+none_some files name part is none (k, x, inside, at, may) =
+    let named : may_be_one x.name part ≡ false = subst (λ (h : HeaderParts). may_be_one h.name part ≡ false) at (none k x inside) in
+    let cannot : may_be_one x.name name ≡ false = subst (λ (p : List ℕ). may_be_one x.name p ≡ false) (sym is) named in
+    let clash : true ≡ false = sym may ∙ cannot in cc
+
+-- a part that may be removed is not safe
+not_safe : (s : DirSinkParts) (name part : List ℕ) → name ≡ part → EndsInPart part → s.leftover ≡ Discarded → NoneMayBe s.headers part → IsSafeNow s name → ⊥
+not_safe s name part is ends discarded none safe = elim safe [
+  | inl safe ↦ not_a_part s.leftover name discarded safe (subst EndsInPart (sym is) ends)
+  | inr some ↦ none_some s.headers name part is none some
+]
 
 some_same : (a b : List ℕ) → Some a ≡ Some b → a ≡ b
 some_same a b is = cc
@@ -38,9 +53,9 @@ keeps_others old new part leftover own owns keeps = record {
 }
 
 -- a part was made, or none
-pub keeps_free : (old new : DirSinkParts) (part : List ℕ) → new.leftover ≡ old.leftover → new.part ≡ old.part → EndsInPart part → OthersStay part old.folder new.folder
-    → (stands new part ≡ stands old part) ⊎ (stands old part ≡ None) ⊎ (old.leftover ≡ Discarded) → Keeps old new
-keeps_free old new part leftover same ends others free = record {
+pub keeps_free : (old new : DirSinkParts) (part : List ℕ) (stored : List HeaderParts) → stored ≡ old.headers → new.leftover ≡ old.leftover → new.part ≡ old.part → EndsInPart part → OthersStay part old.folder new.folder
+    → (stands new part ≡ stands old part) ⊎ (stands old part ≡ None) ⊎ ((old.leftover ≡ Discarded) × NoneMayBe stored part) → Keeps old new
+keeps_free old new part stored are leftover same ends others free = record {
   leftover = leftover;
   kept = λ name bytes other safe there. (
     elim (others.stays name) [
@@ -48,7 +63,7 @@ keeps_free old new part leftover same ends others free = record {
         | inl stays ↦ ap (stands new) is ∙ (stays ∙ (ap (stands old) (sym is) ∙ there))
         | inr rest ↦ elim rest [
           | inl none ↦ absurd (some_none (stands old name) bytes there (ap (stands old) is ∙ none))
-          | inr discarded ↦ absurd (not_a_part old.leftover name discarded safe (subst EndsInPart (sym is) ends))
+          | inr may ↦ absurd (not_safe old name part is ends may.0 (subst (λ files. NoneMayBe files part) are may.1) safe)
         ]
       ]
       | inr stays ↦ stays ∙ there
@@ -57,14 +72,14 @@ keeps_free old new part leftover same ends others free = record {
   );
 }
 
-pub keeps_made : (old new : DirSinkParts) (part : List ℕ) → new.leftover ≡ old.leftover → IsOwn new part → EndsInPart part → OthersStay part old.folder new.folder
-    → (stands old part ≡ None) ⊎ (old.leftover ≡ Discarded) → Keeps old new
-keeps_made old new part leftover own ends others free = record {
+pub keeps_made : (old new : DirSinkParts) (part : List ℕ) (stored : List HeaderParts) → stored ≡ old.headers → new.leftover ≡ old.leftover → IsOwn new part → EndsInPart part → OthersStay part old.folder new.folder
+    → (stands old part ≡ None) ⊎ ((old.leftover ≡ Discarded) × NoneMayBe stored part) → Keeps old new
+keeps_made old new part stored are leftover own ends others free = record {
   leftover = leftover;
   kept = λ name bytes other safe there.
       let differs : name ≡ part → ⊥ = λ is. elim free [
         | inl none ↦ some_none (stands old name) bytes there (ap (stands old) is ∙ none)
-        | inr discarded ↦ not_a_part old.leftover name discarded safe (subst EndsInPart (sym is) ends)
+        | inr may ↦ not_safe old name part is ends may.0 (subst (λ files. NoneMayBe files part) are may.1) safe
       ] in (
         other_keeps part old.folder new.folder others name bytes differs there,
         λ is. differs (some_same name part (sym is ∙ own)),
@@ -111,7 +126,7 @@ kept_by_all : (sink : DirSinkParts) (calls : List DirSinkParts) → AreCalls sin
     → stands sink name ≡ Some bytes → stands (last_of sink calls) name ≡ Some bytes
 kept_by_all sink [] are name bytes other safe there = there
 kept_by_all sink (next ∷ more) are name bytes other safe there =
-    let kept = are.0.kept name bytes other safe there in
+    let kept = are.0.kept name bytes other (inl safe) there in
     kept_by_all next more are.2 name bytes kept.1 (subst (λ (l : Leftover). IsSafe l name) (sym are.0.leftover) safe) kept.0
 
 pub nothing_overwritten : (sink : DirSinkParts) (calls : List DirSinkParts) → AreCalls sink calls → sink.part ≡ None → (name bytes : List ℕ) → IsSafe sink.leftover name

@@ -3,6 +3,7 @@ use Rattle.std.specs.Prelude.{◌≡◌, ◌≢◌, ◌⊎◌, ℕ, List, [], Bo
 use Rattle.ym_header.specs.Header.{HeaderParts}
 use Rattle.ym_file.specs.Kept.{Kept}
 use Rattle.ym_folder.specs.Folder.{FolderParts, under, has_links, has_refused}
+use Rattle.ym_folder.specs.OneName.{SomeMayBe}
 use Rattle.ym_folder.specs.Part.{EndsInPart}
 use Rattle.ym_folder.specs.WriteBehind.{put_so_far}
 use Rattle.ym_folder.specs.declared.dir_sink.Leftover.{Leftover}
@@ -55,12 +56,17 @@ abbrev pub IsSafe : Leftover → List ℕ → Type 0
 IsSafe Refused name = Unit {0}
 IsSafe Discarded name = ¬ EndsInPart name
 
+-- a name that a disk may have a file under that was stored is safe, too
+abbrev pub IsSafeNow : DirSinkParts → List ℕ → Type 0
+IsSafeNow s name = IsSafe s.leftover name ⊎ SomeMayBe s.headers name
+
 -- Nothing is overwritten: each file that was there, but for the part that is open, is there with
 -- the bytes that it had, and is not the part that is open then. Where parts of earlier runs are to
--- be removed, that is said of names that do not end in `.part`.
+-- be removed, that is said of names that do not end in `.part`, and of each one that the disk may
+-- have a file under that was stored.
 pub record Keeps (old new : DirSinkParts) : Type 0 where
   pub leftover : new.leftover ≡ old.leftover
-  pub kept : (name bytes : List ℕ) → ¬ IsOwn old name → IsSafe old.leftover name →
+  pub kept : (name bytes : List ℕ) → ¬ IsOwn old name → IsSafeNow old name →
       stands old name ≡ Some bytes → (stands new name ≡ Some bytes) × (¬ IsOwn new name)
 
 -- it is the name of the open file, and these are all bytes that were put into it

@@ -1,7 +1,7 @@
 -- Names that a disk may take for one where it does not tell upper from lower case.
 use Rattle.std.specs.Prelude.{◌≡◌, ℕ, List, [], ◌∷◌, Bool, true, false, not, ◌&&◌, ◌||◌, ◌==◌}
 use Rattle.std.specs.Prelude.{All, codes}
-use Rattle.std.specs.List.{filter, list_all}
+use Rattle.std.specs.List.{Any, filter, list_all}
 use Rattle.std.specs.Char.{is_ascii, eq_ignore_ascii_case}
 use Rattle.ym_header.specs.Header.{HeaderParts}
 
@@ -39,6 +39,9 @@ may_be_one name part = is_but_for_case (plain name) (plain part)
     || ((is_of_a_table name || is_of_a_table part)
     && (ends_in_part (plain name) && ends_in_part (plain part)))
 
--- a disk can have none of these files under the name of a part
+-- a disk may have one of these files under the name of a part, or can have none
+abbrev pub SomeMayBe : List HeaderParts → List ℕ → Type 0
+SomeMayBe files part = Any (λ (file : HeaderParts). may_be_one file.name part ≡ true) files
+
 abbrev pub NoneMayBe : List HeaderParts → List ℕ → Type 0
 NoneMayBe files part = All (λ (file : HeaderParts). may_be_one file.name part ≡ false) files

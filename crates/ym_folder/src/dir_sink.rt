@@ -137,9 +137,9 @@ fn open_part<D: Folder>(
     ensures free { (under (D.seen folder.new) (name_of part.now)
         ≡ under (D.seen folder.old) (name_of part.now))
         ⊎ (under (D.seen folder.old) (name_of part.now) ≡ None)
-        ⊎ (leftover ≡ Leftover.Discarded) }
+        ⊎ ((leftover ≡ Leftover.Discarded) × NoneMayBe stored.now (name_of part.now)) }
     ensures was_free { OnOk result ((under (D.seen folder.old) (name_of part.now) ≡ None)
-        ⊎ (leftover ≡ Leftover.Discarded)) }
+        ⊎ ((leftover ≡ Leftover.Discarded) × NoneMayBe stored.now (name_of part.now))) }
     ensures empty { OnOk result
         (under (D.seen folder.new) (name_of part.now) ≡ empty_in (D.seen folder.new)) }
 {
