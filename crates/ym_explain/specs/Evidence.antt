@@ -4,19 +4,30 @@ use Rattle.ym_explain.specs.Asking.{is_by_g}
 use Rattle.ym_explain.specs.declared.verdict.TheConstants.{ORDER, ORDER_THERE, ORDER_BACK}
 use Rattle.ym_explain.specs.declared.signs.Signs.{Signs}
 use Rattle.ym_explain.specs.declared.verdict.Verdict.{Verdict}
-use Rattle.ym_explain.specs.declared.verdict.Verdict.TheVariants.{Whole, Mended, Repeated, SenderDone, Zmodem, Echo, SevenBits, Noise, Xmodem, XmodemReceiver, YmodemGReceiver, NobodyAsked, EotAlone, NobodySent, NobodyAnswered, FlowControl, SubEaten, EatenBytes, NoRoom, CutLength, TooManyErrors, Damage, FellSilent, SenderCancelled, ReceiverCancelled, ReplyAhead, Stopped, Unheard}
+use Rattle.ym_explain.specs.declared.verdict.Verdict.TheVariants.{Whole, Mended, Repeated, Unharmed, SenderDone, Zmodem, Echo, SevenBits, Noise, Xmodem, XmodemReceiver, YmodemGReceiver, NobodyAsked, EotAlone, NobodySent, NobodyAnswered, CancelledUnsent, FlowControl, SubEaten, EatenBytes, NoRoom, CutLength, PastLength, TooManyErrors, Damage, FellSilent, SenderCancelled, ReceiverCancelled, ReplyAhead, Stopped, Unheard}
 use Rattle.ym_explain.specs.declared.verdict.Ways.{Ways}
 use Rattle.ym_explain.specs.declared.verdict.Ways.TheVariants.{Both, There, Back}
 
--- the end of the batch was acknowledged, and no file is cut
+-- the end of the batch was acknowledged, and no file is cut or went on past its length
 abbrev pub is_finished : Signs → Bool
-is_finished seen = seen.finished && not seen.cut_length && not seen.no_room
+is_finished seen =
+    seen.finished && not seen.cut_length && not seen.past_length && not seen.no_room
 
--- what was seen bears this verdict out
+-- EOT came, and nothing of a block
+abbrev pub has_eot_alone : Signs → Bool
+has_eot_alone seen = seen.eot && not seen.framed && not seen.damaged
+
+-- nothing of a block came, and none was acknowledged
+abbrev pub has_sent_none : Signs → Bool
+has_sent_none seen = not seen.framed && not seen.damaged && not seen.ahead
+
+-- What was seen bears this verdict out. Who answers an EOT is there, and had asked before the
+-- record began. A damaged frame is mended by a whole block behind it.
 abbrev pub shows : Verdict → Signs → Bool
 shows Whole seen = is_finished seen && not seen.damaged && not seen.repeated
-shows Mended seen = is_finished seen && seen.damaged
+shows Mended seen = is_finished seen && seen.mended
 shows Repeated seen = is_finished seen && seen.repeated
+shows Unharmed seen = is_finished seen && seen.unmended
 shows SenderDone seen = seen.over && not seen.unmended
 shows Zmodem seen = seen.zmodem
 shows Echo seen = seen.echoed
@@ -27,15 +38,17 @@ shows Noise seen =
 shows Xmodem seen = seen.unnamed
 shows XmodemReceiver seen = seen.nak_first && not seen.asked
 shows YmodemGReceiver seen = is_by_g seen.asking
-shows NobodyAsked seen = not seen.asked
-shows EotAlone seen = seen.eot && not seen.framed && not seen.damaged
+shows NobodyAsked seen = not seen.asked && not (has_eot_alone seen && seen.heard)
+shows EotAlone seen = has_eot_alone seen
 shows NobodySent seen = not seen.framed && not seen.damaged
-shows NobodyAnswered seen = not seen.framed && not seen.damaged && not seen.ahead
+shows NobodyAnswered seen = has_sent_none seen && not seen.sender_cancelled
+shows CancelledUnsent seen = has_sent_none seen && seen.sender_cancelled
 shows FlowControl seen = seen.short && not seen.flow && seen.sub
 shows SubEaten seen = seen.short && seen.flow && not seen.sub
 shows EatenBytes seen = seen.short && not seen.flow && not seen.sub
 shows NoRoom seen = seen.no_room
 shows CutLength seen = seen.cut_length
+shows PastLength seen = seen.past_length
 shows TooManyErrors seen = seen.gave_up
 shows Damage seen = seen.unmended
 shows FellSilent seen = nat_lt 2 seen.unanswered && not seen.receiver_cancelled

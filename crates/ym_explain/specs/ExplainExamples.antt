@@ -1,5 +1,5 @@
--- A session of one file with one data block, and six that went wrong, computed.
-use Rattle.std.specs.Prelude.{◌≡◌, ℕ, List, [], ◌∷◌, ◌++◌, false, refl}
+-- A session of one file with one data block, and some that went wrong, computed.
+use Rattle.std.specs.Prelude.{◌≡◌, ℕ, List, [], ◌∷◌, ◌++◌, true, false, refl}
 use Rattle.ym_frame.specs.declared.control.Control.TheVariants.{Ack, Nak, Start}
 use Rattle.ym_frame.specs.declared.frame.Item.{Item}
 use Rattle.ym_frame.specs.declared.frame.Item.TheVariants as item
@@ -61,6 +61,22 @@ batch =
 whole : verdict_on (batch ++ (sign.Answer Ack ∷ [])) ≡ verdict.Whole
 whole = refl
 
+-- a damaged frame behind the end, where no whole block follows, changed nothing
+damage_behind :
+    verdict_on (batch ++ (sign.Answer Ack ∷ sign.Damage false true ∷ [])) ≡ verdict.Unharmed
+damage_behind = refl
+
+-- a damaged copy of the end, and a whole one behind it
+end_mended :
+    verdict_on (batch ++ (sign.Damage false true ∷ sign.Block position.Over kind.Copy ∷
+    sign.Answer Ack ∷ [])) ≡ verdict.Mended
+end_mended = refl
+
+-- a block of a file all of whose length had come
+past_length :
+    verdict_on (sign.PastLength ∷ (batch ++ (sign.Answer Ack ∷ []))) ≡ verdict.PastLength
+past_length = refl
+
 -- an ACK behind which its receiver cancels is none
 taken_back :
     verdict_on (batch ++ (sign.Answer Ack ∷ sign.ReceiverCancel ∷ [])) ≡ verdict.ReceiverCancelled
@@ -119,6 +135,16 @@ nothing = refl
 only_asked : verdict_on (sign.Answer Start ∷ sign.Answer Start ∷ []) ≡ verdict.NobodyAnswered
 only_asked = refl
 
+-- the sender cancels in place of a frame; behind a receiver that gave up its cancel tells nothing
+cancelled_unsent :
+    verdict_on (sign.Answer Start ∷ sign.SenderCancel ∷ []) ≡ verdict.CancelledUnsent
+cancelled_unsent = refl
+
+gave_up_first :
+    verdict_on (sign.Answer Start ∷ sign.ReceiverCancel ∷ sign.SenderCancel ∷ [])
+    ≡ verdict.NobodyAnswered
+gave_up_first = refl
+
 -- the sender is at the end of its file, and the receiver begins; with nobody there it has no peer
 eot_alone :
     verdict_on (sign.Answer Start ∷ sign.Eot ∷ sign.Answer Start ∷ sign.Eot ∷ []) ≡ verdict.EotAlone
@@ -126,6 +152,15 @@ eot_alone = refl
 
 eot_to_nobody : verdict_on (sign.Eot ∷ sign.Eot ∷ []) ≡ verdict.NobodyAsked
 eot_to_nobody = refl
+
+-- The record begins at the end of a file, whose receiver takes the second EOT. One of XMODEM
+-- refuses before anything came.
+eot_answered :
+    verdict_on (sign.Eot ∷ sign.Answer Nak ∷ sign.Eot ∷ sign.Answer Ack ∷ []) ≡ verdict.EotAlone
+eot_answered = refl
+
+by_nak : verdict_on (sign.Answer Nak ∷ sign.Eot ∷ sign.Answer Nak ∷ []) ≡ verdict.XmodemReceiver
+by_nak = refl
 
 eot_alone_there : first_shown (seen_of nothing_seen (sign.Eot ∷ [])) ORDER_THERE ≡ verdict.EotAlone
 eot_alone_there = refl

@@ -21,6 +21,7 @@ nothing_seen = record {
   damaged = false;
   headed = false;
   unmended = false;
+  mended = false;
   short = false;
   junk = false;
   high = false;
@@ -28,12 +29,14 @@ nothing_seen = record {
   sub = false;
   unnamed = false;
   cut_length = false;
+  past_length = false;
   no_room = false;
   zmodem = false;
   echoed = false;
   back_high = false;
   nak_first = false;
   asking = Nothing;
+  heard = false;
   out = 0;
   repeated = false;
   unanswered = 0;
@@ -111,6 +114,7 @@ abbrev pub with_kind : Signs → SendPosition → FrameKind → Signs
 with_kind seen at kind = record (with_frame seen) {
   framed = true;
   unmended = false;
+  mended = seen.mended || seen.unmended;
   unnamed = is_unnamed at kind || seen.unnamed;
   over = is_end kind || seen.over;
   repeated = is_copy kind || seen.repeated;
@@ -127,6 +131,7 @@ with_ack seen =
       refusals = 0;
       unanswered = 0;
       out = seen.out - 1;
+      heard = true;
       finished = seen.finished || seen.over;
     }
     else record seen { refusals = 0; unanswered = 0; ahead = true }
@@ -135,6 +140,11 @@ with_ack seen =
 abbrev pub asking_by_nak : Signs → Asking
 asking_by_nak seen = if seen.framed then seen.asking else Usual
 
+-- Nothing was asked or sent. An EOT may be the end of a file whose blocks were not recorded: a NAK
+-- behind it answers it.
+abbrev pub is_quiet : Signs → Bool
+is_quiet seen = not (seen.asked || seen.framed || seen.damaged || seen.eot)
+
 -- the tenth refusal in a row, and all behind it, are too many
 abbrev pub with_nak : Signs → Signs
 with_nak seen =
@@ -142,14 +152,16 @@ with_nak seen =
     then record seen {
       out = seen.out - 1;
       unanswered = 0;
-      nak_first = seen.nak_first || not (seen.asked || seen.framed || seen.damaged);
+      heard = seen.heard || nat_lt 0 seen.out;
+      nak_first = seen.nak_first || is_quiet seen;
       asking = asking_by_nak seen;
       refusals = seen.refusals + 1;
     }
     else record seen {
       out = seen.out - 1;
       unanswered = 0;
-      nak_first = seen.nak_first || not (seen.asked || seen.framed || seen.damaged);
+      heard = seen.heard || nat_lt 0 seen.out;
+      nak_first = seen.nak_first || is_quiet seen;
       asking = asking_by_nak seen;
       refusals = 10;
       gave_up = true;
@@ -173,6 +185,7 @@ noted seen sign.SenderCancel = record (without_end seen) {
 noted seen (sign.Damage short headed) = with_damage seen short headed
 noted seen sign.Junk = record seen { junk = true }
 noted seen sign.CutLength = record seen { cut_length = true }
+noted seen sign.PastLength = record seen { past_length = true }
 noted seen sign.NoRoom = record seen { no_room = true }
 noted seen sign.Zmodem = record seen { zmodem = true }
 noted seen sign.Echo = record seen { echoed = true }

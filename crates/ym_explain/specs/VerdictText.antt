@@ -1,13 +1,15 @@
 -- The sentence of each verdict: what went wrong, and what to try.
 use Rattle.std.specs.Prelude.{ℕ, List, ◌++◌, codes}
 use Rattle.ym_explain.specs.declared.verdict.Verdict.{Verdict}
-use Rattle.ym_explain.specs.declared.verdict.Verdict.TheVariants.{Whole, Mended, Repeated, SenderDone, Zmodem, Echo, SevenBits, Noise, Xmodem, XmodemReceiver, YmodemGReceiver, NobodyAsked, EotAlone, NobodySent, NobodyAnswered, FlowControl, SubEaten, EatenBytes, NoRoom, CutLength, TooManyErrors, Damage, FellSilent, SenderCancelled, ReceiverCancelled, ReplyAhead, Stopped, Unheard}
+use Rattle.ym_explain.specs.declared.verdict.Verdict.TheVariants.{Whole, Mended, Repeated, Unharmed, SenderDone, Zmodem, Echo, SevenBits, Noise, Xmodem, XmodemReceiver, YmodemGReceiver, NobodyAsked, EotAlone, NobodySent, NobodyAnswered, CancelledUnsent, FlowControl, SubEaten, EatenBytes, NoRoom, CutLength, PastLength, TooManyErrors, Damage, FellSilent, SenderCancelled, ReceiverCancelled, ReplyAhead, Stopped, Unheard}
 
 abbrev pub verdict_text : Verdict → List ℕ
 verdict_text Whole = codes "the session is whole: nothing went wrong"
 verdict_text Mended = codes "the session is whole: what came damaged was sent again"
 verdict_text Repeated =
     codes "the session is whole: what was refused or unanswered was sent again"
+verdict_text Unharmed =
+    codes "the session is whole: what came damaged behind its end changed nothing"
 verdict_text SenderDone =
     codes "the sender wrote its whole batch: what the receiver answered is not in the file"
 verdict_text Zmodem = codes "an end speaks ZMODEM: start it with sb or rb in place of sz or rz"
@@ -29,6 +31,8 @@ verdict_text EotAlone =
 verdict_text NobodySent =
     codes "no frame is in the file: see which way it has, and whether a sender was started"
 verdict_text NobodyAnswered = codes "the receiver asked and no frame came: start the sender"
+verdict_text CancelledUnsent =
+    codes "the sender cancelled before it sent a frame: see what it says"
 verdict_text FlowControl =
     codes "frames came short, and no 11 or 13 in them: "
     ++ codes "turn XON/XOFF off at both ends and between them"
@@ -41,6 +45,9 @@ verdict_text NoRoom =
     codes "block 0 had no room for the whole length: send the file under a shorter name"
 verdict_text CutLength =
     codes "a file ended before its stated length: see whether it changed while it was sent"
+verdict_text PastLength =
+    codes "what came past a file's stated length is dropped: "
+    ++ codes "send one that does not grow, and no pipe"
 verdict_text TooManyErrors =
     codes "ten frames in a row were refused: try a lower speed or a better line"
 verdict_text Damage =

@@ -1,7 +1,7 @@
 //! What was seen of a session so far.
 
 ghost use Rattle.std.specs.Prelude.{◌≡◌};
-ghost use Rattle.ym_explain.specs.Noting.{noted, nothing_seen, without_end, with_byte, with_bytes, with_answer_junk, with_frame, with_eot, with_damage, in_batch as in_batch_of, with_block, with_answer, with_ack, with_nak};
+ghost use Rattle.ym_explain.specs.Noting.{noted, nothing_seen, without_end, with_byte, with_bytes, with_answer_junk, with_frame, with_eot, with_damage, in_batch as in_batch_of, with_block, with_answer, with_ack, is_quiet, with_nak};
 
 use crate::asking::Asking;
 use crate::told::{FrameKind, SendPosition};
@@ -37,6 +37,8 @@ pub enum Sign {
     Junk,
     /// A file ended before its length.
     CutLength,
+    /// A block came of a file all of whose length had come.
+    PastLength,
     /// A block 0 has no room for the whole length of its file.
     NoRoom,
     /// An end greeted as ZMODEM does.
@@ -66,6 +68,8 @@ pub struct Signs {
     pub headed: bool,
     /// No whole block came behind the last of those.
     pub unmended: bool,
+    /// A whole block came behind one of those.
+    pub mended: bool,
     /// A frame came with fewer bytes than it has.
     pub short: bool,
     /// A byte came with which no frame begins.
@@ -80,6 +84,8 @@ pub struct Signs {
     pub unnamed: bool,
     /// A file ended before its length.
     pub cut_length: bool,
+    /// A file went on past its length.
+    pub past_length: bool,
     /// A block 0 had no room for the whole length of its file.
     pub no_room: bool,
     /// An end greeted as ZMODEM does.
@@ -88,10 +94,12 @@ pub struct Signs {
     pub echoed: bool,
     /// A byte of 80 or more that is no answer came from the receiver.
     pub back_high: bool,
-    /// The receiver refused before anything was asked or sent.
+    /// The receiver refused before anything was asked or sent. A NAK behind an EOT answers that.
     pub nak_first: bool,
     /// By what it asks, until a block came whole.
     pub asking: Asking,
+    /// The receiver acknowledged or refused a frame that was out.
+    pub heard: bool,
     /// So many frames have no answer yet, copies among them: 255 at most.
     pub out: u8,
     /// A whole block came once more.
@@ -126,6 +134,7 @@ impl Signs {
             damaged: false,
             headed: false,
             unmended: false,
+            mended: false,
             short: false,
             junk: false,
             high: false,
@@ -133,12 +142,14 @@ impl Signs {
             sub: false,
             unnamed: false,
             cut_length: false,
+            past_length: false,
             no_room: false,
             zmodem: false,
             echoed: false,
             back_high: false,
             nak_first: false,
             asking: Asking::Nothing,
+            heard: false,
             out: 0,
             repeated: false,
             unanswered: 0,
@@ -169,6 +180,7 @@ impl Signs {
             Sign::Damage { short, headed } => return self.note_damage(short, headed),
             Sign::Junk => seen.junk = true,
             Sign::CutLength => seen.cut_length = true,
+            Sign::PastLength => seen.past_length = true,
             Sign::NoRoom => seen.no_room = true,
             Sign::Zmodem => seen.zmodem = true,
             Sign::Echo => seen.echoed = true,
@@ -283,6 +295,7 @@ impl Signs {
     {
         let mut seen = self.in_batch(position, kind).note_frame();
         seen.framed = true;
+        seen.mended = seen.mended || seen.unmended;
         seen.unmended = false;
         match (position, kind) {
             (SendPosition::Before, FrameKind::OutOfTurn) => seen.unnamed = true,
@@ -320,11 +333,19 @@ impl Signs {
         seen.unanswered = 0;
         if self.out > 0 {
             seen.out = self.out - 1;
+            seen.heard = true;
             seen.finished = self.finished || self.over;
         } else {
             seen.ahead = true;
         }
         seen
+    }
+
+    /// Whether nothing was asked or sent.
+    fn is_quiet(self) -> bool
+        ensures { result ≡ is_quiet self }
+    {
+        !(self.asked || self.framed || self.damaged || self.eot)
     }
 
     /// The same behind a NAK.
@@ -334,7 +355,8 @@ impl Signs {
         let mut seen = self;
         seen.unanswered = 0;
         seen.out = self.out.saturating_sub(1);
-        seen.nak_first = self.nak_first || !(self.asked || self.framed || self.damaged);
+        seen.heard = self.heard || self.out > 0;
+        seen.nak_first = self.nak_first || self.is_quiet();
         if !self.framed {
             seen.asking = Asking::Usual;
         }

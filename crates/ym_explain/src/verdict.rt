@@ -1,7 +1,7 @@
 //! What went wrong in a session, by what was seen of it.
 
 ghost use Rattle.std.specs.Prelude.{◌≡◌};
-ghost use Rattle.ym_explain.specs.Evidence.{is_finished, shows, first_shown, order_of};
+ghost use Rattle.ym_explain.specs.Evidence.{is_finished, has_eot_alone, has_sent_none, shows, first_shown, order_of};
 
 use crate::signs::Signs;
 use std::fmt;
@@ -15,6 +15,8 @@ pub enum Verdict {
     Mended,
     /// The end of the batch was acknowledged, and blocks came whole more than once.
     Repeated,
+    /// The end of the batch was acknowledged, and what came damaged came behind it.
+    Unharmed,
     /// The sender wrote the end of the batch, and what was answered is not known.
     SenderDone,
     /// An end speaks ZMODEM.
@@ -39,6 +41,8 @@ pub enum Verdict {
     NobodySent,
     /// The receiver asked, and no sender wrote.
     NobodyAnswered,
+    /// The receiver asked, and the sender cancelled in place of a frame.
+    CancelledUnsent,
     /// The line takes 11 and 13 for itself.
     FlowControl,
     /// The line takes 1A for itself.
@@ -49,6 +53,8 @@ pub enum Verdict {
     NoRoom,
     /// A file ended before its length.
     CutLength,
+    /// A file went on past its length.
+    PastLength,
     /// Ten refusals came in a row.
     TooManyErrors,
     /// The last frame came damaged, and never whole.
@@ -71,11 +77,13 @@ pub enum Verdict {
 /// session from beginning comes before what stops it. Who asks by G has not asked by C, so that
 /// comes before `NobodyAsked`; a NAK before any block is of XMODEM, whatever came beside it.
 /// EOT alone is of a sender that is there, at the end of its file, so it comes before
-/// `NobodyAnswered`. It comes behind `NobodyAsked`: a byte 04 that a shell takes is of no sender.
-pub const ORDER: [Verdict; 25] = [
+/// `NobodyAnswered`. It comes behind `NobodyAsked`: a byte 04 that a shell takes is of no sender,
+/// and no receiver answers it.
+pub const ORDER: [Verdict; 28] = [
     Verdict::Whole,
     Verdict::Mended,
     Verdict::Repeated,
+    Verdict::Unharmed,
     Verdict::Zmodem,
     Verdict::Echo,
     Verdict::SevenBits,
@@ -86,11 +94,13 @@ pub const ORDER: [Verdict; 25] = [
     Verdict::NobodyAsked,
     Verdict::EotAlone,
     Verdict::NobodyAnswered,
+    Verdict::CancelledUnsent,
     Verdict::FlowControl,
     Verdict::SubEaten,
     Verdict::EatenBytes,
     Verdict::NoRoom,
     Verdict::CutLength,
+    Verdict::PastLength,
     Verdict::TooManyErrors,
     Verdict::Damage,
     Verdict::ReplyAhead,
@@ -101,13 +111,14 @@ pub const ORDER: [Verdict; 25] = [
 ];
 
 /// The same where only the way from the sender is known.
-pub const ORDER_THERE: [Verdict; 15] = [
+pub const ORDER_THERE: [Verdict; 16] = [
     Verdict::Zmodem,
     Verdict::SevenBits,
     Verdict::Noise,
     Verdict::Xmodem,
     Verdict::NoRoom,
     Verdict::CutLength,
+    Verdict::PastLength,
     Verdict::SenderDone,
     Verdict::FlowControl,
     Verdict::SubEaten,
@@ -167,11 +178,25 @@ fn first_of(seen: Signs, order: &[Verdict]) -> Verdict
     Verdict::Stopped
 }
 
-/// Whether the end of the batch was acknowledged, and no file is cut.
+/// Whether the end of the batch was acknowledged, and no file is cut or went on past its length.
 fn is_whole(seen: Signs) -> bool
     ensures { result ≡ is_finished seen }
 {
-    seen.finished && !seen.cut_length && !seen.no_room
+    seen.finished && !seen.cut_length && !seen.past_length && !seen.no_room
+}
+
+/// Whether EOT came, and nothing of a block.
+fn is_eot_alone(seen: Signs) -> bool
+    ensures { result ≡ has_eot_alone seen }
+{
+    seen.eot && !seen.framed && !seen.damaged
+}
+
+/// Whether nothing of a block came, and none was acknowledged.
+fn is_unsent(seen: Signs) -> bool
+    ensures { result ≡ has_sent_none seen }
+{
+    !seen.framed && !seen.damaged && !seen.ahead
 }
 
 impl Verdict {
@@ -181,8 +206,9 @@ impl Verdict {
     {
         match self {
             Verdict::Whole => is_whole(seen) && !seen.damaged && !seen.repeated,
-            Verdict::Mended => is_whole(seen) && seen.damaged,
+            Verdict::Mended => is_whole(seen) && seen.mended,
             Verdict::Repeated => is_whole(seen) && seen.repeated,
+            Verdict::Unharmed => is_whole(seen) && seen.unmended,
             Verdict::SenderDone => seen.over && !seen.unmended,
             Verdict::Zmodem => seen.zmodem,
             Verdict::Echo => seen.echoed,
@@ -193,15 +219,17 @@ impl Verdict {
             Verdict::Xmodem => seen.unnamed,
             Verdict::XmodemReceiver => seen.nak_first && !seen.asked,
             Verdict::YmodemGReceiver => seen.asking.is_by_g(),
-            Verdict::NobodyAsked => !seen.asked,
-            Verdict::EotAlone => seen.eot && !seen.framed && !seen.damaged,
+            Verdict::NobodyAsked => !seen.asked && !(is_eot_alone(seen) && seen.heard),
+            Verdict::EotAlone => is_eot_alone(seen),
             Verdict::NobodySent => !seen.framed && !seen.damaged,
-            Verdict::NobodyAnswered => !seen.framed && !seen.damaged && !seen.ahead,
+            Verdict::NobodyAnswered => is_unsent(seen) && !seen.sender_cancelled,
+            Verdict::CancelledUnsent => is_unsent(seen) && seen.sender_cancelled,
             Verdict::FlowControl => seen.short && !seen.flow && seen.sub,
             Verdict::SubEaten => seen.short && seen.flow && !seen.sub,
             Verdict::EatenBytes => seen.short && !seen.flow && !seen.sub,
             Verdict::NoRoom => seen.no_room,
             Verdict::CutLength => seen.cut_length,
+            Verdict::PastLength => seen.past_length,
             Verdict::TooManyErrors => seen.gave_up,
             Verdict::Damage => seen.unmended,
             Verdict::FellSilent => seen.unanswered > 2 && !seen.receiver_cancelled,
@@ -225,6 +253,9 @@ impl Verdict {
             Verdict::Mended => "the session is whole: what came damaged was sent again",
             Verdict::Repeated => {
                 "the session is whole: what was refused or unanswered was sent again"
+            }
+            Verdict::Unharmed => {
+                "the session is whole: what came damaged behind its end changed nothing"
             }
             Verdict::SenderDone => {
                 "the sender wrote its whole batch: what the receiver answered is not in the file"
@@ -256,6 +287,9 @@ impl Verdict {
                 "no frame is in the file: see which way it has, and whether a sender was started"
             }
             Verdict::NobodyAnswered => "the receiver asked and no frame came: start the sender",
+            Verdict::CancelledUnsent => {
+                "the sender cancelled before it sent a frame: see what it says"
+            }
             Verdict::FlowControl => {
                 "frames came short, and no 11 or 13 in them: \
                 turn XON/XOFF off at both ends and between them"
@@ -273,6 +307,10 @@ impl Verdict {
             }
             Verdict::CutLength => {
                 "a file ended before its stated length: see whether it changed while it was sent"
+            }
+            Verdict::PastLength => {
+                "what came past a file's stated length is dropped: \
+                send one that does not grow, and no pipe"
             }
             Verdict::TooManyErrors => {
                 "ten frames in a row were refused: try a lower speed or a better line"

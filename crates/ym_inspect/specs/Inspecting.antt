@@ -6,7 +6,7 @@ use Rattle.ym_explain.specs.Noting.{with_bytes}
 use Rattle.ym_explain.specs.declared.sent.SentTold.{SentTold}
 use Rattle.ym_told.specs.Announcing.{IsAnnounced}
 use Rattle.ym_told.specs.TellPrefix.{prefix_there, prefix_back, used_by}
-use Rattle.ym_told.specs.RunText.{is_in_text}
+use Rattle.ym_told.specs.RunText.{tail_back}
 use Rattle.ym_told.specs.Scenes.{first_scene, scene_words, scene_behind}
 use Rattle.ym_told.specs.declared.prefix.BufferedPrefix.{BufferedPrefix}
 use Rattle.ym_told.specs.declared.prefix.Settle.{Settle}
@@ -57,7 +57,7 @@ IsPrefix at way.There settle prefix =
     (told : Option SentTold) × IsToldSent at.scene.standing.position at.there told
     × (prefix ≡ prefix_there at.there told settle)
 IsPrefix at way.Back settle prefix =
-    prefix ≡ prefix_back (is_in_text at.scene.run) at.back settle
+    prefix ≡ prefix_back (tail_back at.scene.run) at.back settle
 
 -- a front, with the file that it announces
 pub record Step : Type 0 where

@@ -190,7 +190,7 @@ impl Inspection {
                 )
             }
             Direction::Back => prefix_back(
-                self.scene.run.is_in_text(),
+                self.scene.run.tail_back(),
                 self.back.as_slice(),
                 settle,
             ),

@@ -1,5 +1,5 @@
 -- Where both ends stand behind what is told of either.
-use Rattle.std.specs.Prelude.{ℕ, ◌-◌, ◌<◌, nat_lt, Bool, true, false, ◌||◌, if◌then◌else◌, List, Option, Some, None}
+use Rattle.std.specs.Prelude.{ℕ, ◌-◌, ◌==◌, nat_lt, Bool, true, false, ◌||◌, if◌then◌else◌, List, Option, Some, None}
 use Rattle.ym_frame.specs.Block.{length_of}
 use Rattle.ym_frame.specs.declared.control.Control.{Control}
 use Rattle.ym_frame.specs.declared.frame.Whole.{Whole}
@@ -34,30 +34,41 @@ at_start = record {
   position = position.Before;
   fate = fate.Start;
   signs = nothing_seen;
-  left = 0;
+  left = None;
   parted = false;
 }
 
 -- what a block 0 states of its file
 abbrev pub with_stated : BothStanding → Stated → BothStanding
-with_stated at (Length length) = record at { left = length }
-with_stated at NoRoom = record at { signs = noted at.signs sign.NoRoom; left = 0 }
-with_stated at Nothing = record at { left = 0 }
+with_stated at (Length length) = record at { left = Some length }
+with_stated at NoRoom = record at { signs = noted at.signs sign.NoRoom; left = None }
+with_stated at Nothing = record at { left = None }
 
--- so many bytes of the file came
+-- where so many bytes of a file had not come, a block that comes is of its length or past it
+abbrev pub with_block_at : Signs → ℕ → Signs
+with_block_at seen left = if left == 0 then noted seen sign.PastLength else seen
+
+-- So many bytes of a file came, of which so many had not, where its length is known.
+abbrev pub with_bytes_of : BothStanding → Option ℕ → ℕ → BothStanding
+with_bytes_of at (Some left) count =
+    record at { signs = with_block_at at.signs left; left = Some (left - count) }
+with_bytes_of at None count = at
+
 abbrev pub with_data : BothStanding → Whole → BothStanding
-with_data at (whole.Block size) = record at { left = at.left - length_of size }
+with_data at (whole.Block size) = with_bytes_of at at.left (length_of size)
 with_data at whole.Eot = at
 with_data at whole.Cancel = at
 
--- the file ends here
-abbrev pub with_end : BothStanding → BothStanding
-with_end at = if nat_lt 0 at.left then record at { signs = noted at.signs sign.CutLength } else at
+-- The file ends here, of which so many bytes had not come.
+abbrev pub with_end : BothStanding → Option ℕ → BothStanding
+with_end at (Some left) =
+    if nat_lt 0 left then record at { signs = noted at.signs sign.CutLength } else at
+with_end at None = at
 
 abbrev pub counted : BothStanding → Whole → FrameKind → Stated → BothStanding
 counted at whole kind.Name stated = with_stated at stated
 counted at whole kind.Data stated = with_data at whole
-counted at whole kind.Eot stated = with_end at
+counted at whole kind.Eot stated = with_end at at.left
 counted at whole kind.End stated = at
 counted at whole kind.Copy stated = at
 counted at whole kind.OutOfTurn stated = at

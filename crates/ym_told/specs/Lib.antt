@@ -6,4 +6,5 @@ pub mod LineWords
 pub mod RunText
 pub mod Runs
 pub mod Scenes
+pub mod TellExamples
 pub mod TellPrefix

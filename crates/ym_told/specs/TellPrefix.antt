@@ -1,5 +1,5 @@
 -- What stands at the front of what is held of a way, and when that is sure.
-use Rattle.std.specs.Prelude.{ℕ, ◌==◌, nat_lt, ◌&&◌, ◌||◌, Bool, true, false, if◌then◌else◌, List, [], ◌∷◌, length, Option, Some, None}
+use Rattle.std.specs.Prelude.{ℕ, ◌==◌, nat_lt, not, ◌&&◌, ◌||◌, Bool, true, false, if◌then◌else◌, List, [], ◌∷◌, length, Option, Some, None}
 use Rattle.ym_frame.specs.declared.control.Control.TheVariants.{Can}
 use Rattle.ym_frame.specs.declared.frame.Why.{Why}
 use Rattle.ym_frame.specs.declared.frame.Why.TheVariants.{FirstByte, Complement, Check, SecondCan, Cut}
@@ -10,11 +10,13 @@ use Rattle.ym_explain.specs.declared.answered.AnswerLine.TheVariants as answer
 use Rattle.ym_explain.specs.declared.sent.SentLine.{SentLine}
 use Rattle.ym_explain.specs.declared.sent.SentLine.TheVariants as line
 use Rattle.ym_explain.specs.declared.sent.SentTold.{SentTold}
-use Rattle.ym_told.specs.Runs.{sent_run, answer_run}
+use Rattle.ym_told.specs.Runs.{sent_run, answer_run, is_answer_byte}
 use Rattle.ym_told.specs.declared.prefix.BufferedPrefix.{BufferedPrefix}
 use Rattle.ym_told.specs.declared.prefix.BufferedPrefix.TheVariants as prefix
 use Rattle.ym_told.specs.declared.prefix.Settle.{Settle}
 use Rattle.ym_told.specs.declared.prefix.Settle.TheVariants as settle
+use Rattle.ym_told.specs.declared.run.Tail.{Tail}
+use Rattle.ym_told.specs.declared.run.Tail.TheVariants.{Text, Gs, Nothing}
 
 abbrev pub answer_len : AnswerLine → ℕ
 answer_len answer.Cancel = 2
@@ -113,11 +115,50 @@ answer_prefix buffered settle (Some (answer.Answer control)) =
 answer_prefix buffered settle (Some answer.Cancel) = Some (prefix.Answer answer.Cancel)
 answer_prefix buffered settle (Some (answer.Echo used)) = Some (prefix.Answer (answer.Echo used))
 
+abbrev pub is_gs : Tail → Bool
+is_gs Gs = true
+is_gs Text = false
+is_gs Nothing = false
+
+-- a C or two, and no more
+abbrev pub is_c_or_two : List ℕ → Bool
+is_c_or_two [] = false
+is_c_or_two (a ∷ []) = a == 0x43
+is_c_or_two (a ∷ b ∷ []) = a == 0x43 && b == 0x43
+is_c_or_two (a ∷ b ∷ c ∷ more) = false
+
+-- Behind G a C asks, or is a letter of a text that begins so, as `GCC`: what comes next tells.
+abbrev pub may_ask : Tail → List ℕ → Settle → Bool
+may_ask tail buffered settle = waits settle && is_gs tail && is_c_or_two buffered
+
+abbrev pub is_letter : ℕ → Bool
+is_letter byte = not (is_answer_byte byte)
+
+abbrev pub is_letter_behind : ℕ → ℕ → Bool
+is_letter_behind a b = if a == 0x43 then is_letter b else is_letter a
+
+-- no answer stands there, or behind a C or two
+abbrev pub begins_text : List ℕ → Bool
+begins_text [] = false
+begins_text (a ∷ []) = is_letter a
+begins_text (a ∷ b ∷ []) = is_letter_behind a b
+begins_text (a ∷ b ∷ c ∷ more) =
+    if a == 0x43 then is_letter_behind b c else is_letter a
+
+-- the bytes go on as text, where this came last of a run of the receiver
+abbrev pub is_text_behind : Tail → List ℕ → Bool
+is_text_behind Text buffered = true
+is_text_behind Gs buffered = begins_text buffered
+is_text_behind Nothing buffered = false
+
+abbrev pub answer_run_behind : Tail → List ℕ → ℕ
+answer_run_behind tail buffered = answer_run (is_text_behind tail buffered) buffered
+
 -- the front of the receiver's bytes
-abbrev pub prefix_back : Bool → List ℕ → Settle → Option BufferedPrefix
-prefix_back in_text buffered settle =
-    if is_empty buffered || may_greet buffered settle then None else
+abbrev pub prefix_back : Tail → List ℕ → Settle → Option BufferedPrefix
+prefix_back tail buffered settle =
+    if is_empty buffered || may_greet buffered settle || may_ask tail buffered settle then None else
     if greets_zmodem buffered then Some prefix.Zmodem else
-    if nat_lt 0 (answer_run in_text buffered)
-    then Some (prefix.Run (answer_run in_text buffered)) else
+    if nat_lt 0 (answer_run_behind tail buffered)
+    then Some (prefix.Run (answer_run_behind tail buffered)) else
     answer_prefix buffered settle (answer_of buffered)

@@ -16,7 +16,7 @@ mod words;
 pub use line::{Telling, line_of};
 pub use moment::CaptureMoment;
 pub use prefix::{BufferedPrefix, ENOUGH, Settle, prefix_back, prefix_there};
-pub use run::{Run, RunEnd, SHOWN};
+pub use run::{Run, RunEnd, SHOWN, Tail};
 pub use scene::{Dated, Scene};
 pub use standing::BothStanding;
 pub use stated::{Announced, Stated, Stretch};

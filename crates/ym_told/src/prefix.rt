@@ -1,9 +1,10 @@
 //! What stands at the front of what is held of a way.
 
 ghost use Rattle.std.specs.Prelude.{◌≡◌, length as list_length};
-ghost use Rattle.ym_told.specs.TellPrefix.{may_greet as greets, prefix_told, prefix_open, prefix_there as prefix_of_there, prefix_back as prefix_of_back, used_by};
+ghost use Rattle.ym_told.specs.TellPrefix.{may_greet as greets, may_ask as asks, begins_text as starts_text, is_text_behind as goes_on_text, prefix_told, prefix_open, prefix_there as prefix_of_there, prefix_back as prefix_of_back, used_by};
 
-use crate::runs::{answer_run_len, sent_run_len};
+use crate::run::Tail;
+use crate::runs::{answer_run_len, is_answer_byte, sent_run_len};
 use ym_explain::{AnswerLine, SentLine, SentTold, is_zmodem, tell_answer};
 use ym_frame::{Control, Why};
 
@@ -122,17 +123,47 @@ fn told_prefix(told: SentTold, count: usize, settle: Settle) -> Option<BufferedP
     }
 }
 
-/// The front of what the receiver wrote, behind printed text or not.
-pub fn prefix_back(in_text: bool, buffered: &[u8], settle: Settle) -> Option<BufferedPrefix>
-    ensures { result ≡ prefix_of_back in_text buffered.now settle }
+/// Whether bytes may ask, or go on as the text that a G before them begins, and more may come: `GC`
+/// and `GCC` may begin one.
+fn may_ask(tail: Tail, buffered: &[u8], settle: Settle) -> bool
+    ensures { result ≡ asks tail buffered.now settle }
 {
-    if buffered.is_empty() || may_greet(buffered, settle) {
+    settle == Settle::Nothing && tail == Tail::Gs && matches!(buffered, [b'C'] | [b'C', b'C'])
+}
+
+/// Whether a text that G begins goes on with these bytes: no answer stands there, or behind the C
+/// or two with which they begin.
+fn begins_text(buffered: &[u8]) -> bool
+    ensures { result ≡ starts_text buffered.now }
+{
+    match buffered {
+        [b'C', b'C', next, ..] | [b'C', next, ..] | [next, ..] => !is_answer_byte(*next),
+        [] => false,
+    }
+}
+
+/// Whether bytes go on as text behind this.
+fn is_text_behind(tail: Tail, buffered: &[u8]) -> bool
+    ensures { result ≡ goes_on_text tail buffered.now }
+{
+    match tail {
+        Tail::Text => true,
+        Tail::Gs => begins_text(buffered),
+        Tail::Nothing => false,
+    }
+}
+
+/// The front of what the receiver wrote, where this came last of a run of it.
+pub fn prefix_back(tail: Tail, buffered: &[u8], settle: Settle) -> Option<BufferedPrefix>
+    ensures { result ≡ prefix_of_back tail buffered.now settle }
+{
+    if buffered.is_empty() || may_greet(buffered, settle) || may_ask(tail, buffered, settle) {
         return None;
     }
     if is_zmodem(buffered) {
         return Some(BufferedPrefix::Zmodem);
     }
-    let run = answer_run_len(in_text, buffered);
+    let run = answer_run_len(is_text_behind(tail, buffered), buffered);
     if run > 0 {
         return Some(BufferedPrefix::Run(run));
     }

@@ -1,7 +1,7 @@
 //! A run of bytes that are no frame and no answer, told as its bytes come.
 
 ghost use Rattle.std.specs.Prelude.{◌≡◌, IfOk, string_bytes};
-ghost use Rattle.ym_told.specs.RunText.{no_run, run_behind, goes_on, is_in_text, part_words, end_words};
+ghost use Rattle.ym_told.specs.RunText.{no_run, run_behind, goes_on, tail_back, tail_behind, tails, part_words, end_words};
 
 use crate::moment::CaptureMoment;
 use crate::runs::{is_printable, prefix_of, shown};
@@ -11,6 +11,44 @@ use std::fmt;
 
 /// So many bytes of a run are shown at most.
 pub const SHOWN: usize = 64;
+
+/// What came last of a run.
+#[derive(Clone, Copy, PartialEq, Eq)]
+pub enum Tail {
+    /// Printed text.
+    Text,
+    /// G, and no text before it: a receiver of YMODEM-g asks by it, or a text begins.
+    Gs,
+    /// Neither.
+    Nothing,
+}
+
+/// The same behind this byte of the run.
+fn tail_behind(tail: Tail, byte: u8) -> Tail
+    ensures { result ≡ tail_behind tail byte }
+{
+    match tail {
+        Tail::Gs | Tail::Nothing if byte == b'G' => Tail::Gs,
+        Tail::Text | Tail::Gs | Tail::Nothing => {
+            if is_printable(byte) {
+                Tail::Text
+            } else {
+                Tail::Nothing
+            }
+        }
+    }
+}
+
+/// The same behind these bytes of the run, one after another.
+fn tail_behind_all(tail: Tail, bytes: &[u8]) -> Tail
+    ensures { result ≡ tails tail bytes.now }
+{
+    let mut last = tail;
+    for byte in bytes {
+        last = tail_behind(last, *byte);
+    }
+    last
+}
 
 /// The run that was told last.
 #[derive(Clone, Copy)]
@@ -23,8 +61,8 @@ pub struct Run {
     pub shown: usize,
     /// How many bytes it has.
     pub count: u64,
-    /// The last of them.
-    pub last: u8,
+    /// What came last of it.
+    pub tail: Tail,
 }
 
 impl Run {
@@ -37,7 +75,7 @@ impl Run {
             way: Direction::There,
             shown: 0,
             count: 0,
-            last: 0,
+            tail: Tail::Nothing,
         }
     }
 
@@ -56,7 +94,7 @@ impl Run {
             way,
             shown: before.shown.saturating_add(shown),
             count: before.count.saturating_add(bytes.len() as u64),
-            last: bytes.last().copied().unwrap_or(before.last),
+            tail: tail_behind_all(before.tail, bytes),
         }
     }
 
@@ -67,11 +105,15 @@ impl Run {
         self.going && self.way == way
     }
 
-    /// Whether it is printed text of the receiver so far.
-    pub fn is_in_text(self) -> bool
-        ensures { result ≡ is_in_text self }
+    /// What came last of it, where the receiver wrote it and it may go on.
+    pub fn tail_back(self) -> Tail
+        ensures { result ≡ tail_back self }
     {
-        self.continues(Direction::Back) && is_printable(self.last)
+        if self.continues(Direction::Back) {
+            self.tail
+        } else {
+            Tail::Nothing
+        }
     }
 
     /// What tells these bytes of this way, which are no frame and no answer.

@@ -2,7 +2,7 @@
 
 ghost use Rattle.std.specs.Prelude.{◌≡◌};
 ghost use Rattle.ym_explain.specs.Noting.{noted};
-ghost use Rattle.ym_told.specs.BothStand.{at_start, behind_prefix, behind_run, behind_frame, behind_damage, behind_cut, behind_answer, counted, owes as owes_one};
+ghost use Rattle.ym_told.specs.BothStand.{at_start, behind_prefix, behind_run, behind_frame, behind_damage, behind_cut, behind_answer, counted, with_bytes_of, with_end, owes as owes_one};
 
 use crate::prefix::BufferedPrefix;
 use crate::stated::Stated;
@@ -22,8 +22,8 @@ pub struct BothStanding {
     pub fate: Fate,
     /// What was seen.
     pub signs: Signs,
-    /// How many bytes of the file under way have not come, as far as its length is known.
-    pub left: u64,
+    /// How many bytes of the file under way have not come, where its length is known.
+    pub left: Option<u64>,
     /// Whether the two ends have parted.
     pub parted: bool,
 }
@@ -37,7 +37,7 @@ impl BothStanding {
             position: SendPosition::Before,
             fate: Fate::Start,
             signs: Signs::new(),
-            left: 0,
+            left: None,
             parted: false,
         }
     }
@@ -117,19 +117,43 @@ impl BothStanding {
     {
         let mut behind = self;
         match (kind, whole, stated) {
-            (FrameKind::Name, _, Stated::Length(length)) => behind.left = length,
+            (FrameKind::Name, _, Stated::Length(length)) => behind.left = Some(length),
             (FrameKind::Name, _, Stated::NoRoom) => {
-                behind.left = 0;
+                behind.left = None;
                 behind.signs = self.signs.note(Sign::NoRoom);
             }
-            (FrameKind::Name, _, Stated::Nothing) => behind.left = 0,
+            (FrameKind::Name, _, Stated::Nothing) => behind.left = None,
             (FrameKind::Data, Whole::Block(size), _) => {
-                behind.left = self.left.saturating_sub(size.body_len() as u64);
+                return self.with_bytes(size.body_len() as u64);
             }
-            (FrameKind::Eot, _, _) if self.left > 0 => {
-                behind.signs = self.signs.note(Sign::CutLength);
-            }
+            (FrameKind::Eot, _, _) => return self.with_end(),
             _ => {}
+        }
+        behind
+    }
+
+    /// With so many bytes more of the file under way. Where all of its length had come, they are
+    /// past it.
+    fn with_bytes(self, count: u64) -> BothStanding
+        ensures { result ≡ with_bytes_of self self.left count }
+    {
+        let mut behind = self;
+        if let Some(left) = self.left {
+            if left == 0 {
+                behind.signs = self.signs.note(Sign::PastLength);
+            }
+            behind.left = Some(left.saturating_sub(count));
+        }
+        behind
+    }
+
+    /// Where the file under way ends.
+    fn with_end(self) -> BothStanding
+        ensures { result ≡ with_end self self.left }
+    {
+        let mut behind = self;
+        if matches!(self.left, Some(left) if left > 0) {
+            behind.signs = self.signs.note(Sign::CutLength);
         }
         behind
     }
