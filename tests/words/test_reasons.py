@@ -5,7 +5,7 @@ import os
 from support.cases import case, cases, sentence
 from support.on_line import ends_with, started
 from support.program import PROGRAM, folders, free_port, running, write_files
-from support.telling import FAULT, FILE, connecting
+from support.telling import FAULT, FILE, connecting, listening
 from support.tracing import at_paths, strace
 
 
@@ -44,6 +44,18 @@ def test_no_connection(error, why):
         with running("send", "-p", port, "--verbose", path, before=before) as send:
             told = "no connection at 127.0.0.1:%d: %s\n" % (port, why)
             send.ended().wants(3, "", connecting(port) + told + FAULT)
+
+
+@sentence("a reason of the system: no connection can be taken")
+def test_takes_no_connection():
+    """A receiver that has no descriptor for one."""
+    with folders() as (log, there):
+        port = free_port()
+        refusing = ("-e", "inject=accept,accept4:error=EMFILE")
+        before = strace(os.path.join(log, "log"), *refusing)
+        with running("receive", "-p", port, "--verbose", there, before=before) as receive:
+            told = "no connection at 127.0.0.1:%d: too many files are open\n" % port
+            receive.ended().wants(3, "", listening(port) + told + FAULT)
 
 
 @sentence("a reason of the system: standard output, which is the line, is closed")

@@ -24,12 +24,16 @@ pub trait Connections {
             × (failures self.new ≡ failures self.old)) }
         ensures failed { OnErr result ((taken self.new ≡ taken self.old)
             × Counted (failures self.old) (failures self.new)) };
+
+    /// The port of 127.0.0.1 that they come to.
+    fn port(&self) -> u16;
 }
 
 /// A listener, with how many connections it has given and how often it failed.
 #[derive(Drop)]
 pub(crate) struct Listening {
     listener: TcpListener,
+    port: u16,
     taken: u64,
     failed: u64,
 }
@@ -51,6 +55,10 @@ impl Connections for Listening {
             }
         }
     }
+
+    fn port(&self) -> u16 {
+        self.port
+    }
 }
 
 /// Listens on 127.0.0.1 at this port, and tells that it does, or why not.
@@ -66,6 +74,7 @@ pub(crate) fn listen<R: Net<Listener = TcpListener, Stream = TcpStream>, E: Writ
             teller.tell(LineMessage::Listening(port));
             Ok(Listening {
                 listener,
+                port,
                 taken: 0,
                 failed: 0,
             })
@@ -77,7 +86,7 @@ pub(crate) fn listen<R: Net<Listener = TcpListener, Stream = TcpStream>, E: Writ
     }
 }
 
-/// Takes the next connection, and tells of it.
+/// Takes the next connection, and tells of it, or why there is none.
 pub(crate) fn take_told<C: Connections, E: Write + Drop>(
     connections: &mut C,
     teller: &mut Teller<E>,
@@ -88,7 +97,14 @@ pub(crate) fn take_told<C: Connections, E: Write + Drop>(
     ensures failed { OnErr result ((C.taken connections.new ≡ C.taken connections.old)
         × Counted (C.failures connections.old) (C.failures connections.new)) }
 {
-    let stream = connections.take()?;
-    teller.tell(LineMessage::Connected);
-    Ok(stream)
+    match connections.take() {
+        Ok(stream) => {
+            teller.tell(LineMessage::Connected);
+            Ok(stream)
+        }
+        Err(error) => {
+            teller.tell(LineMessage::of_error(connections.port(), &error));
+            Err(error)
+        }
+    }
 }
