@@ -86,6 +86,25 @@ def test_to_rb(flags=()):
 
 
 @cases(
+    case("rx is told as a receiver of XMODEM", ("rx", "got"), "the receiver asks by NAK, "),
+    case("rx -c is told as one, too", ("rx", "-c", "got"), "the receiver took block 0 and "),
+)
+def test_to_rx(words, told):
+    """It takes no block 0, so nothing comes over, and a person is told why."""
+    with folders() as (here, there), socket.create_server(("127.0.0.1", 0)) as listener:
+        paths = write_files(here, [("first.bin", bytes(300))])
+        listener.settimeout(LIMIT)
+        flags = ("--verbose", "--port", listener.getsockname()[1])
+        with running("send", *flags, *paths) as send:
+            end, _ = listener.accept()
+            with end:
+                ended, _ = beside_lrzsz(list(words), there, end, send)
+        ended.wants(1, "sender done 0 no-reply\n", ended.err)
+        last = ended.err.splitlines()[-1]
+        assert last.startswith(told), "it told %r" % ended.err
+
+
+@cases(
     *(
         case(
             "no file is lost where sb was asked %d times, each block 0 in a read of its own, %d"

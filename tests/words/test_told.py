@@ -19,6 +19,8 @@ LOUD = ("--verbose",)
 ECHOES = "the line echoes what is sent: is a %s running there?\n"
 NOT_SAFE = header(b"../first", b"0")
 NOT_UTF_8 = header(b"first\xff", b"0")
+# As long as a name may be, and with the ending of its part's.
+OWN_PART = 250 * "n" + ".part"
 THERE = "cannot store '%s': it is there already; move it away first\n"
 CANCELLED = "the other end cancelled (CAN CAN)\n"
 CLOSED = "the other end closed the connection\n"
@@ -188,6 +190,10 @@ def reads(end, wanted):
     assert got == wanted, "the reply"
 
 
+def leaves_it(_):
+    pass
+
+
 def takes_the_name(there):
     write_files(there, [("a", b"new")])
 
@@ -210,16 +216,24 @@ def replaces_the_part(there):
         "cannot store 'a': 'a.part' was changed by another program\n",
         ["a.part", "other"],
     ),
+    case(
+        "tells why a file is not stored: it is its own part",
+        leaves_it,
+        "cannot store '%s': its part would have the same name; send it under a shorter one\n"
+        % OWN_PART,
+        [],
+        OWN_PART,
+    ),
 )
-def test_meanwhile(change, told, kept):
-    """An empty file that is not stored, since its folder is changed while its part is open: what is
-    told, and what the folder has then."""
+def test_meanwhile(change, told, kept, name="a"):
+    """An empty file that is not stored, since its folder is changed while its part is open, or its
+    part has its name: what is told, and what the folder has then."""
     for flags in ((), LOUD):
         with folders() as (_, there):
 
             def peer(end):
                 end.recv(1)
-                end.sendall(header(b"a"))
+                end.sendall(header(name.encode()))
                 reads(end, ACK_START)
                 change(there)
                 end.sendall(bytes((EOT,)))
@@ -229,7 +243,7 @@ def test_meanwhile(change, told, kept):
 
             ended = receive_from(peer, there, ("--eager", *flags))
             if flags:
-                assert ended.err.split("\n", 2)[2] == coming("a", 0) + told + FAULT, "what it told"
+                assert ended.err.split("\n", 2)[2] == coming(name, 0) + told + FAULT, "what it told"
             else:
                 ended.wants(3, "receiver files 0 sink-failed\n", FAULT)
             assert sorted(os.listdir(there)) == kept, "what the folder has"

@@ -25,6 +25,7 @@ from support.tracing import at_paths, calls_of, strace
 
 LOUD = ("--verbose",)
 XMODEM = "the receiver asks by NAK, as XMODEM does: start it as a receiver of YMODEM"
+PASSES = "the receiver took block 0 and asked by NAK, as XMODEM does: run `rb` there, not `rx`"
 STREAMS = "the receiver asks by G, as YMODEM-g does: start it as a receiver of YMODEM"
 REFUSES = "nothing came but NAK, ten times: does the receiver get every byte that is sent?"
 SPEED = "nothing whole came, ten times in a row: do both ends have the same speed?"
@@ -32,6 +33,8 @@ BETTER_LINE = "nothing new came whole, ten times in a row: use a better line, or
 SAME = "nothing came but the same again, ten times: does the sender get what is written to it?"
 PAST = "nothing came but data past the file's length, ten times: does the file grow?"
 NO_SENDER = "nothing came but what receivers send: is a sender at the other end?"
+NO_LENGTH = "the sender gave a file no length: use a sender of YMODEM that gives one"
+NO_ROOM = "the name leaves block 0 no room for the length: send the file under a shorter one"
 NAMELESS = "the sender names no file, as XMODEM does: start it as a sender of YMODEM"
 AGAIN = "a block came out of turn: the two ends are out of step, send again"
 
@@ -70,6 +73,26 @@ def refuses(end):
     says_on(end, bytes((NAK,)))
 
 
+def passes_over(end):
+    """A receiver of XMODEM that asks by C, as `rx -c`: block 0 is a copy to it, of no block."""
+    end.sendall(bytes((START,)))
+    next(frames_at(end))
+    end.sendall(bytes((ACK,)))
+    says_on(end, bytes((NAK,)))
+
+
+def takes_a_copy(end):
+    """A receiver whose answer to block 0 was lost. It takes the copy by ACK alone, and asks by NAK
+    from then on, as `rb` does."""
+    end.sendall(bytes((START,)))
+    frames = frames_at(end)
+    next(frames)
+    end.sendall(bytes((NAK,)))
+    next(frames)
+    end.sendall(bytes((ACK,)))
+    says_on(end, bytes((NAK,)))
+
+
 def falls_silent(end):
     """The same, which says nothing more behind some refusals."""
     end.sendall(bytes((START,)))
@@ -88,6 +111,8 @@ def told_last(ended):
     case("tells that a receiver asks as one of XMODEM", asks_by(NAK), XMODEM),
     case("tells that a receiver asks as one of YMODEM-g", asks_by(ord("G")), STREAMS),
     case("tells that a receiver refuses what is sent", refuses, REFUSES),
+    case("tells that a receiver passes block 0 over", passes_over, PASSES),
+    case("tells a copy of block 0 that was taken as no XMODEM", takes_a_copy, BETTER_LINE),
     case("tells that what comes to a sender is noise", asks_by(0xFE), SPEED),
 )
 def test_no_reply(peer, told):
@@ -122,6 +147,16 @@ def sends_first(number):
     def peer(end):
         end.recv(1)
         says_on(end, block(number, bytes(128)))
+
+    return peer
+
+
+def names(name):
+    """A sender whose block 0 has this name, and no length behind it."""
+
+    def peer(end):
+        end.recv(1)
+        says_on(end, block(0, name.ljust(128, b"\0")))
 
     return peer
 
@@ -164,6 +199,25 @@ def sends_past(count):
     case("tells that a receiver is at both ends", asks_by(START), "too-many-errors", NO_SENDER),
     case("tells that a sender sends as one of XMODEM", sends_first(1), "out-of-step", NAMELESS),
     case("tells that a sender is in the middle", sends_first(7), "out-of-step", AGAIN),
+    case("tells that a name has no length", names(b"a"), "bad-header no-length", NO_LENGTH),
+    case(
+        "tells that a name leaves room for three more bytes",
+        names(b"n" * 124),
+        "bad-header no-length",
+        NO_LENGTH,
+    ),
+    case(
+        "tells that a name leaves no room for a length",
+        names(b"n" * 125),
+        "bad-header no-length",
+        NO_ROOM,
+    ),
+    case(
+        "tells that a name fills block 0",
+        names(b"n" * 128),
+        "bad-header no-length",
+        NO_ROOM,
+    ),
 )
 def test_no_block(peer, state, told):
     """What a receiver that gets no block tells of what came."""

@@ -48,7 +48,7 @@ static RECEIVERS: [(RecvState, Option<&str>); 4] = [
     ),
     (
         RecvState::BadHeader(HeaderFault::NoLength),
-        Some("the sender gave a file no length: let it send by YMODEM, and not by XMODEM"),
+        Some("the sender gave a file no length: use a sender of YMODEM that gives one"),
     ),
     (RecvState::Finished, None),
 ];
@@ -203,7 +203,38 @@ fn receiver_tells(rt: &HostRuntime, told_of: &Heard<'_>) -> bool {
 }
 
 /// To a sender.
-static TO_SENDERS: [Heard; 11] = [
+static TO_SENDERS: [Heard; 16] = [
+    (
+        &[b"C", b"\x06", b"\x15", b"\x15"],
+        Sight::Begun,
+        false,
+        "the receiver took block 0 and asked by NAK, as XMODEM does: run `rb` there, not `rx`",
+    ),
+    (
+        &[b"\x06", b"\x15"],
+        Sight::Begun,
+        true,
+        "the receiver took block 0 and asked by NAK",
+    ),
+    // block 0 was repeated, or an EOT was written
+    (
+        &[b"\x06", b"\x15"],
+        Sight::Peer,
+        false,
+        "nothing new came whole, ten times in a row: use a better line, or a lower speed",
+    ),
+    (
+        &[b"\x06"],
+        Sight::Begun,
+        true,
+        "nothing came any more for 27 s: has the receiver stopped",
+    ),
+    (
+        &[b"\x15", b"\x15"],
+        Sight::Begun,
+        false,
+        "nothing came but NAK, ten times",
+    ),
     (
         &[b"\x15"],
         Sight::Peer,
@@ -320,6 +351,27 @@ fn of_senders_of_xmodem(rt: HostRuntime) {
     let again = "a block came out of turn: the two ends are out of step, send again";
     assert!(rt; out_of_turn(&rt, Sight::Peer, again));
     assert!(rt; out_of_turn(&rt, Sight::Nothing, again));
+}
+
+/// Whether a block 0 that was refused is told so, to a receiver that saw this of it.
+fn refused(rt: &HostRuntime, seen: Sight, fault: HeaderFault, want: &str) -> bool {
+    let lately = heard(&[], seen, false);
+    ends(
+        rt,
+        EndMessage::of_receiver(RecvState::BadHeader(fault), lately),
+        Some(want),
+    )
+}
+
+#[test]
+fn of_names_without_room(rt: HostRuntime) {
+    let no_room = "the name leaves block 0 no room for the length: send the file under a \
+        shorter one";
+    assert!(rt; refused(&rt, Sight::Crammed, HeaderFault::NoLength, no_room));
+    let no_length = "the sender gave a file no length: use a sender of YMODEM that gives one";
+    assert!(rt; refused(&rt, Sight::Peer, HeaderFault::NoLength, no_length));
+    let long = "the sender gave a file a name of more than 255 bytes";
+    assert!(rt; refused(&rt, Sight::Crammed, HeaderFault::NameLong, long));
 }
 
 /// Whether this is the line of a wait of 12 seconds of 100, on so many columns.

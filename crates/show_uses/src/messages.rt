@@ -41,7 +41,7 @@ fn of_connections(rt: HostRuntime) {
 }
 
 /// The messages of files.
-static FILES: [(FileMessage, &str); 11] = [
+static FILES: [(FileMessage, &str); 12] = [
     (
         FileMessage::CannotOpen("firmware.bin", Reason::Absent),
         "cannot open 'firmware.bin': no such file or directory",
@@ -57,6 +57,10 @@ static FILES: [(FileMessage, &str); 11] = [
     (
         FileMessage::IsThere("a"),
         "cannot store 'a': it is there already; move it away first",
+    ),
+    (
+        FileMessage::IsOwnPart("a"),
+        "cannot store 'a': its part would have the same name; send it under a shorter one",
     ),
     (
         FileMessage::PartIsLeft("a", "a.part"),
@@ -209,7 +213,7 @@ fn of_terminals(rt: HostRuntime) {
 const ODD: &str = "a\u{1b}[2J\u{202e}b";
 
 /// An odd name in the messages of files.
-static ODD_FILES: [(FileMessage, &str); 9] = [
+static ODD_FILES: [(FileMessage, &str); 10] = [
     (
         FileMessage::CannotOpen(ODD, Reason::Absent),
         "cannot open 'a\\u{1b}[2J\\u{202e}b': no such file or directory",
@@ -234,6 +238,11 @@ static ODD_FILES: [(FileMessage, &str); 9] = [
     (
         FileMessage::IsThere(ODD),
         "cannot store 'a\\u{1b}[2J\\u{202e}b': it is there already; move it away first",
+    ),
+    (
+        FileMessage::IsOwnPart(ODD),
+        "cannot store 'a\\u{1b}[2J\\u{202e}b': \
+                its part would have the same name; send it under a shorter one",
     ),
     (
         FileMessage::PartIsReplaced(ODD),

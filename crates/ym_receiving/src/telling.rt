@@ -36,6 +36,7 @@ fn tell_not_stored<E: Write + Drop>(
     };
     let part = part.as_str();
     teller.tell(match why {
+        Some(StoreFault::IsThere) if part == name => FileMessage::IsOwnPart(name),
         Some(StoreFault::IsThere) => FileMessage::IsThere(name),
         Some(StoreFault::PartIsThere) => match leftover {
             Leftover::Refused => FileMessage::PartIsLeft(name, part),

@@ -258,6 +258,20 @@ impl<'t, E: Write + Drop, C: Clock + Drop> Meter<'t, E, C> {
         self.quiet.seen = Sight::Peer;
     }
 
+    /// The same of a sender that was asked for a block 0.
+    pub fn start(&mut self) {
+        let is_first = self.quiet.seen == Sight::Nothing;
+        self.get_on();
+        if is_first {
+            self.quiet.seen = Sight::Begun;
+        }
+    }
+
+    /// It writes a block again.
+    pub fn repeat(&mut self) {
+        self.quiet.seen = Sight::Peer;
+    }
+
     /// A block came, which may be damaged: of a sender that names no file, or of another one.
     pub fn meet(&mut self, is_nameless: bool) {
         if self.quiet.seen == Sight::Nothing {

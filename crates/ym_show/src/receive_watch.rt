@@ -10,7 +10,7 @@ use std::time::Clock;
 use ym_frame::{Control, EOT, SOH, STX, control_of};
 use ym_header::Header;
 use ym_link::Wait;
-use ym_text::{Awaited, Coming, EchoMessage, FileMessage, Lately};
+use ym_text::{Awaited, Coming, EchoMessage, FileMessage, Lately, Sight};
 
 /// So many bytes of a delivery are kept: a block's front, and a name.
 const PREFIX_BYTES: usize = 260;
@@ -60,6 +60,22 @@ fn name_in(body: &[u8]) -> Option<&str> {
     str::from_utf8(&body[..end]).ok()
 }
 
+/// Whether a delivery with these bytes in front is a short block 0 whose name leaves no room for a
+/// length: two bytes behind its 00, or fewer. A digit and its 00 would fit, but into the last two
+/// of 128 bytes `sb` writes a count of blocks.
+fn is_crammed(front: &[u8]) -> bool {
+    match front {
+        [SOH, 0, 0xff, body @ ..] => {
+            let body = &body[..body.len().min(128)];
+            match body.iter().position(|&byte| byte == 0) {
+                Some(end) => body.len() - end <= 3,
+                None => true,
+            }
+        }
+        _ => false,
+    }
+}
+
 /// What is shown of a receiver.
 #[derive(Drop)]
 pub struct Receiving<'t, E: Write + Drop, C: Clock + Drop> {
@@ -103,7 +119,13 @@ impl<'t, E: Write + Drop, C: Clock + Drop> Receiving<'t, E, C> {
     /// came of late. The showing ends.
     pub fn end(&mut self) -> (Option<String>, Lately) {
         let _ = self.meter.end();
-        (self.last.take(), self.meter.lately())
+        let lately = self.meter.lately();
+        let seen = if is_crammed(self.prefix.as_slice()) {
+            Sight::Crammed
+        } else {
+            lately.seen
+        };
+        (self.last.take(), Lately { seen, ..lately })
     }
 
     /// The name in the delivery that came last, where that is a block 0, and its name is text.

@@ -76,10 +76,11 @@ impl<'t, E: Write + Drop, C: Clock + Drop> Sending<'t, E, C> {
     fn block(&mut self, number: u8, body: &[u8]) {
         match self.stage {
             SendStage::Between => {
-                self.meter.get_on();
+                self.meter.start();
                 self.header(body);
             }
             SendStage::In { number: last, .. } if last == number => {
+                self.meter.repeat();
                 self.repeats = self.repeats.saturating_add(1);
             }
             SendStage::In { count, .. } => {

@@ -7,11 +7,15 @@ use Rattle.ym_text.specs.declared.came.TheConstants.{SLOW_MS}
 -- after more that asks
 abbrev pub and_asks : Came → Came
 and_asks came.Nothing = came.Asks
+and_asks came.Takes = came.Other
+and_asks came.Passes = came.Other
 and_asks before = before
 
 -- after more that asks for all blocks
 abbrev pub and_streams : Came → Came
 and_streams came.Nothing = came.Streams
+and_streams came.Takes = came.Other
+and_streams came.Passes = came.Other
 and_streams before = before
 
 -- after more that asks for a block again
@@ -20,10 +24,21 @@ and_refusals came.Text = came.Other
 and_refusals came.Copies = came.Other
 and_refusals came.Past = came.Other
 and_refusals came.Other = came.Other
+and_refusals came.Takes = came.Passes
+and_refusals came.Passes = came.Passes
 and_refusals _ = came.Refuses
+
+-- after more that takes a frame: what asked before, or refused one, may have crossed it
+abbrev pub and_takings : Came → Came
+and_takings came.Nothing = came.Takes
+and_takings came.Asks = came.Takes
+and_takings came.Refuses = came.Takes
+and_takings came.Takes = came.Takes
+and_takings _ = came.Other
 
 -- after more that is text
 abbrev pub and_text : Came → Came
+and_text came.Passes = came.Other
 and_text came.Copies = came.Other
 and_text came.Past = came.Other
 and_text came.Other = came.Other

@@ -26,6 +26,13 @@ abbrev pub prompt_of : Peer → Cause → Cause
 prompt_of peer.Receiver why = why
 prompt_of peer.Sender why = cause.NoSender
 
+-- ACK comes, and then NAK, and no C. Behind the first block 0 a receiver of XMODEM answers so: it
+-- takes that for a copy of what it has not got, and waits for block 1. One of YMODEM may answer so
+-- behind one that was repeated, as its C was the answer to the first one.
+abbrev pub passed_of : Peer → Sight → Cause → Cause
+passed_of peer.Receiver seen.Begun why = cause.Passes
+passed_of _ _ why = why
+
 -- Nothing comes any more. A prompt is shown once, and whoever asked was there. A receiver that asks
 -- a receiver may not be heard: what it sends is what an echo would bring.
 abbrev pub quiet_of : Peer → Sight → Came → ℕ → Cause
@@ -33,6 +40,9 @@ quiet_of other before came.Nothing seconds = silence_of other before seconds
 quiet_of other before came.Copies seconds = silence_of other before seconds
 quiet_of other before came.Past seconds = silence_of other before seconds
 quiet_of other before came.Other seconds = silence_of other before seconds
+quiet_of other before came.Takes seconds = silence_of other before seconds
+quiet_of other before came.Passes seconds =
+    passed_of other before (silence_of other before seconds)
 quiet_of other before came.Text seconds = cause.Text
 quiet_of other before _ seconds = prompt_of other (cause.Ceased other seconds)
 
@@ -51,6 +61,8 @@ heard_of other before came.Nothing seconds = silence_of other before seconds
 heard_of other before came.Asks seconds = prompt_of other cause.Asks
 heard_of other before came.Refuses seconds = prompt_of other (asked_of before)
 heard_of other before came.Streams seconds = prompt_of other cause.Streams
+heard_of other before came.Takes seconds = noise_of before
+heard_of other before came.Passes seconds = passed_of other before (noise_of before)
 heard_of other before came.Text seconds = cause.Text
 heard_of other before came.Copies seconds = cause.Copies
 heard_of other before came.Past seconds = cause.Past
@@ -96,6 +108,9 @@ cause_text cause.Refuses =
     codes "nothing came but NAK, ten times: does the receiver get every byte that is sent?"
 cause_text cause.Xmodem =
     codes "the receiver asks by NAK, as XMODEM does: start it as a receiver of YMODEM"
+cause_text cause.Passes =
+    codes "the receiver took block 0 and asked by NAK, as XMODEM does: run `rb` there, "
+    ++ codes "not `rx`"
 cause_text cause.Streams =
     codes "the receiver asks by G, as YMODEM-g does: start it as a receiver of YMODEM"
 cause_text cause.NoSender =

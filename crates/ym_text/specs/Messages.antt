@@ -53,7 +53,7 @@ header_text header.NameLong = codes "the sender gave a file a name of more than 
 header_text header.NameUnsafe =
     codes "the sender gave an unsafe name: a path, not UTF-8, or with control characters"
 header_text header.NoLength =
-    codes "the sender gave a file no length: let it send by YMODEM, and not by XMODEM"
+    codes "the sender gave a file no length: use a sender of YMODEM that gives one"
 header_text header.LengthLarge =
     codes "the sender gave a file a length above 9223372036854775807"
 header_text header.Memory = codes "out of memory"
@@ -81,6 +81,8 @@ end_text end.OutOfStep =
 end_text end.Nameless =
     codes "the sender names no file, as XMODEM does: start it as a sender of YMODEM"
 end_text (end.BadHeader fault) = header_text fault
+end_text end.NoRoom =
+    codes "the name leaves block 0 no room for the length: send the file under a shorter one"
 end_text end.TooManyFiles = codes "more than 65535 files came: send the rest in another batch"
 
 -- the line that is made of these words
@@ -102,6 +104,11 @@ abbrev pub out_of_step : Sight → EndMessage
 out_of_step seen.Nameless = end.Nameless
 out_of_step _ = end.OutOfStep
 
+-- a block 0 was refused: one of YMODEM may lack a length for want of room
+abbrev pub header_end : Sight → HeaderFault → EndMessage
+header_end seen.Crammed header.NoLength = end.NoRoom
+header_end _ fault = end.BadHeader fault
+
 -- the same of a receiver, whose sink is told of elsewhere
 abbrev pub receiver_end : Lately → RecvState → Option EndMessage
 receiver_end lately recv.Running = None
@@ -109,6 +116,6 @@ receiver_end lately recv.Finished = None
 receiver_end lately recv.TooManyErrors = Some (end.NoBlock lately)
 receiver_end lately recv.Cancelled = Some end.PeerCancelled
 receiver_end lately recv.OutOfStep = Some (out_of_step lately.seen)
-receiver_end lately (recv.BadHeader fault) = Some (end.BadHeader fault)
+receiver_end lately (recv.BadHeader fault) = Some (header_end lately.seen fault)
 receiver_end lately recv.TooManyFiles = Some end.TooManyFiles
 receiver_end lately recv.SinkFailed = None

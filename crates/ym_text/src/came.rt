@@ -1,7 +1,7 @@
 //! What came of late.
 
 ghost use Rattle.std.specs.Prelude.{◌≡◌, ◌≢◌, ◌↔◌, [], IsTrue, All};
-ghost use Rattle.ym_text.specs.Readable.{IsAsk, IsStream, IsRefusal, IsTextByte};
+ghost use Rattle.ym_text.specs.Readable.{IsAsk, IsStream, IsRefusal, IsTaking, IsTextByte};
 
 /// The byte by which a receiver asks.
 const ASK: u8 = b'C';
@@ -11,6 +11,9 @@ const STREAM: u8 = b'G';
 
 /// The one by which a receiver asks for a block again, and by which one of XMODEM asks.
 const NAK: u8 = 0x15;
+
+/// The one by which a receiver takes a frame.
+const ACK: u8 = 0x06;
 
 /// What came since an end last got on.
 #[derive(Clone, Copy, PartialEq, Eq)]
@@ -23,6 +26,10 @@ pub enum Came {
     Refuses,
     /// G alone.
     Streams,
+    /// ACK alone behind all that asks, if anything did.
+    Takes,
+    /// NAK alone behind that.
+    Passes,
     /// Text, as a person reads it.
     Text,
     /// Frames alone that came before, and were answered.
@@ -54,6 +61,13 @@ fn is_refusals(bytes: &[u8]) -> bool
     bytes.iter().all(|&byte| byte == NAK || byte == ASK)
 }
 
+/// Whether these bytes are ACK alone.
+fn is_takings(bytes: &[u8]) -> bool
+    ensures { IsTrue result ↔ All IsTaking bytes.now }
+{
+    bytes.iter().all(|&byte| byte == ACK)
+}
+
 /// Whether these bytes are characters of ASCII that are printed, or controls that stand in what a
 /// shell shows: BEL to CR, and ESC.
 fn is_text(bytes: &[u8]) -> bool
@@ -66,7 +80,7 @@ fn is_text(bytes: &[u8]) -> bool
 
 impl Came {
     ghost use Rattle.ym_text.specs.Came.{and_asks, and_streams, and_refusals, and_text};
-    ghost use Rattle.ym_text.specs.Came.{and_copy, and_past};
+    ghost use Rattle.ym_text.specs.Came.{and_takings, and_copy, and_past};
 
     /// After more that asks.
     fn with_asks(self) -> Came
@@ -74,6 +88,7 @@ impl Came {
     {
         match self {
             Came::Nothing => Came::Asks,
+            Came::Takes | Came::Passes => Came::Other,
             came => came,
         }
     }
@@ -84,6 +99,7 @@ impl Came {
     {
         match self {
             Came::Nothing => Came::Streams,
+            Came::Takes | Came::Passes => Came::Other,
             came => came,
         }
     }
@@ -94,7 +110,18 @@ impl Came {
     {
         match self {
             Came::Text | Came::Copies | Came::Past | Came::Other => Came::Other,
+            Came::Takes | Came::Passes => Came::Passes,
             _ => Came::Refuses,
+        }
+    }
+
+    /// After more that takes a frame.
+    fn with_takings(self) -> Came
+        ensures { result ≡ and_takings self }
+    {
+        match self {
+            Came::Nothing | Came::Asks | Came::Refuses | Came::Takes => Came::Takes,
+            _ => Came::Other,
         }
     }
 
@@ -103,7 +130,7 @@ impl Came {
         ensures { result ≡ and_text self }
     {
         match self {
-            Came::Copies | Came::Past | Came::Other => Came::Other,
+            Came::Passes | Came::Copies | Came::Past | Came::Other => Came::Other,
             _ => Came::Text,
         }
     }
@@ -137,10 +164,14 @@ impl Came {
             result ≡ and_streams self }
         ensures refusals { ¬ All IsAsk bytes.now → ¬ All IsStream bytes.now →
             All IsRefusal bytes.now → result ≡ and_refusals self }
+        ensures takings { ¬ All IsAsk bytes.now → ¬ All IsStream bytes.now →
+            ¬ All IsRefusal bytes.now → All IsTaking bytes.now → result ≡ and_takings self }
         ensures text { ¬ All IsAsk bytes.now → ¬ All IsStream bytes.now →
-            ¬ All IsRefusal bytes.now → All IsTextByte bytes.now → result ≡ and_text self }
+            ¬ All IsRefusal bytes.now → ¬ All IsTaking bytes.now → All IsTextByte bytes.now →
+            result ≡ and_text self }
         ensures other { ¬ All IsAsk bytes.now → ¬ All IsStream bytes.now →
-            ¬ All IsRefusal bytes.now → ¬ All IsTextByte bytes.now → result ≡ Came.Other }
+            ¬ All IsRefusal bytes.now → ¬ All IsTaking bytes.now →
+            ¬ All IsTextByte bytes.now → result ≡ Came.Other }
     {
         if bytes.is_empty() {
             return self;
@@ -153,6 +184,9 @@ impl Came {
         }
         if is_refusals(bytes) {
             return self.with_refusals();
+        }
+        if is_takings(bytes) {
+            return self.with_takings();
         }
         if is_text(bytes) {
             return self.with_text();
@@ -168,8 +202,12 @@ pub enum Sight {
     Nothing,
     /// To a sender that the receiver asked, and to a receiver a block.
     Peer,
+    /// To a sender that, and nothing of the one frame that it wrote then, and once.
+    Begun,
     /// Its first block was block 1: it names no file.
     Nameless,
+    /// Its block 0, of which the name leaves no room for a length.
+    Crammed,
 }
 
 /// After so many milliseconds without an answer usual peers ask again, or say theirs once more.

@@ -3,7 +3,8 @@
 ghost use Rattle.std.specs.Prelude.{◌≡◌, Some};
 ghost use Rattle.ym_text.specs.Causes.{absent_text, stopped_text, ceased_text, slow_text};
 ghost use Rattle.ym_text.specs.Causes.{peer_text, silence_of, quiet_of, noise_of, asked_of};
-ghost use Rattle.ym_text.specs.Causes.{heard_of, prompt_of, cause_of, cause_text, words_text};
+ghost use Rattle.ym_text.specs.Causes.{heard_of, prompt_of, passed_of, cause_of, cause_text};
+ghost use Rattle.ym_text.specs.Causes.{words_text};
 
 use crate::came::{Came, Lately, Sight};
 use std::fmt;
@@ -45,6 +46,8 @@ pub(crate) enum Cause {
     Refuses,
     /// It asks as one of XMODEM does.
     Xmodem,
+    /// It passed block 0 over, as one of XMODEM does.
+    Passes,
     /// It asks as one of YMODEM-g does.
     Streams,
     /// A receiver heard what receivers send.
@@ -170,12 +173,25 @@ fn prompts(peer: Peer, cause: Cause) -> Cause
     }
 }
 
+/// Why a receiver took a frame and then asked by NAK, or else this.
+fn passed(peer: Peer, seen: Sight, cause: Cause) -> Cause
+    ensures { result ≡ passed_of peer seen cause }
+{
+    match (peer, seen) {
+        (Peer::Receiver, Sight::Begun) => Cause::Passes,
+        _ => cause,
+    }
+}
+
 /// Why nothing comes any more behind what came.
 fn quiet(peer: Peer, seen: Sight, came: Came, seconds: u64) -> Cause
     ensures { result ≡ quiet_of peer seen came seconds }
 {
     match came {
-        Came::Nothing | Came::Copies | Came::Past | Came::Other => silence(peer, seen, seconds),
+        Came::Nothing | Came::Takes | Came::Copies | Came::Past | Came::Other => {
+            silence(peer, seen, seconds)
+        }
+        Came::Passes => passed(peer, seen, silence(peer, seen, seconds)),
         Came::Text => Cause::Text,
         _ => prompts(peer, Cause::Ceased(peer, seconds)),
     }
@@ -210,10 +226,11 @@ fn heard(peer: Peer, seen: Sight, came: Came, seconds: u64) -> Cause
         Came::Asks => prompts(peer, Cause::Asks),
         Came::Refuses => prompts(peer, asked(seen)),
         Came::Streams => prompts(peer, Cause::Streams),
+        Came::Passes => passed(peer, seen, noise(seen)),
         Came::Text => Cause::Text,
         Came::Copies => Cause::Copies,
         Came::Past => Cause::Past,
-        Came::Other => noise(seen),
+        Came::Takes | Came::Other => noise(seen),
     }
 }
 
@@ -247,6 +264,10 @@ impl Cause {
             ),
             Cause::Xmodem => CauseWords::Text(
                 "the receiver asks by NAK, as XMODEM does: start it as a receiver of YMODEM",
+            ),
+            Cause::Passes => CauseWords::Text(
+                "the receiver took block 0 and asked by NAK, as XMODEM does: run `rb` there, \
+                not `rx`",
             ),
             Cause::Streams => CauseWords::Text(
                 "the receiver asks by G, as YMODEM-g does: start it as a receiver of YMODEM",

@@ -2,7 +2,7 @@
 
 ghost use Rattle.std.specs.Prelude.{◌≡◌, Some};
 ghost use Rattle.ym_text.specs.Messages.{end_text, words_text, header_text};
-ghost use Rattle.ym_text.specs.Messages.{sender_end, receiver_end, out_of_step};
+ghost use Rattle.ym_text.specs.Messages.{sender_end, receiver_end, out_of_step, header_end};
 
 use crate::came::{Lately, Sight};
 use crate::cause::{Cause, Peer};
@@ -39,6 +39,8 @@ pub enum EndMessage {
     Nameless,
     /// A block 0 was refused.
     BadHeader(HeaderFault),
+    /// One was refused that had no room for a length.
+    NoRoom,
     /// One more file came than a batch may have.
     TooManyFiles,
 }
@@ -50,6 +52,16 @@ fn out_of_step(seen: Sight) -> EndMessage
     match seen {
         Sight::Nameless => EndMessage::Nameless,
         _ => EndMessage::OutOfStep,
+    }
+}
+
+/// Why a block 0 was refused, to a receiver that saw this of it.
+fn bad_header(seen: Sight, fault: HeaderFault) -> EndMessage
+    ensures { result ≡ header_end seen fault }
+{
+    match (seen, fault) {
+        (Sight::Crammed, HeaderFault::NoLength) => EndMessage::NoRoom,
+        _ => EndMessage::BadHeader(fault),
     }
 }
 
@@ -76,7 +88,7 @@ impl EndMessage {
             RecvState::TooManyErrors => Some(EndMessage::NoBlock(lately)),
             RecvState::Cancelled => Some(EndMessage::PeerCancelled),
             RecvState::OutOfStep => Some(out_of_step(lately.seen)),
-            RecvState::BadHeader(fault) => Some(EndMessage::BadHeader(fault)),
+            RecvState::BadHeader(fault) => Some(bad_header(lately.seen, fault)),
             RecvState::TooManyFiles => Some(EndMessage::TooManyFiles),
         }
     }
@@ -93,7 +105,7 @@ fn header_words(fault: HeaderFault) -> &'static str
             "the sender gave an unsafe name: a path, not UTF-8, or with control characters"
         }
         HeaderFault::NoLength => {
-            "the sender gave a file no length: let it send by YMODEM, and not by XMODEM"
+            "the sender gave a file no length: use a sender of YMODEM that gives one"
         }
         HeaderFault::LengthLarge => "the sender gave a file a length above 9223372036854775807",
         HeaderFault::Memory => "out of memory",
@@ -138,6 +150,9 @@ impl EndMessage {
                 "the sender names no file, as XMODEM does: start it as a sender of YMODEM",
             ),
             EndMessage::BadHeader(fault) => EndWords::Text(header_words(fault)),
+            EndMessage::NoRoom => EndWords::Text(
+                "the name leaves block 0 no room for the length: send the file under a shorter one",
+            ),
             EndMessage::TooManyFiles => {
                 EndWords::Text("more than 65535 files came: send the rest in another batch")
             }

@@ -21,6 +21,8 @@ pub enum FileMessage<'a> {
     CannotStoreIn(&'a str, Reason),
     /// A file of this name is there already.
     IsThere(&'a str),
+    /// The part of this name would have the same name.
+    IsOwnPart(&'a str),
     /// This name has a part, the second text, that an earlier run left, or that another receiver
     /// writes.
     PartIsLeft(&'a str, &'a str),
@@ -82,6 +84,14 @@ impl fmt::Display for FileMessage<'_> {
                 write!(
                     f,
                     "cannot store '{name}': it is there already; move it away first"
+                )
+            }
+            FileMessage::IsOwnPart(name) => {
+                let name = Shown(name);
+                write!(
+                    f,
+                    "cannot store '{name}': its part would have the same name; send it under a \
+                    shorter one"
                 )
             }
             FileMessage::PartIsLeft(name, part) => {
