@@ -16,6 +16,7 @@ SCRIPT = os.path.join("share", "ymodem-tty")
 # how names are shown.
 SOURCES = ("crates/ym_text/src", "crates/ym_header/src/fault.rt", "crates/ym_play/src/fault.rt")
 SOURCES += ("crates/ym_record/src/message.rt", "crates/ym_show/src/surplus.rt")
+SOURCES += ("crates/ym_show/src/rubbish.rt",)
 REPORT = "crates/ym_judge/src/report.rt"
 FAULTS = ("crates/ym_answer/src/command_fault.rt", "crates/ym_explained/src")
 FAULTS += ("crates/ym_judged/src", "crates/ym_command/src", "crates/ymodem/src")

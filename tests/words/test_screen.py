@@ -6,6 +6,7 @@ import os
 import re
 import socket
 import threading
+import time
 import unicodedata
 
 from support.cases import case, cases, sentence
@@ -177,6 +178,30 @@ def test_at_a_prompt():
     with receiving(80, peer) as it:
         text = "what comes is no YMODEM: is a shell or a boot loader's prompt at the other end?"
         assert (packed(text) in packed("".join(it.ended()))) == True, "what it told"
+
+
+def says_forever(data):
+    """A peer that is never quiet, and says no YMODEM."""
+
+    def peer(end):
+        with contextlib.suppress(OSError):  # the program has ended
+            while True:
+                end.sendall(data)
+                time.sleep(0.02)
+
+    return peer
+
+
+@cases(
+    case("tells early of rubbish", b"\xfe\x00\x81"),
+    case("tells early of what a board logs", b"[ 1.2] eth0: link is up\r\n"),
+)
+def test_rubbish(data):
+    """A line that is never quiet, on which `receive` gives up minutes later."""
+    with receiving(200, says_forever(data)) as it:
+        text = "what comes is no YMODEM so far: is the other end started, at the same speed?"
+        it.sees(lambda lines: text in lines)
+        it.stop()
 
 
 @sentence("says that it reads a script")

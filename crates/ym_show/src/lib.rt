@@ -3,6 +3,7 @@
 
 mod meter;
 mod receive_watch;
+mod rubbish;
 mod send_watch;
 mod sink_watch;
 mod surplus;

@@ -1,5 +1,6 @@
 //! How far files are, shown to somebody who looks.
 
+use crate::rubbish::Rubbish;
 use crate::surplus::Surplus;
 use std::alloc::Global;
 use std::io::Write;
@@ -12,6 +13,9 @@ use ym_text::{
 
 /// How long a rate is measured at least, in milliseconds.
 const RATE_MS: u64 = 2000;
+
+/// So many milliseconds after the first bytes it is told where none of them were YMODEM.
+const RUBBISH_MS: u64 = 10_000;
 
 /// How far a file was at some time.
 #[derive(Clone, Copy)]
@@ -44,6 +48,8 @@ struct Quiet {
     before: Came,
     /// What was seen of the other end.
     seen: Sight,
+    /// When bytes came for the first time.
+    first: Option<Instant>,
     /// When it began to wait: for the first bytes, or for more behind those that came last.
     since: Option<Instant>,
     /// Whether bytes came since then. What it does with them, as to store a file, is no wait.
@@ -66,6 +72,8 @@ pub struct Meter<'t, E: Write + Drop, C: Clock + Drop> {
     limit: u64,
     /// Whether it was told that the line echoes.
     has_told_echo: bool,
+    /// Whether it was told that what comes is no YMODEM.
+    has_told_rubbish: bool,
 }
 
 /// The milliseconds from one time to a later one.
@@ -103,12 +111,14 @@ impl<'t, E: Write + Drop, C: Clock + Drop> Meter<'t, E, C> {
                 came: Came::Nothing,
                 before: Came::Nothing,
                 seen: Sight::Nothing,
+                first: None,
                 since: None,
                 has_heard: false,
                 shown: None,
             },
             limit,
             has_told_echo: false,
+            has_told_rubbish: false,
         }
     }
 
@@ -184,6 +194,7 @@ impl<'t, E: Write + Drop, C: Clock + Drop> Meter<'t, E, C> {
     /// Its end waits. That is shown where nothing has come yet, and then as often as a file is
     /// shown, once a second has passed.
     pub fn wait(&mut self, awaited: Awaited) {
+        self.look_for_rubbish();
         let is_first = self.quiet.since.is_none();
         self.quiet.before = self.quiet.came;
         if is_first || self.quiet.has_heard {
@@ -219,6 +230,27 @@ impl<'t, E: Write + Drop, C: Clock + Drop> Meter<'t, E, C> {
         self.quiet.came = self.quiet.came.with(bytes);
         self.quiet.has_heard = true;
         self.quiet.shown = None;
+        if self.quiet.first.is_none() {
+            self.quiet.first = Instant::now(&self.clock).ok();
+        }
+    }
+
+    /// A delivery has ended. Where other bytes came in it, and nothing whole yet, that is told
+    /// once, long before its end gives up: each delivery of them may take half a minute.
+    fn look_for_rubbish(&mut self) {
+        let Quiet {
+            came,
+            seen,
+            first,
+            has_heard,
+            ..
+        } = self.quiet;
+        let is_rubbish = has_heard && matches!(came, Came::Text | Came::Other);
+        let is_due = seen == Sight::Nothing && RUBBISH_MS <= self.millis_since(first);
+        if is_rubbish && is_due && !self.has_told_rubbish {
+            self.has_told_rubbish = true;
+            self.teller.tell(Rubbish);
+        }
     }
 
     /// The delivery that came last came before, and was answered then.
