@@ -18,6 +18,7 @@ import sys
 sys.dont_write_bytecode = True
 
 import plant_table
+import statements
 
 ROOT = os.path.dirname(os.path.dirname(os.path.abspath(__file__)))
 CRATES = os.path.join(ROOT, "crates")
@@ -256,10 +257,18 @@ def lines_of_proofs():
         yield from [path] * text.count("\n")
 
 
+def lines_of_what_run_states():
+    """Of the definitions that a reader of `run` needs, who wants to know what its clauses say."""
+    there = os.path.join(CRATES, "ym_line", "src", "rounds.rt")
+    for it, count in statements.stated(CRATES, there, "run").items():
+        yield from [it] * count
+
+
 COUNTS = {
     "record literals in contracts": record_literals,
     "names of two types": names_of_two_types,
     "lines of proofs": lines_of_proofs,
+    "lines of what run states": lines_of_what_run_states,
 }
 
 

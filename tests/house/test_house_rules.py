@@ -2,10 +2,15 @@
 
 import json
 import os
+import sys
 
 from support.cases import sentence
 from support.program import ROOT
 from support.tree import tree
+
+sys.path.insert(0, os.path.join(ROOT, "tools"))
+
+import statements
 
 
 PAGE, SOURCE, LIMITS = "docs/commands.md", "crates/ym_check/src/check.rt", "tools/house.json"
@@ -128,3 +133,44 @@ def test_edits_out_of_step():
             " src/check.rt 0 times, and not once"
         )
         assert told(it) == (True, [wrong]), "what it tells of a text that is not there"
+
+
+DEFINED = """-- what a part stands for
+pub record Whole : Type 0 where
+  pub part : Part  -- a comment
+
+abbrev pub unread : ℕ
+unread = 1
+
+pub data Part : Type 0 where
+  none : Part
+  some : ℕ → Part
+
+"""
+NAMED = """use Rattle.ym_one.specs.One.{Whole as All}
+use Rattle.ym_one.specs.One as one
+abbrev pub IsSmall : All → Type 0
+IsSmall whole =
+    whole.part ≡ one.some 1
+"""
+CALL = """ghost use Rattle.ym_two.specs.Two.{IsSmall};
+
+pub fn call<T>(whole: T) -> bool
+    ensures small { IsSmall whole }
+{
+    true
+}
+"""
+
+
+@sentence("what a call states")
+def test_what_a_call_states(tmp_path):
+    """The definitions that a call's clauses name are counted, with those that these name in turn."""
+    for crate, file, text in (("ym_one", "One", DEFINED), ("ym_two", "Two", NAMED)):
+        folder = tmp_path / crate / "specs"
+        folder.mkdir(parents=True)
+        (folder / (file + ".antt")).write_text(text, encoding="utf-8")
+    (tmp_path / "call.rt").write_text(CALL, encoding="utf-8")
+    found = statements.stated(tmp_path, tmp_path / "call.rt", "call")
+    # without comments, blank lines and imports
+    assert found == {"ym_one.One.Part": 3, "ym_one.One.Whole": 2, "ym_two.Two.IsSmall": 3}
