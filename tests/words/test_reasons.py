@@ -4,13 +4,18 @@ import os
 
 from support.cases import case, cases, sentence
 from support.on_line import ends_with, started
-from support.program import PROGRAM, folders, free_port, running, write_files
+from support.program import PROGRAM, connected, folders, free_port, running, write_files
+from support.storing import received, told as told_of
 from support.telling import FAULT, FILE, connecting, listening
-from support.tracing import at_paths, strace
+from support.tracing import at_paths, calls_of, strace
+
+BROKE = "the device failed, or was unplugged"
+LATE = "nothing answered in time"
+MEMORY = "out of memory"
 
 
 @cases(
-    case("a reason of the system: its device", "EIO", "the device failed, or was unplugged"),
+    case("a reason of the system: its device", "EIO", BROKE),
     case("a reason of the system: no device", "ENXIO", "no such device"),
     case("a reason of the system: its links", "ELOOP", "too many levels of symbolic links"),
     case("a reason of the system: others", "EMFILE", "too many files are open"),
@@ -56,6 +61,42 @@ def test_takes_no_connection():
         with running("receive", "-p", port, "--verbose", there, before=before) as receive:
             told = "no connection at 127.0.0.1:%d: too many files are open\n" % port
             receive.ended().wants(3, "", listening(port) + told + FAULT)
+
+
+@cases(
+    case("a reason of the system: a read of a connection", "recvfrom:error=EIO", BROKE),
+    case("a reason of the system: a write to a connection", "sendto:error=EIO", BROKE),
+    case("a reason of the system: a write that waits too long", "sendto:error=EAGAIN", LATE),
+    case("a reason of the system: a wait that is not set", "setsockopt:error=ENOMEM:when=3+", MEMORY),
+)
+def test_connection_fails(refused, why):
+    """A connection that fails when it is there."""
+    with folders() as (log, there):
+        port = free_port()
+        before = strace(os.path.join(log, "log"), "-e", "inject=" + refused)
+        words = ("receive", "-p", port, "--eager", "--verbose", there)
+        with running(*words, before=before) as receive, connected(port, receive):
+            ended = receive.ended()
+    said = listening(port) + "connected\nthe line failed: %s\n" % why
+    ended.wants(3, "receiver files 0 running\n", said + FAULT)
+
+
+@sentence("a reason of the system: the last answer")
+def test_last_answer():
+    """The batch is stored and told. Its end block has no answer, and why is told."""
+    with folders() as (log, there):
+        log = os.path.join(log, "log")
+        whole, _ = received(FILE, there, (), strace(log, "-e", "trace=sendto"))
+        whole.wants(0, told_of(FILE))
+        count = len(calls_of(log))
+    with folders() as (log, there):
+        last = "inject=sendto:error=EIO:when=%d" % count
+        before = strace(os.path.join(log, "log"), "-e", last)
+        ended, _ = received(FILE, there, ["--verbose"], before)
+    assert ended.err.endswith(
+        "the line failed: %s\n" % BROKE + FAULT
+    ), "it said %r" % ended.err
+    ended.wants(3, told_of(FILE), ended.err)
 
 
 @sentence("a reason of the system: standard output, which is the line, is closed")

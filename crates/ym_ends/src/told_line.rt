@@ -3,6 +3,7 @@
 ghost use Rattle.std.specs.Prelude.{◌≡◌};
 ghost use Rattle.ym_ends.specs.ToldLine.{connection_words, terminal_words};
 
+use std::io;
 use std::io::{Read, Write};
 use std::time::Clock;
 use ym_eager::Eager;
@@ -18,22 +19,29 @@ pub struct LineWords {
     pub closed: EndMessage,
     /// That a call failed.
     pub failed: EndMessage,
+    /// Whether a call failed.
+    pub has_failed: bool,
 }
 
 impl LineWords {
-    /// Those of a connection.
-    pub(crate) fn of_connection() -> LineWords
-        ensures { result ≡ connection_words }
+    /// Those of a connection, by why it failed.
+    pub(crate) fn of_connection(fault: Option<io::Error>) -> LineWords
+        ensures { result ≡ connection_words fault }
     {
+        let failed = match fault {
+            None => EndMessage::LineFailed,
+            Some(error) => EndMessage::LineRefused(Reason::of(&error)),
+        };
         LineWords {
             closed: EndMessage::PeerClosed,
-            failed: EndMessage::LineFailed,
+            failed,
+            has_failed: fault.is_some(),
         }
     }
 
-    /// Those of a terminal, by why it failed.
-    pub(crate) fn of_terminal(fault: Option<TtyFault>) -> LineWords
-        ensures { result ≡ terminal_words fault }
+    /// Those of a terminal, by why it failed or hung up, and whether a call failed.
+    pub(crate) fn of_terminal(fault: Option<TtyFault>, has_failed: bool) -> LineWords
+        ensures { result ≡ terminal_words fault has_failed }
     {
         let failed = match fault {
             None => EndMessage::LineFailed,
@@ -44,6 +52,7 @@ impl LineWords {
         LineWords {
             closed: EndMessage::LineHungUp,
             failed,
+            has_failed,
         }
     }
 }
@@ -56,13 +65,13 @@ pub trait ToldWire: Wire {
 
 impl<R: Clock + Drop> ToldWire for SocketWire<R> {
     fn words(&self) -> LineWords {
-        LineWords::of_connection()
+        LineWords::of_connection(self.fault())
     }
 }
 
 impl<R: Clock + Drop, I: Read + Drop, O: Write + Drop> ToldWire for TtyWire<R, I, O> {
     fn words(&self) -> LineWords {
-        LineWords::of_terminal(self.fault())
+        LineWords::of_terminal(self.fault(), self.has_failed())
     }
 }
 

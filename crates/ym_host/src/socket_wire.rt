@@ -36,6 +36,8 @@ pub struct SocketWire<R: Clock + Drop> {
     is_write_bounded: bool,
     drip: Drip,
     failed: u64,
+    /// Why it failed for the first time.
+    fault: Option<io::Error>,
 }
 
 impl<R: Clock + Drop> Model for SocketWire<R> {
@@ -84,7 +86,13 @@ impl<R: Clock + Drop> SocketWire<R> {
             is_write_bounded: false,
             drip: Drip::Nothing,
             failed: 0,
+            fault: None,
         }
+    }
+
+    /// Why it failed for the first time.
+    pub fn fault(&self) -> Option<io::Error> {
+        self.fault
     }
 
     /// Sets how long reads wait, where that changes: a millisecond at least, since none is no
@@ -129,10 +137,25 @@ impl<R: Clock + Drop> SocketWire<R> {
         Ok(got)
     }
 
-    /// Counts a failure.
-    fn fail(&mut self) -> PortFault
+    /// Writes all the bytes. That the peer takes none of them for too long counts as no answer in
+    /// time.
+    fn write_in_time(&mut self, bytes: &[u8]) -> io::Result<()>
+        ensures { self.new ≡ self.old }
+    {
+        self.bound_writes()?;
+        match self.stream.write_all(bytes) {
+            Err(error) if error.kind() == ErrorKind::WouldBlock => {
+                Err(io::Error::from(ErrorKind::TimedOut))
+            }
+            written => written,
+        }
+    }
+
+    /// Counts a failure, and keeps why the first time.
+    fn fail(&mut self, error: io::Error) -> PortFault
         ensures { Counted self.old self.new }
     {
+        self.fault = Some(self.fault.unwrap_or(error));
         self.failed = self.failed.saturating_add(1);
         PortFault
     }
@@ -154,18 +177,15 @@ impl<R: Clock + Drop> Wire for SocketWire<R> {
     fn read(&mut self, millis: u64, buf: &mut [u8]) -> Result<Got, PortFault> {
         match self.read_in_time(millis, buf) {
             Ok(got) => Ok(got),
-            Err(_) => Err(self.fail()),
+            Err(error) => Err(self.fail(error)),
         }
     }
 
     fn write(&mut self, bytes: &[u8]) -> Result<(), PortFault> {
         self.drip = Drip::Nothing;
-        if self.bound_writes().is_err() {
-            return Err(self.fail());
-        }
-        match self.stream.write_all(bytes) {
+        match self.write_in_time(bytes) {
             Ok(()) => Ok(()),
-            Err(_) => Err(self.fail()),
+            Err(error) => Err(self.fail(error)),
         }
     }
 }

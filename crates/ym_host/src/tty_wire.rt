@@ -1,6 +1,6 @@
 //! A terminal whose reads end by themselves, as a line with a clock.
 
-ghost use Rattle.std.specs.Prelude.{◌≡◌, ◌<◌, ◌≤◌, ◌+◌, ◌/◌, ℕ, Ok, OnOk, OnErr, length};
+ghost use Rattle.std.specs.Prelude.{◌≡◌, ◌<◌, ◌≤◌, ◌+◌, ◌/◌, ℕ, true, false, Ok, OnOk, OnErr, IfOk, length};
 ghost use Rattle.ym_file.specs.Counts.{Counted};
 
 use crate::drip::Drip;
@@ -16,7 +16,7 @@ use ym_port::{Role, Wire};
 /// How many reads a wait makes beside those that its ticks take.
 const SPARE_READS: u64 = 10;
 
-/// How many milliseconds pass before a read that did not wait, since the line is set so, is made
+/// How many milliseconds pass before a call that did not wait, since the line is set so, is made
 /// again.
 const PAUSE_MS: u64 = 10;
 
@@ -104,6 +104,14 @@ impl<R: Clock + Drop, I: Read + Drop, O: Write + Drop> TtyWire<R, I, O> {
         self.fault
     }
 
+    /// Whether a call of it failed. Where it only hung up, none did.
+    pub fn has_failed(&self) -> bool
+        ensures failed { result ≡ true → 0 < self.now }
+        ensures sound { result ≡ false → self.now ≡ 0 }
+    {
+        self.failed > 0
+    }
+
     /// The moment, in milliseconds: the last one again, where the clock fails.
     fn look(&mut self) -> u64
         ensures { self.new ≡ self.old }
@@ -132,6 +140,11 @@ impl<R: Clock + Drop, I: Read + Drop, O: Write + Drop> TtyWire<R, I, O> {
         PortFault
     }
 
+    /// Waits a moment: somebody else who has the line open has set it not to wait.
+    fn pause(&self) {
+        thread::sleep(&self.clock, Duration::from_millis(PAUSE_MS));
+    }
+
     /// What a read says that the system refused.
     fn refused(&mut self, error: io::Error) -> Result<Got, TtyFault>
         ensures same { self.new ≡ self.old }
@@ -139,9 +152,8 @@ impl<R: Clock + Drop, I: Read + Drop, O: Write + Drop> TtyWire<R, I, O> {
     {
         match error.kind() {
             ErrorKind::Interrupted => Ok(Got::Quiet),
-            // Somebody else who has the line open has set it so.
             ErrorKind::WouldBlock => {
-                thread::sleep(&self.clock, Duration::from_millis(PAUSE_MS));
+                self.pause();
                 Ok(Got::Quiet)
             }
             _ => match fault_of(error) {
@@ -199,6 +211,39 @@ impl<R: Clock + Drop, I: Read + Drop, O: Write + Drop> TtyWire<R, I, O> {
     }
 }
 
+impl<R: Clock + Drop, I: Read + Drop, O: Write + Drop> TtyWire<R, I, O> {
+    /// Writes some of these bytes, and answers how many: none where the call is to be made again.
+    fn write_some(&mut self, bytes: &[u8]) -> io::Result<usize>
+        ensures same { self.new ≡ self.old }
+        ensures count { IfOk result (λ count. count ≤ length bytes.now) }
+    {
+        match self.writer.write(bytes) {
+            Ok(0) => Err(io::Error::from(ErrorKind::WriteZero)),
+            Err(error) if error.kind() == ErrorKind::Interrupted => Ok(0),
+            Err(error) if error.kind() == ErrorKind::WouldBlock => {
+                self.pause();
+                Ok(0)
+            }
+            written => written,
+        }
+    }
+
+    /// Writes all these bytes, for as long as the other end holds them up.
+    fn write_waiting(&mut self, bytes: &[u8]) -> io::Result<()>
+        ensures { self.new ≡ self.old }
+    {
+        let mut left = bytes;
+        for _ in 0..u64::MAX {
+            if left.is_empty() {
+                break;
+            }
+            let count = self.write_some(left)?;
+            left = &left[count..];
+        }
+        Ok(())
+    }
+}
+
 impl<R: Clock + Drop, I: Read + Drop, O: Write + Drop> Wire for TtyWire<R, I, O> {
     ghost tells = { λ _ _. ⊥ };
 
@@ -224,7 +269,7 @@ impl<R: Clock + Drop, I: Read + Drop, O: Write + Drop> Wire for TtyWire<R, I, O>
 
     fn write(&mut self, bytes: &[u8]) -> Result<(), PortFault> {
         self.drip = Drip::Nothing;
-        match self.writer.write_all(bytes) {
+        match self.write_waiting(bytes) {
             Ok(()) => Ok(()),
             Err(error) => Err(self.fail(fault_of(error))),
         }

@@ -81,14 +81,13 @@ pub(crate) fn tell_outcome<E: Write + Drop>(
         lately,
         words,
     } = outcome;
-    let is_running = state == RecvState::Running;
     match named {
         Some(name) if state == RecvState::BadHeader(HeaderFault::NameUnsafe) => {
             teller.tell(FileMessage::NameIsUnsafe(name));
         }
         _ => {
             let message = EndMessage::of_receiver(state, lately);
-            tell_end(teller, answer, is_running, words, message);
+            tell_end(teller, answer, words, message);
         }
     }
     match last {

@@ -36,9 +36,8 @@ pub(crate) fn tell_outcome<E: Write + Drop>(
             teller.tell(FileMessage::CannotRead(name));
         }
         _ => {
-            let is_running = state == SendState::Running;
             let message = EndMessage::of_sender(state, lately);
-            tell_end(teller, answer, is_running, words, message);
+            tell_end(teller, answer, words, message);
         }
     }
 }
