@@ -5,7 +5,7 @@ ghost use Rattle.std.specs.Prelude.{◌<◌};
 
 use super::folders::same;
 use std::alloc::Global;
-use std::io::{Read, Write};
+use std::io::{ErrorKind, Read, Write};
 use std::net::{TcpListener, TcpStream};
 use std::test::Fail;
 use std::time::{Duration, Instant};
@@ -152,11 +152,13 @@ fn refuses<W: Wire>(wire: &mut W) -> bool {
     false
 }
 
-/// A write to a peer that never reads makes no headway in the end.
+/// A write to a peer that never reads makes no headway in the end, and tells that it took too long.
 #[test]
 fn a_write_without_headway_fails(rt: HostRuntime) -> Result<(), Fail> {
     let (_near, mut wire) = wire(&rt)?;
+    assert!(rt; wire.fault().is_none());
     assert!(rt; refuses(&mut wire));
+    assert!(rt; matches!(wire.fault(), Some(why) if why.kind() == ErrorKind::TimedOut));
     Ok(())
 }
 

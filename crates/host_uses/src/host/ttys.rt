@@ -107,7 +107,8 @@ fn comes_to(reads: &[Comes], got: Result<Got, PortFault>, at: u64, why: &str) ->
     let mut wire = wire(reads, &moment);
     let mut buf = [0; 8];
     let is_got = wire.read(1000, &mut buf) == got;
-    is_got && moment.get() == at && word(wire.fault()) == why
+    let is_told = word(wire.fault()) == why && wire.has_failed() == got.is_err();
+    is_got && is_told && moment.get() == at
 }
 
 /// Whether a line that hung up is told from one that only looks so.
