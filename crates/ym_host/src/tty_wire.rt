@@ -235,12 +235,12 @@ impl<R: Clock + Drop, I: Read + Drop, O: Write + Drop> TtyWire<R, I, O> {
         let mut left = bytes;
         for _ in 0..u64::MAX {
             if left.is_empty() {
-                break;
+                return Ok(());
             }
             let count = self.write_some(left)?;
             left = &left[count..];
         }
-        Ok(())
+        Err(io::Error::from(ErrorKind::TimedOut))
     }
 }
 
