@@ -337,7 +337,10 @@ void ym_line_wrote(ym_line *line, const ym_clearing *clearing, const uint8_t *by
 #elif defined(__STDC_VERSION__) && __STDC_VERSION__ >= 201112L
 #define YM_ASSERT(holds) _Static_assert(holds, "the layout of the structs of ymodem.h")
 #else
-#define YM_ASSERT(holds) extern char ym_layout[(holds) ? 1 : -1]
+/* Each by a name of its own, for who wants no declaration twice (-Wredundant-decls). */
+#define YM_ASSERT_AS(line, holds) extern char ym_layout_##line[(holds) ? 1 : -1]
+#define YM_ASSERT_AT(line, holds) YM_ASSERT_AS(line, holds)
+#define YM_ASSERT(holds) YM_ASSERT_AT(__LINE__, holds)
 #endif
 #define YM_SIZE(type, size) YM_ASSERT(sizeof(type) == (size))
 #define YM_AT(type, member, offset) YM_ASSERT(offsetof(type, member) == (offset))
@@ -414,6 +417,8 @@ YM_SIZE(ym_clearing, 32);
 #undef YM_AT
 #undef YM_SIZE
 #undef YM_ASSERT
+#undef YM_ASSERT_AT
+#undef YM_ASSERT_AS
 #undef YM_ALIGNED
 
 #ifdef __cplusplus

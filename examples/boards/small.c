@@ -35,7 +35,7 @@ static void let_clear(void) {
 
 static void act(struct sum *sum) {
     if (ask.kind == YM_BEGIN || ask.kind == YM_ADD) {
-        sum->crc = crc32_add(sum->crc, receiver.held + ask.at, ask.count);
+        sum->crc = crc32_add(sum->crc, receiver.held + ask.at, (size_t)ask.count);
     }
     if (ask.kind == YM_COMMIT) sum->files++;
 }
