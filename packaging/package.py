@@ -109,10 +109,11 @@ class Build:
         self.version = os.environ.get("VERSION") or self.version_by_commit()
 
     def version_by_commit(self):
-        day = time.strftime("%Y%m%d", time.gmtime(self.epoch))
+        # To the second: of two commits of one day the later one is the upgrade, whatever their sums are.
+        when = time.strftime("%Y%m%d.%H%M%S", time.gmtime(self.epoch))
         is_changed = said("git", "status", "--porcelain", "--untracked-files=no")
         commit = said("git", "rev-parse", "--short=7", "HEAD")
-        return "%s+git%s.%s%s" % (number(), day, commit, ".changed" if is_changed else "")
+        return "%s+git%s.%s%s" % (number(), when, commit, ".changed" if is_changed else "")
 
     def install(self, prefix):
         """Puts everything below a folder. The program comes without what only a debugger reads."""

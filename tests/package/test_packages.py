@@ -151,6 +151,37 @@ def test_is_same_twice(kind, tools=()):
             ), "they differ, for a commit at %s" % epoch
 
 
+def version_of(tree):
+    """The version of a package of this tree, by its commit."""
+    named = {it: os.environ[it] for it in os.environ if it not in ("VERSION", "SOURCE_DATE_EPOCH")}
+    words = [tree + "/packaging/package.py", "dist", linked_program(), tree + "/out"]
+    made = subprocess.run(words, env=named, capture_output=True, text=True, check=True).stdout
+    return os.path.basename(made).removeprefix("ymodem-").removesuffix("-linux-x86-64.tar.gz\n")
+
+
+@sentence("a package of a later commit of the same day is an upgrade")
+def test_versions_are_in_order():
+    """A commit's sum says nothing of when it was made."""
+    needs("strip", "readelf", "git", "dpkg")
+    with tempfile.TemporaryDirectory(prefix="ymodem-") as top:
+        tree = copied(top + "/one", "022")
+        command = "crates/ym_words/src/command.rt"
+        subprocess.run(["cp", "--parents", command, tree], cwd=ROOT, check=True)
+        someone = ["-c", "user.name=a", "-c", "user.email=a@example.org"]
+        git = ["git", "-C", tree, *someone]
+        subprocess.run([*git, "init", "-q"], check=True)
+        subprocess.run([*git, "add", "."], check=True)
+        versions = []
+        for minute in range(6):
+            when = {"GIT_COMMITTER_DATE": "2026-11-28T09:%02d:00+0000" % minute}
+            words = [*git, "commit", "-q", "--allow-empty", "-m", "one more"]
+            subprocess.run(words, env={**os.environ, **when}, check=True)
+            versions.append(version_of(tree))
+    for one, other in zip(versions, versions[1:]):
+        words = ["dpkg", "--compare-versions", one, "lt", other]
+        assert subprocess.run(words, check=False).returncode == 0, "%s, then %s" % (one, other)
+
+
 @sentence("the Debian package has its files, and its program plays")
 def test_deb_is_well():
     """The package has the files in their places, needs the C library alone, and its program
