@@ -140,7 +140,8 @@ test-portable: build portable
 	@tools/checks.py portable -m "long or not long"
 	@tools/checks.py boards -k test_boards -m "long or not long"
 
-install-lib: lib
+install-lib:
+	@$(MAKE) --no-print-directory lib TARGETS=$(TARGET)
 	install -D -m 644 out/lib/$(TARGET)/libymodem.a "$(DESTDIR)$(PREFIX)/lib/libymodem.a"
 	install -D -m 644 -t "$(DESTDIR)$(PREFIX)/include" include/ymodem.h include/ymodem_io.h
 	install -d "$(DESTDIR)$(PREFIX)/lib/pkgconfig"

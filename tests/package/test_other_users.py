@@ -3,7 +3,9 @@ a tree that can only be read, and folders with spaces in their names."""
 
 import contextlib
 import os
+import shlex
 import shutil
+import subprocess
 
 from support.cases import case, cases, sentence
 from support.locales import turkish
@@ -109,8 +111,9 @@ def test_library_is_installed():
         status, _, err = it.make("lib", "TARGETS=" + target)
         assert status == 0, "make lib: %s" % err
         assert it.called() == ["lib --target " + target], "it called another rt"
-        status, _, err = it.make("install-lib", "TARGETS=" + target, "PREFIX=" + to)
+        status, _, err = it.make("install-lib", "PREFIX=" + to)
         assert status == 0, "make install-lib: %s" % err
+        assert it.called() == ["lib --target " + target], "it made more than it installs"
         found = sorted(
             os.path.join(folder, name)[len(to) + 1 :]
             for folder, _, files in os.walk(to)
@@ -118,3 +121,10 @@ def test_library_is_installed():
         )
         wanted = ["include/ymodem.h", "include/ymodem_io.h", "lib/libymodem.a"]
         wants_same(dict.fromkeys(found), dict.fromkeys([*wanted, "lib/pkgconfig/ymodem.pc"]))
+        if shutil.which("pkg-config"):
+            where = {**os.environ, "PKG_CONFIG_PATH": to + "/lib/pkgconfig"}
+            asks = ["pkg-config", "--cflags", "--libs", "ymodem"]
+            how = {"env": where, "capture_output": True, "text": True, "check": True}
+            told = subprocess.run(asks, **how).stdout
+            words = ["-I%s/include" % to, "-L%s/lib" % to, "-lymodem"]
+            assert shlex.split(told) == words, "pkg-config tells %s" % told
