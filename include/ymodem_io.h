@@ -48,9 +48,10 @@ typedef enum ym_error {
 typedef struct ym_io {
     void *user;
     /* Reads what is there, at most len bytes; where nothing is, waits for it, so many milliseconds.
-       Answers how many bytes came, without waiting for more; 0 only once that time is over. */
+       Answers how many bytes came, without waiting for more; 0 only once that time is over. One
+       that answers more than len has failed. */
     int (*read)(void *user, uint8_t *bytes, size_t len, uint32_t milliseconds);
-    /* Writes all of it. */
+    /* Writes all of it, and answers 0 or above. */
     int (*write)(void *user, const uint8_t *bytes, size_t len);
     /* Milliseconds of any clock, below 2^63. One that stands still or jumps back delays, and does
        no harm. */
@@ -82,8 +83,8 @@ typedef struct ym_source {
     uint64_t *blocks;      /* room for a number a file, which ym_send writes; never NULL, also where
                               there is no file: calls of ymodem.h are given it */
     /* Tells of a file, counted from 0: at first of each, and again before a part of it is sent, and
-       tells the same each time. Where its length is another, it cannot be sent. The name has to
-       stay until `about` is called again. */
+       tells the same each time. What it leaves as it was is 0: no stamp, say. Where its length is
+       another, it cannot be sent. The name has to stay until `about` is called again. */
     int (*about)(void *user, size_t file, ym_file *about);
     /* Reads len bytes of a file from a place on. */
     int (*fill)(void *user, size_t file, uint64_t start, uint8_t *bytes, size_t len);
@@ -143,14 +144,16 @@ static inline size_t ym_end_get(ym_end *end, uint64_t until, size_t most) {
     uint64_t wait = until > end->now ? until - end->now : 0;
     size_t len = most < YM_PIECE ? most : YM_PIECE;
     int came = end->io->read(end->io->user, end->piece, len, wait < 60000 ? (uint32_t)wait : 60000);
-    if (came > 0) {
-        ym_end_look(end);
-    } else if (came == 0) {
+    if (came == 0) {
         end->now = ym_line_waited(&end->line, until, end->io->clock(end->io->user));
-    } else {
-        end->closed = 1;
+        return 0;
     }
-    return came > 0 ? (size_t)came : 0;
+    if (came < 0 || (size_t)came > len) {
+        end->closed = 1;
+        return 0;
+    }
+    ym_end_look(end);
+    return (size_t)came;
 }
 
 static inline int ym_end_hears(ym_end *end, const uint8_t *bytes, size_t len) {
@@ -299,7 +302,9 @@ static inline ym_error ym_received(const ym_stand *stand) {
 }
 
 /* Receives a batch. A file that was begun and not committed is the host's to take back. Behind the
-   end block all files are kept: the batch is through, also where its ACK cannot be written. */
+   end block all files are kept: the batch is through, also where its ACK cannot be written. Where
+   it gives up on a line that works, its sender was told by CAN CAN. It may be called again at
+   once. */
 static inline ym_error ym_receive(const ym_io *io, const ym_sink *sink) {
     ym_end end;
     ym_receiver receiver;
@@ -336,6 +341,15 @@ static inline uint64_t ym_blocks_of(uint64_t length) {
     return length / 1024 + (length % 1024 + 127) / 128;
 }
 
+static inline int ym_tells(const ym_source *source, size_t which, ym_file *file) {
+    static const uint8_t nameless[1] = { 0 };
+    file->name = nameless;
+    file->name_len = 0;
+    file->length = file->time = 0;
+    file->stamp = file->mode = 0;
+    return source->about(source->user, which, file) > 0;
+}
+
 /* `stated` is the length that block 0 told. */
 static inline int ym_send_block(const ym_source *source, ym_sender *sender, const ym_fill *fill,
     uint64_t stated) {
@@ -343,7 +357,7 @@ static inline int ym_send_block(const ym_source *source, ym_sender *sender, cons
     uint64_t start;
     ym_file file;
     size_t size, len, i;
-    if (source->about(source->user, fill->file, &file) <= 0 || file.length != stated) return 0;
+    if (!ym_tells(source, fill->file, &file) || file.length != stated) return 0;
     size = ym_block_at(stated, fill->number, &start);
     if (start >= stated) return 0;
     len = stated - start < size ? (size_t)(stated - start) : size;
@@ -356,7 +370,7 @@ static inline ym_error ym_send_header(const ym_source *source, ym_sender *sender
     uint64_t *stated) {
     ym_file file;
     uint32_t fault;
-    if (source->about(source->user, which, &file) <= 0) return YM_ERROR_FILES;
+    if (!ym_tells(source, which, &file)) return YM_ERROR_FILES;
     if (ym_blocks_of(file.length) != source->blocks[which]) return YM_ERROR_FILES;
     *stated = file.length;
     fault = ym_sender_header(sender, file.name, file.name_len, file.length, file.stamp, file.time,
@@ -404,7 +418,9 @@ static inline ym_error ym_sent(uint32_t state) {
     }
 }
 
-/* Sends a batch. */
+/* Sends a batch. Where it gives up on a line that works, its receiver was told by CAN CAN, but where
+   nothing was written yet: too many files, or one of which nothing can be told. It may be called
+   again at once. */
 static inline ym_error ym_send(const ym_io *io, const ym_source *source) {
     ym_end end;
     ym_line copy;
@@ -418,7 +434,7 @@ static inline ym_error ym_send(const ym_io *io, const ym_source *source) {
     int len;
     if (source->files > 65535) return YM_ERROR_MOST_FILES;
     for (i = 0; i < source->files; i++) {
-        if (source->about(source->user, i, &file) <= 0) return YM_ERROR_FILES;
+        if (!ym_tells(source, i, &file)) return YM_ERROR_FILES;
         source->blocks[i] = ym_blocks_of(file.length);
     }
     ym_end_begin(&end, io, &copy, written);

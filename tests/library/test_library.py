@@ -167,6 +167,11 @@ def test_in_one_call():
     command(built("tests/library/io.c", "io"))
 
 
+@sentence("ym_receive and ym_send over hosts of many kinds, each call of which fails in turn")
+def test_hosts():
+    command(built("tests/library/hosts.c", "hosts"))
+
+
 # ---- The same deliveries to an end of the library and to the program's
 
 # How an end can end.

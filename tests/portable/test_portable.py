@@ -321,6 +321,15 @@ def test_rubbish(words, rounds, seed, before=()):
     command(*before, made, str(rounds), str(seed))
 
 
+@cases(case("hosts of many kinds under sanitizers", "clang " + SANITIZED))
+def test_hosts(words):
+    """tests/library/hosts.c, with the file, whose accesses are looked at too."""
+    compiles(words)
+    made = os.path.join(BUILT.name, "hosts")
+    compiled(words, "gnu11", made, os.path.join(TESTS, "library", "hosts.c"), SOURCE)
+    command(made)
+
+
 # Of a receiver's text, of its RAM with the stack, and of both ends' text.
 LIMITS = (14 * 1024, 3584, 24 * 1024)
 
