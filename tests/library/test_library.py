@@ -51,6 +51,25 @@ def test_struct_sizes():
     assert receiver <= 1228 and sender <= 1331, "receiver %d, sender %d bytes" % (receiver, sender)
 
 
+# A row of docs/library.md, and what is left of it for another compiler of the caller.
+STACK = re.compile(r"^\| stack on x86-64: (.*) \| (?:at most )?([\d,]+) \|$", re.M)
+SPARE = 64
+
+
+@sentence("the stack that docs/library.md says")
+def test_stack():
+    """No call takes more than the page says, nor so much less that it says nothing."""
+    if "YM_LIBRARY" in os.environ:
+        raise Skipped("the page tells of the archive for x86-64")
+    with open(os.path.join(ROOT, "docs", "library.md"), encoding="utf-8") as it:
+        told = {name: int(most.replace(",", "")) for name, most in STACK.findall(it.read())}
+    lines = command(built("tests/library/stack.c", "stack")).splitlines()
+    found = {name: int(it) for name, it in (line.rsplit(" ", 1) for line in lines)}
+    assert set(found) == set(told), "it tells of %s" % sorted(told)
+    wrong = {it: most for it, most in told.items() if not 0 <= most - found[it] <= SPARE}
+    assert not wrong, "the page says %s, and the calls take %s" % (wrong, found)
+
+
 MAY_BE_MISSING = {"memcpy", "memmove", "memset", "memcmp"}
 
 
