@@ -4,6 +4,8 @@
 
 /* For poll, clock_gettime and the calls of files, with -std=c99 too. */
 #define _POSIX_C_SOURCE 200809L
+/* Files of more than 2 GiB on 32 bits, too. */
+#define _FILE_OFFSET_BITS 64
 
 #include "ymodem_io.h"
 

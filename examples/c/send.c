@@ -13,9 +13,13 @@ struct file {
     int handle;
 };
 
+/* Of what is no file there is no length to tell, and a pipe would be waited for. */
 static int open_file(struct file *file, const char *path) {
     struct stat found;
     const char *slash = strrchr(path, '/'), *name = slash ? slash + 1 : path;
+    if (stat(path, &found) != 0) return 0;
+    errno = S_ISDIR(found.st_mode) ? EISDIR : EINVAL;
+    if (!S_ISREG(found.st_mode)) return 0;
     file->handle = open(path, O_RDONLY);
     if (file->handle < 0 || fstat(file->handle, &found) != 0) return 0;
     file->about.name = (const uint8_t *)name;

@@ -13,6 +13,7 @@ from support.example_ends import c_send, on_line
 from support.frames import header
 from support.library import FLAGS, INCLUDE, STRICT, built, example
 from support.program import LIMIT, ROOT, folders, write_files
+from support.skipping import needs
 
 
 @cases(
@@ -40,6 +41,32 @@ def test_called_wrong(name, words=()):
         ran = subprocess.run([example(name), *words], cwd=here, timeout=LIMIT, **how)
     assert ran.returncode == 2 and not ran.stdout, "status %d: %r" % (ran.returncode, ran.stdout)
     assert re.fullmatch("usage: %s [A-Z.]+\n" % name, ran.stderr), "it says %r" % ran.stderr
+
+
+@cases(
+    case("send is given a folder", os.mkdir, "Is a directory"),
+    case("send is given a pipe", os.mkfifo, "Invalid argument"),
+    case("send is given what is not there", lambda path: None, "No such file or directory"),
+)
+def test_no_file(make, told):
+    """It says so, and writes nothing to the line."""
+    with tempfile.TemporaryDirectory(prefix="ymodem-") as here:
+        make(os.path.join(here, "it"))
+        how = {"stdin": subprocess.DEVNULL, "capture_output": True, "text": True, "check": False}
+        ran = subprocess.run([example("send"), "it"], cwd=here, timeout=LIMIT, **how)
+    assert (ran.returncode, ran.stdout, ran.stderr) == (2, "", "it: %s\n" % told), ran.stderr
+
+
+@sentence("the examples take files of more than 2 GiB on 32 bits")
+def test_large_files():
+    compiler = "arm-linux-gnueabihf-gcc"
+    needs(compiler)
+    with tempfile.TemporaryDirectory(prefix="ymodem-") as here:
+        path = os.path.join(here, "large.c")
+        with open(path, "w", encoding="utf-8") as it:
+            it.write('#include "line.h"\nextern char large[sizeof(off_t) == 8 ? 1 : -1];\n')
+        how = ["-std=c99", "-fsyntax-only", "-I", os.path.join(ROOT, "examples", "c")]
+        command(compiler, *how, "-I", INCLUDE, path)
 
 
 @sentence("a read of the examples' line beside signals")
