@@ -53,8 +53,8 @@ typedef struct ym_io {
     int (*read)(void *user, uint8_t *bytes, size_t len, uint32_t milliseconds);
     /* Writes all of it, and answers 0 or above. */
     int (*write)(void *user, const uint8_t *bytes, size_t len);
-    /* Milliseconds of any clock, below 2^63. One that stands still or jumps back delays, and does
-       no harm. */
+    /* Milliseconds of any clock, below 2^63. One that stands still, jumps back, or begins again at
+       0 as a tick of 32 bits does, delays, and does no harm. */
     uint64_t (*clock)(void *user);
 } ym_io;
 
@@ -301,10 +301,10 @@ static inline ym_error ym_received(const ym_stand *stand) {
     }
 }
 
-/* Receives a batch. A file that was begun and not committed is the host's to take back. Behind the
-   end block all files are kept: the batch is through, also where its ACK cannot be written. Where
-   it gives up on a line that works, its sender was told by CAN CAN. It may be called again at
-   once. */
+/* Receives a batch. It listens for 3 seconds before it asks for the first file. A file that was
+   begun and not committed is the host's to take back. Behind the end block all files are kept: the
+   batch is through, also where its ACK cannot be written. Where it gives up on a line that works,
+   its sender was told by CAN CAN. It may be called again at once. */
 static inline ym_error ym_receive(const ym_io *io, const ym_sink *sink) {
     ym_end end;
     ym_receiver receiver;

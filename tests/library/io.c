@@ -16,12 +16,12 @@ static void wants(int holds, const char *what) {
 
 /* What comes, each piece at one read, an empty one for a quiet line; behind it the line is quiet,
    or drips one byte each so many milliseconds, for ever or for so long, or is closed. What was
-   written, and when the second time; the write of this number fails, if any does. */
+   written, and when the first and the second time; the write of this number fails, if any does. */
 struct played {
     const char *const *comes;
     const size_t *sizes;
     size_t count, at, written, closed_behind, unwritten;
-    uint64_t now, drips, drips_for, second;
+    uint64_t now, drips, drips_for, first, second;
     int stands_still;
     uint8_t last[1029];
 };
@@ -64,7 +64,8 @@ static int writes(void *user, const uint8_t *bytes, size_t len) {
     struct played *it = user;
     if (!len || len > sizeof it->last) return -1;
     memcpy(it->last, bytes, len);
-    if (++it->written == 2) it->second = it->now;
+    if (++it->written == 1) it->first = it->now;
+    if (it->written == 2) it->second = it->now;
     return it->written == it->unwritten ? -1 : 0;
 }
 
@@ -132,6 +133,7 @@ static void nobody(int stands_still) {
     struct played it = played_of(NULL, NULL, 0);
     wants(receives(&it, stands_still) == YM_ERROR_TOO_MANY, "a receiver without a sender");
     wants(it.written == 10 && it.last[0] == 0x18, "it asks nine times, and cancels");
+    wants(stands_still || it.first == 3000, "it listens for three seconds before it asks");
     wants(stands_still || (it.now > 20000 && it.now < 40000), "it waits three seconds each time");
     again(&it);
     wants(sends(&it, "name", 1) == YM_ERROR_NO_REPLY, "a sender without a receiver");
