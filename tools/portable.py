@@ -66,6 +66,8 @@ FILLED = re.compile(r"\bmemory_fill\(%sw2c_i(\d+), (w2c_i\d+), w2c_i(\d+)\)" % M
 STACK = "instance->w2c___stack_pointer"
 DIVISION = re.compile(r"DIV_U\((\w+), w2c_([ij]\d+)\)")
 PROTOTYPE = re.compile(r"^(void|uint32_t|uint64_t|size_t) (ym_\w+)\(([^)]*)\);$", re.M)
+# A comparison of numbers with a sign, which wasm2c casts to their type. It is one of 32 bits.
+COMPARED = re.compile(r"(\bw2c_i\d+ = )\(u64\)(?=\(\(s64\)\w+ [<>]=? \(s64\)\w+\);)")
 # What is not to be left of the module.
 LEFT = re.compile(
     r"instance|w2c_|TRAP|CALL_INDIRECT|\bf32|\bf64|DIV|REM_|ROT[LR]|CLZ|CTZ|POPCNT|TRUNC"
@@ -268,6 +270,7 @@ class Function:
         body = "\n".join(lines).replace(STACK, "core->stack").replace("UNREACHABLE;", "STOP")
         body = re.sub(r"\bw2c_(\w+)\(instance", lambda it: shorts[it[1]] + "(core", body)
         body = body.replace("I64_CTZ", "trailing_zeros")
+        body = COMPARED.sub(r"\1(u32)", body)
         body = re.sub(r"\bw2c_([ijlpBL]\w*)", r"\1", body)
         wants(not LEFT.search(body), "%s: it has %s" % (self.name, LEFT.findall(body)[:1]))
         given = ["core", *re.findall(r"p\d+", self.params)]

@@ -265,6 +265,8 @@ def test_header_alone(words, language, standards, header=HEADER, padded=("-Wpadd
         command(compiler, *flags, *how, "-include", header, "/dev/null")
 
 
+# What firmware is often compiled with besides.
+WARY = " -Wconversion -Wshadow -Wundef -Wcast-qual -Wredundant-decls"
 EACH_LEVEL = [(standard, level) for standard in STANDARDS for level in LEVELS]
 
 
@@ -278,7 +280,7 @@ EACH_LEVEL = [(standard, level) for standard in STANDARDS for level in LEVELS]
 def test_without_a_warning(words, how):
     compiles(words, "-c")
     for standard, level in how:
-        compiled(words + " -c " + level, standard, os.devnull, SOURCE)
+        compiled(words + WARY + " -c " + level, standard, os.devnull, SOURCE)
 
 
 M3, M0 = (COMPILERS[it] + " -Os" for it in ("Cortex-M3", "Cortex-M0+"))
