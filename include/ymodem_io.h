@@ -28,7 +28,7 @@
 #define YM_MOST_READS 65536
 #endif
 
-/* What may come of it. */
+/* What may come of it: why the end ended, whether its last write went well or not. */
 typedef enum ym_error {
     YM_DONE,               /* the batch is through */
     YM_ERROR_LINE,         /* the line could not be read or written */
@@ -319,7 +319,7 @@ static inline ym_error ym_receive(const ym_io *io, const ym_sink *sink) {
         int done = !other && ym_receive_does(sink, &receiver, &ask);
         if (ask.kind == YM_BEGIN) opening = ym_opening_of(&receiver);
         size_t len = ym_receiver_answer(&receiver, (uint32_t)done, reply, sizeof reply);
-        if (len && !ym_end_write(&end, reply, len) && receiver.stand.state != YM_FINISHED) {
+        if (len && !ym_end_write(&end, reply, len) && receiver.stand.state == YM_RUNNING) {
             return YM_ERROR_LINE;
         }
         if (other) return YM_ERROR_OUT_OF_STEP;
@@ -418,9 +418,9 @@ static inline ym_error ym_sent(uint32_t state) {
     }
 }
 
-/* Sends a batch. Where it gives up on a line that works, its receiver was told by CAN CAN, but where
-   nothing was written yet: too many files, or one of which nothing can be told. It may be called
-   again at once. */
+/* Sends a batch. Where it gives up on a line that works, its receiver was told by CAN CAN, but
+   where nothing was written yet: too many files, or one of which nothing can be told. It may be
+   called again at once. */
 static inline ym_error ym_send(const ym_io *io, const ym_source *source) {
     ym_end end;
     ym_line copy;
@@ -445,7 +445,9 @@ static inline ym_error ym_send(const ym_io *io, const ym_source *source) {
         ym_sender_hear(&sender, source->blocks, source->files, bytes, (size_t)len, &fill);
         error = ym_send_fills(source, &sender, &fill, &stated);
         if (error != YM_DONE) ym_sender_failed(&sender, source->blocks, source->files);
-        if (!ym_send_says(&end, source, &sender)) return YM_ERROR_LINE;
+        if (!ym_send_says(&end, source, &sender) && sender.state == YM_SENDING) {
+            return YM_ERROR_LINE;
+        }
     }
     return error != YM_DONE ? error : ym_sent(sender.state);
 }

@@ -24,7 +24,8 @@ struct batch {
 
 static uint8_t byte_of(size_t file, uint64_t at) { return (uint8_t)(at * 31 + at / 251 + file); }
 
-/* The calls of a host, and which of them fails, when, and what it answers then. */
+/* The calls of a host, and which of them fails, when, and what it answers then. Behind it a host
+   that is mute writes no more. */
 enum call { READ, WRITE, BEGIN, ADD, COMMIT, ABOUT, FILL, CALLS };
 enum reading { PIECES, BYTES, PAIRS };
 enum clock { RUNS, STANDS_STILL, JUMPS_BACK, WRAPS, CLOCKS };
@@ -36,7 +37,7 @@ struct host {
     uint64_t now;
     enum call failing;
     unsigned long fails_at, made[CALLS], files_behind;
-    int cannot, has_failed;
+    int cannot, has_failed, is_mute;
     /* What comes to the end that is tried, and the other end. */
     uint8_t queue[QUEUE];
     size_t head, tail;
@@ -147,6 +148,7 @@ static int host_read(void *user, uint8_t *bytes, size_t len, uint32_t millisecon
 static int host_write(void *user, const uint8_t *bytes, size_t len) {
     struct host *it = user;
     if (fails(it, WRITE)) return it->cannot;
+    if (it->is_mute && it->has_failed) return -1;
     if (it->receives) peer_sends(it, bytes, len);
     if (!it->receives) peer_receives(it, bytes, len);
     return 0;
@@ -249,20 +251,18 @@ static void each_host(int receives) {
     }
 }
 
-/* A call of files that fails is told, to the peer too once it is there, and is the last one. A line
-   that fails is told, but where the batch is through. A read that tells more than it was asked for
-   fails. */
-static void fails_at(size_t batch, int receives, enum call call, unsigned long at, int cannot) {
-    struct host it = host_of(batch, receives);
+/* A call of files that fails is told, to the peer too once it is there, and is the last one: also
+   where the line fails behind it. A line that fails is told, but where the batch is through. A read
+   that tells more than it was asked for fails. */
+static void fails_at(struct host it, enum call call, unsigned long at) {
     it.failing = call;
     it.fails_at = at;
-    it.cannot = cannot;
     ym_error error = moves(&it);
     int is_before = call == ABOUT && at <= it.batch->count;
     wants(!it.is_wrong && !it.files_behind, "calls of files behind one that failed", at);
     if (call >= BEGIN) {
         wants(error == YM_ERROR_FILES, "a call of files that fails", at);
-        wants(is_before || it.is_cancelled, "its peer is told", at);
+        wants(is_before || it.is_mute || it.is_cancelled, "its peer is told", at);
     } else if (error == YM_DONE) {
         wants(it.stored == it.batch->count, "a line that fails at the end", at);
     } else {
@@ -271,13 +271,17 @@ static void fails_at(size_t batch, int receives, enum call call, unsigned long a
 }
 
 static void each_failure(size_t batch, int receives) {
-    struct host it = host_of(batch, receives);
-    wants(moves(&it) == YM_DONE, "a host of which no call fails", batch);
+    struct host host = host_of(batch, receives), well = host;
+    wants(moves(&well) == YM_DONE, "a host of which no call fails", batch);
     for (unsigned call = 0; call < CALLS; call++) {
-        for (unsigned long at = 1; at <= it.made[call]; at++) {
-            fails_at(batch, receives, (enum call)call, at, -1);
-            if (call >= BEGIN) fails_at(batch, receives, (enum call)call, at, 0);
-            if (call == READ) fails_at(batch, receives, READ, at, 100000);
+        for (unsigned long at = 1; at <= well.made[call]; at++) {
+            host.cannot = -1;
+            fails_at(host, (enum call)call, at);
+            host.cannot = call == READ ? 100000 : 0;
+            if (call == READ || call >= BEGIN) fails_at(host, (enum call)call, at);
+            host.is_mute = 1;
+            if (call >= BEGIN) fails_at(host, (enum call)call, at);
+            host.is_mute = 0;
         }
     }
 }
