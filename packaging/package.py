@@ -49,7 +49,7 @@ Description: proved program that sends and receives files by YMODEM
  .
  It is written in Rattle, which is Rust with contracts, and proved: whatever is
  lost or damaged on the line, where damage shows, the files that the receiver
- has committed are a front of the batch that was sent, each exact.
+ has committed are the first ones of the batch that was sent, each exact.
 """
 
 DEV_CONTROL = """Package: libymodem-dev
@@ -66,7 +66,9 @@ Description: proved YMODEM for callers in C (static library and header)
  A receiver and a sender of batches of files by YMODEM as state machines that
  the caller drives, for boot loaders, test benches and programs. It allocates
  nothing, keeps nothing between calls and calls nobody back; of a C library it
- needs memcpy, memmove, memset and memcmp.
+ needs memcpy, memmove, memset and memcmp. ymodem_io.h has whole transfers over
+ a port of the caller's, and /usr/share/ymodem/portable the same library in C
+ for other processors.
  .
  It is written in Rattle, which is Rust with contracts, and proved: each call
  returns, stays within what it is given, and takes the step of the protocol's

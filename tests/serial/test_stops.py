@@ -141,7 +141,7 @@ def whole(folder):
 
 
 def wants_front(files, kept):
-    """What is kept is a front of the batch, each file whole."""
+    """What is kept are the first files of the batch, each whole."""
     wants_same(kept, dict(files[: len(kept)]))
 
 
