@@ -1,8 +1,8 @@
 """What the ends of a transfer say that they did, beside what is stored.
 
-Whatever happens on the line, these hold: what is stored are the first files of the batch, each file exact;
-each file that a sender reports done is stored; a receiver reports what is stored, no more and no
-less; and no end says that it finished while a file is missing.
+Whatever happens on the line, these hold: what is stored are the first files of the batch, each
+exact; each file that a sender reports done is stored; a receiver reports what is stored, no more
+and no less; and no end says that it finished while a file is missing.
 """
 
 import re

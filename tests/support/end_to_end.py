@@ -57,8 +57,8 @@ FINISHED = Told()
 
 
 def transfer(files, line, flags=(), told=FINISHED, there_is=()):
-    """Sends files through a line. What is committed are the first files of the batch, each exact, and
-    nothing else stands in the folder but what was there."""
+    """Sends files through a line. What is committed are the first files of the batch, each exact,
+    and nothing else stands in the folder but what was there."""
     ends = carried(files, lambda port: Relay(line, port), flags, there_is)
     count = len(files) if told.files is None else told.files
     done = len(files) if told.done is None else told.done
