@@ -22,6 +22,15 @@ impl<D: Folder + Drop> Explains for DirSink<D> {
     }
 }
 
+/// What is told where a file of this name is there: its own part is, where that has the same name.
+fn message_of_there<'a>(name: &'a str, part: &str) -> FileMessage<'a> {
+    if name == part {
+        FileMessage::IsOwnPart(name)
+    } else {
+        FileMessage::IsThere(name)
+    }
+}
+
 /// Tells why the file of this name was not stored in a folder, as its sink says. Without memory for
 /// the part's name nothing is told.
 fn tell_not_stored<E: Write + Drop>(
@@ -36,8 +45,7 @@ fn tell_not_stored<E: Write + Drop>(
     };
     let part = part.as_str();
     teller.tell(match why {
-        Some(StoreFault::IsThere) if part == name => FileMessage::IsOwnPart(name),
-        Some(StoreFault::IsThere) => FileMessage::IsThere(name),
+        Some(StoreFault::IsThere) => message_of_there(name, part),
         Some(StoreFault::PartIsThere) => match leftover {
             Leftover::Refused => FileMessage::PartIsLeft(name, part),
             Leftover::Discarded => FileMessage::PartIsInUse(name, part),
