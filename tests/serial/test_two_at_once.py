@@ -1,0 +1,118 @@
+"""Two `ymodem-tty` at one line at the same moment: one of them has it, and the line gets back the
+settings that it had before both."""
+
+import contextlib
+import os
+import shutil
+
+from support.cable import plug, settings
+from support.cases import case, cases, sentence
+from support.on_line import ends_with, started
+from support.program import PROGRAM, folders, wants_same, write_files
+from support.skipping import needs
+from support.tty_script import ENVIRONMENT, SCRIPT
+from support.waits import wait_until
+
+REFUSED = "ymodem-tty: another ymodem-tty has the line\n"
+CANCEL = b"\x18\x18"
+# What stands in for a program: where it is asked for this, it tells so, and begins when it may.
+STANDS_IN = """#!/bin/sh
+case $* in
+%(asked)s)
+    echo > "%(folder)s/told"
+    until [ -e "%(folder)s/go" ]; do
+        [ -e "%(folder)s/told" ] || exit
+        sleep 0.1
+    done
+    ;;
+esac
+exec "%(program)s" "$@"
+"""
+
+
+class Held:
+    """What stands in for a program that `ymodem-tty` runs, in this folder, and is held up where it
+    is asked for words of this pattern."""
+
+    def __init__(self, folder, name, program, asked="*"):
+        self.folder, self.path = folder, os.path.join(folder, name)
+        text = STANDS_IN % {"folder": folder, "program": program, "asked": asked}
+        write_files(folder, [(name, text.encode())])
+        os.chmod(self.path, 0o755)
+
+    def is_held(self):
+        wait_until(lambda: os.path.exists(os.path.join(self.folder, "told")), "it is held up")
+
+    def goes_on(self):
+        write_files(self.folder, [("go", b"")])
+
+
+def before_its_lock(folder):
+    """`ymodem-tty` has set the line, and what it runs has not locked it yet."""
+    held = Held(folder, "late", PROGRAM)
+    return held, {**ENVIRONMENT, "YMODEM": held.path}, 1
+
+
+def behind_its_end(folder):
+    """What it runs has ended, and the line does not have its settings yet."""
+    # settings that come back have colons
+    held = Held(folder, "stty", shutil.which("stty"), "*:*")
+    return held, {**ENVIRONMENT, "YMODEM": "true", "PATH": folder + ":" + ENVIRONMENT["PATH"]}, 0
+
+
+@contextlib.contextmanager
+def receiving(it, folder, by_path, environment=ENVIRONMENT):
+    """`ymodem-tty receive` at this plug, which it opens by its path or has as standard input."""
+    with contextlib.ExitStack() as later:
+        words, how = ["--device", it.path], {}
+        if not by_path:
+            end = os.open(it.path, os.O_RDWR | os.O_NOCTTY)
+            later.callback(os.close, end)
+            words, how = [], {"stdin": end, "stdout": end}
+        words = [SCRIPT, *words, "receive"]
+        yield later.enter_context(started(words, folder, env=environment, **how))
+
+
+@cases(
+    *(
+        case("a second ymodem-tty comes %s, %s" % (when, named), held, by_path)
+        for when, held in (
+            ("before the first one's lock", before_its_lock),
+            ("behind the first one's end", behind_its_end),
+        )
+        for named, by_path in (("by the same path", True), ("on standard input", False))
+    )
+)
+def test_second_is_refused(held, by_path):
+    """It is refused, and does not touch the line. What cancels a transfer waits there for the one
+    that has it."""
+    needs("flock")
+    with folders() as (here, there), plug() as it:
+        before = settings(it.path)
+        held, environment, status = held(here)
+        with receiving(it, here, True, environment) as first:
+            held.is_held()
+            needed = settings(it.path)
+            os.write(it.inner, CANCEL)
+            with receiving(it, there, by_path) as second:
+                _, err = ends_with(second, 3)
+            wants_same({"said": err}, {"said": REFUSED})
+            wants_same({"settings": settings(it.path)}, {"settings": needed})
+            held.goes_on()
+            ends_with(first, status)
+        wants_same({"settings": settings(it.path)}, {"settings": before})
+
+
+@sentence("ymodem-tty behind one that was killed")
+def test_behind_a_killed_one():
+    """One that was killed has the line no more, also where what it ran is still there."""
+    with folders() as (here, there), plug() as it:
+        held = Held(here, "late", "true")
+        with receiving(it, here, True, {**ENVIRONMENT, "YMODEM": held.path}) as first:
+            held.is_held()
+            first.kill()
+            first.wait()
+            os.write(it.inner, CANCEL)
+            with receiving(it, there, True) as second:
+                ends_with(second, 1)
+            held.goes_on()
