@@ -3,8 +3,9 @@
 import os
 import random
 import shutil
+import subprocess
 
-from support.cable import cable, set_for_ticks
+from support.cable import cable, set_for_ticks, settings
 from support.cases import case, cases, sentence
 from support.on_line import ends_with, says, started
 from support.program import (
@@ -16,7 +17,7 @@ from support.program import (
     wants_stored,
     write_files,
 )
-from support.tty_script import CANCEL, ENVIRONMENT, SCRIPT
+from support.tty_script import CANCEL, ENVIRONMENT, LOGIN, SCRIPT
 
 CHANCE = random.Random(37)
 FILES = [("one.bin", CHANCE.randbytes(40_000)), ("none", b""), ("two", CHANCE.randbytes(700))]
@@ -79,19 +80,21 @@ def test_too_large():
 THIS_TERMINAL = b"ymodem-tty: the line is this terminal: ^X ^X ends it\n"
 
 
-# Begins a session of which this terminal is the controlling one, as a login does.
-LOGIN = ["setsid", "--ctty", "--wait"]
-
-
 @cases(
     case("ymodem-tty receive, at the terminal that is the line", [SCRIPT]),
     case("the same, which is named as one's own", [*LOGIN, SCRIPT, "--device", "/dev/tty"]),
+    *(
+        case("the same, which is named as what %s leads to" % it, [SCRIPT, "--device", it])
+        for it in ("/dev/stdin", "/dev/stdout", "/dev/stderr", "/dev/fd/2", "/proc/self/fd/2")
+    ),
 )
 def test_same_terminal(words):
-    """As after a login over the line: while files go the line has what the ends write, and no
-    more."""
+    """As after a login over the line, which is set for whoever types: while files go the line has
+    what the ends write, and no more. Then it is set as before."""
     with folders() as (here, there), cable() as it:
         set_for_ticks(it.near.path)
+        subprocess.run(["stty", "-F", it.far.path, "sane"], check=True)
+        before = settings(it.far.path)
         far = os.open(it.far.path, os.O_RDWR | os.O_NOCTTY)
         how = {"stdin": far, "stdout": far, "stderr": far, "env": ENVIRONMENT}
         sent = [PROGRAM, "sb", "--line", it.near.path, *write_files(here, FILES)]
@@ -99,6 +102,7 @@ def test_same_terminal(words):
             os.close(far)
             assert script.wait(LIMIT) == 0, "its status"
             ends_with(sender, 0)
+        wants_same({"settings": settings(it.far.path)}, {"settings": before})
         written, told = bytes(it.back), FINISHED.encode()
         assert written.startswith(THIS_TERMINAL), "it begins with %r" % written[:100]
         between = written.removeprefix(THIS_TERMINAL).removesuffix(told)

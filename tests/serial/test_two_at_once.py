@@ -7,10 +7,12 @@ import shutil
 
 from support.cable import plug, settings
 from support.cases import case, cases, sentence
-from support.on_line import ends_with, started
+from support.frames import END
+from support.on_line import ends_with, lock, started
+from support.plug_end import End
 from support.program import PROGRAM, folders, wants_same, write_files
 from support.skipping import needs
-from support.tty_script import ENVIRONMENT, SCRIPT
+from support.tty_script import ENVIRONMENT, LOGIN, SCRIPT
 from support.waits import wait_until
 
 REFUSED = "ymodem-tty: another ymodem-tty has the line\n"
@@ -116,3 +118,38 @@ def test_behind_a_killed_one():
             with receiving(it, there, True) as second:
                 ends_with(second, 1)
             held.goes_on()
+
+
+@contextlib.contextmanager
+def at_its_own(it, folder):
+    """`ymodem-tty receive` of a login at this plug, which names it as its own terminal."""
+    end = os.open(it.path, os.O_RDWR | os.O_NOCTTY)
+    how = {"stdin": end, "stdout": end, "env": ENVIRONMENT}
+    words = [*LOGIN, SCRIPT, "--device", "/dev/tty", "receive", "--verbose"]
+    with started(words, folder, **how) as script:
+        os.close(end)
+        yield script
+
+
+@sentence("ymodem-tty at /dev/tty, at two terminals")
+def test_two_of_their_own():
+    """Each has the terminal that it was started at: neither holds up the other one."""
+    with folders() as (here, there), plug() as one, plug() as other:
+        with at_its_own(one, here) as first, at_its_own(other, there) as second:
+            for it in (one, other):
+                End(it).wants(b"C")
+            for it, script in ((one, first), (other, second)):
+                os.write(it.inner, END)
+                ends_with(script, 0)
+
+
+@sentence("ymodem-tty at a /dev/tty that is busy")
+def test_own_is_busy():
+    """It is that terminal which is locked."""
+    with folders() as (here, _), plug() as it:
+        held = lock(it.path)
+        with at_its_own(it, here) as script:
+            _, err = ends_with(script, 3)
+        os.close(held)
+    told = "cannot open '%s': another program has it open\n" % it.path
+    assert told in err, "it said %r" % err
