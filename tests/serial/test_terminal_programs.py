@@ -5,10 +5,19 @@ import contextlib
 import os
 import shutil
 import subprocess
+import termios
 
 from support.cable import plug, settings
 from support.cases import case, cases, sentence
-from support.picocom import KEY_TO_RECEIVE, KEY_TO_SEND, picocom, recipe, transfer
+from support.picocom import (
+    KEY_TO_LEAVE_SET,
+    KEY_TO_RECEIVE,
+    KEY_TO_SEND,
+    KEY_TO_SET_BACK,
+    picocom,
+    recipe,
+    transfer,
+)
 from support.program import folders, wants_same, wants_stored, write_files
 from support.skipping import needs
 from support.terminal import UnderTerminal, joined
@@ -118,6 +127,31 @@ def test_busy_with_picocom():
                 said = wants_status("ymodem-tty", script, 3)
             assert "another program has it open" in said, "it said %r" % said
             wants_same({"settings": settings(it.path)}, {"settings": before})
+
+
+def modes(end):
+    """How a terminal is set, and beside it whether it hangs up at its last close."""
+    kept = termios.tcgetattr(end)
+    hangs_up = bool(kept[2] & termios.HUPCL)
+    kept[2] &= ~termios.HUPCL
+    return kept, hangs_up
+
+
+@cases(
+    case("picocom that is left by C-a C-q leaves its line set", KEY_TO_LEAVE_SET, True),
+    case("picocom that is left by C-a C-x sets its line back", KEY_TO_SET_BACK, False),
+)
+def test_left_by(key, stays_set):
+    """What docs/serial.md says of both keys. By the one the line does not hang up behind it, and by
+    the other it does."""
+    needs("picocom")
+    with folders() as (here, _), plug() as it:
+        before, _ = modes(it.outer)
+        with picocom("picocom -b 57600 %s" % it.path, here, AT_HAND, key):
+            needed, _ = modes(it.outer)
+        assert needed != before, "picocom did not set its line"
+        left = needed if stays_set else before
+        wants_same({"modes": modes(it.outer)}, {"modes": (left, not stays_set)})
 
 
 @sentence("no socat is at hand for ymodem-tty")

@@ -8,8 +8,9 @@ from support.program import ROOT
 from support.terminal import UnderTerminal
 
 
-# The keys, behind Control-A, that begin a transfer.
+# The keys, behind Control-A, that begin a transfer, and by which it is left.
 KEY_TO_SEND, KEY_TO_RECEIVE = b"\x13", b"\x12"
+KEY_TO_SET_BACK, KEY_TO_LEAVE_SET = b"\x18", b"\x11"
 
 
 def recipe(words):
@@ -21,15 +22,16 @@ def recipe(words):
 
 
 @contextlib.contextmanager
-def picocom(typed, folder, environment):
+def picocom(typed, folder, environment, left_by=KEY_TO_SET_BACK):
     """picocom, started in a folder by a line of a shell: its terminal, once it is ready. It is left
-    as its user leaves it."""
+    as its user leaves it, by this key."""
     shown = UnderTerminal(["sh", "-c", typed], cwd=folder, env={**environment, "HOME": folder})
     try:
         shown.sees(b"Terminal ready")
         yield shown
-        shown.type(b"\x01\x18")
+        shown.type(b"\x01" + left_by)
         shown.sees(b"Thanks for using picocom")
+        assert shown.ended() == 0, "picocom did not end well"
     finally:
         shown.stop()
         with contextlib.suppress(FileNotFoundError):

@@ -6,22 +6,24 @@ import os
 import re
 import signal
 import threading
+import time
 import zlib
 
+import pytest
 from support.cable import plug
 from support.cases import sentence
 from support.help_texts import said_of
 from support.pasted import DEVICE, FIRMWARE, at_hand, blocks, folder_of, goes_well, page_text, shell
+from support.picocom import KEY_TO_LEAVE_SET
 from support.program import LIMIT
 from support.qemu import board
+from support.pulse import beating
 from support.skipping import Skipped, needs
 from support.terminal import UnderTerminal
 from support.uboot_boards import ARM64, PROMPT
 
 
 READY = rb"## Ready for binary"
-# The key by which picocom leaves its line as it is.
-LEAVES = b"\x01\x11"
 
 
 class Cable:
@@ -115,7 +117,7 @@ class Session:
 
     def leave(self):
         if self.terminal:
-            self.terminal.type(LEAVES)
+            self.terminal.type(b"\x01" + KEY_TO_LEAVE_SET)
             self.terminal.sees(b"Thanks for using picocom")
             assert self.terminal.ended() == 0, "picocom did not end well"
             self.terminal = None
@@ -192,3 +194,21 @@ def test_changes_speed():
         port.type(line.encode() + b"\r")
         told = rb"Switch baudrate to %s bps and press ENTER" % line.split()[2].encode()
         port.sees(told, start)
+
+
+# Seconds for which docs/serial.md says that it waits, and by how many it may be wrong.
+WAITS, MORE_OR_LESS = 90, 5
+
+
+@pytest.mark.long
+@sentence("U-Boot: how long loady waits for a sender that never comes")
+def test_waits():
+    text = page_text("docs/serial.md")
+    assert "`loady` waits for some %d seconds" % WAITS in text, "the page tells other seconds"
+    with ARM64.started() as port:
+        start = ARM64.ready(port, b"")
+        began = time.monotonic()
+        port.sees(PROMPT, start)
+        seconds = time.monotonic() - began
+    beating().note(began, WAITS + MORE_OR_LESS)
+    assert abs(seconds - WAITS) <= MORE_OR_LESS, "it waited for %.1f s" % seconds
