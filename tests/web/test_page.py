@@ -5,6 +5,7 @@ import contextlib
 import json
 import os
 import random
+import re
 
 import pytest
 from support.cases import NEEDS_LRZSZ, case, cases_in
@@ -30,7 +31,7 @@ from support.relay import Seeded
 from support.rooms import BROWSERS
 from support.serial_port import SERIAL
 from support.waits import wait_until
-from support.web_peers import Held, Loader, lrzsz, program_receives, program_sends
+from support.web_peers import Held, Loader, Peer, lrzsz, program_receives, program_sends
 
 
 @cases_in(BROWSERS, case("page: a whole update", marks=NEEDS_LRZSZ))
@@ -388,3 +389,38 @@ def test_nobody_asks(room):
         wants_result(page, "never asked for a file")
         picture(page, "11-never-asked")
         loader.close()
+
+
+def clock():
+    """The clock of tests/web/lines.js, which the check winds on, for a page of its own."""
+    with open(os.path.join(os.path.dirname(__file__), "lines.js"), encoding="utf-8") as it:
+        found = re.search(r"^class Clock \{\n.*?^\}\n", it.read(), re.M | re.S)
+    return found[0] + "globalThis.clock = new Clock();\n"
+
+
+# Seconds in which nothing is offered, by the page's own clock: a quarter of an hour, and what its
+# last try takes beyond that.
+QUARTER, LAST_TRY = 900, 32
+
+
+@cases_in(BROWSERS, case("page: nobody offers a file for a quarter of an hour"))
+def test_waits(room):
+    """It goes on asking for so long, and says that it did."""
+    script = """(async () => {
+      const began = clock.now;
+      document.querySelector("#receive").click();
+      await clock.until(() => !document.querySelector("#result").hidden);
+      return (clock.now - began) / 1000;
+    })()"""
+
+    def listens(end):
+        while end.recv(4096):
+            pass
+
+    with Shown(room, clock()) as page, Peer(listens) as it:
+        dial(page, it.bridge.address)
+        click(page, "[name=way2][value=receive]")
+        seconds = page.run(script)
+        assert QUARTER <= seconds <= QUARTER + LAST_TRY, "it asked for %.0f s" % seconds
+        wants_result(page, "for a quarter of an hour, and no file was offered")
+        click(page, "#disconnect")
