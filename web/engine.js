@@ -12,10 +12,17 @@ const PROBE = Uint8Array.of(
   ...[10, 15, 1, 13, 0, 0x41, 0, 0xc0, 0x41, 0, 0x41, 0, 0xfc, 10, 0, 0, 0x0b],
 );
 
-/** Whether this browser runs ymodem.wasm. */
+/** Whether this browser lets a stream go while a read waits, and runs ymodem.wasm. Browsers before
+ *  that rule throw, as do those that lack what is named here. */
 export function supported() {
-  const isThere = typeof WebAssembly === "object" && typeof BigInt64Array === "function";
-  return isThere && WebAssembly.validate(PROBE);
+  try {
+    const reader = new ReadableStream().getReader();
+    reader.read().catch(() => {});
+    reader.releaseLock();
+    return BigInt64Array && WebAssembly.validate(PROBE);
+  } catch {
+    return false;
+  }
 }
 
 let compiled = null;

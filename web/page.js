@@ -24,7 +24,7 @@ const C = 0x43;
 const hasSerial = "serial" in navigator;
 const hasSocket = typeof WebSocket === "function";
 const canConnect = hasSerial || hasSocket;
-const canRun = supported() && typeof DecompressionStream === "function" && letsGo();
+const canRun = supported() && typeof DecompressionStream === "function";
 
 let line = null;
 let isDialing = false;
@@ -37,17 +37,6 @@ let unsaved = [];
 
 const terminal = new Terminal(at("screen"), lost);
 const chart = new Chart(at("chart"));
-
-/** Whether a stream can be let go while a read waits: browsers before that rule throw. */
-function letsGo() {
-  try {
-    const reader = new ReadableStream().getReader();
-    reader.read().catch(() => {});
-    return !reader.releaseLock();
-  } catch {
-    return false;
-  }
-}
 
 // ---- What is shown
 

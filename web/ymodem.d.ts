@@ -110,7 +110,7 @@ export function receive(port: Port, options?: ReceiveOptions): Promise<Done>;
 /** Sends files, in order. One is `[file]`: what is no list is a TypeError. */
 export function send(port: Port, files: Iterable<Item>, options?: Options): Promise<Done>;
 
-/** Whether this browser runs the module. */
+/** Whether this browser runs the module, over streams of 2022. */
 export function supported(): boolean;
 
 /** Makes the module ready; without this call, `ymodem.wasm` beside this file is loaded at the first transfer. */

@@ -10,6 +10,15 @@ from support.program import ROOT
 
 PAGE = "file://" + os.path.join(ROOT, "out", "web", "index.html")
 PICTURES = os.path.join(ROOT, "out", "pictures")
+# Streams as browsers have them that are older than their standard of 2022.
+HELD = """
+const { read, releaseLock } = ReadableStreamDefaultReader.prototype;
+let waiting = 0;
+Object.assign(ReadableStreamDefaultReader.prototype, {
+  read() { waiting++; return read.call(this).finally(() => waiting--); },
+  releaseLock() { if (waiting) throw new TypeError('a read waits'); releaseLock.call(this); },
+});
+"""
 # 800,000 bytes, as the loader says.
 SIZE = 800000
 

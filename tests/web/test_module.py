@@ -11,6 +11,7 @@ import pytest
 from support.cases import NEEDS_LRZSZ, case, cases_in
 from support.commands import command
 from support.empty_page import WEB, Empty, received, sends
+from support.page import HELD
 from support.program import ROOT, folders, wants_same, wants_stored, write_files
 from support.relay import Seeded
 from support.rooms import BROWSERS
@@ -285,6 +286,18 @@ def test_names_and_times(room):
             % json.dumps(names)
         )
     assert json.loads(got) == [[name, 1234567890, name] for name in names], "they are %s" % got
+
+
+@cases_in(BROWSERS, case("a browser whose streams are held by a read"))
+def test_held(room):
+    """The module says that it is not supported there, and touches no stream."""
+    with Empty(room, HELD) as page:
+        got = page.run("""(async () => {
+      const [port] = tools.pair();
+      const { code } = await tools.ended(y.receive(port));
+      return JSON.stringify([y.supported(), code, port.readable.locked || port.writable.locked]);
+    })()""")
+    assert json.loads(got) == [False, "no-webassembly", False], "it says %s" % got
 
 
 # A clock by which ten seconds pass in one: for ends that only wait.

@@ -6,6 +6,7 @@ import time
 
 from support.cases import NEEDS_LRZSZ, case, cases_in
 from support.page import (
+    HELD,
     SIZE,
     Loud,
     Shown,
@@ -286,17 +287,6 @@ def test_contrast(room):
 
 NO_SERIAL = "delete Navigator.prototype.serial;"
 OFF = "['choose', 'again', 'dial'].every((id) => document.getElementById(id).disabled)"
-
-
-# Streams as browsers have them that are older than their standard of 2022.
-HELD = """
-const { read, releaseLock } = ReadableStreamDefaultReader.prototype;
-let waiting = 0;
-Object.assign(ReadableStreamDefaultReader.prototype, {
-  read() { waiting++; return read.call(this).finally(() => waiting--); },
-  releaseLock() { if (waiting) throw new TypeError('a read waits'); releaseLock.call(this); },
-});
-"""
 
 
 @cases_in(BROWSERS, case("page: a browser whose streams are held by a read"))
