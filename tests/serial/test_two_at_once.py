@@ -10,40 +10,31 @@ from support.cases import case, cases, sentence
 from support.frames import END
 from support.on_line import ends_with, lock, started
 from support.plug_end import End
-from support.program import PROGRAM, folders, wants_same, write_files
+from support.program import PROGRAM, ROOT, folders, wants_same, write_files
 from support.skipping import needs
 from support.tty_script import ENVIRONMENT, LOGIN, SCRIPT
 from support.waits import wait_until
 
 REFUSED = "ymodem-tty: another ymodem-tty has the line\n"
 CANCEL = b"\x18\x18"
-# What stands in for a program: where it is asked for this, it tells so, and begins when it may.
-STANDS_IN = """#!/bin/sh
-case $* in
-%(asked)s)
-    echo > "%(folder)s/told"
-    until [ -e "%(folder)s/go" ]; do
-        [ -e "%(folder)s/told" ] || exit
-        sleep 0.1
-    done
-    ;;
-esac
-exec "%(program)s" "$@"
-"""
+STANDS_IN = os.path.join(ROOT, "tests", "support", "stands_in.sh")
 
 
 class Held:
-    """What stands in for a program that `ymodem-tty` runs, in this folder, and is held up where it
-    is asked for words of this pattern."""
+    """What stands in for a program that `ymodem-tty` runs, by this name in this folder, and is held
+    up where it is asked for words of this pattern."""
 
     def __init__(self, folder, name, program, asked="*"):
         self.folder, self.path = folder, os.path.join(folder, name)
-        text = STANDS_IN % {"folder": folder, "program": program, "asked": asked}
-        write_files(folder, [(name, text.encode())])
-        os.chmod(self.path, 0o755)
+        os.symlink(STANDS_IN, self.path)
+        about = {"STANDS_FOR": program, "HELD_IN": folder, "HELD_AT": asked}
+        self.environment = {**ENVIRONMENT, **about}
 
-    def is_held(self):
-        wait_until(lambda: os.path.exists(os.path.join(self.folder, "told")), "it is held up")
+    def is_held(self, script):
+        """Waits until it is, which this child has to bring about."""
+        told = os.path.join(self.folder, "told")
+        wait_until(lambda: os.path.exists(told) or script.poll() is not None, "it is held up")
+        assert os.path.exists(told), "it has ended before: %r" % script.stderr.read()
 
     def goes_on(self):
         write_files(self.folder, [("go", b"")])
@@ -52,14 +43,15 @@ class Held:
 def before_its_lock(folder):
     """`ymodem-tty` has set the line, and what it runs has not locked it yet."""
     held = Held(folder, "late", PROGRAM)
-    return held, {**ENVIRONMENT, "YMODEM": held.path}, 1
+    return held, {**held.environment, "YMODEM": held.path}, 1
 
 
 def behind_its_end(folder):
     """What it runs has ended, and the line does not have its settings yet."""
     # settings that come back have colons
     held = Held(folder, "stty", shutil.which("stty"), "*:*")
-    return held, {**ENVIRONMENT, "YMODEM": "true", "PATH": folder + ":" + ENVIRONMENT["PATH"]}, 0
+    path = folder + ":" + ENVIRONMENT["PATH"]
+    return held, {**held.environment, "YMODEM": "true", "PATH": path}, 0
 
 
 @contextlib.contextmanager
@@ -93,7 +85,7 @@ def test_second_is_refused(held, by_path):
         before = settings(it.path)
         held, environment, status = held(here)
         with receiving(it, here, True, environment) as first:
-            held.is_held()
+            held.is_held(first)
             needed = settings(it.path)
             os.write(it.inner, CANCEL)
             with receiving(it, there, by_path) as second:
@@ -110,8 +102,8 @@ def test_behind_a_killed_one():
     """One that was killed has the line no more, also where what it ran is still there."""
     with folders() as (here, there), plug() as it:
         held = Held(here, "late", "true")
-        with receiving(it, here, True, {**ENVIRONMENT, "YMODEM": held.path}) as first:
-            held.is_held()
+        with receiving(it, here, True, {**held.environment, "YMODEM": held.path}) as first:
+            held.is_held(first)
             first.kill()
             first.wait()
             os.write(it.inner, CANCEL)
