@@ -8,7 +8,14 @@ import subprocess
 
 from support.cases import case, cases, sentence
 from support.judged import PEER, SCRIPT
-from support.program import LIMIT, PROGRAM, folders, wants_same, write_files
+from support.program import (
+    LIMIT,
+    PROGRAM,
+    copy_program,
+    folders,
+    wants_same,
+    write_program,
+)
 from support.skipping import Skipped
 
 ONE_CASE = ["--only", "plain"]
@@ -94,9 +101,8 @@ def test_named_ymodem(named):
     """The manual page has it so: what YMODEM names is run, and else what stands beside the
     script."""
     with folders() as (here, there):
-        beside = shutil.copy(SCRIPT, here)
-        write_files(here, [("ymodem", b"#!/bin/sh\nexit 1\n")])
-        os.chmod(os.path.join(here, "ymodem"), 0o755)
+        beside = copy_program(SCRIPT, here)
+        write_program(os.path.join(here, "ymodem"), "#!/bin/sh\nexit 1\n")
         os.symlink(PROGRAM, os.path.join(there, "ymodem"))
         path = there + ":" + os.environ["PATH"]
         words = [*ONE_CASE, "receiver", PEER + " receiver"]
@@ -111,7 +117,7 @@ def test_named_ymodem(named):
 def test_by_a_link(has_own, status):
     """A link may lead to the script from a folder that has no ymodem, or another one."""
     with folders() as (here, there):
-        os.symlink(shutil.copy(SCRIPT, here), os.path.join(there, "judge"))
+        os.symlink(copy_program(SCRIPT, here), os.path.join(there, "judge"))
         os.symlink(PROGRAM, os.path.join(here, "ymodem"))
         if has_own:
             os.symlink(shutil.which("false"), os.path.join(there, "ymodem"))
@@ -146,10 +152,8 @@ exit 3
 def test_has_no_memory(kinds):
     """It ends before it speaks to the peer. That is told, and is not waited for."""
     with folders() as (here, _):
-        program = os.path.join(here, "ymodem")
-        with open(program, "w", encoding="utf-8") as it:
-            it.write(WITHOUT_MEMORY % shlex.quote(PROGRAM))
-        os.chmod(program, 0o755)
+        without = WITHOUT_MEMORY % shlex.quote(PROGRAM)
+        program = write_program(os.path.join(here, "ymodem"), without)
         for kind in kinds:
             done = judge(*ONE_CASE, kind, "cat", program=program)
             ended = (done.returncode, done.stderr)

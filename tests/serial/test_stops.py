@@ -16,7 +16,16 @@ from support.claims import claim_of_receive, claim_of_send, wants_true
 from support.frames import END, EOT, START, frames_of
 from support.on_line import ends_with, peer, started
 from support.plug_end import End
-from support.program import LIMIT, PROGRAM, Ending, folders, stored, wants_same, write_files
+from support.program import (
+    LIMIT,
+    PROGRAM,
+    Ending,
+    folders,
+    stored,
+    wants_same,
+    write_files,
+    write_program,
+)
 from support.pulse import beating
 from support.skipping import needs
 from support.system_calls import WRITE, waits_in
@@ -189,9 +198,7 @@ exec sleep 600
 def test_signal_is_lost():
     """The program is ended all the same, at once, and the line gets its settings back."""
     with folders() as (here, there), plug() as it:
-        write_files(there, [("deaf", DEAF.encode())])
-        program, before = os.path.join(there, "deaf"), settings(it.path)
-        os.chmod(program, 0o755)
+        program, before = write_program(os.path.join(there, "deaf"), DEAF), settings(it.path)
         words = [SCRIPT, "--device", it.path, "receive"]
         with piped(words, here, {**ENVIRONMENT, "YMODEM": program}) as script:
             wait_until(lambda: os.path.exists(os.path.join(here, "told")), "the program runs")

@@ -2,7 +2,6 @@
 
 import os
 import random
-import shutil
 import subprocess
 
 from support.cable import cable, set_for_ticks, settings
@@ -11,11 +10,13 @@ from support.on_line import ends_with, says, started
 from support.program import (
     LIMIT,
     PROGRAM,
+    copy_program,
     file_lines,
     folders,
     wants_same,
     wants_stored,
     write_files,
+    write_program,
 )
 from support.tty_script import CANCEL, ENVIRONMENT, LOGIN, SCRIPT
 
@@ -130,14 +131,9 @@ def test_refused_words(words, told):
 
 def asked_of_stty(here, there, program, status):
     """What `ymodem-tty` with this program asks `stty` for, of a line, and what it tells."""
-    asked, stand_in = os.path.join(here, "asked"), os.path.join(here, "stty")
-    for path, text in (
-        (asked, ""),
-        (stand_in, '#!/bin/sh\necho "$*" >> %s\nexec /usr/bin/stty "$@"\n' % asked),
-    ):
-        with open(path, "w", encoding="utf-8") as file:
-            file.write(text)
-    os.chmod(stand_in, 0o755)
+    (asked,) = write_files(here, [("asked", b"")])
+    stand_in = '#!/bin/sh\necho "$*" >> %s\nexec /usr/bin/stty "$@"\n' % asked
+    write_program(os.path.join(here, "stty"), stand_in)
     environment = {**ENVIRONMENT, "PATH": here + ":" + os.environ["PATH"], "YMODEM": program}
     with cable() as it:
         words = [SCRIPT, "--device", it.far.path, "receive"]
@@ -176,16 +172,15 @@ UNNAMED = {it: word for it, word in ENVIRONMENT.items() if it != "YMODEM"}
 
 def write_stand_in(folder, told):
     """A ymodem in this folder, which tells so what it is asked for."""
-    write_files(folder, [("ymodem", b'#!/bin/sh\necho "%s $*"\n' % told)])
-    os.chmod(os.path.join(folder, "ymodem"), 0o755)
+    write_program(os.path.join(folder, "ymodem"), '#!/bin/sh\necho "%s $*"\n' % told)
 
 
 @sentence("ymodem-tty, by its bare name in its own folder")
 def test_in_its_folder():
     """A shell that is given the script by its bare name finds the ymodem beside it."""
     with folders() as (here, _):
-        shutil.copy(SCRIPT, here)
-        write_stand_in(here, b"it has")
+        copy_program(SCRIPT, here)
+        write_stand_in(here, "it has")
         words = ["sh", os.path.basename(SCRIPT), "receive", "--single", "in"]
         with started(words, here, env=UNNAMED) as script:
             says(script, 0, "it has rb --single in\n")
@@ -198,10 +193,10 @@ def test_in_its_folder():
 def test_by_a_link(has_own, told):
     """A link may lead to the script from a folder that has no ymodem, or another one."""
     with folders() as (here, there):
-        os.symlink(shutil.copy(SCRIPT, here), os.path.join(there, "tty"))
-        write_stand_in(here, b"the script's")
+        os.symlink(copy_program(SCRIPT, here), os.path.join(there, "tty"))
+        write_stand_in(here, "the script's")
         if has_own:
-            write_stand_in(there, b"the link's")
+            write_stand_in(there, "the link's")
         words = [os.path.join(there, "tty"), "receive", "--single", "in"]
         with started(words, there, env=UNNAMED) as script:
             says(script, 0, told + " rb --single in\n")

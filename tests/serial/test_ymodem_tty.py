@@ -11,7 +11,14 @@ from support.cable import plug, settings
 from support.cases import case, cases, sentence
 from support.frames import END
 from support.on_line import lock
-from support.program import ROOT, folders, wants_same, wants_stored, write_files
+from support.program import (
+    ROOT,
+    folders,
+    wants_same,
+    wants_stored,
+    write_files,
+    write_program,
+)
 from support.skipping import needs
 from support.terminal import is_raw, joined
 from support.tty_script import (
@@ -208,9 +215,8 @@ def test_busy():
     """A device that another program has locked: it is told, and its settings are never changed."""
     with folders() as (here, there), plug() as it:
         told = os.path.join(here, "told")
-        with open(os.path.join(there, "stty"), "w", encoding="utf-8") as stty:
-            stty.write(TELLING_STTY % (told, shutil.which("stty")))
-        os.chmod(stty.name, 0o755)
+        telling = TELLING_STTY % (told, shutil.which("stty"))
+        write_program(os.path.join(there, "stty"), telling)
         environment = {**ENVIRONMENT, "PATH": there + ":" + ENVIRONMENT["PATH"]}
         words = ["send", "--verbose", *write_files(here, FILES[:1])]
         held = lock(it.path)
@@ -237,9 +243,7 @@ exit 3
 def test_got_meanwhile():
     """Two are started at once, and the other one is first: the line stays as that needs it."""
     with folders() as (here, there), plug() as it:
-        write_files(there, [("late", LATE.encode())])
-        program = os.path.join(there, "late")
-        os.chmod(program, 0o755)
+        program = write_program(os.path.join(there, "late"), LATE)
         words = [SCRIPT, "--device", it.path, "receive"]
         with piped(words, here, {**ENVIRONMENT, "YMODEM": program}) as script:
             wait_until(lambda: os.path.exists(os.path.join(here, "told")), "the program runs")

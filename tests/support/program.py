@@ -150,6 +150,21 @@ def write_files(folder, files):
     return paths
 
 
+def write_program(path, text):
+    """Writes a script that is run, and gives its path. Another process writes it: if this one had
+    it open, so would a child that another test begins at that moment, and the system runs no file
+    that somebody has open to write."""
+    words = ["sh", "-c", 'cat > "$1" && chmod 755 "$1"', "sh", path]
+    subprocess.run(words, input=text.encode(), check=True)
+    return path
+
+
+def copy_program(path, folder):
+    """A copy of a script that is run, in this folder, made alike."""
+    subprocess.run(["cp", path, folder], check=True)
+    return os.path.join(folder, os.path.basename(path))
+
+
 def stored(folder):
     """What stands in a folder. Where a file was renamed meanwhile, as one is that is committed, it
     is looked at once more."""
