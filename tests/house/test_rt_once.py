@@ -7,7 +7,7 @@ import sys
 import tempfile
 
 from support.cases import case, cases, sentence
-from support.program import ROOT
+from support.program import ROOT, write_files, write_program
 
 ONCE = os.path.join(ROOT, "tools", "rt_once.py")
 # A module like that of `rt`, and a script over it: each crate of a row stands on all below it.
@@ -74,12 +74,9 @@ def said(words, path):
 def test_sums(module):
     """And it is the same."""
     with tempfile.TemporaryDirectory(prefix="ymodem-") as top:
-        script = SCRIPT.replace("%s", module, 1)
-        for name, text in ("rtlib.py", MODULE), ("rt", script):
-            with open(os.path.join(top, name), "w", encoding="utf-8") as it:
-                it.write(text)
-        os.chmod(it.name, 0o755)
-        plain = said([it.name, "run", "it"], top)
+        write_files(top, [("rtlib.py", MODULE.encode())])
+        tool = write_program(os.path.join(top, "rt"), SCRIPT.replace("%s", module, 1))
+        plain = said([tool, "run", "it"], top)
         once = said([sys.executable, ONCE, "run", "it"], top)
         # as many sums as there are ways from the highest crate
         assert plain[0] == "['run', 'it'] %d %d" % (2**7, 2**7), "by the script alone"
@@ -127,10 +124,8 @@ print(crate.words(sys.argv[1:]))
 def test_statements(known, built):
     """Then nothing is kept of it. No other command has the flag."""
     with tempfile.TemporaryDirectory(prefix="ymodem-") as top:
-        for name, text in ("rtlib.py", BUILDS % known), ("rt", BUILT):
-            with open(os.path.join(top, name), "w", encoding="utf-8") as it:
-                it.write(text)
-        os.chmod(it.name, 0o755)
+        write_files(top, [("rtlib.py", (BUILDS % known).encode())])
+        write_program(os.path.join(top, "rt"), BUILT)
         told = said([sys.executable, ONCE, "--statements", "lib"], top)
         assert told == [str(["lib", "keeps", *built]), "['lib', 'keeps']"], "its words"
         told = said([sys.executable, ONCE, "lib"], top)
@@ -140,8 +135,6 @@ def test_statements(known, built):
 @sentence("an rt that is no such script is run as it is")
 def test_another_rt():
     with tempfile.TemporaryDirectory(prefix="ymodem-") as top:
-        with open(os.path.join(top, "rt"), "w", encoding="utf-8") as it:
-            it.write('#!/bin/sh\necho "another one: $*"\n')
-        os.chmod(it.name, 0o755)
+        write_program(os.path.join(top, "rt"), '#!/bin/sh\necho "another one: $*"\n')
         told = said([sys.executable, ONCE, "check", "--jobs", "1"], top)
         assert told == ["another one: check --jobs 1"], "what it said"
