@@ -11,7 +11,7 @@ packages="python3-pytest lrzsz socat picocom minicom screen strace mandoc lintia
     locales binaryen wabt qemu-user gcc-12-multilib gcc-arm-none-eabi libnewlib-arm-none-eabi
     gcc-arm-linux-gnueabihf libc6-dev-armhf-cross gcc-mipsel-linux-gnu libc6-dev-mipsel-cross
     gcc-riscv64-linux-gnu libc6-dev-riscv64-cross gcc-riscv64-unknown-elf
-    picolibc-riscv64-unknown-elf"
+    picolibc-riscv64-unknown-elf fusefat dosfstools"
 
 missing() {
     for package in $packages; do

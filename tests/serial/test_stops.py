@@ -1,6 +1,6 @@
 """`ymodem-tty` that is stopped: by Ctrl-C at its terminal, by a signal, by a terminal that is gone.
 
-Each time the line gets its settings back, the other end sees three CAN and ends soon, the status is
+Each time the line gets its settings back, the other end sees CAN CAN and ends soon, the status is
 that of the signal, and the folder has whole files and at most one part.
 """
 

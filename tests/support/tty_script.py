@@ -21,7 +21,7 @@ FILES = [
 ]
 NAMES = [name for name, _ in FILES]
 SEND, RECEIVE = [SCRIPT, "send"], [SCRIPT, "receive"]
-CANCEL = b"\x18\x18\x18"
+CANCEL = b"\x18\x18\x18\x18"
 # Begins a session of which this terminal is the controlling one, as a login does.
 LOGIN = ["setsid", "--ctty", "--wait"]
 

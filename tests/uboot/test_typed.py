@@ -179,7 +179,11 @@ def test_interrupted():
             port.sees(rb"(?:[^\x06]*\x06){20}", start)
             os.kill(child.pid, signal.SIGINT)
             assert child.wait(LIMIT) == -signal.SIGINT, "it ended otherwise"
-        start = port.sees(PROMPT, start).end()
+        back = port.sees(PROMPT, start)
+        # By itself it waits for more than a minute, and tells that time is out.
+        told = bytes(port.said[start : back.start()])
+        assert b"Timed out" not in told, "it was not cancelled: %r" % told[-500:]
+        start = back.end()
         port.type(b"echo still here\r")
         port.sees(rb"\nstill here\r?" + PROMPT, start)
 
