@@ -204,13 +204,25 @@ def test_rubbish(data):
         it.stop()
 
 
-@sentence("says that it reads a script")
-def test_alone():
-    """`ymodem` without words says that it reads a script, and how to get help."""
+SCRIPT = "reading a script, to its end (Ctrl-D)"
+
+
+@cases(
+    case(
+        "says that it reads a script", (), SCRIPT + "; `ymodem --help` tells what else there is"
+    ),
+    case("says that play reads a script", ("play",), SCRIPT),
+    case(
+        "says that explain reads a record",
+        ("explain",),
+        "reading a record, to its end (Ctrl-D); else name one",
+    ),
+)
+def test_alone(words, text):
+    """Without a file it says what it reads at a terminal, and with no word how to get help."""
     for columns in WIDTHS:
-        with screen(columns, PROGRAM) as it:
-            text = "reading a script, to its end (Ctrl-D); `ymodem --help` tells what else there is"
-            it.sees(lambda lines, text=text: packed(text) in packed("".join(lines)))
+        with screen(columns, PROGRAM, *words) as it:
+            it.sees(lambda lines: packed(text) in packed("".join(lines)))
             it.type("C-d")
             it.ended()
 

@@ -56,12 +56,26 @@ fn look(rt: &HostRuntime) -> Look {
     }
 }
 
-/// Tells somebody who gave no words at a terminal that a script is read there, and how to get help.
-fn greet<E: Write + Drop>(rt: &HostRuntime, words: &[String], teller: &mut Teller<E>) {
-    if words.len() < 2 && rt.stdin().is_terminal() {
-        teller.tell(
+/// What is read from standard input where these are all the words.
+fn awaited(words: &[String]) -> Option<&'static str> {
+    match words {
+        [] | [_] => Some(
             "reading a script, to its end (Ctrl-D); `ymodem --help` tells what else there is",
-        );
+        ),
+        [_, job] => match job.as_str() {
+            "play" => Some("reading a script, to its end (Ctrl-D)"),
+            "explain" => Some("reading a record, to its end (Ctrl-D); else name one"),
+            _ => None,
+        },
+        _ => None,
+    }
+}
+
+/// Tells somebody who gave no file at a terminal what is read there.
+fn greet<E: Write + Drop>(rt: &HostRuntime, words: &[String], teller: &mut Teller<E>) {
+    match awaited(words) {
+        Some(text) if rt.stdin().is_terminal() => teller.tell(text),
+        _ => (),
     }
 }
 
