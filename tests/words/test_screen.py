@@ -207,23 +207,23 @@ def test_rubbish(data):
 SCRIPT = "reading a script, to its end (Ctrl-D)"
 
 
+RECORD = "reading a record, to its end (Ctrl-D); else name one"
+
+
+# What a capture begins with is read ahead of the rest: an end within that is come to twice.
 @cases(
     case(
-        "says that it reads a script", (), SCRIPT + "; `ymodem --help` tells what else there is"
+        "says that it reads a script", (), SCRIPT + "; `ymodem --help` tells what else there is", 1
     ),
-    case("says that play reads a script", ("play",), SCRIPT),
-    case(
-        "says that explain reads a record",
-        ("explain",),
-        "reading a record, to its end (Ctrl-D); else name one",
-    ),
+    case("says that play reads a script", ("play",), SCRIPT, 1),
+    case("says that explain reads a record", ("explain",), RECORD, 2),
 )
-def test_alone(words, text):
+def test_alone(words, text, ends):
     """Without a file it says what it reads at a terminal, and with no word how to get help."""
     for columns in WIDTHS:
         with screen(columns, PROGRAM, *words) as it:
             it.sees(lambda lines: packed(text) in packed("".join(lines)))
-            it.type("C-d")
+            it.type(*["C-d"] * ends)
             it.ended()
 
 
