@@ -6,7 +6,7 @@ use Rattle.ym_folder.specs.OpenPart.{IsSameFile, IsReady, IsPlaced, ArePlaced}
 use Rattle.ym_folder.specs.Part.{IsPartName}
 use Rattle.ym_folder.specs.declared.dir_sink.Leftover.{Leftover}
 use Rattle.ym_folder.specs.declared.dir_sink.Leftover.TheVariants.{Discarded}
-use Rattle.ym_folder.specs.declared.dir_sink.StoreFault.{StoreFault}
+use Rattle.ym_folder.specs.declared.store_fault.StoreFault.{StoreFault}
 use Rattle.ym_folder.specs.declared.open_part.OpenPart.{OpenPart}
 
 placed_again : {F : Type 0} (is_of : F → List ℕ → Type 0) (leftover : Leftover) (old new : OpenPart F) → IsSameFile old new → is_of new.file (name_of new.part)

@@ -8,7 +8,7 @@ use Rattle.ym_folder.specs.Part.{EndsInPart}
 use Rattle.ym_folder.specs.WriteBehind.{put_so_far}
 use Rattle.ym_folder.specs.declared.dir_sink.Leftover.{Leftover}
 use Rattle.ym_folder.specs.declared.dir_sink.Leftover.TheVariants.{Refused, Discarded}
-use Rattle.ym_folder.specs.declared.dir_sink.StoreFault.{StoreFault}
+use Rattle.ym_folder.specs.declared.store_fault.StoreFault.{StoreFault}
 
 pub record DirSinkParts : Type 0 where
   pub opened : Option HeaderParts  -- the file that is taken at present

@@ -17,6 +17,7 @@ use crate::open_part::{self, OpenPart, Standing};
 use crate::part::{make_part, places, remove_part, replace_part};
 use crate::place::FilePlace;
 use crate::probe::check_forced;
+use crate::store_fault::{StoreFault, name_fault, part_fault};
 use crate::write_behind::WriteBehind;
 use std::alloc::{AllocError, Global};
 use std::io;
@@ -43,20 +44,6 @@ pub enum Leftover {
     /// The part is removed, unless somebody has it locked. One that may be a file that this sink
     /// stored, as a disk takes names for one, is never removed.
     Discarded,
-}
-
-/// Why a sink failed.
-#[derive(Clone, Copy)]
-pub enum StoreFault {
-    /// The name of the file has been taken already.
-    IsThere,
-    /// The name of its part has been taken already. Where such parts are to be removed, somebody
-    /// has this one locked, or it is none, or may be a file that was stored.
-    PartIsThere,
-    /// What stands at the place of its part is no longer the file that was written.
-    PartIsGone,
-    /// The system refused a call.
-    System(io::Error),
 }
 
 /// Stores each file of a batch in a folder: it is written as NAME.part, 64 KiB at a time, and gets
@@ -151,31 +138,6 @@ fn open_part<D: Folder>(
             Ok((replace_part(folder, part)?, true))
         }
         Err(error) => Err(error),
-    }
-}
-
-/// Why a part could not be made.
-fn part_fault(error: io::Error) -> StoreFault {
-    match error.kind() {
-        // It is there, or somebody has it locked.
-        ErrorKind::AlreadyExists | ErrorKind::WouldBlock => StoreFault::PartIsThere,
-        // Somebody took it away meanwhile, it may not be opened, or it is no regular file: these
-        // are no errors of the system.
-        ErrorKind::ResourceBusy | ErrorKind::InvalidInput if error.raw_os_error().is_none() => {
-            StoreFault::PartIsThere
-        }
-        _ => StoreFault::System(error),
-    }
-}
-
-/// Why a part did not get its name.
-fn name_fault(error: io::Error) -> StoreFault {
-    match error.kind() {
-        // It came meanwhile.
-        ErrorKind::AlreadyExists => StoreFault::IsThere,
-        // No error of the system: `open_part::name` has looked.
-        ErrorKind::NotFound if error.raw_os_error().is_none() => StoreFault::PartIsGone,
-        _ => StoreFault::System(error),
     }
 }
 

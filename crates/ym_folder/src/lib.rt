@@ -10,10 +10,12 @@ mod open_part;
 mod part;
 mod place;
 mod probe;
+mod store_fault;
 mod write_behind;
 
-pub use dir_sink::{DirSink, Durability, Leftover, StoreFault};
+pub use dir_sink::{DirSink, Durability, Leftover};
 pub use folder::Folder;
 pub use part::part_name;
 pub use place::FilePlace;
 pub use probe::check_folder;
+pub use store_fault::StoreFault;
