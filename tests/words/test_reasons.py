@@ -20,6 +20,16 @@ MEMORY = "out of memory"
     case("a reason of the system: its links", "ELOOP", "too many levels of symbolic links"),
     case("a reason of the system: others", "EMFILE", "too many files are open"),
     case("a reason of the system: its user", "EBUSY", "another program uses it"),
+    case("a reason of the system: a lease", "EAGAIN", "it was not ready"),
+    case("a reason of the system: its locks", "ENOLCK", "no lock can be had for it"),
+    case("a reason of the system: its disk", "EUCLEAN", "its file system is damaged"),
+    case("a reason of the system: its medium", "ENOMEDIUM", "no medium is in it"),
+    case("a reason of the system: its bytes", "EREMOTEIO", BROKE),
+    case(
+        "a reason of the system: its key",
+        "ENOKEY",
+        "the key that it is encrypted by is missing or has expired",
+    ),
     case("a reason of the system: by number", "ENOEXEC", "error 8 of the system"),
 )
 def test_refused_by_the_system(error, why):

@@ -17,6 +17,19 @@ closed = refl
 unplugged : (numbered (Some (pos 5)) ≡ why.Broke) × (numbered (Some (pos 6)) ≡ why.NoDevice)
 unplugged = (refl, refl)
 
+-- no lock, a call that was interrupted, a standard output that takes nothing
+refused :
+    (numbered (Some (pos 37)) ≡ why.NoLocks)
+    × (reason_for kind.Interrupted (Some (pos 4)) ≡ why.Interrupted)
+    × (reason_for kind.WouldBlock (Some (pos 11)) ≡ why.NotReady)
+refused = (refl, refl, refl)
+
+-- a file that was removed at its server, 116, and one that another one has taken the place of
+replaced :
+    (reason_for kind.StaleNetworkFileHandle (Some (pos 116)) ≡ why.Stale)
+    × (reason_for kind.StaleNetworkFileHandle None ≡ why.Replaced)
+replaced = (refl, refl)
+
 -- a number that has no words, 8, and no number
 others : (numbered (Some (pos 8)) ≡ why.Number 8) × (numbered None ≡ why.Other)
 others = (refl, refl)

@@ -1,7 +1,7 @@
 //! Why the system refused a call.
 
 ghost use Rattle.std.specs.Prelude.{◌≡◌, Some, IfOk, IfErr};
-ghost use Rattle.ym_text.specs.Reasons.{reason_text, invalid, reason_in, reasons, numbered};
+ghost use Rattle.ym_text.specs.Reasons.{reason_text, invalid, stale, reason_in, reasons, numbered};
 
 use std::io::ErrorKind;
 use std::{fmt, io};
@@ -17,6 +17,12 @@ pub enum Reason {
     NoFolder,
     /// It is a folder, a pipe or a device.
     NoRegularFile,
+    /// It has bytes, and is said to have none.
+    Unsized,
+    /// Another file stands at its path.
+    Replaced,
+    /// Its length has changed.
+    Resized,
     /// It can only be read.
     ReadOnly,
     /// It does not support what was asked of it.
@@ -55,6 +61,26 @@ pub enum Reason {
     NotOpen,
     /// Too many files are open.
     ManyOpen,
+    /// A signal interrupted it each time.
+    Interrupted,
+    /// It gave or took nothing at that moment.
+    NotReady,
+    /// It is there already.
+    IsThere,
+    /// It is on another file system.
+    Elsewhere,
+    /// No lock can be had for it.
+    NoLocks,
+    /// Its file system is damaged.
+    Damaged,
+    /// Its name has characters that its file system does not take.
+    NameOdd,
+    /// No medium is in it.
+    NoMedium,
+    /// What it is encrypted by is not known.
+    NoKey,
+    /// Nobody listens there.
+    Unanswered,
     /// Another error of the system, by its number.
     Number(u32),
     /// Another one, that has no number.
@@ -72,16 +98,38 @@ fn invalid(number: Option<i32>) -> Reason
     }
 }
 
-/// The reason that has this number, where the library has no kind of it: EIO, ENXIO, EBADF, ENODEV,
-/// ENFILE or EMFILE.
+/// What a stale file comes to: one that the system calls so has a number, and one that stands where
+/// another one stood has none.
+fn stale(number: Option<i32>) -> Reason
+    ensures { result ≡ stale number }
+{
+    match number {
+        Some(_) => Reason::Stale,
+        None => Reason::Replaced,
+    }
+}
+
+/// The reason that has this number, where the library has no kind of it: from EIO, 5, to EHWPOISON,
+/// 133.
 fn of_number(number: u32) -> Reason
     ensures { result ≡ reason_in reasons number }
 {
     match number {
-        5 => Reason::Broke,
+        5 | 61 | 71 | 108 | 121 | 133 => Reason::Broke,
         6 | 19 => Reason::NoDevice,
         9 => Reason::NotOpen,
         23 | 24 => Reason::ManyOpen,
+        25 => Reason::Unsupported,
+        37 => Reason::NoLocks,
+        62 => Reason::Late,
+        64 | 67 | 112 => Reason::Unreached,
+        74 | 117 => Reason::Damaged,
+        75 => Reason::Large,
+        84 => Reason::NameOdd,
+        102 => Reason::Broken,
+        105 => Reason::Memory,
+        123 => Reason::NoMedium,
+        126 | 127 | 128 | 129 => Reason::NoKey,
         _ => Reason::Number(number),
     }
 }
@@ -124,8 +172,15 @@ impl Reason {
             ErrorKind::InvalidFilename => Reason::NameLong,
             ErrorKind::FileTooLarge => Reason::Large,
             ErrorKind::ResourceBusy | ErrorKind::ExecutableFileBusy => Reason::Busy,
-            ErrorKind::StaleNetworkFileHandle => Reason::Stale,
+            ErrorKind::StaleNetworkFileHandle => stale(error.raw_os_error()),
             ErrorKind::OutOfMemory => Reason::Memory,
+            ErrorKind::InvalidData => Reason::Unsized,
+            ErrorKind::UnexpectedEof => Reason::Resized,
+            ErrorKind::Interrupted => Reason::Interrupted,
+            ErrorKind::WouldBlock | ErrorKind::WriteZero => Reason::NotReady,
+            ErrorKind::AlreadyExists => Reason::IsThere,
+            ErrorKind::CrossesDevices => Reason::Elsewhere,
+            ErrorKind::ConnectionRefused => Reason::Unanswered,
             _ => numbered(error.raw_os_error()),
         }
     }
@@ -140,6 +195,9 @@ impl Reason {
             Reason::Denied => Ok("permission denied"),
             Reason::NoFolder => Ok("not a directory"),
             Reason::NoRegularFile => Ok("not a regular file"),
+            Reason::Unsized => Ok("the system does not tell its length; send a copy of it"),
+            Reason::Replaced => Ok("another file has taken its place since it was looked at"),
+            Reason::Resized => Ok("its length has changed since it was looked at"),
             Reason::ReadOnly => Ok("read-only file system"),
             Reason::Unsupported => Ok("the file system or the device does not support it"),
             Reason::Full => Ok("no space left on device"),
@@ -159,6 +217,16 @@ impl Reason {
             Reason::NoDevice => Ok("no such device"),
             Reason::NotOpen => Ok("it is closed, or not open for this"),
             Reason::ManyOpen => Ok("too many files are open"),
+            Reason::Interrupted => Ok("a signal interrupted it each time"),
+            Reason::NotReady => Ok("it was not ready"),
+            Reason::IsThere => Ok("it is there already"),
+            Reason::Elsewhere => Ok("it is on another file system"),
+            Reason::NoLocks => Ok("no lock can be had for it"),
+            Reason::Damaged => Ok("its file system is damaged"),
+            Reason::NameOdd => Ok("the file system takes no such characters in a name"),
+            Reason::NoMedium => Ok("no medium is in it"),
+            Reason::NoKey => Ok("the key that it is encrypted by is missing or has expired"),
+            Reason::Unanswered => Ok("nobody listens there"),
             Reason::Number(number) => Err(number),
             Reason::Other => Ok("the system refused it"),
         }
