@@ -42,7 +42,7 @@ NO_TEXT = "the sender gave an unsafe name: a path, not UTF-8, or with control ch
     case(
         "tells why a file is not sent: it hides its bytes",
         lambda _: "/proc/version",
-        "cannot open '%s': not a regular file\n",
+        "cannot open '%s': the system does not tell its length; send a copy of it\n",
     ),
 )
 def test_unsent(path, told):

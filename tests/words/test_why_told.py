@@ -29,6 +29,7 @@ PASSES = "the receiver took block 0 and asked by NAK, as XMODEM does: run `rb` t
 STREAMS = "the receiver asks by G, as YMODEM-g does: start it as a receiver of YMODEM"
 REFUSES = "nothing came but NAK, ten times: does the receiver get every byte that is sent?"
 SPEED = "nothing whole came, ten times in a row: do both ends have the same speed?"
+NO_ANSWER = "what comes is no answer of a YMODEM receiver: is one running, at the same speed?"
 BETTER_LINE = "nothing new came whole, ten times in a row: use a better line, or a lower speed"
 SAME = "nothing came but the same again, ten times: does the sender get what is written to it?"
 PAST = "nothing came but data past the file's length, ten times: does the file grow?"
@@ -113,7 +114,7 @@ def told_last(ended):
     case("tells that a receiver refuses what is sent", refuses, REFUSES),
     case("tells that a receiver passes block 0 over", passes_over, PASSES),
     case("tells a copy of block 0 that was taken as no XMODEM", takes_a_copy, BETTER_LINE),
-    case("tells that what comes to a sender is noise", asks_by(0xFE), SPEED),
+    case("tells that what comes to a sender is noise", asks_by(0xFE), NO_ANSWER),
 )
 def test_no_reply(peer, told):
     """What a sender that nobody answers tells of what came."""
@@ -225,30 +226,6 @@ def test_no_block(peer, state, told):
         ended = receive_from(peer, there, LOUD)
     ended.wants(1, "receiver files 0 %s\n" % state, ended.err)
     assert told_last(ended) == told, "what it told"
-
-
-@sentence("names a file that could not be read while it was sent")
-def test_names_what_is_unread():
-    """A file that is cut behind its block 0: what goes to a pipe is the same, and who looks is told
-    which one it is."""
-    for flags in ((), LOUD):
-        with folders() as (here, _):
-            paths = write_files(here, [("first.bin", bytes(200_000))])
-
-            def peer(end, path=paths[0]):
-                end.sendall(bytes((START,)))
-                next(frames_at(end))
-                os.truncate(path, 10)
-                end.sendall(ACK_START)
-                while end.recv(4096):
-                    pass
-
-            ended = send_to(peer, [], flags, paths=paths)
-        told = "'first.bin' could not be read, or has changed since it was looked at\n"
-        assert ended.status == 3, "the status"
-        assert ended.out == "sender done 0 source-failed\n", "what it printed"
-        assert ended.err.endswith(told + FAULT if flags else FAULT), "it told %r" % ended.err
-        assert ("first.bin" in ended.err) == bool(flags), "whether it named the file"
 
 
 @contextlib.contextmanager

@@ -41,14 +41,18 @@ fn of_connections(rt: HostRuntime) {
 }
 
 /// The messages of files.
-static FILES: [(FileMessage, &str); 12] = [
+static FILES: [(FileMessage, &str); 13] = [
     (
         FileMessage::CannotOpen("firmware.bin", Reason::Absent),
         "cannot open 'firmware.bin': no such file or directory",
     ),
     (
-        FileMessage::CannotRead("a"),
-        "'a' could not be read, or has changed since it was looked at",
+        FileMessage::CannotRead("b/a", Reason::Broke),
+        "cannot read 'b/a': the device failed, or was unplugged",
+    ),
+    (
+        FileMessage::SameName("b/a", "c/a", "a"),
+        "'b/a' and 'c/a' are both sent as 'a': a receiver keeps one, or refuses the second",
     ),
     (
         FileMessage::NameIsUnsafe("../a"),
@@ -213,7 +217,7 @@ fn of_terminals(rt: HostRuntime) {
 const ODD: &str = "a\u{1b}[2J\u{202e}b";
 
 /// An odd name in the messages of files.
-static ODD_FILES: [(FileMessage, &str); 10] = [
+static ODD_FILES: [(FileMessage, &str); 11] = [
     (
         FileMessage::CannotOpen(ODD, Reason::Absent),
         "cannot open 'a\\u{1b}[2J\\u{202e}b': no such file or directory",
@@ -227,8 +231,13 @@ static ODD_FILES: [(FileMessage, &str); 10] = [
         "cannot store in 'a\\u{1b}[2J\\u{202e}b': permission denied",
     ),
     (
-        FileMessage::CannotRead(ODD),
-        "'a\\u{1b}[2J\\u{202e}b' could not be read, or has changed since it was looked at",
+        FileMessage::CannotRead(ODD, Reason::Resized),
+        "cannot read 'a\\u{1b}[2J\\u{202e}b': its length has changed since it was looked at",
+    ),
+    (
+        FileMessage::SameName(ODD, ODD, ODD),
+        "'a\\u{1b}[2J\\u{202e}b' and 'a\\u{1b}[2J\\u{202e}b' are both sent as \
+                'a\\u{1b}[2J\\u{202e}b': a receiver keeps one, or refuses the second",
     ),
     (
         FileMessage::NameIsUnsafe(ODD),

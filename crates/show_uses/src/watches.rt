@@ -141,7 +141,7 @@ static SENT: [Sends; 8] = [
 fn came_to_sender(rt: &HostRuntime, teller: &mut Teller<Vec<u8>>) -> Came {
     let shown = shown_of_sender(rt, teller);
     send_all(rt, &mut sender_watch(&shown), &SENT, 1);
-    let (_, lately) = shown.into_inner().end();
+    let lately = shown.into_inner().end();
     lately.came
 }
 

@@ -22,13 +22,13 @@ pub struct RegularFile<'p, R: Files<File = File> + Drop> {
 pub type FileSource<'p, R> = ReadSource<RegularFile<'p, R>>;
 
 /// Refuses a file that is said to have no bytes and gives one, as files of `/proc` do: nobody knows
-/// how long it is.
+/// how long it is. That is an error of this program's own.
 fn check_empty<F: Read>(file: &mut F, size: u64) -> io::Result<()> {
     let is_as_told = size > 0 || file.read(&mut [0])? == 0;
     if is_as_told {
         Ok(())
     } else {
-        Err(io::Error::from(ErrorKind::InvalidInput))
+        Err(io::Error::from(ErrorKind::InvalidData))
     }
 }
 
@@ -55,11 +55,15 @@ impl<'p, R: Files<File = File> + Drop> Opens for RegularFile<'p, R> {
         self.size
     }
 
-    /// Another file at its path, or another length, is refused.
+    /// Another file at its path, or another length, is refused: by errors that have no number, as
+    /// no system gives them. A length that is another one counts as an end that is.
     fn open(&self) -> io::Result<File> {
         let (file, id, size) = open_regular(&self.rt, self.path)?;
-        if id != self.id || size != self.size {
+        if id != self.id {
             return Err(io::Error::from(ErrorKind::StaleNetworkFileHandle));
+        }
+        if size != self.size {
+            return Err(io::Error::from(ErrorKind::UnexpectedEof));
         }
         Ok(file)
     }

@@ -1,8 +1,9 @@
 //! A source that opens a file and reads it.
 
-ghost use Rattle.std.specs.Prelude.{◌≡◌, ◌≤◌, ◌+◌, ℕ, List, Option, OnOk, OnErr, IfOk, IfSome, length as list_length};
+ghost use Rattle.std.specs.Prelude.{◌≡◌, ◌≤◌, ◌+◌, ℕ, List, Option, Some, OnOk, OnErr, IfOk, IfSome, length as list_length};
 ghost use Rattle.ym_file.specs.Counts.{Counted};
 ghost use Rattle.ym_host.specs.ReadAhead.{StandsIn};
+ghost use Rattle.ym_host.specs.ReadSource.{first_of, IsTold};
 
 use crate::read_ahead::ReadAhead;
 use crate::read_at::ReadAt;
@@ -41,11 +42,13 @@ pub struct ReadSource<O: Opens + Drop> {
     reading: Option<ReadAhead<O::File>>,
     failed: u64,
     fills: u64,
+    /// Why it failed for the first time.
+    first: Option<io::Error>,
 }
 
 impl<O: Opens + Drop> Model for ReadSource<O> {
     ghost use Rattle.std.specs.Prelude.{◌≡◌, IfSome};
-    ghost use Rattle.ym_host.specs.ReadSource.{ReadSourceParts};
+    ghost use Rattle.ym_host.specs.ReadSource.{ReadSourceParts, IsTold};
 
     ghost Value = { ReadSourceParts };
 
@@ -54,9 +57,11 @@ impl<O: Opens + Drop> Model for ReadSource<O> {
       told = O.bytes s.opens;
       failures = s.failed;
       fills = s.fills;
+      first = s.first;
     } };
 
-    ghost invariant = { λ s. IfSome s.reading (λ r. r.told ≡ O.bytes s.opens) };
+    ghost invariant = { λ s. IfSome s.reading (λ r. r.told ≡ O.bytes s.opens)
+        × IsTold s.failed s.first };
 }
 
 impl<O: Opens + Drop> ReadSource<O> {
@@ -72,7 +77,29 @@ impl<O: Opens + Drop> ReadSource<O> {
             reading: None,
             failed: 0,
             fills: 0,
+            first: None,
         }
+    }
+
+    /// Why it failed for the first time, where it failed.
+    pub fn first_fault(&self) -> Option<io::Error>
+        ensures first { result ≡ self.now.first }
+        ensures told { IsTold self.now.failures result }
+    {
+        self.first
+    }
+
+    /// Counts a failure, and keeps why the first time.
+    fn fail(&mut self, error: io::Error) -> SourceFault
+        ensures counted { Counted self.old.failures self.new.failures }
+        ensures first { self.new.first ≡ Some (first_of error self.old.first) }
+        ensures size { self.new.size ≡ self.old.size }
+        ensures told { self.new.told ≡ self.old.told }
+        ensures fills { self.new.fills ≡ self.old.fills }
+    {
+        self.first = Some(self.first.unwrap_or(error));
+        self.failed = self.failed.saturating_add(1);
+        SourceFault
     }
 
     /// Reads the bytes from place `at` on, opening the file where it is not open, and closes it
@@ -110,10 +137,9 @@ impl<O: Opens + Drop> Source for ReadSource<O> {
 
     fn fill(&mut self, at: u64, into: &mut [u8]) -> Result<(), SourceFault> {
         self.fills = self.fills.saturating_add(1);
-        if self.read(at, into).is_err() {
-            self.failed = self.failed.saturating_add(1);
-            return Err(SourceFault);
+        match self.read(at, into) {
+            Ok(()) => Ok(()),
+            Err(error) => Err(self.fail(error)),
         }
-        Ok(())
     }
 }

@@ -2,6 +2,10 @@
 //! Read first: `send` (`sending.rt`).
 #![tactic(auto)]
 
+mod calling;
+mod heard_wire;
+mod named_source;
+mod same_names;
 mod sending;
 mod serial;
 mod telling;

@@ -12,20 +12,23 @@ ghost use Rattle.ym_sending.specs.Sending.{SendsOn, SendGives, send_gives};
 ghost use Rattle.ym_answer.specs.Page.{page};
 ghost use Rattle.ym_answer.specs.Status.{IsHostFault, send_answer};
 
+use crate::calling::connect_telling;
+use crate::heard_wire::HeardWire;
+use crate::named_source::{NamedSource, Opener, UnreadCell, open_source};
+use crate::same_names::tell_same_names;
 use crate::telling::{SenderFinish, tell_outcome};
 use std::alloc::{AllocGlobal, Global};
 use std::cell::RefCell;
 use std::fs::{File, Files};
 use std::io::Write;
-use std::net::{Ipv4Addr, Net, SocketAddr, TcpStream};
+use std::net::{Net, TcpStream};
 use std::path::Path;
-use std::time::{Clock, Duration};
-use std::{io, thread};
+use std::time::Clock;
 use ym_answer::CommandFault;
 use ym_ends::{AtPort, ToldLine, ToldWire};
 use ym_file::{Shape, Source};
 use ym_header::{HeaderFault, Stamp};
-use ym_host::{FileSource, SocketWire};
+use ym_host::SocketWire;
 use ym_line::SenderLine;
 use ym_link::laws::a_step_keeps_the_batch;
 use ym_link::{BatchFault, EndFault, Port, SendState, SenderFrom, SourceFile, send_over};
@@ -35,39 +38,16 @@ use ym_record::{Beside, RecordedWire, Records};
 use ym_show::{Meter, SendWatch, Sending, WatchedPort};
 use ym_streams::{Output, StreamFault};
 use ym_teller::Teller;
-use ym_text::{FileMessage, LineMessage, Reason};
-
-/// How many milliseconds a sender waits for somebody to answer its call.
-const CALL_WAIT_MS: u64 = 10_000;
+use ym_text::FileMessage;
 
 /// After so many seconds without a byte it gives up: ten deliveries, each waited for so long.
 const QUIET_S: u64 = 100;
 
-/// How often a sender calls again where nobody listens yet, and how many milliseconds it waits
-/// before: two seconds in all.
-const CALLS: u32 = 40;
-
-const CALL_MS: u64 = 50;
-
 /// The last part of a path, or nothing where it has none.
-fn last_part(path: &str) -> &str
+pub(crate) fn last_part(path: &str) -> &str
     ensures { result.now ≡ last_part path.now }
 {
     Path::new(path).file_name().unwrap_or("")
-}
-
-/// The source of the file at this path, or why there is none told.
-fn open_source<'a, R: Files<File = File>, E: Write + Drop>(
-    rt: &'a R,
-    alloc: Global,
-    path: &'a str,
-    teller: &mut Teller<E>,
-) -> io::Result<FileSource<'a, &'a R>> {
-    let opened = FileSource::new(rt, alloc, path);
-    if let Err(error) = &opened {
-        teller.tell(FileMessage::CannotOpen(path, Reason::of(error)));
-    }
-    opened
 }
 
 /// The source with the header that it is sent under, or why there is none told.
@@ -90,35 +70,33 @@ fn with_header<S: Source + Drop, E: Write + Drop>(
 }
 
 /// The file at this path, under the last part of the path. No stamp is sent.
-fn open_file<'a, R: Files<File = File>, E: Write + Drop>(
-    rt: &'a R,
-    alloc: Global,
+fn open_file<'c, 'a, R: Files<File = File>, E: Write + Drop>(
+    opener: &Opener<'c, 'a, R>,
     path: &'a str,
     teller: &mut Teller<E>,
-) -> Result<SourceFile<FileSource<'a, &'a R>>, CommandFault>
+) -> Result<SourceFile<NamedSource<'c, 'a, R>>, CommandFault>
     ensures named { IfOk result (λ file. file.header.name ≡ last_part path.entry.now) }
     ensures stamp { IfOk result (λ file. file.header.stamp ≡ Stamp.Nothing) }
     ensures within { IfOk result (λ file. IsName (last_part path.entry.now)) }
     ensures refused { IfErr result (λ why. MayRefuse (last_part path.entry.now) why) }
 {
-    let source = open_source(rt, alloc, path, teller)?;
-    let file = with_header(alloc, path, source, teller)?;
+    let source = open_source(opener, path, teller)?;
+    let file = with_header(opener.alloc, path, source, teller)?;
     Ok(file)
 }
 
 /// The files at these paths, looked at in order, or the first fault.
-pub(crate) fn open_batch<'a, R: Files<File = File>, E: Write + Drop>(
-    rt: &'a R,
-    alloc: Global,
+pub(crate) fn open_batch<'c, 'a, R: Files<File = File>, E: Write + Drop>(
+    opener: &Opener<'c, 'a, R>,
     paths: &[&'a str],
     teller: &mut Teller<E>,
-) -> Result<Vec<SourceFile<FileSource<'a, &'a R>>>, CommandFault>
+) -> Result<Vec<SourceFile<NamedSource<'c, 'a, R>>>, CommandFault>
     ensures batch { IfOk result (λ batch. IsBatch (map (λ path. path.now) paths.now) batch.items) }
     ensures refused { IfErr result (λ why. RefusesFile (map (λ path. path.now) paths.now) why) }
 {
-    let mut batch = Vec::new(alloc);
+    let mut batch = Vec::new(opener.alloc);
     for path in paths {
-        let file = open_file(rt, alloc, path, teller)?;
+        let file = open_file(opener, path, teller)?;
         if batch.push(file).is_err() {
             return Err(CommandFault::Memory);
         }
@@ -140,46 +118,6 @@ pub(crate) fn sender_of<S: Source + Drop>(
         Ok(sender) => Ok(sender),
         Err(BatchFault::TooMany(_)) => Err(CommandFault::TooManyFiles),
     }
-}
-
-/// A connection to whoever listens at this address now.
-fn connect_once<R: Net<Stream = TcpStream>>(rt: &R, address: SocketAddr) -> io::Result<TcpStream> {
-    let wait = Duration::from_millis(CALL_WAIT_MS);
-    let stream = TcpStream::connect_timeout(rt, &address, wait)?;
-    // Where nobody listens, the system may by chance connect a socket to itself.
-    if stream.local_addr()? == address {
-        return Err(io::Error::from(io::ErrorKind::ConnectionRefused));
-    }
-    Ok(stream)
-}
-
-/// The same, where nobody listens yet called again for two seconds: who starts both ends at once
-/// need not start the receiver first.
-fn connect<R: Net<Stream = TcpStream> + Clock>(rt: &R, port: u16) -> io::Result<TcpStream> {
-    let address = SocketAddr::from((Ipv4Addr::LOCALHOST, port));
-    for _call in 0..CALLS {
-        match connect_once(rt, address) {
-            Err(error) if error.kind() == io::ErrorKind::ConnectionRefused => {
-                thread::sleep(rt, Duration::from_millis(CALL_MS));
-            }
-            done => return done,
-        }
-    }
-    connect_once(rt, address)
-}
-
-/// The same, with what it does and why it failed told.
-fn connect_telling<R: Net<Stream = TcpStream> + Clock, E: Write + Drop>(
-    rt: &R,
-    port: u16,
-    teller: &mut Teller<E>,
-) -> io::Result<TcpStream> {
-    teller.tell(LineMessage::Connecting(port));
-    let connected = connect(rt, port);
-    if let Err(error) = &connected {
-        teller.tell(LineMessage::of_error(port, error));
-    }
-    connected
 }
 
 /// The status of a sender that no port stopped.
@@ -260,18 +198,20 @@ fn watch_of<'s, 't, E: Write + Drop, C: Clock + Drop>(
     }
 }
 
-/// The same over a port of the program's own. Where somebody looks, how far each file is or whom it
-/// waits for is shown, and why the sender has ended told.
-pub(crate) fn send_on<R, P, S, O, E>(
+/// The same over a line, by the program's own port. Where somebody looks, how far each file is or
+/// whom it waits for is shown, and why the sender has ended told: also which file could not be
+/// read, where its source has said so.
+pub(crate) fn send_on<R, W, S, O, E>(
     rt: &R,
-    port: P,
+    wire: W,
     sender: &mut SenderFrom<S>,
+    unread: &UnreadCell<'_>,
     out: &mut O,
     teller: &mut Teller<E>,
 ) -> Result<u8, CommandFault>
 where
     R: Clock + AllocGlobal,
-    P: ToldLine + Drop,
+    W: ToldWire + Drop,
     S: Source,
     O: Output,
     E: Write + Drop,
@@ -281,10 +221,13 @@ where
 {
     let is_looked_at = teller.is_loud;
     let shown = RefCell::new(Sending::new(Meter::new(rt.alloc(), rt, teller, QUIET_S)));
-    let watch = watch_of(&shown, is_looked_at);
+    let wire = HeardWire {
+        wire,
+        watch: watch_of(&shown, is_looked_at),
+    };
     let mut port = WatchedPort {
-        port,
-        watch,
+        port: TimedPort::new(wire, Role::Sender),
+        watch: watch_of(&shown, is_looked_at),
         slowest: None,
     };
     let ended = run_sender(&mut port, sender);
@@ -292,11 +235,11 @@ where
     let slowest = port.slowest;
     drop(port);
     // What is printed stands in lines of its own, also where both go to one terminal.
-    let (name, lately) = shown.into_inner().end();
+    let lately = shown.into_inner().end();
     let answer = tell_sender(ended, sender, out);
     let outcome = SenderFinish {
         state: sender.state(),
-        name: name.as_deref(),
+        unread: unread.get(),
         lately: lately.on_line(slowest),
         words,
     };
@@ -309,6 +252,8 @@ where
 pub(crate) struct Outgoing<'a, S: Source> {
     /// The sender.
     pub(crate) sender: SenderFrom<S>,
+    /// Which of its files could not be read.
+    pub(crate) unread: &'a UnreadCell<'a>,
     /// What is recorded of it.
     pub(crate) records: Records<'a>,
 }
@@ -331,11 +276,14 @@ where
         (page (O.contents out.old) (O.failures out.old)) result
         (page (O.contents out.new) (O.failures out.new)) }
 {
-    let Outgoing { sender, records } = outgoing;
+    let Outgoing {
+        sender,
+        unread,
+        records,
+    } = outgoing;
     records.start();
     let wire = RecordedWire::new(wire, rt, Role::Sender, &mut records.recorder);
-    let port = TimedPort::new(wire, Role::Sender);
-    let answer = send_on(rt, port, sender, out, teller);
+    let answer = send_on(rt, wire, sender, unread, out, teller);
     records.end(matches!(answer, Ok(0)), teller);
     answer
 }
@@ -355,8 +303,9 @@ pub struct SendOrder<'a> {
 pub(crate) fn outgoing_of<'a, R, E>(
     rt: &'a R,
     order: SendOrder<'a>,
+    unread: &'a UnreadCell<'a>,
     teller: &mut Teller<E>,
-) -> Result<Outgoing<'a, FileSource<'a, &'a R>>, CommandFault>
+) -> Result<Outgoing<'a, NamedSource<'a, 'a, R>>, CommandFault>
 where
     R: Files<File = File> + Clock + AllocGlobal,
     E: Write + Drop,
@@ -366,11 +315,42 @@ where
         (map (λ path. path.now) order.entry.paths.now) why ⊎ IsHostFault why) }
 {
     let alloc = rt.alloc();
-    let batch = open_batch(rt, alloc, order.paths, teller)?;
+    let opener = Opener { rt, alloc, unread };
+    let batch = open_batch(&opener, order.paths, teller)?;
     let sender = sender_of(batch, order.shape)?;
+    tell_same_names(alloc, order.paths, teller);
     let beside = Beside::Sent(order.paths);
     let records = Records::open(rt, alloc, order.record_path, beside, teller)?;
-    Ok(Outgoing { sender, records })
+    Ok(Outgoing {
+        sender,
+        unread,
+        records,
+    })
+}
+
+/// Sends files to whoever listens at a port, and prints how the sender has ended. Which of them
+/// could not be read they say in a cell.
+fn send_telling<'a, R, O, E>(
+    rt: &'a R,
+    asked: AtPort<SendOrder<'a>>,
+    unread: &'a UnreadCell<'a>,
+    out: &mut O,
+    teller: &mut Teller<E>,
+) -> Result<u8, CommandFault>
+where
+    R: Files<File = File> + Net<Stream = TcpStream> + Clock + AllocGlobal,
+    O: Output,
+    E: Write + Drop,
+    ensures { SendGives asked.entry.order.shape
+        (map (λ path. path.now) asked.entry.order.paths.now)
+        (page (O.contents out.old) (O.failures out.old)) result
+        (page (O.contents out.new) (O.failures out.new)) }
+{
+    let AtPort { port, order } = asked;
+    let mut outgoing = outgoing_of(rt, order, unread, teller)?;
+    let stream = connect_telling(rt, port, teller)?;
+    let wire = SocketWire::new(rt, stream, Role::Sender);
+    send_through(rt, wire, &mut outgoing, out, teller)
 }
 
 /// Sends files to whoever listens at a port, and prints how the sender has ended.
@@ -389,9 +369,6 @@ where
         (page (O.contents out.old) (O.failures out.old)) result
         (page (O.contents out.new) (O.failures out.new)) }
 {
-    let AtPort { port, order } = asked;
-    let mut outgoing = outgoing_of(rt, order, teller)?;
-    let stream = connect_telling(rt, port, teller)?;
-    let wire = SocketWire::new(rt, stream, Role::Sender);
-    send_through(rt, wire, &mut outgoing, out, teller)
+    let unread = UnreadCell::new(None);
+    send_telling(rt, asked, &unread, out, teller)
 }

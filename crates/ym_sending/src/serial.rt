@@ -4,6 +4,7 @@ ghost use Rattle.std.specs.Prelude.{map};
 ghost use Rattle.ym_answer.specs.Page.{page};
 ghost use Rattle.ym_sending.specs.Sending.{SendGives};
 
+use crate::named_source::UnreadCell;
 use crate::sending::{SendOrder, outgoing_of, send_through};
 use std::alloc::AllocGlobal;
 use std::fs::{File, Files};
@@ -16,6 +17,42 @@ use ym_host::TtyWire;
 use ym_port::Role;
 use ym_streams::Output;
 use ym_teller::Teller;
+
+/// Sends files over a line, and prints how the sender has ended. Which of them could not be read
+/// they say in a cell.
+fn send_line_telling<'a, R, O, E>(
+    rt: &'a R,
+    asked: OnLine<'a, SendOrder<'a>>,
+    unread: &'a UnreadCell<'a>,
+    out: &mut O,
+    teller: &mut Teller<E>,
+) -> Result<u8, CommandFault>
+where
+    R: Files<File = File> + Clock + io::Input + Print + AllocGlobal,
+    R::Reader: IsTerminal,
+    O: Output,
+    E: Write + Drop,
+    ensures { SendGives asked.entry.order.shape
+        (map (λ path. path.now) asked.entry.order.paths.now)
+        (page (O.contents out.old) (O.failures out.old)) result
+        (page (O.contents out.new) (O.failures out.new)) }
+{
+    let OnLine { line, order } = asked;
+    let mut outgoing = outgoing_of(rt, order, unread, teller)?;
+    match line {
+        Some(path) => {
+            let file = open_line(rt, path, teller)?;
+            let wire = TtyWire::new(rt, &file, &file, true, Role::Sender);
+            send_through(rt, wire, &mut outgoing, out, teller)
+        }
+        None => {
+            let reader = rt.reader();
+            let is_terminal = reader.is_terminal();
+            let wire = TtyWire::new(rt, reader, io::writer(rt), is_terminal, Role::Sender);
+            send_through(rt, wire, &mut outgoing, out, teller)
+        }
+    }
+}
 
 /// Sends files over a line, and prints how the sender has ended.
 pub fn send_line<R, O, E>(
@@ -34,19 +71,6 @@ where
         (page (O.contents out.old) (O.failures out.old)) result
         (page (O.contents out.new) (O.failures out.new)) }
 {
-    let OnLine { line, order } = asked;
-    let mut outgoing = outgoing_of(rt, order, teller)?;
-    match line {
-        Some(path) => {
-            let file = open_line(rt, path, teller)?;
-            let wire = TtyWire::new(rt, &file, &file, true, Role::Sender);
-            send_through(rt, wire, &mut outgoing, out, teller)
-        }
-        None => {
-            let reader = rt.reader();
-            let is_terminal = reader.is_terminal();
-            let wire = TtyWire::new(rt, reader, io::writer(rt), is_terminal, Role::Sender);
-            send_through(rt, wire, &mut outgoing, out, teller)
-        }
-    }
+    let unread = UnreadCell::new(None);
+    send_line_telling(rt, asked, &unread, out, teller)
 }

@@ -1,5 +1,6 @@
 //! What is told of the end of a sender.
 
+use crate::named_source::Unread;
 use std::io::Write;
 use ym_answer::CommandFault;
 use ym_ends::{LineWords, tell_end};
@@ -11,8 +12,8 @@ use ym_text::{EndMessage, FileMessage, Lately};
 #[derive(Clone, Copy)]
 pub(crate) struct SenderFinish<'a> {
     pub(crate) state: SendState,
-    /// The name of the file that was under way, where that is known.
-    pub(crate) name: Option<&'a str>,
+    /// The file that could not be read, where one could not.
+    pub(crate) unread: Option<Unread<'a>>,
     /// What came of late.
     pub(crate) lately: Lately,
     /// What faults of its port are told as.
@@ -27,13 +28,13 @@ pub(crate) fn tell_outcome<E: Write + Drop>(
 ) {
     let SenderFinish {
         state,
-        name,
+        unread,
         lately,
         words,
     } = outcome;
-    match name {
-        Some(name) if state == SendState::SourceFailed => {
-            teller.tell(FileMessage::CannotRead(name));
+    match unread {
+        Some(Unread { path, why }) if state == SendState::SourceFailed => {
+            teller.tell(FileMessage::CannotRead(path, why));
         }
         _ => {
             let message = EndMessage::of_sender(state, lately);

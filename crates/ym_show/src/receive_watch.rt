@@ -118,7 +118,7 @@ impl<'t, E: Write + Drop, C: Clock + Drop> Receiving<'t, E, C> {
     /// The name of the file that the sink was last given, where there was memory for it, and what
     /// came of late. The showing ends.
     pub fn end(&mut self) -> (Option<String>, Lately) {
-        let _ = self.meter.end();
+        self.meter.end();
         let lately = self.meter.lately();
         let seen = if is_crammed(self.prefix.as_slice()) {
             Sight::Crammed
@@ -317,7 +317,7 @@ impl<'s, 't, E: Write + Drop, C: Clock + Drop> SinkWatch for ReceiveWatch<'s, 't
 
     fn ended(&mut self) {
         if let Ok(mut shown) = self.shown.try_borrow_mut() {
-            let _ = shown.meter.end();
+            shown.meter.end();
         }
     }
 }

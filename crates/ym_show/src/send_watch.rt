@@ -49,10 +49,10 @@ impl<'t, E: Write + Drop, C: Clock + Drop> Sending<'t, E, C> {
         }
     }
 
-    /// The name of the file that was under way, where there was memory for it, and what came of
-    /// late. The showing ends.
-    pub fn end(&mut self) -> (Option<String>, Lately) {
-        (self.meter.end(), self.meter.lately())
+    /// What came of late. The showing ends.
+    pub fn end(&mut self) -> Lately {
+        self.meter.end();
+        self.meter.lately()
     }
 
     /// A block 0 was written: the file before it is whole, and another one begins, or none.
@@ -131,6 +131,17 @@ impl<'s, 't, E: Write + Drop, C: Clock + Drop> SendWatch<'s, 't, E, C> {
     fn frame(&self, bytes: &[u8]) {
         if let Ok(mut shown) = self.shown.try_borrow_mut() {
             shown.look_at(bytes);
+        }
+    }
+
+    /// These bytes came on the line below its port, which may hand on none of them.
+    #[inline(always)]
+    pub fn came_beneath(&self, bytes: &[u8]) {
+        if !self.is_looked_at {
+            return;
+        }
+        if let Ok(mut shown) = self.shown.try_borrow_mut() {
+            shown.meter.hear_beneath(bytes);
         }
     }
 }

@@ -1,4 +1,4 @@
--- Why a receiver heard nothing of use, computed.
+-- Why an end heard nothing of use, computed.
 use Rattle.std.specs.Prelude.{◌≡◌, None, false, true, refl}
 use Rattle.ym_text.specs.declared.came.Came.{Came}
 use Rattle.ym_text.specs.declared.came.Came.TheVariants as came
@@ -27,6 +27,10 @@ mixed = refl
 
 prompt_behind : lately (and_text (and_copy came.Nothing)) ≡ cause.Damage
 prompt_behind = refl
+
+-- other bytes to a sender that nobody has asked yet
+rubbish : cause_for peer.Receiver seen.Nothing 0 came.Other None false ≡ cause.NoReceiver
+rubbish = refl
 
 -- copies, and then nothing any more
 ceased :

@@ -52,21 +52,22 @@ asked_of seen.Nothing = cause.Xmodem
 asked_of _ = cause.Refuses
 
 -- other bytes come: where something whole came before, both ends have the same speed
-abbrev pub noise_of : Sight → Cause
-noise_of seen.Nothing = cause.Noise
-noise_of _ = cause.Damage
+abbrev pub noise_of : Peer → Sight → Cause
+noise_of peer.Receiver seen.Nothing = cause.NoReceiver
+noise_of peer.Sender seen.Nothing = cause.Noise
+noise_of _ _ = cause.Damage
 
 abbrev pub heard_of : Peer → Sight → Came → ℕ → Cause
 heard_of other before came.Nothing seconds = silence_of other before seconds
 heard_of other before came.Asks seconds = prompt_of other cause.Asks
 heard_of other before came.Refuses seconds = prompt_of other (asked_of before)
 heard_of other before came.Streams seconds = prompt_of other cause.Streams
-heard_of other before came.Takes seconds = noise_of before
-heard_of other before came.Passes seconds = passed_of other before (noise_of before)
+heard_of other before came.Takes seconds = noise_of other before
+heard_of other before came.Passes seconds = passed_of other before (noise_of other before)
 heard_of other before came.Text seconds = cause.Text
 heard_of other before came.Copies seconds = cause.Copies
 heard_of other before came.Past seconds = cause.Past
-heard_of other before came.Other seconds = noise_of before
+heard_of other before came.Other seconds = noise_of other before
 
 -- where an answer takes longer than usual peers wait, and something came, that is the reason
 abbrev pub cause_for : Peer → Sight → ℕ → Came → Option ℕ → Bool → Cause
@@ -115,6 +116,8 @@ cause_text cause.Streams =
     codes "the receiver asks by G, as YMODEM-g does: start it as a receiver of YMODEM"
 cause_text cause.NoSender =
     codes "nothing came but what receivers send: is a sender at the other end?"
+cause_text cause.NoReceiver =
+    codes "what comes is no answer of a YMODEM receiver: is one running, at the same speed?"
 cause_text cause.Text =
     codes "what comes is no YMODEM: is a shell or a boot loader's prompt at the other end?"
 cause_text cause.Copies =

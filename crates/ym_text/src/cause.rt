@@ -52,6 +52,8 @@ pub(crate) enum Cause {
     Streams,
     /// A receiver heard what receivers send.
     NoSender,
+    /// A sender heard what no receiver sends, and nothing of use yet.
+    NoReceiver,
     /// Text came.
     Text,
     /// The sender sends again what was answered.
@@ -208,11 +210,12 @@ fn asked(seen: Sight) -> Cause
 }
 
 /// Why other bytes come.
-fn noise(seen: Sight) -> Cause
-    ensures { result ≡ noise_of seen }
+fn noise(peer: Peer, seen: Sight) -> Cause
+    ensures { result ≡ noise_of peer seen }
 {
-    match seen {
-        Sight::Nothing => Cause::Noise,
+    match (peer, seen) {
+        (Peer::Receiver, Sight::Nothing) => Cause::NoReceiver,
+        (Peer::Sender, Sight::Nothing) => Cause::Noise,
         _ => Cause::Damage,
     }
 }
@@ -226,11 +229,11 @@ fn heard(peer: Peer, seen: Sight, came: Came, seconds: u64) -> Cause
         Came::Asks => prompts(peer, Cause::Asks),
         Came::Refuses => prompts(peer, asked(seen)),
         Came::Streams => prompts(peer, Cause::Streams),
-        Came::Passes => passed(peer, seen, noise(seen)),
+        Came::Passes => passed(peer, seen, noise(peer, seen)),
         Came::Text => Cause::Text,
         Came::Copies => Cause::Copies,
         Came::Past => Cause::Past,
-        Came::Takes | Came::Other => noise(seen),
+        Came::Takes | Came::Other => noise(peer, seen),
     }
 }
 
@@ -274,6 +277,9 @@ impl Cause {
             ),
             Cause::NoSender => CauseWords::Text(
                 "nothing came but what receivers send: is a sender at the other end?",
+            ),
+            Cause::NoReceiver => CauseWords::Text(
+                "what comes is no answer of a YMODEM receiver: is one running, at the same speed?",
             ),
             Cause::Text => CauseWords::Text(
                 "what comes is no YMODEM: is a shell or a boot loader's prompt at the other end?",

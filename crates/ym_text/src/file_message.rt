@@ -13,8 +13,10 @@ pub enum FileMessage<'a> {
     CannotOpen(&'a str, Reason),
     /// The name or the length of the file at this path cannot stand in block 0.
     CannotSend(&'a str, HeaderFault),
-    /// The file of this name could not be read while it was sent, or has changed.
-    CannotRead(&'a str),
+    /// The file at this path could not be read while it was sent.
+    CannotRead(&'a str, Reason),
+    /// The files at these two paths are sent under one name, the third text.
+    SameName(&'a str, &'a str, &'a str),
     /// The sender gave this name, which is not safe.
     NameIsUnsafe(&'a str),
     /// Nothing can be stored in the folder at this path.
@@ -48,11 +50,25 @@ fn write_refused<W: fmt::Write>(
 }
 
 /// Why a file was not sent whole.
-fn write_unread<W: fmt::Write>(f: &mut fmt::Formatter<W>, name: &str) -> fmt::Result {
+fn write_unread<W: fmt::Write>(f: &mut fmt::Formatter<W>, path: &str, why: Reason) -> fmt::Result {
+    let path = Shown(path);
+    write!(f, "cannot read '{path}': {why}")
+}
+
+/// That two files are sent under one name.
+fn write_same<W: fmt::Write>(
+    f: &mut fmt::Formatter<W>,
+    first: &str,
+    second: &str,
+    name: &str,
+) -> fmt::Result {
+    let first = Shown(first);
+    let second = Shown(second);
     let name = Shown(name);
     write!(
         f,
-        "'{name}' could not be read, or has changed since it was looked at"
+        "'{first}' and '{second}' are both sent as '{name}': a receiver keeps one, or refuses the \
+        second"
     )
 }
 
@@ -73,7 +89,8 @@ impl fmt::Display for FileMessage<'_> {
                 write!(f, "cannot open '{path}': {why}")
             }
             FileMessage::CannotSend(path, fault) => write_refused(f, path, fault),
-            FileMessage::CannotRead(name) => write_unread(f, name),
+            FileMessage::CannotRead(path, why) => write_unread(f, path, why),
+            FileMessage::SameName(first, second, name) => write_same(f, first, second, name),
             FileMessage::NameIsUnsafe(name) => write_unsafe(f, name),
             FileMessage::CannotStoreIn(path, why) => {
                 let path = Shown(path);

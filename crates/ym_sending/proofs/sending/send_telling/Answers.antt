@@ -1,7 +1,7 @@
 -- Nothing was sent.
 use Rattle.std.proofs.Common.{rules}
 use Rattle.ym_sending.proofs.BatchLemmas.{unsent}
-use Rattle.ym_sending.proofs.sending.send.Goals as goal
+use Rattle.ym_sending.proofs.sending.send_telling.Goals as goal
 
 pub returns-in_err-outgoing : goal.returns-in_err-outgoing
 returns-in_err-outgoing g c = let refused = c.in_err-outgoing.ensures.refused in unsent _ _ _ _ (search rules)
