@@ -418,9 +418,14 @@ static inline ym_error ym_sent(uint32_t state) {
     }
 }
 
-/* Sends a batch. Where it gives up on a line that works, its receiver was told by CAN CAN, but
-   where nothing was written yet: too many files, or one of which nothing can be told. It may be
-   called again at once. */
+/* A batch that cannot be begun: who waits for its first file is told. */
+static inline ym_error ym_send_none(ym_end *end, ym_error error) {
+    ym_end_write(end, ym_can_can, 2);
+    return error;
+}
+
+/* Sends a batch. Where it gives up on a line that works, its receiver was told by CAN CAN. It may
+   be called again at once. */
 static inline ym_error ym_send(const ym_io *io, const ym_source *source) {
     ym_end end;
     ym_line copy;
@@ -432,12 +437,12 @@ static inline ym_error ym_send(const ym_io *io, const ym_source *source) {
     ym_error error = YM_DONE;
     size_t i;
     int len;
-    if (source->files > 65535) return YM_ERROR_MOST_FILES;
+    ym_end_begin(&end, io, &copy, written);
+    if (source->files > 65535) return ym_send_none(&end, YM_ERROR_MOST_FILES);
     for (i = 0; i < source->files; i++) {
-        if (!ym_tells(source, i, &file)) return YM_ERROR_FILES;
+        if (!ym_tells(source, i, &file)) return ym_send_none(&end, YM_ERROR_FILES);
         source->blocks[i] = ym_blocks_of(file.length);
     }
-    ym_end_begin(&end, io, &copy, written);
     ym_sender_init(&sender, source->blocks, source->files);
     while (sender.state == YM_SENDING) {
         len = ym_send_hears(&end, source, &sender, bytes);

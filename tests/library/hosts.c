@@ -251,18 +251,17 @@ static void each_host(int receives) {
     }
 }
 
-/* A call of files that fails is told, to the peer too once it is there, and is the last one: also
-   where the line fails behind it. A line that fails is told, but where the batch is through. A read
+/* A call of files that fails is told, to the peer too, and is the last one: also where the line fails
+   behind it. A line that fails is told, but where the batch is through. A read
    that tells more than it was asked for fails. */
 static void fails_at(struct host it, enum call call, unsigned long at) {
     it.failing = call;
     it.fails_at = at;
     ym_error error = moves(&it);
-    int is_before = call == ABOUT && at <= it.batch->count;
     wants(!it.is_wrong && !it.files_behind, "calls of files behind one that failed", at);
     if (call >= BEGIN) {
         wants(error == YM_ERROR_FILES, "a call of files that fails", at);
-        wants(is_before || it.is_mute || it.is_cancelled, "its peer is told", at);
+        wants(it.is_mute || it.is_cancelled, "its peer is told", at);
     } else if (error == YM_DONE) {
         wants(it.stored == it.batch->count, "a line that fails at the end", at);
     } else {

@@ -205,8 +205,10 @@ static void sent(void) {
     wants(sends(&it, name, 1) == YM_ERROR_NAME_LONG && it.written == 1, "a name of 256 bytes");
     again(&it);
     wants(sends(&it, "name", 2) == YM_ERROR_FILES, "a file of which nothing is told");
+    wants(it.written == 1 && it.last[0] == 0x18 && !it.now, "CAN CAN at once");
     again(&it);
     wants(sends(&it, "name", 65536) == YM_ERROR_MOST_FILES, "too many files");
+    wants(it.written == 1 && it.last[0] == 0x18 && !it.now, "CAN CAN in place of them");
 }
 
 /* A batch of no file is its end block. */
@@ -336,6 +338,7 @@ static void fails(void) {
         for (failing = ABOUT; failing <= FILL; failing = (enum call)(failing + 1)) {
             again(&out);
             wants(sends(&out, "name", 1) == YM_ERROR_FILES, "a call of a source that fails");
+            wants(out.last[0] == 0x18, "its receiver is told");
         }
     }
     failing = NONE;
