@@ -56,13 +56,14 @@ int main(int count, char **words) {
         fprintf(stderr, "usage: receive FOLDER\n");
         return 2;
     }
-    /* a line that is gone fails a write, and does not end the program before its part is away */
-    signal(SIGPIPE, SIG_IGN);
+    line_begins();
     ym_error error = ym_receive(&line, &sink);
     if (part.file >= 0) {
         close(part.file);
         unlink(part.name);
     }
-    fprintf(stderr, "receive: %s, files %u\n", ym_text(error), part.stored);
-    return error == YM_DONE ? 0 : 1;
+    fprintf(stderr, "receive: %s, files %u\n", line_text(error), part.stored);
+    if (error == YM_DONE) return 0;
+    line_ends(0);
+    return 1;
 }

@@ -58,9 +58,10 @@ int main(int words, char **word) {
         }
     }
     ym_source source = { files, count, blocks, about, fill };
-    /* a line that is gone fails a write, and does not end the program before it says so */
-    signal(SIGPIPE, SIG_IGN);
+    line_begins();
     ym_error error = ym_send(&line, &source);
-    fprintf(stderr, "send: %s\n", ym_text(error));
-    return error == YM_DONE ? 0 : 1;
+    fprintf(stderr, "send: %s\n", line_text(error));
+    if (error == YM_DONE) return 0;
+    line_ends(2);
+    return 1;
 }
