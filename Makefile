@@ -140,14 +140,12 @@ test-portable: build portable
 	@tools/checks.py portable -m "long or not long"
 	@tools/checks.py boards -k test_boards -m "long or not long"
 
+# Whatever stands in PREFIX and DESTDIR: a shell that is given them as text may read more in it.
+install-lib: export PREFIX := $(PREFIX)
+install-lib: export DESTDIR := $(DESTDIR)
 install-lib:
 	@$(MAKE) --no-print-directory lib TARGETS=$(TARGET)
-	install -D -m 644 out/lib/$(TARGET)/libymodem.a "$(DESTDIR)$(PREFIX)/lib/libymodem.a"
-	install -D -m 644 -t "$(DESTDIR)$(PREFIX)/include" include/ymodem.h include/ymodem_io.h
-	install -d "$(DESTDIR)$(PREFIX)/lib/pkgconfig"
-	sed "s|@PREFIX@|$(PREFIX)|; s|@LIBDIR@|\$${prefix}/lib|; s|@VERSION@|$$(tools/version.py)|" include/ymodem.pc.in \
-	    > "$(DESTDIR)$(PREFIX)/lib/pkgconfig/ymodem.pc"
-	chmod 644 "$(DESTDIR)$(PREFIX)/lib/pkgconfig/ymodem.pc"
+	tools/install_library.sh out/lib/$(TARGET)/libymodem.a "$$DESTDIR" "$$PREFIX"
 
 # ---- The page
 

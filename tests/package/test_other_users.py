@@ -7,7 +7,7 @@ import shlex
 import shutil
 import subprocess
 
-from support.cases import case, cases, sentence
+from support.cases import case, cases
 from support.locales import turkish
 from support.program import LIMIT, PROGRAM, wants_same, wants_stored, write_files
 from support.skipping import Skipped
@@ -102,18 +102,24 @@ def test_another_user(variables):
         )
 
 
-@sentence("the library is made and installed in folders with spaces in their names")
-def test_library_is_installed():
+@cases(
+    case("the library is made and installed in folders with spaces in their names", "an installed"),
+    case("the library is installed in a folder of signs", "R&D |#1 \\ \"`it's`\" ~%"),
+    case("the library is installed below a DESTDIR that begins here", "an installed", "staged & so"),
+)
+def test_library_is_installed(folder, staged=None):
     """`make lib` and `make install-lib`, in a folder with a space in its name and into such a
     one."""
     with tree() as it:
-        target, to = "x86_64-unknown-linux-gnu", os.path.join(it.calls, "an installed one")
+        target, prefix = "x86_64-unknown-linux-gnu", os.path.join(it.calls, folder)
         status, _, err = it.make("lib", "TARGETS=" + target)
         assert status == 0, "make lib: %s" % err
         assert it.called() == ["lib --target " + target], "it called another rt"
-        status, _, err = it.make("install-lib", "PREFIX=" + to)
+        words = ["PREFIX=" + prefix, *(["DESTDIR=" + staged] if staged else [])]
+        status, _, err = it.make("install-lib", *words)
         assert status == 0, "make install-lib: %s" % err
         assert it.called() == ["lib --target " + target], "it made more than it installs"
+        to = os.path.join(it.top, staged) + prefix if staged else prefix
         found = sorted(
             os.path.join(folder, name)[len(to) + 1 :]
             for folder, _, files in os.walk(to)
@@ -126,5 +132,5 @@ def test_library_is_installed():
             asks = ["pkg-config", "--cflags", "--libs", "ymodem"]
             how = {"env": where, "capture_output": True, "text": True, "check": True}
             told = subprocess.run(asks, **how).stdout
-            words = ["-I%s/include" % to, "-L%s/lib" % to, "-lymodem"]
+            words = ["-I%s/include" % prefix, "-L%s/lib" % prefix, "-lymodem"]
             assert shlex.split(told) == words, "pkg-config tells %s" % told
