@@ -4,7 +4,8 @@
    Nothing here allocates, blocks, keeps anything between calls or calls back. All state stands in
    the structs below, in the caller's memory. Every function returns, whatever stands in a struct:
    numbers that no receiver or sender can have count as an end that has ended, which asks for
-   nothing and sends nothing. Four calls have their time, which stands beside them:
+   nothing and sends nothing. A number that a call is given to say which of a few things is meant
+   counts as the last of them where it is none: a stamp of 3 as 2, a confirm of 2 as 1. Four calls have their time, which stands beside them:
    ym_receiver_feed, ym_receiver_answer, ym_sender_header and ym_sender_block. At any other time
    they do nothing, nor does ym_sender_failed to a sender that has ended.
 

@@ -27,6 +27,9 @@
 #ifndef YM_MOST_READS
 #define YM_MOST_READS 65536
 #endif
+#if YM_MOST_READS < 1
+#error "YM_MOST_READS is at least 1"
+#endif
 
 /* What may come of it: why the end ended, whether its last write went well or not. */
 typedef enum ym_error {
@@ -62,10 +65,10 @@ typedef struct ym_io {
 typedef struct ym_file {
     const uint8_t *name;   /* UTF-8, without a closing 00 */
     size_t name_len;       /* 1 to 255 */
-    uint64_t length;
-    uint32_t stamp;        /* 0 none, 1 a time, 2 a time and a mode */
+    uint64_t length;       /* at most 2^63 - 1 */
+    uint32_t stamp;        /* 0 none, 1 a time, 2 a time and a mode, as which any above counts */
     uint32_t mode;
-    uint64_t time;         /* seconds since 1970 */
+    uint64_t time;         /* seconds since 1970; 0 is a time that is not known */
 } ym_file;
 
 /* Where files go. Each answers above 0; else it cannot, and then the transfer ends. */

@@ -296,7 +296,48 @@ static void buffers_stay(void) {
     wants(front.kind == YM_FRONT_NONE, "and it finds nothing");
 }
 
+/* ---- Numbers that say which of a few things is meant: one that is none counts as the last. */
+
+static void no_such_stamp(uint32_t stamp) {
+    const uint8_t *name = (const uint8_t *)"a";
+    uint8_t one[1024], other[1024];
+    ym_sender sender, same;
+    memset(one, 0, sizeof one);
+    memset(other, 0, sizeof other);
+    wants(ym_header_write(name, 1, 1, 2, 3, 4, one, 1024) == 128, "a stamp of 2");
+    wants(ym_header_write(name, 1, 1, stamp, 3, 4, other, 1024) == 128, "a stamp above 2");
+    wants(SAME(one, other), "a stamp above 2 counts as 2");
+    memset(&sender, 0, sizeof sender);
+    ym_sender_init(&sender, blocks, 2);
+    wants(hears(&sender, "C", 1) == YM_FILL_HEADER, "a header is to be filled");
+    same = sender;
+    wants(ym_sender_header(&sender, name, 1, 1100, 2, 3, 4) == 0, "a header by 2");
+    wants(ym_sender_header(&same, name, 1, 1100, stamp, 3, 4) == 0, "a header by one above");
+    wants(SAME(sender, same), "it counts as 2 there too");
+}
+
+static void no_such_number(uint32_t number) {
+    ym_receiver receiver, same;
+    ym_line line, copy;
+    memset(&receiver, 0, sizeof receiver);
+    same = receiver;
+    ym_receiver_init(&receiver, 1);
+    ym_receiver_init(&same, number);
+    wants(SAME(receiver, same), "confirm above 1 counts as 1");
+    ym_line_init(&line, 1);
+    ym_line_init(&copy, number);
+    wants(SAME(line, copy), "whatever is not 0 receives");
+    wants(ym_line_until(&line, YM_WAIT_MORE, 9) == ym_line_until(&line, number, 9), "more");
+    wants(ym_line_until(&line, YM_WAIT_FIRST, 9) != ym_line_until(&line, number, 9), "not first");
+    wants(ym_line_expired(&line, YM_WAIT_MORE, 9) == ym_line_expired(&copy, number, 9), "is over");
+    wants(SAME(line, copy), "it is over alike");
+}
+
 int main(void) {
+    no_such_stamp(3);
+    no_such_stamp(~0u);
+    no_such_number(2);
+    no_such_number(~0u);
     frames_in_time();
     ended_senders();
     running_fails();
