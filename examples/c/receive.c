@@ -34,6 +34,19 @@ static int add(void *user, const uint8_t *bytes, size_t len) {
     return put(part->file, bytes, len) || failed(part->name);
 }
 
+/* Gives a part its name, which fails where that is taken. Where the file system has no hard links,
+   as FAT, the name is made first, and the part renamed over it. */
+static int gets_name(const char *part, const char *name) {
+    if (link(part, name) == 0) return 1;
+    if (errno != EPERM && errno != ENOSYS && errno != EOPNOTSUPP) return 0;
+    int made = open(name, O_WRONLY | O_CREAT | O_EXCL, 0644);
+    if (made < 0) return 0;
+    close(made);
+    if (rename(part, name) == 0) return 1;
+    unlink(name);
+    return 0;
+}
+
 /* A file that is there already stays as it is. */
 static int commit(void *user) {
     struct part *part = user;
@@ -43,8 +56,8 @@ static int commit(void *user) {
     part->file = -1;
     memcpy(name, part->name, len);
     name[len] = 0;
-    is_kept = (is_kept && link(part->name, name) == 0) || failed(name);
-    if (unlink(part->name) != 0) return failed(part->name);
+    is_kept = (is_kept && gets_name(part->name, name)) || failed(name);
+    if (unlink(part->name) != 0 && errno != ENOENT) return failed(part->name);
     part->stored += (unsigned)is_kept;
     return is_kept;
 }

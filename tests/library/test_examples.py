@@ -9,11 +9,12 @@ import tempfile
 
 from support.cases import case, cases, sentence
 from support.commands import command
-from support.example_ends import c_send, on_line
+from support.example_ends import c_send, on_line, pair
 from support.frames import header
 from support.library import FLAGS, INCLUDE, STRICT, built, example
 from support.program import LIMIT, ROOT, folders, write_files
 from support.skipping import needs
+from support.tracing import strace
 
 
 @cases(
@@ -74,12 +75,12 @@ def test_interrupted():
     command(built("tests/library/interrupted.c", "interrupted"))
 
 
-def refused(names, there):
+def refused(names, there, before=()):
     """What receive says of files that send has, of which it cannot store one."""
     with tempfile.TemporaryDirectory(prefix="ymodem-") as here:
         write_files(here, [(name, b"new") for name in names])
         one, other = socket.socketpair()
-        with on_line([example("receive"), there], one) as receiver:
+        with on_line([*before, example("receive"), there], one) as receiver:
             with on_line(c_send(names), other, cwd=here) as sender:
                 _, said = receiver.communicate(timeout=LIMIT)
                 _, also = sender.communicate(timeout=LIMIT)
@@ -88,13 +89,27 @@ def refused(names, there):
     return said.decode()
 
 
-@sentence("receive leaves a file that is there, and no part of another one")
-def test_is_there_already():
+NO_LINKS = ("-e", "inject=link,linkat:error=EPERM")
+
+
+@sentence("receive stores where the file system has no hard links, as FAT")
+def test_no_links():
+    with folders() as (log, _):
+        before = strace(os.path.join(log, "log"), *NO_LINKS)
+        pair(lambda there: [*before, example("receive"), there], c_send)
+
+
+@cases(
+    case("receive leaves a file that is there, and no part of another one"),
+    case("receive leaves a file that is there, without hard links", NO_LINKS),
+)
+def test_is_there_already(calls=()):
     """It is so each time: a part that was left would be refused the next time."""
-    with folders() as (there, _):
+    with folders() as (there, log):
+        before = strace(os.path.join(log, "log"), *calls) if calls else ()
         write_files(there, [("b", b"old")])
         for names, stored in ((["a", "b"], 1), (["b"], 0), (["b"], 0)):
-            said = refused(names, there)
+            said = refused(names, there, before)
             wanted = "receive: b: File exists\nreceive: a file failed, files %d\n" % stored
             assert said == wanted, "it says %r" % said
             assert sorted(os.listdir(there)) == ["a", "b"], os.listdir(there)
