@@ -23,12 +23,13 @@
 #error "YM_DELIVERY is at least 2"
 #endif
 
-/* Reads that one wait makes at most, and one line that is let clear. */
+/* Reads that one wait makes at most, and one line that is let clear. A sender's wait for a reply has
+   two parts. */
 #ifndef YM_MOST_READS
 #define YM_MOST_READS 65536
 #endif
-#if YM_MOST_READS < 1
-#error "YM_MOST_READS is at least 1"
+#if YM_MOST_READS < 2
+#error "YM_MOST_READS is at least 2"
 #endif
 
 /* What may come of it: why the end ended, whether its last write went well or not. */

@@ -117,6 +117,25 @@ def test_without_a_c_library(words):
             compiled(how, standard, os.devnull, host)
 
 
+# Compilers for processors that begin a number with its greatest byte.
+BIG_ENDIAN = (
+    "arm-none-eabi-gcc -mbig-endian",
+    "clang --target=mips-unknown-elf -ffreestanding",
+    "clang --target=powerpc-unknown-elf -ffreestanding",
+)
+
+
+@cases(*(case("a big-endian processor is refused: " + words, words) for words in BIG_ENDIAN))
+def test_big_endian(words):
+    """The headers compile there, and the file says why it does not."""
+    needs(words.split()[0])
+    how = [*words.split(), "-std=c99", "-fsyntax-only", "-x", "c"]
+    command(*how, HEADER)
+    ran = subprocess.run([*how, SOURCE], capture_output=True, text=True, check=False)
+    told = "ymodem.c is for little-endian processors"
+    assert ran.returncode and told in ran.stderr, ran.stderr
+
+
 def names(words):
     """What an object of the file defines, and what it lacks, with the kind of each."""
     needs("nm")
