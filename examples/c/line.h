@@ -5,8 +5,9 @@
 
 /* For poll, sigaction, clock_gettime and the calls of files, with -std=c99 too. */
 #define _POSIX_C_SOURCE 200809L
-/* Files of more than 2 GiB on 32 bits, too. */
+/* Files of more than 2 GiB on 32 bits, too, and of behind 2038. */
 #define _FILE_OFFSET_BITS 64
+#define _TIME_BITS 64
 
 #include "ymodem_io.h"
 

@@ -26,7 +26,8 @@ static int open_file(struct file *file, const char *path) {
     file->about.name_len = strlen(name);
     file->about.length = (uint64_t)found.st_size;
     file->about.stamp = 2;
-    file->about.time = (uint64_t)found.st_mtime;
+    /* 0 is a time that is not known, as one before 1970 */
+    file->about.time = found.st_mtime > 0 ? (uint64_t)found.st_mtime : 0;
     file->about.mode = (uint32_t)found.st_mode;
     return 1;
 }

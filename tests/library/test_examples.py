@@ -15,6 +15,7 @@ from support.library import FLAGS, INCLUDE, STRICT, built, example
 from support.program import LIMIT, ROOT, folders, write_files
 from support.skipping import needs
 from support.tracing import strace
+from support.waits import wait_for
 
 
 @cases(
@@ -58,7 +59,7 @@ def test_no_file(make, told):
     assert (ran.returncode, ran.stdout, ran.stderr) == (2, "", "it: %s\n" % told), ran.stderr
 
 
-@sentence("the examples take files of more than 2 GiB on 32 bits")
+@sentence("the examples take files of more than 2 GiB, and of behind 2038, on 32 bits")
 def test_large_files():
     compiler = "arm-linux-gnueabihf-gcc"
     needs(compiler)
@@ -66,6 +67,7 @@ def test_large_files():
         path = os.path.join(here, "large.c")
         with open(path, "w", encoding="utf-8") as it:
             it.write('#include "line.h"\nextern char large[sizeof(off_t) == 8 ? 1 : -1];\n')
+            it.write("extern char late[sizeof(time_t) == 8 ? 1 : -1];\n")
         how = ["-std=c99", "-fsyntax-only", "-I", os.path.join(ROOT, "examples", "c")]
         command(compiler, *how, "-I", INCLUDE, path)
 
@@ -73,6 +75,23 @@ def test_large_files():
 @sentence("a read of the examples' line beside signals")
 def test_interrupted():
     command(built("tests/library/interrupted.c", "interrupted"))
+
+
+@cases(
+    case("send tells the time of a file", 0o12345, b"3 12345 100644"),
+    case("send tells no time before 1970", -5, b"3 0 100644"),
+)
+def test_time(when, told):
+    with folders() as (here, _):
+        [path] = write_files(here, [("a", b"new")])
+        os.chmod(path, 0o644)
+        os.utime(path, (when, when))
+        one, other = socket.socketpair()
+        other.settimeout(LIMIT)
+        with on_line(c_send(["a"]), one, cwd=here), other:
+            other.sendall(b"C")
+            wait_for(other, 133)
+            assert other.recv(133) == header(b"a", told)
 
 
 def refused(names, there, before=()):
