@@ -9,6 +9,7 @@ ghost use Rattle.ym_command.specs.Program.{AsksFor, IsPlayed, JobGives, DoesAske
 use crate::orders::{line_order_of, order_of, send_order_of};
 use clap::error::ErrorKind;
 use std::alloc::{AllocGlobal, Global};
+use std::cell::Cell;
 use std::fmt::Display;
 use std::fs::{File, Files};
 use std::io;
@@ -228,13 +229,15 @@ where
 /// refused or help was asked for, and 3 where a device failed, the connection was closed or memory
 /// ran out. What ends in a fault prints one line that tells it to `err`, and words that are refused
 /// the text that says how they are written. The version goes to `out`, with status 0. To somebody
-/// who looks `teller` tells besides what is done and why it failed.
+/// who looks `teller` tells besides what is done and why it failed. Whether somebody looks, as the
+/// words say it too, is put into `is_looked_at` before anything is done.
 pub fn command<R, I, O, E, T>(
     rt: &R,
     alloc: Global,
     words: Vec<String>,
     streams: &mut Streams<I, O, E>,
     teller: &mut Teller<T>,
+    is_looked_at: &Cell<bool>,
 ) -> u8
 where
     R: Files<File = File>
@@ -284,6 +287,7 @@ where
         Ok(job) => {
             let TellFlags { verbose, quiet } = tell_flags(&job);
             teller.heed(verbose, quiet);
+            is_looked_at.set(teller.is_loud);
             match do_job(rt, alloc, job, streams, teller) {
                 Ok(status) => status,
                 Err(fault) => tell_fault(&mut streams.outputs.err, fault),

@@ -2,10 +2,14 @@
 //! connection to itself, and sends and receives files over a connection or a serial line.
 #![tactic(auto)]
 
+mod told;
+
+use std::cell::Cell;
 use std::fs::{File, Files};
-use std::io::{BufWriter, ErrorKind, IsTerminal, Write};
+use std::io::{BufWriter, ErrorKind, IsTerminal, Stderr, Write};
 use std::process::ExitCode;
 use std::{env, fs, io};
+use told::{Faults, ToldInput, ToldOutput};
 use ym_command::{Charted, Draw, Outputs, Streams, command};
 use ym_streams::{Input, Output};
 use ym_teller::{Look, Teller};
@@ -79,16 +83,18 @@ fn greet<E: Write + Drop>(rt: &HostRuntime, words: &[String], teller: &mut Telle
     }
 }
 
-/// Does what the words ask for, or tells why there are none. The answer is the status.
+/// Does what the words ask for, or tells why there are none. The answer is the status. What the
+/// words say of who looks is put where the streams find it.
 fn answer<I: Input, O: Output + Draw, E: Output, T: Write + Drop>(
     rt: &HostRuntime,
     streams: &mut Streams<I, O, E>,
     teller: &mut Teller<T>,
+    is_looked_at: &Cell<bool>,
 ) -> u8 {
     match words(rt) {
         Ok(words) => {
             greet(rt, words.as_slice(), teller);
-            command(rt, rt.alloc(), words, streams, teller)
+            command(rt, rt.alloc(), words, streams, teller, is_looked_at)
         }
         Err(error) if error.kind() == ErrorKind::InvalidData => {
             let _ = rt.eprintln("error: a word is not UTF-8");
@@ -104,23 +110,42 @@ fn tell_want_of_memory(rt: &HostRuntime) -> u8 {
     FAILED
 }
 
+/// What tells why a stream failed, as long as somebody looks.
+fn faults_of<'a>(rt: &HostRuntime, is_looked_at: &'a Cell<bool>) -> Faults<'a, Stderr> {
+    Faults {
+        err: rt.stderr(),
+        is_looked_at,
+    }
+}
+
 /// Does what the words ask for, over the program's own streams. Each line of the output is one
 /// write, so that several programs can write into one log.
 fn run(rt: &HostRuntime) -> u8 {
     let look = look(rt);
     let mut teller = Teller::new(rt.stderr(), look);
-    let Ok(out) = BufWriter::new(rt.alloc(), rt.stdout()) else {
+    let is_looked_at = Cell::new(look.at_err);
+    let told = ToldOutput {
+        out: rt.stdout(),
+        faults: faults_of(rt, &is_looked_at),
+    };
+    let Ok(out) = BufWriter::new(rt.alloc(), told) else {
         return tell_want_of_memory(rt);
     };
     let shown = ShownOut::new(rt.alloc(), out, rt.stdout().is_terminal());
     let mut streams = Streams {
-        input: rt.stdin(),
+        input: ToldInput {
+            input: rt.stdin(),
+            faults: faults_of(rt, &is_looked_at),
+        },
         outputs: Outputs {
             out: Charted::new(rt.alloc(), shown),
             err: ShownOut::new(rt.alloc(), rt.stderr(), look.at_err),
         },
     };
-    answer(rt, &mut streams, &mut teller)
+    let status = answer(rt, &mut streams, &mut teller, &is_looked_at);
+    // What could not be written is tried once more, and is not told again.
+    is_looked_at.set(false);
+    status
 }
 
 /// What keeps the descriptor of a standard stream from being another's, where that is closed.
