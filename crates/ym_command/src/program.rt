@@ -233,7 +233,6 @@ where
 /// words say it too, is put into `is_looked_at` before anything is done.
 pub fn command<R, I, O, E, T>(
     rt: &R,
-    alloc: Global,
     words: Vec<String>,
     streams: &mut Streams<I, O, E>,
     teller: &mut Teller<T>,
@@ -283,6 +282,7 @@ where
     ensures status { result ≤ 3 }
 {
     a_known_script_is_played();
+    let alloc = rt.alloc();
     match job_of(alloc, words.as_slice()) {
         Ok(job) => {
             let TellFlags { verbose, quiet } = tell_flags(&job);

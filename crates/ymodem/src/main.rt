@@ -94,7 +94,7 @@ fn answer<I: Input, O: Output + Draw, E: Output, T: Write + Drop>(
     match words(rt) {
         Ok(words) => {
             greet(rt, words.as_slice(), teller);
-            command(rt, rt.alloc(), words, streams, teller, is_looked_at)
+            command(rt, words, streams, teller, is_looked_at)
         }
         Err(error) if error.kind() == ErrorKind::InvalidData => {
             let _ = rt.eprintln("error: a word is not UTF-8");
