@@ -1,6 +1,7 @@
 -- What has to be seen of a session for each verdict, and which verdict comes first.
-use Rattle.std.specs.Prelude.{Bool, true, not, nat_lt, ◌&&◌, ◌||◌, if◌then◌else◌, List, [], ◌∷◌}
+use Rattle.std.specs.Prelude.{Bool, true, false, not, nat_lt, ◌&&◌, ◌||◌, if◌then◌else◌, List, [], ◌∷◌}
 use Rattle.ym_explain.specs.Asking.{is_by_g}
+use Rattle.ym_explain.specs.Noting.{is_unheard, is_unsent}
 use Rattle.ym_explain.specs.declared.verdict.TheConstants.{ORDER, ORDER_THERE, ORDER_BACK}
 use Rattle.ym_explain.specs.declared.signs.Signs.{Signs}
 use Rattle.ym_explain.specs.declared.verdict.Verdict.{Verdict}
@@ -21,7 +22,7 @@ has_eot_alone seen = seen.eot && not seen.framed && not seen.damaged
 abbrev pub has_sent_none : Signs → Bool
 has_sent_none seen = not seen.framed && not seen.damaged && not seen.ahead
 
--- What was seen bears this verdict out. Who answers an EOT is there, and had asked before the
+-- What was seen bears this verdict out. Who answers a frame is there, and had asked before the
 -- record began. A damaged frame is mended by a whole block behind it.
 abbrev pub shows : Verdict → Signs → Bool
 shows Whole seen = is_finished seen && not seen.damaged && not seen.repeated
@@ -38,7 +39,7 @@ shows Noise seen =
 shows Xmodem seen = seen.unnamed
 shows XmodemReceiver seen = seen.nak_first && not seen.asked
 shows YmodemGReceiver seen = is_by_g seen.asking
-shows NobodyAsked seen = not seen.asked && not (has_eot_alone seen && seen.heard)
+shows NobodyAsked seen = not seen.asked && not seen.heard
 shows EotAlone seen = has_eot_alone seen
 shows NobodySent seen = not seen.framed && not seen.damaged
 shows NobodyAnswered seen = has_sent_none seen && not seen.sender_cancelled
@@ -68,3 +69,25 @@ abbrev pub order_of : Ways → List Verdict
 order_of Both = ORDER
 order_of There = ORDER_THERE
 order_of Back = ORDER_BACK
+
+-- The ways of which something is known. A sender that goes on to the next block has heard an
+-- answer, and a receiver that acknowledges has heard a frame: where none of these is there, that
+-- way was not recorded.
+abbrev pub known_ways : Ways → Signs → Ways
+known_ways Both seen =
+    if seen.went_on && is_unheard seen then There
+    else (if seen.took_unseen && is_unsent seen then Back else Both)
+known_ways There seen = There
+known_ways Back seen = Back
+
+-- what is told of what was seen, where these ways were recorded
+abbrev pub verdict_in : Ways → Signs → Verdict
+verdict_in ways seen = first_shown seen (order_of (known_ways ways seen))
+
+-- it says that the session is whole
+abbrev pub tells_whole : Verdict → Bool
+tells_whole Whole = true
+tells_whole Mended = true
+tells_whole Repeated = true
+tells_whole Unharmed = true
+tells_whole verdict = false

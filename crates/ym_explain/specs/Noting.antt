@@ -1,5 +1,5 @@
 -- What is seen of a session, event by event.
-use Rattle.std.specs.Prelude.{ℕ, ◌+◌, ◌-◌, ◌==◌, min, nat_lt, not, Bool, true, false, ◌||◌, if◌then◌else◌, List, [], ◌∷◌}
+use Rattle.std.specs.Prelude.{ℕ, ◌+◌, ◌-◌, ◌==◌, min, nat_lt, not, Bool, true, false, ◌&&◌, ◌||◌, if◌then◌else◌, List, [], ◌∷◌}
 use Rattle.ym_frame.specs.declared.control.Control.{Control}
 use Rattle.ym_frame.specs.declared.control.Control.TheVariants.{Ack, Nak, Start, Can}
 use Rattle.ym_explain.specs.Asking.{behind_junk}
@@ -43,11 +43,29 @@ nothing_seen = record {
   over = false;
   finished = false;
   ahead = false;
+  went_on = false;
+  took_unseen = false;
   refusals = 0;
   gave_up = false;
   sender_cancelled = false;
   receiver_cancelled = false;
 }
+
+abbrev pub asks_nothing : Asking → Bool
+asks_nothing Nothing = true
+asks_nothing asking = false
+
+-- the receiver asked and answered nothing
+abbrev pub is_unheard : Signs → Bool
+is_unheard seen =
+    not (seen.asked || seen.heard || seen.ahead || seen.receiver_cancelled || seen.echoed)
+    && asks_nothing seen.asking
+
+-- the sender wrote nothing
+abbrev pub is_unsent : Signs → Bool
+is_unsent seen =
+    not (seen.framed || seen.damaged || seen.eot)
+    && not (seen.junk || seen.zmodem || seen.sender_cancelled)
 
 -- one frame more has no answer; eight bits count them
 abbrev pub one_more : ℕ → ℕ
@@ -110,8 +128,13 @@ in_batch seen at kind =
     then record (without_end seen) { sender_cancelled = false; receiver_cancelled = false }
     else seen
 
+abbrev pub is_next : FrameKind → Bool
+is_next kind.Data = true
+is_next kind = false
+
 abbrev pub with_kind : Signs → SendPosition → FrameKind → Signs
 with_kind seen at kind = record (with_frame seen) {
+  went_on = seen.went_on || is_next kind && is_unheard seen;
   framed = true;
   unmended = false;
   mended = seen.mended || seen.unmended;
@@ -134,7 +157,12 @@ with_ack seen =
       heard = true;
       finished = seen.finished || seen.over;
     }
-    else record seen { refusals = 0; unanswered = 0; ahead = true }
+    else record seen {
+      refusals = 0;
+      unanswered = 0;
+      ahead = true;
+      took_unseen = seen.took_unseen || seen.asked && is_unsent seen;
+    }
 
 -- a NAK asks before any whole block, and refuses one behind it
 abbrev pub asking_by_nak : Signs → Asking

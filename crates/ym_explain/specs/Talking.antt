@@ -9,7 +9,7 @@ use Rattle.ym_frame.specs.declared.control.Control.TheVariants as control
 use Rattle.ym_explain.specs.declared.talk.Footing.{Footing}
 use Rattle.ym_explain.specs.declared.talk.Footing.TheVariants.{InTurn, AsAsked, Mended, Unanswered, AckUnheard, WentOn, Astray, Leaving}
 use Rattle.ym_explain.specs.declared.talk.Meaning.{Meaning}
-use Rattle.ym_explain.specs.declared.talk.Meaning.TheVariants.{Asks, AsksOn, AsksAgain, AsksByNak, Takes, TakesCopy, Ahead, Refuses, WantsEotAgain, RefusesAgain, LoneCan}
+use Rattle.ym_explain.specs.declared.talk.Meaning.TheVariants.{Asks, AsksOn, AsksAgain, AsksByNak, Takes, TakesCopy, Ahead, TakesEotAgain, Refuses, WantsEotAgain, RefusesAgain, LoneCan}
 use Rattle.ym_explain.specs.declared.talk.Fate.{Fate}
 use Rattle.ym_explain.specs.declared.talk.Fate.TheVariants.{Start, Out, Taken, Refused, Damaged}
 use Rattle.ym_explain.specs.declared.told.FrameKind.{FrameKind}
@@ -40,6 +40,7 @@ footing_of fate kind.Data = next_footing fate
 footing_of fate kind.Eot = next_footing fate
 footing_of fate kind.Copy = copy_footing fate
 footing_of fate kind.OutOfTurn = Astray
+footing_of fate kind.Late = InTurn
 footing_of fate kind.Cancel = Leaving
 
 -- a refusal of the frame that is out, which is an EOT where the sender stands behind one
@@ -50,10 +51,18 @@ refusal_at position.Named = Refuses
 refusal_at (position.Data number) = Refuses
 refusal_at position.Over = Refuses
 
+-- An acknowledgement where no frame is out. U-Boot acknowledges an EOT twice.
+abbrev pub ack_at : SendPosition → Meaning
+ack_at position.Before = Ahead
+ack_at position.Named = Ahead
+ack_at (position.Data number) = Ahead
+ack_at position.Ended = TakesEotAgain
+ack_at position.Over = Ahead
+
 -- an acknowledgement where the last frame has had its answer: of a copy, if one has none yet
-abbrev pub ack_again : Bool → Meaning
-ack_again true = TakesCopy
-ack_again false = Ahead
+abbrev pub ack_again : SendPosition → Bool → Meaning
+ack_again at true = TakesCopy
+ack_again at false = ack_at at
 
 abbrev pub meaning_of : SendPosition → Fate → Bool → Control → Meaning
 meaning_of at fate owed control.Can = LoneCan
@@ -64,9 +73,9 @@ meaning_of at Refused owed control.Start = AsksAgain
 meaning_of at Damaged owed control.Start = AsksAgain
 meaning_of at Out owed control.Ack = Takes
 meaning_of at Damaged owed control.Ack = Takes
-meaning_of at Start owed control.Ack = ack_again owed
-meaning_of at Taken owed control.Ack = ack_again owed
-meaning_of at Refused owed control.Ack = ack_again owed
+meaning_of at Start owed control.Ack = ack_again at owed
+meaning_of at Taken owed control.Ack = ack_again at owed
+meaning_of at Refused owed control.Ack = ack_again at owed
 meaning_of at Start owed control.Nak = AsksByNak
 meaning_of at Out owed control.Nak = refusal_at at
 meaning_of at Damaged owed control.Nak = Refuses

@@ -3,11 +3,11 @@
 -- C. Forsberg, XMODEM/YMODEM Protocol Reference (1988): a block 0 begins each file and, with no
 -- name, ends the batch; data blocks count from 1, modulo 256; EOT ends a file; a frame that was not
 -- acknowledged comes again.
-use Rattle.std.specs.Prelude.{ℕ, ◌+◌, ◌%◌, ◌==◌, Bool, if◌then◌else◌, slice_index}
+use Rattle.std.specs.Prelude.{ℕ, ◌+◌, ◌%◌, ◌==◌, nat_lt, Bool, if◌then◌else◌, slice_index}
 use Rattle.ym_frame.specs.declared.frame.Item.{Item}
 use Rattle.ym_frame.specs.declared.frame.Item.TheVariants as item
 use Rattle.ym_explain.specs.declared.told.FrameKind.{FrameKind}
-use Rattle.ym_explain.specs.declared.told.FrameKind.TheVariants.{Name, End, Data, Eot, Copy, OutOfTurn, Cancel}
+use Rattle.ym_explain.specs.declared.told.FrameKind.TheVariants.{Name, End, Data, Eot, Copy, OutOfTurn, Late, Cancel}
 use Rattle.ym_explain.specs.declared.told.SendPosition.{SendPosition}
 use Rattle.ym_explain.specs.declared.told.SendPosition.TheVariants as position
 use Rattle.ym_explain.specs.declared.told.Told.{Told}
@@ -27,10 +27,15 @@ abbrev pub zero_kind : ℕ → Bool → FrameKind → FrameKind
 zero_kind number nameless end =
     if number == 0 then if nameless then end else Name else OutOfTurn
 
+-- The first block of all: a file may begin, and one of XMODEM begins with number 1. Before any
+-- other one blocks of its file were not recorded.
+abbrev pub first_kind : ℕ → Bool → FrameKind
+first_kind number nameless = if nat_lt 1 number then Late else zero_kind number nameless End
+
 -- A block by its number, and by whether its body begins with 00, as a nameless block 0 does. Behind
 -- the end a block 0 with a name begins another batch.
 abbrev pub block_kind : SendPosition → ℕ → Bool → FrameKind
-block_kind position.Before number nameless = zero_kind number nameless End
+block_kind position.Before number nameless = first_kind number nameless
 block_kind position.Ended number nameless = zero_kind number nameless End
 block_kind position.Named number nameless = number_kind 0 number
 block_kind (position.Data last) number nameless = number_kind last number
@@ -42,6 +47,7 @@ position_behind at number Name = position.Named
 position_behind at number End = position.Over
 position_behind at number Data = position.Data number
 position_behind at number OutOfTurn = position.Data number
+position_behind at number Late = position.Data number
 position_behind at number Copy = at
 position_behind at number Eot = at
 position_behind at number Cancel = at

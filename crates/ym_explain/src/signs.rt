@@ -1,7 +1,7 @@
 //! What was seen of a session so far.
 
 ghost use Rattle.std.specs.Prelude.{◌≡◌};
-ghost use Rattle.ym_explain.specs.Noting.{noted, nothing_seen, without_end, with_byte, with_bytes, with_answer_junk, with_frame, with_eot, with_damage, in_batch as in_batch_of, with_block, with_answer, with_ack, is_quiet, with_nak};
+ghost use Rattle.ym_explain.specs.Noting.{noted, nothing_seen, without_end, with_byte, with_bytes, with_answer_junk, with_frame, with_eot, with_damage, in_batch as in_batch_of, with_block, with_answer, with_ack, is_quiet, is_unheard, is_unsent, with_nak};
 
 use crate::asking::Asking;
 use crate::told::{FrameKind, SendPosition};
@@ -112,6 +112,10 @@ pub struct Signs {
     pub finished: bool,
     /// The receiver acknowledged where no frame was out.
     pub ahead: bool,
+    /// The sender went on to the next block where nothing had been asked or answered.
+    pub went_on: bool,
+    /// The receiver asked, and then acknowledged, where nothing had been sent.
+    pub took_unseen: bool,
     /// The refusals in a row, at most ten.
     pub refusals: u8,
     /// Ten refusals came in a row.
@@ -156,6 +160,8 @@ impl Signs {
             over: false,
             finished: false,
             ahead: false,
+            went_on: false,
+            took_unseen: false,
             refusals: 0,
             gave_up: false,
             sender_cancelled: false,
@@ -294,6 +300,7 @@ impl Signs {
         ensures { result ≡ with_block self position kind }
     {
         let mut seen = self.in_batch(position, kind).note_frame();
+        seen.went_on = seen.went_on || matches!(kind, FrameKind::Data) && seen.is_unheard();
         seen.framed = true;
         seen.mended = seen.mended || seen.unmended;
         seen.unmended = false;
@@ -337,8 +344,25 @@ impl Signs {
             seen.finished = self.finished || self.over;
         } else {
             seen.ahead = true;
+            seen.took_unseen = self.took_unseen || self.asked && self.is_unsent();
         }
         seen
+    }
+
+    /// Whether the receiver asked and answered nothing.
+    pub(crate) fn is_unheard(self) -> bool
+        ensures { result ≡ is_unheard self }
+    {
+        !(self.asked || self.heard || self.ahead || self.receiver_cancelled || self.echoed)
+            && matches!(self.asking, Asking::Nothing)
+    }
+
+    /// Whether the sender wrote nothing.
+    pub(crate) fn is_unsent(self) -> bool
+        ensures { result ≡ is_unsent self }
+    {
+        !(self.framed || self.damaged || self.eot)
+            && !(self.junk || self.zmodem || self.sender_cancelled)
     }
 
     /// Whether nothing was asked or sent.

@@ -2,7 +2,7 @@
 //! end that hears it, and where the two part.
 
 ghost use Rattle.std.specs.Prelude.{◌≡◌};
-ghost use Rattle.ym_explain.specs.Talking.{footing_of, meaning_of as meaning, behind_answer, is_parting as parts, is_ahead as runs_ahead};
+ghost use Rattle.ym_explain.specs.Talking.{footing_of, ack_at, meaning_of as meaning, behind_answer, is_parting as parts, is_ahead as runs_ahead};
 
 use crate::told::{FrameKind, SendPosition};
 use ym_frame::Control;
@@ -60,6 +60,8 @@ pub enum Meaning {
     TakesCopy,
     /// It acknowledges, and no frame is out.
     Ahead,
+    /// It acknowledges the EOT once more, as U-Boot does.
+    TakesEotAgain,
     /// It refuses the frame that is out.
     Refuses,
     /// It wants the EOT once more, as it does of the first.
@@ -76,6 +78,7 @@ pub fn follows(fate: Fate, kind: FrameKind) -> Footing
 {
     match (kind, fate) {
         (FrameKind::Cancel, _) => Footing::Leaving,
+        (FrameKind::Late, _) => Footing::InTurn,
         (FrameKind::OutOfTurn, _) => Footing::Astray,
         (FrameKind::Copy, Fate::Refused) => Footing::AsAsked,
         (FrameKind::Copy, Fate::Taken) => Footing::AckUnheard,
@@ -101,7 +104,7 @@ pub fn meaning_of(position: SendPosition, fate: Fate, owed: bool, control: Contr
             if owed {
                 Meaning::TakesCopy
             } else {
-                Meaning::Ahead
+                ack_of_nothing(position)
             }
         }
         (Control::Nak, Fate::Start) => Meaning::AsksByNak,
@@ -111,6 +114,17 @@ pub fn meaning_of(position: SendPosition, fate: Fate, owed: bool, control: Contr
         },
         (Control::Nak, Fate::Damaged) => Meaning::Refuses,
         (Control::Nak, Fate::Taken | Fate::Refused) => Meaning::RefusesAgain,
+    }
+}
+
+/// What an acknowledgement means to a sender at this position that has no frame out.
+fn ack_of_nothing(position: SendPosition) -> Meaning
+    ensures { result ≡ ack_at position }
+{
+    match position {
+        SendPosition::Ended => Meaning::TakesEotAgain,
+        SendPosition::Before | SendPosition::Named => Meaning::Ahead,
+        SendPosition::Data { .. } | SendPosition::Over => Meaning::Ahead,
     }
 }
 

@@ -2,7 +2,7 @@
 
 ghost use Rattle.std.specs.Prelude.{◌≡◌};
 ghost use Rattle.ym_frame.specs.ItemRef.{owned_item};
-ghost use Rattle.ym_explain.specs.Telling.{told_of, eot_told, block_kind, zero_kind, number_kind, position_behind};
+ghost use Rattle.ym_explain.specs.Telling.{told_of, eot_told, block_kind, first_kind, zero_kind, number_kind, position_behind};
 
 use ym_frame::ItemRef;
 
@@ -39,6 +39,8 @@ pub enum FrameKind {
     Copy,
     /// A frame that cannot come next: one was lost, or none was named.
     OutOfTurn,
+    /// A block that comes first, of a file whose first blocks were not recorded.
+    Late,
     /// The sender cancelled.
     Cancel,
 }
@@ -98,10 +100,22 @@ fn told_block(position: SendPosition, number: u8, nameless: bool) -> FrameKind
     ensures { result ≡ block_kind position number nameless }
 {
     match position {
-        SendPosition::Before | SendPosition::Ended => told_zero(number, nameless, FrameKind::End),
+        SendPosition::Before => told_first(number, nameless),
+        SendPosition::Ended => told_zero(number, nameless, FrameKind::End),
         SendPosition::Named => told_number(0, number),
         SendPosition::Data { number: last } => told_number(last, number),
         SendPosition::Over => told_zero(number, nameless, FrameKind::Copy),
+    }
+}
+
+/// What the first block of all is. One of XMODEM begins with number 1.
+fn told_first(number: u8, nameless: bool) -> FrameKind
+    ensures { result ≡ first_kind number nameless }
+{
+    if number > 1 {
+        FrameKind::Late
+    } else {
+        told_zero(number, nameless, FrameKind::End)
     }
 }
 
@@ -136,7 +150,7 @@ fn behind_block(position: SendPosition, number: u8, kind: FrameKind) -> SendPosi
     match kind {
         FrameKind::Name => SendPosition::Named,
         FrameKind::End => SendPosition::Over,
-        FrameKind::Data | FrameKind::OutOfTurn => SendPosition::Data { number },
+        FrameKind::Data | FrameKind::OutOfTurn | FrameKind::Late => SendPosition::Data { number },
         FrameKind::Copy | FrameKind::Eot | FrameKind::Cancel => position,
     }
 }

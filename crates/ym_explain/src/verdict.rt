@@ -1,7 +1,7 @@
 //! What went wrong in a session, by what was seen of it.
 
 ghost use Rattle.std.specs.Prelude.{◌≡◌};
-ghost use Rattle.ym_explain.specs.Evidence.{is_finished, has_eot_alone, has_sent_none, shows, first_shown, order_of};
+ghost use Rattle.ym_explain.specs.Evidence.{is_finished, has_eot_alone, has_sent_none, known_ways, shows, tells_whole, first_shown, verdict_in};
 
 use crate::signs::Signs;
 use std::fmt;
@@ -155,11 +155,31 @@ pub enum Ways {
     Back,
 }
 
-/// The first verdict that what was seen shows, in the order of these ways.
-pub fn verdict_of(ways: Ways, seen: Signs) -> Verdict
-    ensures { result ≡ first_shown seen (order_of ways) }
+/// The ways of which something is known, where these were recorded. A sender does not go on to the
+/// next block unheard, and a receiver acknowledges what was sent.
+fn known(ways: Ways, seen: Signs) -> Ways
+    ensures { result ≡ known_ways ways seen }
 {
     match ways {
+        Ways::There => Ways::There,
+        Ways::Back => Ways::Back,
+        Ways::Both => {
+            if seen.went_on && seen.is_unheard() {
+                Ways::There
+            } else if seen.took_unseen && seen.is_unsent() {
+                Ways::Back
+            } else {
+                Ways::Both
+            }
+        }
+    }
+}
+
+/// The first verdict that what was seen shows, in the order of the ways that are known.
+pub fn verdict_of(ways: Ways, seen: Signs) -> Verdict
+    ensures { result ≡ verdict_in ways seen }
+{
+    match known(ways, seen) {
         Ways::Both => first_of(seen, &ORDER),
         Ways::There => first_of(seen, &ORDER_THERE),
         Ways::Back => first_of(seen, &ORDER_BACK),
@@ -200,6 +220,16 @@ fn is_unsent(seen: Signs) -> bool
 }
 
 impl Verdict {
+    /// Whether it says that the session is whole.
+    pub fn is_of_whole(self) -> bool
+        ensures { result ≡ tells_whole self }
+    {
+        matches!(
+            self,
+            Verdict::Whole | Verdict::Mended | Verdict::Repeated | Verdict::Unharmed
+        )
+    }
+
     /// Whether what was seen bears this verdict out.
     fn is_shown(self, seen: Signs) -> bool
         ensures { result ≡ shows self seen }
@@ -219,7 +249,7 @@ impl Verdict {
             Verdict::Xmodem => seen.unnamed,
             Verdict::XmodemReceiver => seen.nak_first && !seen.asked,
             Verdict::YmodemGReceiver => seen.asking.is_by_g(),
-            Verdict::NobodyAsked => !seen.asked && !(is_eot_alone(seen) && seen.heard),
+            Verdict::NobodyAsked => !seen.asked && !seen.heard,
             Verdict::EotAlone => is_eot_alone(seen),
             Verdict::NobodySent => !seen.framed && !seen.damaged,
             Verdict::NobodyAnswered => is_unsent(seen) && !seen.sender_cancelled,

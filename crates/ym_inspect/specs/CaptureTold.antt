@@ -1,7 +1,7 @@
 -- What is told of a capture, from its beginning to its end.
-use Rattle.std.specs.Prelude.{◌≡◌, ℕ, Bool, false, ◌||◌, List, [], ◌∷◌, ◌++◌, Option, Some, None, true}
+use Rattle.std.specs.Prelude.{◌≡◌, ℕ, Bool, false, ◌||◌, if◌then◌else◌, List, [], ◌∷◌, ◌++◌, Option, Some, None, true}
 use Rattle.std.specs.Io.KnownBytes.{Appends}
-use Rattle.ym_explain.specs.Evidence.{first_shown, order_of}
+use Rattle.ym_explain.specs.Evidence.{tells_whole, verdict_in}
 use Rattle.ym_explain.specs.PrefixOf.{has_block}
 use Rattle.ym_explain.specs.VerdictText.{verdict_text}
 use Rattle.ym_explain.specs.declared.verdict.Verdict.{Verdict}
@@ -64,16 +64,19 @@ pub record TellsAll (old : Parts) (before : Option (List ℕ)) (way : Direction)
   pub tells : Tells old before [] new after
   pub sure : IsPrefix new way settle None
 
--- where the two ends parted is told where both ways are known
-abbrev pub parting_told : Ways → Option CaptureMoment → Option CaptureMoment
-parting_told ways.Both at = at
-parting_told ways.There at = None
-parting_told ways.Back at = None
+-- Where the two ends parted is told where both ways are known. In a whole session they met again.
+abbrev pub parting_told : Ways → Verdict → Option CaptureMoment → Option CaptureMoment
+parting_told ways.Both verdict at = if tells_whole verdict then None else at
+parting_told ways.There verdict at = None
+parting_told ways.Back verdict at = None
+
+abbrev pub verdict_at : Ways → Parts → Verdict
+verdict_at ways at = verdict_in ways at.scene.standing.signs
 
 abbrev pub last_words : Ways → Parts → List ℕ
 last_words ways at =
-    end_words at.scene.run ++ (parting_words (parting_told ways at.parted_at)
-    ++ (verdict_text (first_shown at.scene.standing.signs (order_of ways)) ++ 10 ∷ []))
+    end_words at.scene.run ++ (parting_words (parting_told ways (verdict_at ways at) at.parted_at)
+    ++ (verdict_text (verdict_at ways at) ++ 10 ∷ []))
 
 -- At the end all that is left is told, one way behind the other, and then the last sentence.
 pub record Ends (old : Parts) (before : Option (List ℕ)) (ways : Ways) (verdict : Verdict)
@@ -85,7 +88,7 @@ pub record Ends (old : Parts) (before : Option (List ℕ)) (ways : Ways) (verdic
   pub written : Option (List ℕ)
   pub back : TellsAll mid between way.Back All new written
   pub last : Appends written after (last_words ways new)
-  pub verdict_is : verdict ≡ first_shown new.scene.standing.signs (order_of ways)
+  pub verdict_is : verdict ≡ verdict_at ways new
 
 -- a capture of these bytes was told to its end
 pub record Explains (ways : Ways) (read : List (Direction × ℕ)) (before : Option (List ℕ))

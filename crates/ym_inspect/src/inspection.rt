@@ -1,10 +1,9 @@
 //! A capture under way: what is held of each way, and where both ends stand.
 
 ghost use Rattle.std.specs.Prelude.{◌≡◌, [], OnOk, IfOk};
-ghost use Rattle.ym_explain.specs.Evidence.{first_shown, order_of};
 ghost use Rattle.std.specs.Io.KnownBytes.{Appends};
 ghost use Rattle.ym_told.specs.TellPrefix.{used_by};
-ghost use Rattle.ym_inspect.specs.CaptureTold.{Ends, Tells, TellsAll, at_moment, last_words, tagged};
+ghost use Rattle.ym_inspect.specs.CaptureTold.{Ends, Tells, TellsAll, at_moment, last_words, parting_told, tagged, verdict_at};
 ghost use Rattle.ym_inspect.specs.CaptureFaults.{CountsWrites, IsOfTelling};
 ghost use Rattle.ym_inspect.specs.Inspecting.{nothing_buffered, buffered_of, with_piece, with_scene, without, IsPrefix, IsTold, TellsPrefix};
 
@@ -271,21 +270,27 @@ impl Inspection {
         self.put_end(ways, out)
     }
 
+    /// Where the two ends parted, as far as it is told beside this verdict.
+    fn parting(&self, ways: Ways, verdict: Verdict) -> Option<CaptureMoment>
+        ensures { result ≡ parting_told ways verdict self.now.parted_at }
+    {
+        match ways {
+            Ways::Both if !verdict.is_of_whole() => self.parted_at,
+            Ways::Both | Ways::There | Ways::Back => None,
+        }
+    }
+
     /// Writes where the two ends parted, and what went wrong.
     fn put_end<O: Output>(&self, ways: Ways, out: &mut O) -> Result<Verdict, InspectFault>
-        ensures verdict { IfOk result (λ verdict.
-            verdict ≡ first_shown self.now.scene.standing.signs (order_of ways)) }
+        ensures verdict { IfOk result (λ verdict. verdict ≡ verdict_at ways self.now) }
         ensures written { OnOk result
             (Appends (O.contents out.old) (O.contents out.new) (last_words ways self.now)) }
         ensures failed { CountsWrites result (O.failures out.old) (O.failures out.new) }
         ensures why { IsOfTelling result }
     {
         let end = RunEnd(self.scene.run);
-        let parting = Parting(match ways {
-            Ways::Both => self.parted_at,
-            Ways::There | Ways::Back => None,
-        });
         let verdict = verdict_of(ways, self.scene.standing.signs);
+        let parting = Parting(self.parting(ways, verdict));
         let text = format!(in self.alloc; "{end}{parting}{verdict}\n")?;
         if out.put(text.as_bytes()).is_err() {
             return Err(InspectFault::Write);

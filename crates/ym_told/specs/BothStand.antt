@@ -1,5 +1,5 @@
 -- Where both ends stand behind what is told of either.
-use Rattle.std.specs.Prelude.{ℕ, ◌-◌, ◌==◌, nat_lt, Bool, true, false, ◌||◌, if◌then◌else◌, List, Option, Some, None}
+use Rattle.std.specs.Prelude.{ℕ, ◌-◌, ◌==◌, nat_lt, Bool, true, false, not, ◌&&◌, ◌||◌, if◌then◌else◌, List, Option, Some, None}
 use Rattle.ym_frame.specs.Block.{length_of}
 use Rattle.ym_frame.specs.declared.control.Control.{Control}
 use Rattle.ym_frame.specs.declared.frame.Whole.{Whole}
@@ -15,6 +15,8 @@ use Rattle.ym_explain.specs.declared.sent.SentLine.TheVariants as line
 use Rattle.ym_explain.specs.declared.signs.Sign.{Sign}
 use Rattle.ym_explain.specs.declared.signs.Sign.TheVariants as sign
 use Rattle.ym_explain.specs.declared.signs.Signs.{Signs}
+use Rattle.ym_explain.specs.declared.talk.Meaning.{Meaning}
+use Rattle.ym_explain.specs.declared.talk.Meaning.TheVariants as meaning
 use Rattle.ym_explain.specs.declared.talk.Fate.{Fate}
 use Rattle.ym_explain.specs.declared.talk.Fate.TheVariants as fate
 use Rattle.ym_explain.specs.declared.told.FrameKind.{FrameKind}
@@ -72,6 +74,7 @@ counted at whole kind.Eot stated = with_end at at.left
 counted at whole kind.End stated = at
 counted at whole kind.Copy stated = at
 counted at whole kind.OutOfTurn stated = at
+counted at whole kind.Late stated = at
 counted at whole kind.Cancel stated = at
 
 -- a frame is out, and a cancel is none
@@ -83,13 +86,25 @@ fate_of now kind.Eot = fate.Out
 fate_of now kind.End = fate.Out
 fate_of now kind.Copy = fate.Out
 fate_of now kind.OutOfTurn = fate.Out
+fate_of now kind.Late = fate.Out
+
+abbrev pub is_before : SendPosition → Bool
+is_before position.Before = true
+is_before position.Named = false
+is_before (position.Data number) = false
+is_before position.Ended = false
+is_before position.Over = false
+
+-- A frame of a file was answered. Two ends that never agreed do not part.
+abbrev pub has_met : BothStanding → Bool
+has_met at = at.signs.heard && not (is_before at.position)
 
 abbrev pub behind_frame : BothStanding → Whole → FrameKind → SendPosition → Stated → BothStanding
 behind_frame at whole kind position stated = record (counted at whole kind stated) {
   position = position;
   fate = fate_of at.fate kind;
   signs = noted (counted at whole kind stated).signs (sign_of at.position (line.Frame whole kind));
-  parted = at.parted || is_parting (footing_of at.fate kind);
+  parted = at.parted || has_met at && is_parting (footing_of at.fate kind);
 }
 
 -- a damaged frame is out, and has moved nobody
@@ -110,28 +125,34 @@ abbrev pub with_sign : Signs → Option Sign → Signs
 with_sign seen (Some sign) = noted seen sign
 with_sign seen None = seen
 
-abbrev pub fate_at : Fate → AnswerLine → Fate
-fate_at now (answer.Answer control) = fate_behind now control
-fate_at now answer.Cancel = now
-fate_at now (answer.Echo used) = now
-fate_at now answer.Junk = now
-
 -- a frame, or a copy of one, has no answer yet
 abbrev pub owes : BothStanding → Bool
 owes at = nat_lt 0 at.signs.out
 
-abbrev pub runs_ahead : BothStanding → AnswerLine → Bool
-runs_ahead at (answer.Answer control) = is_ahead (meaning_of at.position at.fate (owes at) control)
-runs_ahead at answer.Cancel = false
-runs_ahead at (answer.Echo used) = false
-runs_ahead at answer.Junk = false
+abbrev pub meaning_at : BothStanding → Control → Meaning
+meaning_at at control = meaning_of at.position at.fate (owes at) control
+
+abbrev pub is_eot_again : Meaning → Bool
+is_eot_again meaning.TakesEotAgain = true
+is_eot_again meaning = false
+
+-- An EOT that was acknowledged may be so once more: that tells nothing.
+abbrev pub behind_control : BothStanding → Control → BothStanding
+behind_control at control = record at {
+  fate = fate_behind at.fate control;
+  signs =
+      if is_eot_again (meaning_at at control) then at.signs
+      else noted at.signs (sign.Answer control);
+  parted = at.parted || has_met at && is_ahead (meaning_at at control);
+}
 
 abbrev pub behind_answer : BothStanding → AnswerLine → BothStanding
-behind_answer at line = record at {
-  fate = fate_at at.fate line;
-  signs = with_sign at.signs (answer_sign line);
-  parted = at.parted || runs_ahead at line;
-}
+behind_answer at (answer.Answer control) = behind_control at control
+behind_answer at answer.Cancel =
+    record at { signs = with_sign at.signs (answer_sign answer.Cancel) }
+behind_answer at (answer.Echo used) =
+    record at { signs = with_sign at.signs (answer_sign (answer.Echo used)) }
+behind_answer at answer.Junk = record at { signs = with_sign at.signs (answer_sign answer.Junk) }
 
 abbrev pub other_way : Direction → Direction
 other_way way.There = way.Back

@@ -1,5 +1,5 @@
 -- What came last of a run, what a C behind it is, and what is left of a file, computed.
-use Rattle.std.specs.Prelude.{◌≡◌, ℕ, List, [], ◌∷◌, ◌++◌, true, false, Some, None, codes, refl}
+use Rattle.std.specs.Prelude.{◌≡◌, [], ◌∷◌, ◌++◌, true, false, Some, None, codes, refl}
 use Rattle.ym_told.specs.BothStand.{at_start, with_bytes_of, with_end}
 use Rattle.ym_told.specs.RunText.{tails}
 use Rattle.ym_told.specs.TellPrefix.{answer_run_behind, may_ask}

@@ -2,7 +2,7 @@
 
 ghost use Rattle.std.specs.Prelude.{◌≡◌};
 ghost use Rattle.ym_explain.specs.Noting.{noted};
-ghost use Rattle.ym_told.specs.BothStand.{at_start, behind_prefix, behind_run, behind_frame, behind_damage, behind_cut, behind_answer, counted, with_bytes_of, with_end, owes as owes_one};
+ghost use Rattle.ym_told.specs.BothStand.{at_start, behind_prefix, behind_run, behind_frame, behind_damage, behind_cut, behind_answer, behind_control, counted, has_met, with_bytes_of, with_end, owes as owes_one};
 
 use crate::prefix::BufferedPrefix;
 use crate::stated::Stated;
@@ -47,6 +47,13 @@ impl BothStanding {
         ensures { result ≡ owes_one self.now }
     {
         self.signs.out > 0
+    }
+
+    /// Whether a frame of a file was answered, so that the two ends can part.
+    fn has_met(&self) -> bool
+        ensures { result ≡ has_met self.now }
+    {
+        self.signs.heard && !matches!(self.position, SendPosition::Before)
     }
 
     /// Behind a front of this way, with these bytes, which announces a file or not.
@@ -107,7 +114,7 @@ impl BothStanding {
             FrameKind::Cancel => self.fate,
             _ => Fate::Out,
         };
-        behind.parted = self.parted || is_parting(follows(self.fate, kind));
+        behind.parted = self.parted || self.has_met() && is_parting(follows(self.fate, kind));
         behind
     }
 
@@ -190,10 +197,22 @@ impl BothStanding {
             behind.signs = self.signs.note(sign);
         }
         if let AnswerLine::Answer(control) = line {
-            behind.fate = fate_behind(self.fate, control);
-            behind.parted = self.parted
-                || is_ahead(meaning_of(self.position, self.fate, self.owes(), control));
+            return self.behind_control(control);
         }
+        behind
+    }
+
+    /// Behind this answer. An EOT that was acknowledged may be so once more.
+    fn behind_control(self, control: Control) -> BothStanding
+        ensures { result ≡ behind_control self control }
+    {
+        let meaning = meaning_of(self.position, self.fate, self.owes(), control);
+        let mut behind = self;
+        if !matches!(meaning, Meaning::TakesEotAgain) {
+            behind.signs = self.signs.note(Sign::Answer(control));
+        }
+        behind.fate = fate_behind(self.fate, control);
+        behind.parted = self.parted || self.has_met() && is_ahead(meaning);
         behind
     }
 

@@ -22,6 +22,7 @@ impl KindWords {
             FrameKind::Eot => "ends the file",
             FrameKind::Copy => "once more",
             FrameKind::OutOfTurn => "cannot come next",
+            FrameKind::Late => "the first here: those before it were not recorded",
             FrameKind::Cancel => "cancels",
         }
     }
@@ -80,6 +81,7 @@ impl MeaningWords {
             Meaning::Takes => "took it",
             Meaning::TakesCopy => "took a copy",
             Meaning::Ahead => "acknowledges, and nothing is out",
+            Meaning::TakesEotAgain => "took the EOT, once more",
             Meaning::Refuses => "wants it once more",
             Meaning::WantsEotAgain => "wants the EOT once more, as of each first one",
             Meaning::RefusesAgain => "wants a frame once more, and none is out",
