@@ -49,6 +49,19 @@ def told_of(data, *words):
         case("a capture of TCP: the session %s" % name, name)
         for name in ("damage", "eats-11-13", "receiver-cancels", "whole-1k")
     ),
+    *(
+        case(
+            "a capture of TCP: link %d, IPv%d, %s" % (link, version, what),
+            "whole",
+            {"link": link, "version": version, "tags": tags},
+        )
+        for link in (1, 113)
+        for version in (4, 6)
+        for what, tags in (
+            ("of a VLAN", b"\x81\x00\x20\x07"),
+            ("of a VLAN in another one", b"\x88\xa8\x00\x01\x81\x00\x00\x02"),
+        )
+    ),
     case("a capture of TCP: opened by the receiver", "whole", {"opener": "<"})
 )
 def test_is_told_alike(name, how=None):

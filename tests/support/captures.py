@@ -26,13 +26,16 @@ class Capture:
     """A capture, packet by packet. The sender of files has the first port, and the receiver the
     second one."""
 
-    def __init__(self, order="little", parts=10**6, link=1, version=4, ports=(40000, 4000)):
-        self.order, self.parts, self.link, self.version, self.ports = (
+    def __init__(
+        self, order="little", parts=10**6, link=1, version=4, ports=(40000, 4000), tags=b""
+    ):
+        self.order, self.parts, self.link, self.version, self.ports, self.tags = (
             order,
             parts,
             link,
             version,
             ports,
+            tags,
         )
         self.mark = "<" if order == "little" else ">"
         head = struct.pack(self.mark + "HHiIII", 2, 4, 0, 0, 262144, link)
@@ -71,7 +74,9 @@ class Capture:
 
     def framed(self, ip):
         """With what the link has before it, and where that is Ethernet, as long as it has to be."""
-        whole = LINKS[self.link][self.version == 6] + ip
+        head = LINKS[self.link][self.version == 6]
+        # A tag of a VLAN stands before the number of the protocol, which ends the head here.
+        whole = (head[:-2] + self.tags + head[-2:] if self.tags else head) + ip
         return whole.ljust(60, b"\xee") if self.link == 1 else whole
 
     def sends(self, moment, way, data, **how):

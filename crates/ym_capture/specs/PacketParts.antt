@@ -11,13 +11,27 @@ use Rattle.ym_capture.specs.declared.ip.Version.TheVariants.{Four, Six, Other}
 abbrev pub ip_by : ℕ → List ℕ → List ℕ
 ip_by protocol body = if protocol == 0x0800 || protocol == 0x86dd then body else []
 
+-- a tag of a VLAN, IEEE 802.1Q: two bytes, and the number of the protocol behind it
+abbrev pub is_tag : ℕ → Bool
+is_tag protocol = protocol == 0x8100 || protocol == 0x88a8
+
+abbrev pub ip_behind_tag : ℕ → List ℕ → List ℕ
+ip_behind_tag protocol body =
+    if is_tag protocol then ip_by (two (drop 2 body)) (drop 4 body) else ip_by protocol body
+
+-- behind no tag, one, or two
+abbrev pub ip_tagged : ℕ → List ℕ → List ℕ
+ip_tagged protocol body =
+    if is_tag protocol then ip_behind_tag (two (drop 2 body)) (drop 4 body)
+    else ip_by protocol body
+
 -- what stands behind the addresses of the link and the number of the protocol
 unfoldable pub ip_in : Link → List ℕ → List ℕ
 ip_in link.Loopback packet = drop 4 packet
-ip_in link.Ethernet packet = ip_by (two (drop 12 packet)) (drop 14 packet)
+ip_in link.Ethernet packet = ip_tagged (two (drop 12 packet)) (drop 14 packet)
 ip_in link.Raw packet = packet
-ip_in link.Cooked packet = ip_by (two (drop 14 packet)) (drop 16 packet)
-ip_in link.CookedAgain packet = ip_by (two packet) (drop 20 packet)
+ip_in link.Cooked packet = ip_tagged (two (drop 14 packet)) (drop 16 packet)
+ip_in link.CookedAgain packet = ip_tagged (two packet) (drop 20 packet)
 
 abbrev pub version : List ℕ → Version
 version ip =

@@ -2,6 +2,8 @@
 
 ghost use Rattle.std.specs.Prelude.{◌≡◌, ◌≤◌};
 ghost use Rattle.ym_capture.specs.PacketParts.{ip_in as ip_of, ip_by as ip_for, version as version_by};
+ghost use Rattle.ym_capture.specs.PacketParts.{is_tag as has_tag, ip_behind_tag as ip_behind};
+ghost use Rattle.ym_capture.specs.PacketParts.{ip_tagged as ip_behind_tags};
 ghost use Rattle.ym_capture.specs.PacketParts.{is_tcp as has_tcp, header_len as header_of};
 ghost use Rattle.ym_capture.specs.PacketParts.{total_len as total_of, tcp_in as tcp_of};
 ghost use Rattle.ym_capture.specs.PacketParts.{is_fragment as is_part};
@@ -30,6 +32,35 @@ fn ip_by(protocol: u16, body: &[u8]) -> &[u8]
     }
 }
 
+/// Whether this is the number of a tag of a VLAN, behind which the number of a protocol stands.
+fn is_tag(protocol: u16) -> bool
+    ensures { result ≡ has_tag protocol }
+{
+    matches!(protocol, 0x8100 | 0x88a8)
+}
+
+/// The same, where a tag may stand before it.
+fn ip_behind_tag(protocol: u16, body: &[u8]) -> &[u8]
+    ensures { result.now ≡ ip_behind protocol body.entry.now }
+{
+    if is_tag(protocol) {
+        ip_by(two(behind(body, 2)), behind(body, 4))
+    } else {
+        ip_by(protocol, body)
+    }
+}
+
+/// The same, where two tags may stand before it.
+fn ip_tagged(protocol: u16, body: &[u8]) -> &[u8]
+    ensures { result.now ≡ ip_behind_tags protocol body.entry.now }
+{
+    if is_tag(protocol) {
+        ip_behind_tag(two(behind(body, 2)), behind(body, 4))
+    } else {
+        ip_by(protocol, body)
+    }
+}
+
 /// The bytes of the internet protocol in a packet; none where it carries another.
 #[tactic(auto, unfolding(crate::specs::PacketParts::ip_in))]
 pub(crate) fn ip_in(link: Link, packet: &[u8]) -> &[u8]
@@ -37,10 +68,10 @@ pub(crate) fn ip_in(link: Link, packet: &[u8]) -> &[u8]
 {
     match link {
         Link::Loopback => behind(packet, 4),
-        Link::Ethernet => ip_by(two(behind(packet, 12)), behind(packet, 14)),
+        Link::Ethernet => ip_tagged(two(behind(packet, 12)), behind(packet, 14)),
         Link::Raw => packet,
-        Link::Cooked => ip_by(two(behind(packet, 14)), behind(packet, 16)),
-        Link::CookedAgain => ip_by(two(packet), behind(packet, 20)),
+        Link::Cooked => ip_tagged(two(behind(packet, 14)), behind(packet, 16)),
+        Link::CookedAgain => ip_tagged(two(packet), behind(packet, 20)),
     }
 }
 
