@@ -51,7 +51,7 @@ pub(crate) fn answer<E: Output>(
     ensures status { IfOk result (λ status. status ≤ 1) }
 {
     match told {
-        Ok(_) => Ok(0),
+        Ok(_) => Ok(TOLD),
         Err(InspectFault::Memory) => Err(CommandFault::Memory),
         Err(InspectFault::Write) => Err(CommandFault::Device),
         Err(InspectFault::Read) => refuse(err, unread, UNTOLD),
