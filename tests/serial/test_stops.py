@@ -41,7 +41,7 @@ from support.tty_script import (
     runs,
     wants_status,
 )
-from support.waits import wait_until
+from support.waits import wait_until, waiting
 
 
 CHANCE = random.Random(23)
@@ -243,6 +243,42 @@ def test_held_up():
         shown.type(b"\x03")
         wants_same({"status": shown.ended()}, {"status": -signal.SIGINT})
         End(it).wants(CANCEL)
+        wants_same({"settings": settings(it.path)}, {"settings": before})
+
+
+# So much of what is written to a raw pseudo terminal waits to be read there, at most.
+UNREAD = 4095
+
+
+def fill(it):
+    """Writes to a line whose other end nobody reads until it takes no more."""
+    os.set_blocking(it.outer, False)
+    is_full = False
+    while not is_full:
+        try:
+            os.write(it.outer, b"?")
+        except BlockingIOError:
+            is_full = waiting(it.inner) >= UNREAD
+
+
+@cases(
+    case("ymodem-tty send, ended, whose line takes no more", ["--device"]),
+    case("ymodem-tty send, ended, whose line on standard output takes no more", []),
+)
+def test_line_is_full(words):
+    """What cancels can never be written. It ends all the same, and tells so."""
+    with folders() as (here, _), plug() as it:
+        paths, before = write_files(here, FILES), settings(it.path)
+        end = os.open(it.path, os.O_RDWR | os.O_NOCTTY)
+        at, how = (words + [it.path], {}) if words else ([], {"stdin": end, "stdout": end})
+        how |= {"env": ENVIRONMENT, "start_new_session": True}
+        with started([SCRIPT, *at, "send", *paths], here, **how) as script:
+            wait_until(lambda: has_open(runs(script.pid), it.path), "the program has the line open")
+            fill(it)
+            script.send_signal(signal.SIGTERM)
+            _, said = ends_with(script, -signal.SIGTERM)
+        os.close(end)
+        wants_same({"said": said.splitlines(True)[-1]}, {"said": NOT_TOLD})
         wants_same({"settings": settings(it.path)}, {"settings": before})
 
 

@@ -11,7 +11,7 @@ import zlib
 
 import pytest
 from support.cable import plug
-from support.cases import sentence
+from support.cases import case, cases, sentence
 from support.help_texts import said_of
 from support.pasted import DEVICE, FIRMWARE, at_hand, blocks, folder_of, goes_well, page_text, shell
 from support.picocom import KEY_TO_LEAVE_SET
@@ -27,10 +27,11 @@ READY = rb"## Ready for binary"
 
 
 class Cable:
-    """The inner end of a pseudo terminal, as what carries a board's port to it wants a line."""
+    """The inner end of a pseudo terminal, as what carries a board's port to it wants a line. Where
+    it is bad, nothing of the board arrives as it was."""
 
     def __init__(self, end):
-        self.end = end
+        self.end, self.is_bad = end, False
 
     def recv(self, count):
         try:
@@ -39,6 +40,7 @@ class Cable:
             return b""  # it was pulled
 
     def sendall(self, data):
+        data = b"?" * len(data) if self.is_bad else data
         while data:
             data = data[os.write(self.end, data) :]
 
@@ -165,9 +167,22 @@ def test_by_help():
             assert int(summed[1], 16) == zlib.crc32(FIRMWARE), "its sum is %r" % summed[1]
 
 
-@sentence("U-Boot: loady ends where ymodem-tty is interrupted")
-def test_interrupted():
-    """Ctrl-C at `ymodem-tty` ends `loady`, too: the prompt comes back, and takes a command."""
+def interrupt(_, child):
+    """Ctrl-C, in the middle of a file."""
+    os.kill(child.pid, signal.SIGINT)
+
+
+def damage(port, _):
+    """From here on no answer of the board arrives, so that `send` gives up."""
+    port.sender.is_bad = True
+
+
+@cases(
+    case("U-Boot: loady ends where ymodem-tty is interrupted", interrupt, -signal.SIGINT),
+    case("U-Boot: loady ends where ymodem-tty send gives up", damage, 1),
+)
+def test_loady_ends(break_off, status):
+    """`loady` ends with `ymodem-tty`: the prompt comes back, and takes a command."""
     files = {"firmware.bin": bytes(range(256)) * 40_000}
     first, second, _ = commands_of_help()
     with folder_of(files) as here, at_hand() as around, plug() as it, u_boot(it) as port:
@@ -177,8 +192,8 @@ def test_interrupted():
         with shell("exec " + second, here, around, device=it.path) as child:
             # it has taken some blocks
             port.sees(rb"(?:[^\x06]*\x06){20}", start)
-            os.kill(child.pid, signal.SIGINT)
-            assert child.wait(LIMIT) == -signal.SIGINT, "it ended otherwise"
+            break_off(port, child)
+            assert child.wait(LIMIT) == status, "it ended with status %d" % child.returncode
         back = port.sees(PROMPT, start)
         # By itself it waits for more than a minute, and tells that time is out.
         told = bytes(port.said[start : back.start()])
