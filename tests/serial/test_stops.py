@@ -226,6 +226,16 @@ def test_program_is_killed(words, by):
         wants_same({"settings": settings(it.path)}, {"settings": before})
 
 
+@sentence("ymodem-tty, which bash runs, ended by QUIT")
+def test_quit_of_bash():
+    """Bash never ends by that signal. It is told once, and the status is that of a shell."""
+    with folders() as (here, _), piped(["bash", "--posix", SCRIPT, "receive"], here) as script:
+        wait_until(lambda: is_running(script.pid), "a transfer began")
+        script.send_signal(signal.SIGQUIT)
+        said = wants_status("ymodem-tty", script, 128 + signal.SIGQUIT)
+        wants_same({"said": said}, {"said": KILLED.replace("ymodem was killed", "interrupted")})
+
+
 XOFF = b"\x13"
 
 
