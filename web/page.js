@@ -6,7 +6,7 @@ import { knownPort, nameOf, openAddress, openSerial } from "./ports.js";
 import { Meter } from "./progress.js";
 import { remember, remembered } from "./remembered.js";
 import { Terminal } from "./terminal.js";
-import { count, failure, noLine, size } from "./words.js";
+import { areFolders, count, failure, noLine, size } from "./words.js";
 import { YmodemError, load, receive, send, supported } from "./ymodem.js";
 
 const at = (id) => document.getElementById(id);
@@ -32,8 +32,10 @@ let isDialing = false;
 let known;
 let stop = null;
 let chosen = [];
-// Files that came, and are not saved in a folder.
+// Files that came, and are not saved in a folder; and those that were saved by themselves.
 let unsaved = [];
+const asked = new Set();
+let isSaving = false;
 
 const terminal = new Terminal(at("screen"), lost);
 const chart = new Chart(at("chart"));
@@ -79,6 +81,7 @@ function refresh() {
   at("again").hidden = !known;
   at("choose").classList.toggle("primary", !known);
   if (known) at("again").textContent = `Connect to ${nameOf(known) || "the port of before"}`;
+  at("dial").textContent = isDialing ? "Connecting…" : "Connect";
   for (const id of ["line-text", "line-send", "interrupt"]) at(id).disabled = !line || isBusy;
   for (const it of document.querySelectorAll("[name=way2], #pick, #send-command, #receive-command, #disconnect")) it.disabled = isBusy;
   at("screen").classList.toggle("busy", isBusy);
@@ -103,13 +106,23 @@ function showChosen() {
     at("pick").focus();
   };
   at("chosen").replaceChildren(...chosen.map((file) => item(file.name, size(file.size), button("Remove", `Remove ${file.name}`, remove(file)))));
+  say(`${count(chosen.length, "file")} chosen`);
   refresh();
 }
 
 function choose(files) {
   chosen = [...chosen, ...files];
-  say(`${count(chosen.length, "file")} chosen`);
   showChosen();
+}
+
+/** Takes what was dropped, but no folder: the browser hands one out as a file without bytes, or as
+ *  one that cannot be read. */
+function drop(items) {
+  const all = Array.from(items).filter((it) => it.kind === "file");
+  const entries = all.map((it) => it.webkitGetAsEntry?.());
+  choose(all.filter((_, at) => !entries[at]?.isDirectory).map((it) => it.getAsFile()));
+  const folders = entries.filter((it) => it?.isDirectory);
+  if (folders.length) show(false, areFolders(folders.map((it) => it.name)));
 }
 
 /** The end of something: how it went, what helps, and what came. */
@@ -130,6 +143,7 @@ function showReceived(files) {
     const href = URL.createObjectURL(about.file);
     const link = element("a", { href, download: about.name, textContent: "Save" });
     link.setAttribute("aria-label", `Save ${about.name}`);
+    link.onclick = () => asked.add(about);
     at("received").append(item(about.name, size(about.length), link));
     unsaved.push(about);
     at("saved").textContent = "";
@@ -153,6 +167,8 @@ async function saveIn(folder, { name, file }) {
 
 /** Saves each file that can be, and tells of the others. */
 async function saveAll() {
+  if (isSaving) return;
+  isSaving = true;
   const [files, whys] = [unsaved, []];
   try {
     const folder = await window.showDirectoryPicker({ mode: "readwrite" });
@@ -166,8 +182,12 @@ async function saveAll() {
   } catch (fault) {
     if (fault.name === "AbortError") return;
     whys.push(fault.message);
+  } finally {
+    isSaving = false;
   }
-  const told = whys.length ? `Not all could be saved: ${whys.join("; ")}` : "All saved";
+  // others may have come meanwhile
+  const all = unsaved.length ? "" : "All saved";
+  const told = whys.length ? `Not all could be saved: ${whys.join("; ")}` : all;
   say((at("saved").textContent = told));
   at("save-row").hidden = !unsaved.length;
 }
@@ -216,8 +236,15 @@ function recall() {
 /** Looks whether the port of the last time is there. */
 async function look() {
   const { port } = remembered();
-  known = typeof port === "string" ? await knownPort(port).catch(() => undefined) : undefined;
+  known = typeof port === "string" ? await knownPort(port, known).catch(() => undefined) : undefined;
   refresh();
+}
+
+/** Disconnects, and leads on to where somebody connects anew. */
+async function leave() {
+  await disconnect();
+  say("Disconnected");
+  at(isBySerial() ? (known ? "again" : "choose") : "dial").focus();
 }
 
 async function disconnect() {
@@ -238,7 +265,9 @@ async function lost(fault) {
   await disconnect();
   terminal.note("the line was closed");
   // what is said of a transfer stays: its other end often goes once it is done
-  if (at("result").hidden) show(false, failure({ code: fault ? "device" : "closed", cause: fault }));
+  const told = failure({ code: fault ? "device" : "closed", cause: fault });
+  if (at("result").hidden) show(false, told);
+  else say(told.title);
 }
 
 // ---- A transfer
@@ -414,7 +443,7 @@ function listenForDrops() {
   box.ondragleave = () => box.classList.remove("over");
   box.ondrop = (event) => {
     box.classList.remove("over");
-    if (stop === null) choose(event.dataTransfer.files);
+    if (stop === null) drop(event.dataTransfer.items);
   };
 }
 
@@ -427,7 +456,7 @@ function begin() {
     for (const name of ["connect", "disconnect"]) navigator.serial.addEventListener?.(name, look);
   }
   at("connect").onsubmit = connect;
-  at("disconnect").onclick = disconnect;
+  at("disconnect").onclick = leave;
   at("send-form").onsubmit = sendChosen;
   at("receive-form").onsubmit = receiveFiles;
   at("cancel").onclick = () => stop?.abort();
@@ -444,7 +473,9 @@ function begin() {
   };
   for (const it of document.querySelectorAll("[name=way], [name=way2]")) it.onchange = refresh;
   listenForDrops();
-  addEventListener("beforeunload", (event) => stop && event.preventDefault());
+  // what a device takes for kept is not lost without a question
+  const isKept = () => unsaved.every((it) => asked.has(it));
+  addEventListener("beforeunload", (event) => (stop || !isKept()) && event.preventDefault());
   refresh();
 }
 

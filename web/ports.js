@@ -37,10 +37,12 @@ export function nameOf(serial) {
   return usbVendorId === undefined ? "" : `USB ${hex(usbVendorId)}:${hex(usbProductId)}`;
 }
 
-/** The port of this name, where the browser lets this page have it without being asked. */
-export async function knownPort(name) {
+/** The port of this name that the browser lets this page have without being asked. Of two of this
+ *  name it is the one of before, or neither: the other one may be another device. */
+export async function knownPort(name, before) {
   const ports = (await navigator.serial.getPorts?.()) ?? [];
-  return ports.find((it) => nameOf(it) === name);
+  const found = ports.filter((it) => nameOf(it) === name);
+  return found.length > 1 ? found.find((it) => it === before) : found[0];
 }
 
 /** Opens this serial port, or the one that the user chooses. */

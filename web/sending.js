@@ -22,6 +22,8 @@ export class Source {
   #ahead = null;
   #blob;
   #longs;
+  // Whether it is an empty one that was read, or has nothing to read.
+  #isRead;
 
   constructor(item) {
     const isOwn = item instanceof Blob;
@@ -36,6 +38,7 @@ export class Source {
     this.#blob = isHere ? null : data instanceof Blob ? data : new Blob([data]);
     Object.assign(this, { name, time, mode });
     this.length = this.#blob?.size ?? data.length;
+    this.#isRead = this.length > 0 || !(data instanceof Blob);
     // A long block while at least 1024 bytes remain, and then short ones.
     this.#longs = Math.floor(this.length / 1024);
     this.blocks = this.#longs + Math.ceil((this.length % 1024) / 128);
@@ -68,6 +71,14 @@ export class Source {
     const next = start + WINDOW;
     this.#ahead = next < this.length ? this.#read(next) : null;
     this.#ahead?.catch(() => {});
+  }
+
+  /** Reads an empty file before it is sent as one: it may have bytes by now, or be a folder. It
+   *  answers a promise of that, or nothing where there is nothing to read. */
+  probe() {
+    if (this.#isRead) return null;
+    this.#isRead = true;
+    return this.#blob.arrayBuffer();
   }
 
   /** The bytes of this place, which the window has. */
@@ -247,8 +258,10 @@ export class Sending {
 
   #header(source) {
     this.#about = { name: source.name, length: source.length };
-    this.#put(source);
     this.#progress(0);
+    const probed = source.probe();
+    if (!probed) return this.#put(source);
+    return probed.then(() => this.#put(source)).catch(this.#onFault);
   }
 
   /** Fills the header that is asked for. */

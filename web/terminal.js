@@ -3,6 +3,8 @@
 import { moment } from "./alarm.js";
 
 const MOST_LINES = 600;
+// A line goes on in the next one behind so many signs: a device may never end one.
+const MOST_COLUMNS = 1000;
 const NAMED = { Enter: "\r", Backspace: "\x7f", Escape: "\x1b", Delete: "\x1b[3~", ArrowUp: "\x1b[A", ArrowDown: "\x1b[B", ArrowRight: "\x1b[C", ArrowLeft: "\x1b[D", Home: "\x1b[H", End: "\x1b[F" };
 
 /** Text as a plain terminal shows it: carriage returns and backspaces move, and escape sequences are passed over. */
@@ -49,6 +51,7 @@ class Screen {
   }
 
   #text(text) {
+    if (this.#column >= MOST_COLUMNS) this.#sign("\n");
     const line = this.#line().padEnd(this.#column);
     this.#put(line.slice(0, this.#column) + text + line.slice(this.#column + text.length));
     this.#column += text.length;

@@ -69,6 +69,13 @@ const OPENING = {
   SecurityError: ["The browser does not let this page use serial ports", "A rule of the browser or of whoever manages it forbids it.", ["Open the page by https, from 127.0.0.1, or from your disk."]],
 };
 
+/** What is said of folders of these names, which were dropped as files are. */
+export function areFolders(names) {
+  const title = names.length === 1 ? `${names[0]} is a folder` : `${names.length} of these are folders`;
+  const helps = ["Drop the files that are in it.", "Or pack it into one file first: a .zip or .tar file."];
+  return { title, text: "A folder cannot be sent: only files can.", helps };
+}
+
 /** Why no line was opened. */
 export function noLine(fault, address) {
   const helps = [

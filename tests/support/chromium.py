@@ -228,6 +228,17 @@ class ChromiumPage(Page):
         node = self.call("DOM.querySelector", nodeId=root, selector=selector)["nodeId"]
         self.call("DOM.setFileInputFiles", nodeId=node, files=list(paths))
 
+    def drop(self, selector, paths):
+        """Drops these at the middle of what stands there, as somebody does from a file manager."""
+        script = """(() => {
+          const it = document.querySelector(%s).getBoundingClientRect();
+          return [it.x + it.width / 2, it.y + it.height / 2];
+        })()"""
+        x, y = self.run(script % json.dumps(selector))
+        data = {"items": [], "files": list(paths), "dragOperationsMask": 1}
+        for kind in ("dragEnter", "dragOver", "drop"):
+            self.call("Input.dispatchDragEvent", type=kind, x=x, y=y, data=data)
+
     def key(self, key):
         """Presses a key: a sign, or one that has a name."""
         numbers = {"Tab": 9, "Enter": 13, "ArrowDown": 40}

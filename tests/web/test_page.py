@@ -9,6 +9,7 @@ import re
 
 import pytest
 from support.cases import NEEDS_LRZSZ, case, cases_in
+from support.folder import FOLDER
 from support.page import (
     SIZE,
     Loud,
@@ -124,26 +125,6 @@ def test_sends_thirty(room):
             wants_result(page, "30 files")
             assert ended().status == 0, "ymodem receive failed"
         wants_stored(there, thirty())
-
-
-# A folder that the user chose, which keeps what is written as hexadecimal digits. It takes no name
-# with a tilde, as that of a browser, and nothing of the file `full`.
-FOLDER = """
-globalThis.kept = {};
-const digits = (bytes) => Array.from(bytes, (byte) => byte.toString(16).padStart(2, '0')).join('');
-const write = (name) => (bytes) => {
-  if (name === 'full') throw new Error('no room');
-  kept[name] += digits(bytes);
-};
-const getFileHandle = async (name, { create } = {}) => {
-  if (name.includes('~')) throw new TypeError('Name is not allowed.');
-  if (!create && !(name in kept)) throw new DOMException('none', 'NotFoundError');
-  kept[name] ??= '';
-  return { createWritable: async () => new WritableStream({ write: write(name) }) };
-};
-const removeEntry = async (name) => { delete kept[name]; };
-globalThis.showDirectoryPicker = async () => ({ getFileHandle, removeEntry });
-"""
 
 
 @pytest.mark.program

@@ -11,16 +11,19 @@ from support.page import (
     Loud,
     Shown,
     begin,
+    choose,
+    click,
     dial,
     firmware,
     picture,
     text,
     until_ended,
+    until_says,
     until_share,
 )
 from support.program import LIMIT, folders, wants_stored, write_files
 from support.rooms import BROWSERS, CHROMIUM
-from support.web_peers import Held, Loader
+from support.web_peers import Held, Loader, Peer
 
 
 WAY = "document.querySelector('[name=way]:checked').value"
@@ -215,6 +218,77 @@ def test_spoken(room):
             "Sent: the device has it all. 1 file, 781 KiB in "
         ), "it said %s" % said
         loader.close()
+
+
+FOCUSED = "document.activeElement.id"
+
+
+@cases_in(BROWSERS, case("page: what is said where somebody disconnects"))
+def test_disconnects(room):
+    """It is said, and the keyboard is where somebody connects anew."""
+    with folders() as (_, there), Shown(room) as page:
+        page.run(LISTEN)
+        loader = Loader(there)
+        dial(page, loader.bridge.address)
+        click(page, "#disconnect")
+        page.until("said.includes('Disconnected')")
+        assert page.run(FOCUSED) == "dial", "not at Connect but at " + page.run(FOCUSED)
+        loader.close()
+
+
+@cases_in(BROWSERS, case("page: what is said where the line goes behind a transfer"))
+def test_goes_behind(room):
+    """What is shown of the transfer stays, and that the line went is said."""
+    with folders() as (_, there), Shown(room) as page:
+        loader = Loader(there)
+        dial(page, loader.bridge.address)
+        page.run("document.getElementById('result').hidden = false")
+        page.run(LISTEN)
+        loader.close()
+        page.until("said.includes('The connection is gone')")
+
+
+@cases_in(BROWSERS, case("page: what is said where a file is removed"))
+def test_removes(room):
+    with folders() as (here, _), Shown(room) as page:
+        page.run(LISTEN)
+        choose(page, write_files(here, [("a", b"x"), ("b", b"x")]))
+        click(page, "#chosen button")
+        page.until("said.at(-1) === '1 file chosen'")
+
+
+# A connection that is under way for as long as the check looks.
+NEVER_OPENS = "globalThis.WebSocket = class {};"
+
+
+@cases_in(BROWSERS, case("page: it says that it connects"))
+def test_connects(room):
+    with Shown(room, NEVER_OPENS) as page:
+        click(page, "[name=way][value=socket]")
+        click(page, "#dial")
+        until_says(page, "#dial", "Connecting…")
+
+
+# Signs that the terminal may keep: 600 lines, of 1,000 each.
+MOST_KEPT = 610_000
+
+
+@cases_in(BROWSERS, case("page: a device that ends no line"))
+def test_endless(room):
+    """The terminal keeps so much of it, and no more."""
+
+    def babbles(end):
+        for _ in range(200):
+            end.sendall(b"x" * 10_000)
+        end.sendall(b"\r\nover")
+        end.recv(1)
+
+    with Shown(room) as page, Peer(babbles) as it:
+        dial(page, it.bridge.address)
+        until_says(page, "#screen", "over")
+        kept = page.run("document.getElementById('screen').textContent.length")
+        assert kept <= MOST_KEPT, "it keeps %d signs" % kept
+        click(page, "#disconnect")
 
 
 @cases_in(CHROMIUM, case("page: names for who does not see it"))

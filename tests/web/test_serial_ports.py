@@ -112,6 +112,48 @@ def test_remembers(room):
             it.close()
 
 
+# Two adapters of one kind, of which one was in use the last time. The second one is chosen.
+TWINS = (
+    SERIAL
+    + """
+(() => {
+  // the page before it, which is empty, keeps nothing
+  if (location.protocol !== 'file:') return;
+  const { serial } = navigator;
+  localStorage.chosen = 'yes';
+  localStorage.ymodem = JSON.stringify({ way: 'serial', port: 'USB 0403:6001' });
+  fake.twins = Promise.all([serial.getPorts(), serial.getPorts()]).then((it) => it.flat());
+  fake.asked = 0;
+  serial.getPorts = () => { fake.asked++; return fake.twins; };
+  serial.requestPort = async () => (await fake.twins)[1];
+  serial.addEventListener = (name, act) => { fake[name] = act; };
+})();
+"""
+)
+
+
+@cases_in(BROWSERS, case("page: of two adapters of one kind the other one is not offered"))
+def test_twins(room):
+    """Their numbers are the same: what is sent to the other one may be sent to another board."""
+    is_offered = "!document.getElementById('again').hidden"
+    with folders() as (_, there), Shown(room, TWINS) as page:
+        page.until("fake.asked === 1")
+        assert not page.run(is_offered), "one of the two is offered"
+        loader = Loader(there)
+        at_serial_port(page, loader.bridge.address)
+        page.run("fake.disconnect()")
+        click(page, "#disconnect")
+        page.until(is_offered)
+        loader.close()
+        loader = Loader(there)
+        page.run("fake.address = %s" % json.dumps(loader.bridge.address))
+        click(page, "#again")
+        page.until("!document.getElementById('connected').hidden")
+        is_right = page.run("fake.twins.then(([other]) => other.socket === undefined)")
+        assert is_right, "it is connected to the other one"
+        loader.close()
+
+
 @cases_in(BROWSERS, case("page: the serial port vanishes", marks=NEEDS_LRZSZ))
 def test_vanishes(room):
     with folders() as (here, there), Shown(room, SERIAL) as page:
