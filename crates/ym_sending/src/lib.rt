@@ -4,11 +4,11 @@
 
 mod calling;
 mod heard_wire;
-mod named_source;
 mod same_names;
 mod sending;
 mod serial;
 mod telling;
+mod told_source;
 
 pub use sending::{SendOrder, send, send_batch};
 pub use serial::send_line;

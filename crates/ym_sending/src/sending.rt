@@ -14,9 +14,9 @@ ghost use Rattle.ym_answer.specs.Status.{IsHostFault, send_answer};
 
 use crate::calling::connect_telling;
 use crate::heard_wire::HeardWire;
-use crate::named_source::{NamedSource, Opener, UnreadCell, open_source};
 use crate::same_names::tell_same_names;
 use crate::telling::{SenderFinish, tell_outcome};
+use crate::told_source::{Opener, ToldSource, UnreadCell, open_source};
 use std::alloc::{AllocGlobal, Global};
 use std::cell::RefCell;
 use std::fs::{File, Files};
@@ -74,7 +74,7 @@ fn open_file<'c, 'a, R: Files<File = File>, E: Write + Drop>(
     opener: &Opener<'c, 'a, R>,
     path: &'a str,
     teller: &mut Teller<E>,
-) -> Result<SourceFile<NamedSource<'c, 'a, R>>, CommandFault>
+) -> Result<SourceFile<ToldSource<'c, 'a, R>>, CommandFault>
     ensures named { IfOk result (λ file. file.header.name ≡ last_part path.entry.now) }
     ensures stamp { IfOk result (λ file. file.header.stamp ≡ Stamp.Nothing) }
     ensures within { IfOk result (λ file. IsName (last_part path.entry.now)) }
@@ -90,7 +90,7 @@ pub(crate) fn open_batch<'c, 'a, R: Files<File = File>, E: Write + Drop>(
     opener: &Opener<'c, 'a, R>,
     paths: &[&'a str],
     teller: &mut Teller<E>,
-) -> Result<Vec<SourceFile<NamedSource<'c, 'a, R>>>, CommandFault>
+) -> Result<Vec<SourceFile<ToldSource<'c, 'a, R>>>, CommandFault>
     ensures batch { IfOk result (λ batch. IsBatch (map (λ path. path.now) paths.now) batch.items) }
     ensures refused { IfErr result (λ why. RefusesFile (map (λ path. path.now) paths.now) why) }
 {
@@ -205,7 +205,7 @@ pub(crate) fn send_on<R, W, S, O, E>(
     rt: &R,
     wire: W,
     sender: &mut SenderFrom<S>,
-    unread: &UnreadCell<'_>,
+    files: SentFiles<'_>,
     out: &mut O,
     teller: &mut Teller<E>,
 ) -> Result<u8, CommandFault>
@@ -239,7 +239,8 @@ where
     let answer = tell_sender(ended, sender, out);
     let outcome = SenderFinish {
         state: sender.state(),
-        unread: unread.get(),
+        path: files.paths.get(sender.done()).copied(),
+        unread: files.unread.get(),
         lately: lately.on_line(slowest),
         words,
     };
@@ -247,13 +248,22 @@ where
     answer
 }
 
+/// The files of a batch, as far as they are told of.
+#[derive(Clone, Copy)]
+pub(crate) struct SentFiles<'a> {
+    /// Their paths, in order.
+    pub(crate) paths: &'a [&'a str],
+    /// Why one of them could not be read.
+    pub(crate) unread: &'a UnreadCell,
+}
+
 /// What is sent over a line.
 #[derive(Drop)]
 pub(crate) struct Outgoing<'a, S: Source> {
     /// The sender.
     pub(crate) sender: SenderFrom<S>,
-    /// Which of its files could not be read.
-    pub(crate) unread: &'a UnreadCell<'a>,
+    /// Its files.
+    pub(crate) files: SentFiles<'a>,
     /// What is recorded of it.
     pub(crate) records: Records<'a>,
 }
@@ -278,12 +288,12 @@ where
 {
     let Outgoing {
         sender,
-        unread,
+        files,
         records,
     } = outgoing;
     records.start();
     let wire = RecordedWire::new(wire, rt, Role::Sender, &mut records.recorder);
-    let answer = send_on(rt, wire, sender, unread, out, teller);
+    let answer = send_on(rt, wire, sender, *files, out, teller);
     records.end(matches!(answer, Ok(0)), teller);
     answer
 }
@@ -303,9 +313,9 @@ pub struct SendOrder<'a> {
 pub(crate) fn outgoing_of<'a, R, E>(
     rt: &'a R,
     order: SendOrder<'a>,
-    unread: &'a UnreadCell<'a>,
+    unread: &'a UnreadCell,
     teller: &mut Teller<E>,
-) -> Result<Outgoing<'a, NamedSource<'a, 'a, R>>, CommandFault>
+) -> Result<Outgoing<'a, ToldSource<'a, 'a, R>>, CommandFault>
 where
     R: Files<File = File> + Clock + AllocGlobal,
     E: Write + Drop,
@@ -321,19 +331,23 @@ where
     tell_same_names(alloc, order.paths, teller);
     let beside = Beside::Sent(order.paths);
     let records = Records::open(rt, alloc, order.record_path, beside, teller)?;
+    let files = SentFiles {
+        paths: order.paths,
+        unread,
+    };
     Ok(Outgoing {
         sender,
-        unread,
+        files,
         records,
     })
 }
 
-/// Sends files to whoever listens at a port, and prints how the sender has ended. Which of them
-/// could not be read they say in a cell.
+/// Sends files to whoever listens at a port, and prints how the sender has ended. Why one of
+/// them could not be read it says in a cell.
 fn send_telling<'a, R, O, E>(
     rt: &'a R,
     asked: AtPort<SendOrder<'a>>,
-    unread: &'a UnreadCell<'a>,
+    unread: &'a UnreadCell,
     out: &mut O,
     teller: &mut Teller<E>,
 ) -> Result<u8, CommandFault>

@@ -4,8 +4,8 @@ ghost use Rattle.std.specs.Prelude.{map};
 ghost use Rattle.ym_answer.specs.Page.{page};
 ghost use Rattle.ym_sending.specs.Sending.{SendGives};
 
-use crate::named_source::UnreadCell;
 use crate::sending::{SendOrder, outgoing_of, send_through};
+use crate::told_source::UnreadCell;
 use std::alloc::AllocGlobal;
 use std::fs::{File, Files};
 use std::io;
@@ -18,12 +18,12 @@ use ym_port::Role;
 use ym_streams::Output;
 use ym_teller::Teller;
 
-/// Sends files over a line, and prints how the sender has ended. Which of them could not be read
-/// they say in a cell.
+/// Sends files over a line, and prints how the sender has ended. Why one of them could not be
+/// read it says in a cell.
 fn send_line_telling<'a, R, O, E>(
     rt: &'a R,
     asked: OnLine<'a, SendOrder<'a>>,
-    unread: &'a UnreadCell<'a>,
+    unread: &'a UnreadCell,
     out: &mut O,
     teller: &mut Teller<E>,
 ) -> Result<u8, CommandFault>
