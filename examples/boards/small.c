@@ -5,21 +5,22 @@
 #include "port.h"
 #include "sum.h"
 
-/* Milliseconds without a byte behind which the line is quiet. */
-enum { QUIET = 1000 };
+/* Milliseconds without a byte behind which the line is quiet, and behind which it asks again. A
+   sender may let its line clear for two seconds, and has to do so anew where it is asked sooner. */
+enum { QUIET = 1000, ASKS_AGAIN = 3000 };
 
 static ym_receiver receiver;
 static ym_ask ask;
 static uint8_t bytes[256];
 
-static size_t came(void) {
-    return (size_t)port_read(NULL, bytes, sizeof bytes, QUIET);
+static size_t came(uint32_t wait) {
+    return (size_t)port_read(NULL, bytes, sizeof bytes, wait);
 }
 
 /* Takes what comes, until a delivery is whole or the line is quiet. */
 static void take_delivery(void) {
     size_t len, at, took;
-    while (ym_receiver_wants(&receiver) && (len = came()) > 0) {
+    while (ym_receiver_wants(&receiver) && (len = came(receiver.len ? QUIET : ASKS_AGAIN)) > 0) {
         for (at = 0; at < len; at += took) {
             took = ym_receiver_feed(&receiver, bytes + at, len - at);
             if (took == 0) break;
@@ -30,7 +31,7 @@ static void take_delivery(void) {
 /* Drops what comes until the line is quiet. More may be under way, and must not be taken for what
    comes behind the reply. */
 static void let_clear(void) {
-    while (came()) {}
+    while (came(QUIET)) {}
 }
 
 static void act(struct sum *sum) {

@@ -1,13 +1,16 @@
 /* The receiver that docs/library.md shows, on standard input and output: what it takes as given, and
-   the listing itself. It stores files in the folder that it runs in. usage: shown */
+   the listing itself. It stores files in the folder that it runs in. The first one is begun so many
+   seconds late, as where flash is erased for it. usage: shown [SECONDS] */
 #include "ymodem.h"
 
 #include <poll.h>
 #include <stdio.h>
+#include <stdlib.h>
 #include <string.h>
 #include <unistd.h>
 
 static FILE *file;
+static unsigned late;
 
 static size_t uart_read(uint8_t *bytes, size_t most, int milliseconds) {
     struct pollfd line = { .fd = 0, .events = POLLIN };
@@ -25,6 +28,8 @@ static int act(uint32_t kind, const uint8_t *bytes, uint64_t count, uint64_t len
     (void)length;
     switch (kind) {
     case YM_BEGIN:
+        sleep(late);
+        late = 0;
         memcpy(name, bytes, (size_t)count);
         return (file = fopen(name, "wb")) != NULL;
     case YM_ADD: return fwrite(bytes, 1, (size_t)count, file) == count;
@@ -33,7 +38,8 @@ static int act(uint32_t kind, const uint8_t *bytes, uint64_t count, uint64_t len
     }
 }
 
-int main(void) {
+int main(int count, char **words) {
+    if (count > 1) late = (unsigned)atoi(words[1]);
 #include "shown.inc"
     return r.stand.state == YM_FINISHED ? 0 : 1;
 }

@@ -268,14 +268,16 @@ def wants_alike(folder):
 
 @cases(
     case("the receiver that docs/library.md shows, from send", c_send),
+    case("the receiver that docs/library.md shows, whose flash is erased first", c_send, ("12",)),
     case(
         "the receiver that docs/library.md shows, from sb",
         lambda names: ["sb", "-q", *names],
         marks=NEEDS_LRZSZ,
     ),
 )
-def test_as_shown(send):
-    """The receiver that docs/library.md shows, as it stands there."""
+def test_as_shown(send, late=()):
+    """The receiver that docs/library.md shows, as it stands there. Where it begins a file late, its
+    sender has written block 0 twice, and lets the line clear."""
     with open(os.path.join(ROOT, "docs", "library.md"), encoding="utf-8") as it:
         found = re.search(
             r"^## A receiver, step by step\n\n```c\n(.*?)^```", it.read(), re.M | re.S
@@ -285,9 +287,9 @@ def test_as_shown(send):
         with open(os.path.join(top, "shown.inc"), "w", encoding="utf-8") as it:
             it.write(found[1])
         program = built(
-            "tests/library/shown.c", "shown-by-" + send([])[0].split("/")[-1], "-I", top
+            "tests/library/shown.c", "-".join(("shown-by", send([])[0].split("/")[-1], *late)), "-I", top
         )
-    pair(lambda there: [program], send)
+    pair(lambda there: [program, *late], send)
 
 
 @sentence("both ends in WebAssembly, in node")
