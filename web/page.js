@@ -6,7 +6,7 @@ import { knownPort, nameOf, openAddress, openSerial } from "./ports.js";
 import { Meter } from "./progress.js";
 import { remember, remembered } from "./remembered.js";
 import { Terminal } from "./terminal.js";
-import { areFolders, count, failure, noLine, size } from "./words.js";
+import { NO_FILE, areFolders, count, failure, named, noLine, size } from "./words.js";
 import { YmodemError, load, receive, send, supported } from "./ymodem.js";
 
 const at = (id) => document.getElementById(id);
@@ -50,7 +50,7 @@ const rows = (texts) => texts.map((textContent) => element("li", { textContent }
 
 function item(name, detail, ...controls) {
   const row = element("li");
-  row.append(element("span", { className: "name", textContent: name }));
+  row.append(element("span", { className: "name", textContent: named(name) }));
   row.append(element("span", { className: "soft", textContent: detail }), ...controls);
   return row;
 }
@@ -105,7 +105,7 @@ function showChosen() {
     showChosen();
     at("pick").focus();
   };
-  at("chosen").replaceChildren(...chosen.map((file) => item(file.name, size(file.size), button("Remove", `Remove ${file.name}`, remove(file)))));
+  at("chosen").replaceChildren(...chosen.map((file) => item(file.name, size(file.size), button("Remove", `Remove ${named(file.name)}`, remove(file)))));
   say(`${count(chosen.length, "file")} chosen`);
   refresh();
 }
@@ -142,7 +142,7 @@ function showReceived(files) {
   for (const about of files) {
     const href = URL.createObjectURL(about.file);
     const link = element("a", { href, download: about.name, textContent: "Save" });
-    link.setAttribute("aria-label", `Save ${about.name}`);
+    link.setAttribute("aria-label", `Save ${named(about.name)}`);
     link.onclick = () => asked.add(about);
     at("received").append(item(about.name, size(about.length), link));
     unsaved.push(about);
@@ -175,7 +175,7 @@ async function saveAll() {
     unsaved = [];
     for (const about of files) {
       await saveIn(folder, about).catch((fault) => {
-        whys.push(`${about.name}: ${fault.message}`);
+        whys.push(`${named(about.name)}: ${fault.message}`);
         unsaved.push(about);
       });
     }
@@ -281,7 +281,8 @@ async function typeFirst(command, isSending, signal) {
   await terminal.type(`${command}\r`);
   if (!isSending) return wait(READY_WITHIN);
   const until = moment() + ASK_WITHIN;
-  while (!terminal.isAsked && !signal.aborted && moment() < until) await wait(50);
+  const isOver = () => terminal.isAsked || terminal.hasEnded || signal.aborted;
+  while (!isOver() && moment() < until) await wait(50);
 }
 
 /** What tells of a transfer while it runs. */
@@ -316,7 +317,7 @@ class Watch {
     const { meter } = this;
     chart.draw();
     at("bar").value = meter.share;
-    const name = meter.file ? meter.file.name : "Waiting for the device…";
+    const name = meter.file ? named(meter.file.name) : "Waiting for the device…";
     at("now-file").textContent = at("now-file").title = name;
     at("now-percent").textContent = meter.file ? `${Math.floor(meter.share * 100)} %` : "";
     const done = meter.files > 0 ? ` · ${count(meter.files, "file")} done` : "";
@@ -384,7 +385,8 @@ async function behind(outcome, watch, isSending) {
     const done = outcome.files?.length ?? 0;
     const kept = done ? ` ${count(done, "file")} ${done === 1 ? "is" : "are"} whole.` : "";
     show(false, { ...told, text: told.text + kept }, files);
-  } else show(true, { title: isSending ? "Sent: the device has it all" : "Received", text: watch.meter.summary(outcome.files.length) }, files);
+  } else if (outcome.files.length === 0) show(false, NO_FILE);
+  else show(true, { title: isSending ? "Sent: the device has it all" : "Received", text: watch.meter.summary(outcome.files.length) }, files);
 }
 
 function sendChosen(event) {

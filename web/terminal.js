@@ -70,6 +70,8 @@ export class Terminal {
   #typing = Promise.resolve();
   #tail = "";
   #when = 0;
+  /** Whether the port said that nothing comes any more. */
+  hasEnded = false;
 
   constructor(box, onEnd) {
     this.box = box;
@@ -84,6 +86,7 @@ export class Terminal {
   /** Shows what this port says from now on. */
   attach(port) {
     this.#port = port;
+    this.hasEnded = false;
     this.#reader = port.readable.getReader();
     this.#reading = this.#read(this.#reader);
   }
@@ -116,11 +119,16 @@ export class Terminal {
         if (done) break;
         this.show(value);
       }
-      this.onEnd();
+      this.#end();
     } catch (fault) {
       // without its lock it was let go
-      if (reader === this.#reader) this.onEnd(fault);
+      if (reader === this.#reader) this.#end(fault);
     }
+  }
+
+  #end(fault) {
+    this.hasEnded = true;
+    this.onEnd(fault);
   }
 
   /** Shows bytes of the line. */

@@ -22,6 +22,12 @@ export function duration(seconds) {
 
 export const count = (number, what) => `${number.toLocaleString("en")} ${what}${number === 1 ? "" : "s"}`;
 
+// Controls, ends of lines and paragraphs, and marks that turn the direction of text.
+const UNSEEN = /[\0-\x1f\x7f-\x9f\u061c\u200e\u200f\u2028-\u202e\u2066-\u2069]/g;
+
+/** A name as it is shown: what is not seen of it, or turns what stands beside it, is an escape. */
+export const named = (name) => name.replace(UNSEEN, (it) => `\\u{${it.charCodeAt(0).toString(16)}}`);
+
 const SPEED = "Check the speed: it has to be the one at which the device's prompt is readable.";
 const CABLE = "Check the cable, and that nothing else has the port open.";
 
@@ -57,7 +63,8 @@ const FAILED = {
 /** What went wrong in a transfer: a heading, a sentence, and what helps. It may have a file. */
 export function failure(fault, name = "A file") {
   const { answered, cause } = fault;
-  const about = { name, answered, fault: fault.fault, cause: cause?.message, refused: cause?.file };
+  const refused = cause?.file && named(cause.file);
+  const about = { name: named(name), answered, fault: fault.fault, cause: cause?.message, refused };
   const [title, text, helps] = (FAILED[fault.code] ?? (() => ["This did not work", fault.message, []]))(about);
   return { title, text, helps };
 }
@@ -69,9 +76,16 @@ const OPENING = {
   SecurityError: ["The browser does not let this page use serial ports", "A rule of the browser or of whoever manages it forbids it.", ["Open the page by https, from 127.0.0.1, or from your disk."]],
 };
 
+/** What is said of a batch without files. */
+export const NO_FILE = {
+  title: "The device sent no file",
+  text: "It said at once that there are no more.",
+  helps: ["Look at what it printed, in the terminal.", "Check the name of the file in the command."],
+};
+
 /** What is said of folders of these names, which were dropped as files are. */
 export function areFolders(names) {
-  const title = names.length === 1 ? `${names[0]} is a folder` : `${names.length} of these are folders`;
+  const title = names.length === 1 ? `${named(names[0])} is a folder` : `${names.length} of these are folders`;
   const helps = ["Drop the files that are in it.", "Or pack it into one file first: a .zip or .tar file."];
   return { title, text: "A folder cannot be sent: only files can.", helps };
 }

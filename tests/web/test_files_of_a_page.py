@@ -4,6 +4,7 @@ has bytes by now."""
 import pytest
 from support.cases import NEEDS_LRZSZ, case, cases_in
 from support.folder import FOLDER
+from support.frames import END
 from support.page import (
     SIZE,
     Shown,
@@ -21,7 +22,7 @@ from support.page import (
 )
 from support.program import folders, write_files
 from support.rooms import BROWSERS, CHROMIUM
-from support.web_peers import Held, Loader, program_receives, program_sends
+from support.web_peers import Held, Loader, Peer, program_receives, program_sends
 
 
 # A browser that tells of this one that it is a folder.
@@ -76,6 +77,23 @@ def test_grows(room):
             assert "cancelled" in ended().out, "ymodem receive says %r" % ended().out
 
 
+# A name whose end is read from the right, and how it is shown.
+TURNED, SHOWN = "a\u202egnp.exe", "a\\u{202e}gnp.exe"
+
+
+@pytest.mark.program
+@cases_in(BROWSERS, case("page: a name that turns the direction of text"))
+def test_turned(room):
+    """It is shown by an escape, as the program shows it, and saved under its own."""
+    with folders() as (here, _), Shown(room) as page:
+        receives(page, here, [(TURNED, b"x")])
+        told = page.run("document.querySelector('#received .name').textContent")
+        assert told == SHOWN, "it is shown as %r" % told
+        assert page.run("document.querySelector('#received a').download") == TURNED
+        choose(page, write_files(here, [(TURNED, b"x")]))
+        assert page.run(CHOSEN) == [SHOWN], "it is shown as %r" % page.run(CHOSEN)
+
+
 # Whether the browser asks before it leaves the page.
 ASKS = """(() => {
   const leaves = new Event("beforeunload", { cancelable: true });
@@ -125,6 +143,45 @@ def test_asks_meanwhile(room):
         until_ended(page)
         assert not page.run(ASKS), "it asks, and nothing is lost"
         loader.close()
+
+
+@cases_in(BROWSERS, case("page: a device that sends no file"))
+def test_none(room):
+    """It is not told as if something was received."""
+
+    def ends(end):
+        while end.recv(1) != b"C":
+            pass
+        end.sendall(END)
+        end.recv(1)
+
+    with Shown(room) as page, Peer(ends) as it:
+        dial(page, it.bridge.address)
+        begin_receiving(page)
+        until_ended(page)
+        wants_result(page, "The device sent no file")
+        assert "✓" not in text(page, "#result"), "the page says " + text(page, "#result")
+
+
+# A clock that stands still: whatever the page waits for so long never comes.
+STILL = "performance.now = () => 0;"
+
+
+@cases_in(BROWSERS, case("page: the line goes once the command was typed"))
+def test_goes_at_once(room):
+    """The page does not wait for an answer then."""
+
+    def goes(end):
+        while end.recv(1) != b"\r":
+            pass
+
+    with folders() as (here, _), Shown(room, STILL) as page, Peer(goes) as it:
+        dial(page, it.bridge.address)
+        begin(page, write_files(here, [("a", b"x")]), "loady")
+        it.join()
+        it.end.close()
+        until_ended(page)
+        wants_result(page, "The connection is gone")
 
 
 # A folder that is chosen once the check says so.

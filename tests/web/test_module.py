@@ -181,7 +181,7 @@ def test_layout(room):
 def sizes(_):
     """What is shipped is as small as docs/web.md says."""
     sizes = {name: os.path.getsize(os.path.join(WEB, name)) for name in os.listdir(WEB)}
-    small = sizes["ymodem.wasm"] <= MODULE and sum(sizes.values()) < 136_000
+    small = sizes["ymodem.wasm"] <= MODULE and sum(sizes.values()) < 137_000
     assert small, "too large: %s" % sizes
 
 
