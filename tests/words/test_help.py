@@ -30,7 +30,17 @@ def test_fits():
     for command in ((), *((it,) for it in Help().commands if it != "help")):
         wide = [it for it in said_of(*command).splitlines() if len(it) > COLUMNS]
         assert not wide, "the help of %s is wide: %r" % (" ".join(command) or "ymodem", wide)
-    said = script_says("--help")
+
+
+@cases(
+    case("the help of ymodem-tty has its usage once, and fits a terminal", "ymodem-tty"),
+    case("the help of ymodem-judge has its usage once, and fits a terminal", "ymodem-judge"),
+)
+def test_help_of_script(script):
+    how = {"stdin": subprocess.DEVNULL, "capture_output": True, "text": True, "check": False}
+    done = subprocess.run([os.path.join(ROOT, "share", script), "--help"], **how)
+    said = done.stdout + done.stderr
+    assert said.lower().count("usage: " + script) == 1, "its usage: %r" % said
     assert not [it for it in said.splitlines() if len(it) > COLUMNS], "it is wide: %r" % said
 
 
