@@ -1,9 +1,27 @@
 //! The program's standard input and output, of which somebody who looks is told why they failed.
 
 use std::cell::Cell;
-use std::io;
 use std::io::{ErrorKind, Read, Write};
+use std::{fmt, io};
 use ym_text::Reason;
+
+/// Why a stream failed. Its `Display` is the line that tells it, without its end.
+#[derive(Clone, Copy)]
+enum StreamMessage {
+    /// Nothing was read.
+    Unread(Reason),
+    /// Nothing was written, or not all.
+    Unwritten(Reason),
+}
+
+impl fmt::Display for StreamMessage {
+    fn fmt<W: fmt::Write>(&self, f: &mut fmt::Formatter<W>) -> fmt::Result {
+        match *self {
+            StreamMessage::Unread(why) => write!(f, "cannot read standard input: {why}"),
+            StreamMessage::Unwritten(why) => write!(f, "cannot write to standard output: {why}"),
+        }
+    }
+}
 
 /// Tells why a stream failed.
 #[derive(Drop)]
@@ -15,10 +33,10 @@ pub(crate) struct Faults<'a, E: Write + Drop> {
 }
 
 impl<E: Write + Drop> Faults<'_, E> {
-    /// Tells why this could not be done. What cannot be written is lost.
-    fn tell(&mut self, what: &str, why: Reason) {
+    /// Tells it. What cannot be written is lost.
+    fn tell(&mut self, message: StreamMessage) {
         if self.is_looked_at.get() {
-            let _ = writeln!(self.err, "cannot {what}: {why}").and_then(|()| self.err.flush());
+            let _ = writeln!(self.err, "{message}").and_then(|()| self.err.flush());
         }
     }
 }
@@ -34,7 +52,7 @@ impl<R: Read + Drop, E: Write + Drop> Read for ToldInput<'_, R, E> {
     fn read(&mut self, buf: &mut [u8]) -> io::Result<usize> {
         let given = self.input.read(buf);
         if let Err(error) = &given {
-            self.faults.tell("read standard input", Reason::of(error));
+            self.faults.tell(StreamMessage::Unread(Reason::of(error)));
         }
         given
     }
@@ -53,8 +71,8 @@ impl<W: Write + Drop, E: Write + Drop> Write for ToldOutput<'_, W, E> {
         match &taken {
             // A write that a signal interrupted is made again.
             Err(error) if error.kind() != ErrorKind::Interrupted => {
-                self.faults
-                    .tell("write to standard output", Reason::of(error));
+                let why = Reason::of(error);
+                self.faults.tell(StreamMessage::Unwritten(why));
             }
             _ => (),
         }
