@@ -5,11 +5,13 @@ import contextlib
 import os
 import signal
 import subprocess
+import sys
 import tempfile
 
-from support.cases import case, cases
+from support.cases import case, cases, sentence
 from support.judged import SCRIPT
-from support.program import LIMIT, PROGRAM, wants_same
+from support.on_line import ends_with, started
+from support.program import LIMIT, PROGRAM, folders, wants_same, write_program
 from support.tty_script import left_of
 from support.waits import wait_until
 
@@ -68,4 +70,35 @@ def test_is_ended(kind, peer, by):
         wants_same({"ended": ended}, {"ended": (-by, "")})
         wants_same({"left": left_of(child.pid)}, {"left": []})
         wait_until(lambda: not is_there(number_in(told)), "the peer was ended")
+        wants_same({"rooms": os.listdir(rooms)}, {"rooms": []})
+
+
+# A program whose cases never end by themselves.
+ENDLESS = """#!/bin/sh
+case $3 in --list) printf 'one\\ntwo\\nthree\\n' ;; *) exec sleep 600 ;; esac
+"""
+# `ymodem-judge` to which a signal comes when the first case was handed out, and not yet the others.
+ENDED_EARLY = """
+import concurrent.futures, os, runpy, signal, sys
+pool = concurrent.futures.ThreadPoolExecutor
+submit = pool.submit
+def submit_and_signal(*words):
+    handed = submit(*words)
+    os.kill(os.getpid(), signal.SIGTERM)
+    return handed
+pool.submit = submit_and_signal
+sys.argv = sys.argv[1:]
+runpy.run_path(sys.argv[0], run_name="__main__")
+"""
+
+
+@sentence("judge, ended by SIGTERM while cases are handed out")
+def test_is_ended_early():
+    with folders() as (here, rooms):
+        program = write_program(os.path.join(here, "ymodem"), ENDLESS)
+        words = [sys.executable, "-c", ENDED_EARLY, SCRIPT, "receiver", "true"]
+        around = {**os.environ, "YMODEM": program, "TMPDIR": rooms}
+        with started(words, here, env=around, start_new_session=True) as judge:
+            wants_same({"said": ends_with(judge, -signal.SIGTERM)}, {"said": ("", "")})
+            wants_same({"left": left_of(judge.pid)}, {"left": []})
         wants_same({"rooms": os.listdir(rooms)}, {"rooms": []})
