@@ -3,14 +3,24 @@
 import contextlib
 import os
 import random
+import signal
 import subprocess
 
 import pytest
+from support.bounds import writing
 from support.cases import case, cases, sentence
 from support.frames import EOT, frames_of
 from support.program import folders, free_port, run, running, stored, write_files
 from support.skipping import Skipped
-from support.storing import Meanwhile, received, refused, told
+from support.storing import (
+    Meanwhile,
+    comes_again,
+    part_of,
+    received,
+    refused,
+    told,
+    wants_whole_front,
+)
 from support.waits import listeners, wait_until
 
 
@@ -99,6 +109,34 @@ def test_becomes_read_only(flags):
         )
         ended.wants(3, refused(1, files), FAULT)
         assert stored(disk.folder) == dict(files[:1]), "it holds other files"
+
+
+# The most bytes of a file, of one that has more.
+MOST, LARGE = 65_536, 200_000
+
+
+@sentence("a limit on file sizes, at which the system ends a program")
+def test_is_ended_at_a_limit():
+    """What is left is what a kill leaves: the files before it, whole, and a part."""
+    files = [("first", CHANCE.randbytes(3000)), ("large", CHANCE.randbytes(LARGE))]
+    with folders() as (_, there):
+        ended, _ = received(files, there, before=("prlimit", "--fsize=%d" % MOST))
+        ended.wants(-signal.SIGXFSZ, "")
+        count, parts = wants_whole_front(stored(there), files)
+        assert (count, parts) == (1, [part_of("large")]), "it has %d files, %r" % (count, parts)
+        comes_again(files, there)
+
+
+@sentence("a limit on file sizes, at which the system is asked to end nobody")
+def test_is_refused_at_a_limit():
+    """It is told as a disk is that is full, and nothing is left of the file."""
+    files = [("first", CHANCE.randbytes(3000)), ("large", CHANCE.randbytes(LARGE))]
+    why = "cannot store 'large': the file system or a limit takes no file so large\n"
+    with folders() as (_, there):
+        ended, _ = received(files, there, ["--verbose"], writing(MOST))
+        ended.wants(3, refused(1, files), ended.err)
+        assert ended.err.endswith(why + FAULT), "it told %r" % ended.err
+        assert stored(there) == dict(files[:1]), "it holds other files"
 
 
 def with_descriptors(folder):
