@@ -66,9 +66,21 @@ def test_was_started(command, status):
 
 
 @cases(
+    case("judge: a port in braces is the port", "%s receive --eager --port ${PORT} ." % PROGRAM),
+    case("judge: another word of a shell is no port", ": $PORTS; %s receiver" % PEER),
+)
+def test_speaks_where_it_says(command):
+    """It is tried by what it does there."""
+    done = judge(*ONE_CASE, "receiver", command)
+    wants_same({"ended": (done.returncode, done.stderr)}, {"ended": (0, "")})
+
+
+@cases(
     case("judge: a shell that cannot read the command", "(", "yntax error"),
     case("judge: a sender that finds no file", "%s sb none" % PROGRAM, "fault: device"),
     case("judge: a peer that fails and says nothing", "exit 4", "its status is 4"),
+    case("judge: a peer that a signal has ended", "kill -KILL $$", "SIGKILL has ended it"),
+    case("judge: a peer that a signal of no name has ended", "kill -40 $$", "signal 40 has ended"),
 )
 def test_has_failed(command, said):
     """A peer that ends before it answers, and not well: what it said last is told."""
