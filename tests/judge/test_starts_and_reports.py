@@ -226,3 +226,12 @@ def test_cannot_write(opened, words, why):
         os.close(out)
     wanted = (3, "ymodem-judge: cannot write: %s\n" % why)
     wants_same({"ended": (done.returncode, done.stderr)}, {"ended": wanted})
+
+
+@sentence("judge: a report to standard output that is closed")
+def test_has_no_output():
+    """So it is there: no report was written."""
+    before = ["sh", "-c", 'exec "$@" >&-', "sh"]
+    done = judge(*ONE_CASE, "receiver", PEER + " receiver", before=before)
+    wanted = (3, "ymodem-judge: cannot write: Bad file descriptor\n")
+    wants_same({"ended": (done.returncode, done.stderr)}, {"ended": wanted})
