@@ -172,6 +172,25 @@ def test_has_no_memory(kinds):
             wants_same({kind: ended}, {kind: (3, "ymodem-judge: plain: fault: memory\n")})
 
 
+# Names the cases, and is killed when it plays one, as by a system that has no memory left.
+KILLED = """#!/bin/sh
+case $* in *--list*) exec %s "$@" ;; esac
+echo "start the peer: plain" >&2
+kill -KILL $$
+"""
+
+
+@sentence("judge: a ymodem that is killed")
+def test_is_killed():
+    """It is told by what, and the status is none of a peer."""
+    with folders() as (here, _):
+        killed = KILLED % shlex.quote(PROGRAM)
+        program = write_program(os.path.join(here, "ymodem"), killed)
+        done = judge(*ONE_CASE, "receiver", "true", program=program)
+    wanted = (3, "ymodem-judge: plain: ymodem: SIGKILL has ended it\n")
+    wants_same({"ended": (done.returncode, done.stderr)}, {"ended": wanted})
+
+
 # Starts a command that may store no byte, as where the disk is full.
 WITHOUT_ROOM = ["sh", "-c", 'ulimit -f 0; exec "$@"', "sh"]
 

@@ -73,10 +73,7 @@ def test_is_not_lost(before, why, name="/judge.bin"):
     """Nothing is found of who cannot be looked at, and it is told why."""
     status, out, err = in_its_folder(before)
     sums = "0 conform, 0 differ (harmless), 0 lose data, 0 left open\n"
-    told = (
-        "ymodem-judge: plain: start the peer: plain\n"
-        "cannot look at '%s': %s\nfault: device\n" % (name, why)
-    )
+    told = "ymodem-judge: plain: cannot look at '%s': %s\nfault: device\n" % (name, why)
     got = status, out, re.sub("'.*/judge-[^/']*", "'", err)
     wants_same({"ended": got}, {"ended": (3, sums, told)})
 
