@@ -1,9 +1,11 @@
 -- What `judge` prints and answers.
-use Rattle.std.specs.Prelude.{◌≡◌, ◌<◌, ◌⊎◌, ℕ, Bool, true, false, not, if◌then◌else◌}
+use Rattle.std.specs.Prelude.{◌≡◌, ◌<◌, ◌⊎◌, ◌&&◌, ◌||◌, ℕ, Bool, true, false, not, if◌then◌else◌}
 use Rattle.std.specs.Prelude.{List, [], ◌∷◌, ◌++◌, map, take, length, codes}
 use Rattle.std.specs.Prelude.{Option, Some, None, Result, Ok, Err, IfErr}
-use Rattle.std.specs.List.{AllZip, filter, flat_map, fold, list_any}
+use Rattle.std.specs.List.{AllZip, filter, flat_map, fold}
 use Rattle.std.specs.Str.{bytes_eq}
+use Rattle.std.specs.declared.io.ErrorKind.{ErrorKind}
+use Rattle.std.specs.declared.io.ErrorKind.TheVariants as kind
 use Rattle.clap.specs.Words.{Text}
 use Rattle.ym_file.specs.Counts.{Counted}
 use Rattle.ym_judge.specs.Cases.{cases_for}
@@ -22,7 +24,10 @@ use Rattle.ym_answer.specs.Lines.{line}
 use Rattle.ym_answer.specs.Page.{Page, Prints}
 use Rattle.ym_answer.specs.declared.command_fault.CommandFault.{CommandFault}
 use Rattle.ym_answer.specs.declared.command_fault.CommandFault.TheVariants as fault
-use Rattle.ym_judged.specs.declared.judging.Report.{Report}
+use Rattle.ym_ends.specs.declared.told_line.LineWords.{LineWords}
+use Rattle.ym_text.specs.declared.end_message.EndMessage.{EndMessage}
+use Rattle.ym_text.specs.declared.end_message.EndMessage.TheVariants as end
+use Rattle.ym_text.specs.declared.reason.Reason.TheVariants as why
 
 -- ---- Names
 
@@ -81,21 +86,45 @@ abbrev pub report_text : Bool → List Tried → List ℕ
 report_text json tried =
     case_lines json tried ++ report_end json (to_avoid tried) (sums_of tried)
 
+-- ---- The line
+
+-- the error says no more than that nobody is there yet
+abbrev pub is_nobody : ErrorKind → Bool
+is_nobody kind.WouldBlock = true
+is_nobody kind.Interrupted = true
+is_nobody kind.ConnectionRefused = true
+is_nobody kind.ConnectionReset = true
+is_nobody kind.ConnectionAborted = true
+is_nobody kind.TimedOut = true
+is_nobody _ = false
+
+-- A call of the line fails so since the peer has closed its end, or takes nothing. A terminal that
+-- has hung up looks so too.
+abbrev pub is_of_peer : EndMessage → Bool
+is_of_peer end.LineHungUp = true
+is_of_peer (end.LineRefused why.Closed) = true
+is_of_peer (end.LineRefused why.Broken) = true
+is_of_peer (end.LineRefused why.Late) = true
+is_of_peer _ = false
+
+-- why the line failed in a case: a read did, or a call for another reason than the peer's
+abbrev pub failure_in : Bool → LineWords → Option EndMessage
+failure_in is_read_failed words =
+    if is_read_failed || (words.has_failed && not (is_of_peer words.failed))
+    then Some words.failed else None
+
 -- ---- What was tried
 
 abbrev pub cases_in : List Tried → List Case
 cases_in tried = map (λ it. it.case) tried
 
--- the report says of a case what its outcome shows
+-- the report says of a case what its outcome shows, and no read of the line failed in it
 pub record IsShown (outcome : Outcome) (it : Tried) : Type 0 where
+  pub sound : outcome.has_failed ≡ false
   pub step : IsStep outcome.notes.shown it
   pub finished : it.finished ≡ outcome.is_finished
   pub takes_back : it.takes_back ≡ outcome.notes.takes_back
   pub found : IsFound outcome it.finding
-
--- the line failed in one of them
-abbrev pub has_failed : List Outcome → Bool
-has_failed outcomes = list_any (λ it. it.has_failed) outcomes
 
 -- these cases were tried, in order, with these outcomes
 pub record AreTried (cases : List Case) (outcomes : List Outcome) (tried : List Tried)
@@ -109,13 +138,6 @@ pub record AreTried (cases : List Case) (outcomes : List Outcome) (tried : List 
 abbrev pub status_of_avoided : List Tried → ℕ
 status_of_avoided [] = 0
 status_of_avoided (tried ∷ more) = 1
-
-abbrev pub answer_of : Bool → List Tried → Result ℕ CommandFault
-answer_of true avoided = Err fault.Device
-answer_of false avoided = Ok (status_of_avoided avoided)
-
-abbrev pub AnswersReport : Report → Result ℕ CommandFault → Type 0
-AnswersReport report answer = answer ≡ answer_of report.has_failed report.avoided.items
 
 -- ---- What is printed
 
@@ -132,16 +154,16 @@ ListsCases peer old answer new =
     ((answer ≡ Ok 0) × Prints old (names_text (cases_for peer)) (Ok tt) new)
     ⊎ OutFails old answer new
 
--- All the cases were tried, and the whole report was printed. A line that failed is a fault.
+-- all the cases were tried, and the whole report was printed
 pub record IsReported (cases : List Case) (json : Bool) (old : Page)
     (answer : Result ℕ CommandFault) (new : Page) : Type 0 where
   pub outcomes : List Outcome
   pub tried : List Tried
   pub are : AreTried cases outcomes tried
   pub prints : Prints old (report_text json tried) (Ok tt) new
-  pub answer_is : answer ≡ answer_of (has_failed outcomes) (to_avoid tried)
+  pub answer_is : answer ≡ Ok (status_of_avoided (to_avoid tried))
 
--- memory ran out, or err failed
+-- memory ran out; or err or the line failed, or what is stored cannot be looked at
 abbrev pub IsMidway : CommandFault → Type 0
 IsMidway why = (why ≡ fault.Memory) ⊎ (why ≡ fault.Device)
 

@@ -1,7 +1,7 @@
 //! What `judge` tells beside its report.
 
 use std::fmt;
-use ym_judge::{Case, Peer};
+use ym_judge::Peer;
 use ym_text::{Reason, Shown};
 
 /// What `judge` tells on standard error where it plays nothing, or no more. Its `Display` is the
@@ -45,16 +45,5 @@ impl fmt::Display for JudgeMessage<'_> {
                 write!(f, "cannot look at '{path}': {why}")
             }
         }
-    }
-}
-
-/// The line that says that the line failed in this case, without its end.
-#[derive(Clone, Copy)]
-pub(crate) struct FailedIn(pub(crate) Case);
-
-impl fmt::Display for FailedIn {
-    fn fmt<W: fmt::Write>(&self, f: &mut fmt::Formatter<W>) -> fmt::Result {
-        let case = self.0;
-        write!(f, "the line failed: {case}")
     }
 }

@@ -1,17 +1,17 @@
 //! `judge`: cases are played to a peer, and what it did is reported.
 
-ghost use Rattle.std.specs.Prelude.{◌≡◌, ◌≤◌, ◌++◌, ◌||◌, [], ◌∷◌, false, IfOk, IfErr, OnOk};
+ghost use Rattle.std.specs.Prelude.{◌≡◌, ◌≤◌, ◌++◌, [], ◌∷◌, false, IfOk, IfErr, OnOk};
 ghost use Rattle.std.specs.Prelude.{option_map};
 ghost use Rattle.ym_judge.specs.Reporting.{counted, no_sums};
 ghost use Rattle.ym_answer.specs.Lines.{line};
 ghost use Rattle.ym_answer.specs.Page.{Prints, page};
-ghost use Rattle.ym_judged.specs.Judged.{AnswersReport, IsMidway, IsRefusal, JudgeGives};
+ghost use Rattle.ym_judged.specs.Judged.{IsMidway, IsRefusal, JudgeGives};
 ghost use Rattle.ym_judged.specs.Judged.{LacksWay, ListsCases, PlaysCases, TriesCases};
 ghost use Rattle.ym_judged.specs.Judged.{avoid_lines, case_named, case_words, names_text};
-ghost use Rattle.ym_judged.specs.Judged.{peer_named, report_end, to_avoid};
+ghost use Rattle.ym_judged.specs.Judged.{peer_named, report_end, status_of_avoided, to_avoid};
 
-use crate::judge_message::{FailedIn, JudgeMessage};
-use crate::judged_peer::{Access, access_of, play_case};
+use crate::judge_message::JudgeMessage;
+use crate::judged_peer::{Access, access_of, play_case, see_line};
 use crate::looking::{looked_at, see_folder};
 use std::alloc::{AllocError, Global};
 use std::fs::{File, Files};
@@ -21,7 +21,6 @@ use ym_answer::CommandFault;
 use ym_judge::{Avoided, Case, CaseJson, CaseLine, Peer, StartLine, Sums, Tried, cases_of};
 use ym_judging::Outcome;
 use ym_streams::{Output, Outputs, StreamFault};
-use ym_text::EndMessage;
 
 /// The status where something has to be avoided.
 const TO_AVOID: u8 = 1;
@@ -53,7 +52,6 @@ pub struct JudgeOrder<'a> {
 struct Report {
     sums: Sums,
     avoided: Vec<Tried>,
-    has_failed: bool,
 }
 
 /// What peer this word names.
@@ -146,17 +144,15 @@ fn print_end<O: Output>(out: &mut O, json: bool, report: &Report) -> Result<(), 
     out.put_line(report.sums)
 }
 
-/// What the report comes to.
-fn status_of(report: &Report) -> Result<u8, CommandFault>
-    ensures gives { AnswersReport report.now result }
-    ensures status { IfOk result (λ status. status ≤ 2) }
+/// The status that the report comes to.
+fn status_of(report: &Report) -> u8
+    ensures gives { result ≡ status_of_avoided report.now.avoided.items }
+    ensures status { result ≤ 2 }
 {
-    if report.has_failed {
-        Err(CommandFault::Device)
-    } else if report.avoided.is_empty() {
-        Ok(0)
+    if report.avoided.is_empty() {
+        0
     } else {
-        Ok(TO_AVOID)
+        TO_AVOID
     }
 }
 
@@ -165,24 +161,20 @@ impl Report {
     fn new(alloc: Global) -> Report
         ensures sums { result.sums ≡ no_sums }
         ensures avoided { result.avoided.items ≡ [] }
-        ensures failed { result.has_failed ≡ false }
     {
         Report {
             sums: Sums::new(),
             avoided: Vec::new(alloc),
-            has_failed: false,
         }
     }
 
     /// Takes a case more.
-    fn take(&mut self, tried: Tried, has_failed: bool) -> Result<(), AllocError>
+    fn take(&mut self, tried: Tried) -> Result<(), AllocError>
         ensures sums { self.new.sums ≡ counted tried.finding self.old.sums }
         ensures avoided { OnOk result
             (self.new.avoided.items ≡ self.old.avoided.items ++ to_avoid (tried ∷ [])) }
-        ensures failed { self.new.has_failed ≡ self.old.has_failed || has_failed }
     {
         self.sums = self.sums.with(tried.finding);
-        self.has_failed = self.has_failed || has_failed;
         if tried.is_to_avoid() {
             self.avoided.push(tried)?;
         }
@@ -208,8 +200,8 @@ struct Trial<'a> {
     asked: PeerOrder<'a>,
 }
 
-/// Plays a case, and tells before it that it begins, and behind it whether the line failed. No case
-/// counts whose stored files cannot be looked at, or where reads of the line do not end.
+/// Plays a case, and tells before it that it begins. No case counts where the line failed, or whose
+/// stored files cannot be looked at: that is told.
 fn play_telling<R, E>(
     rt: &R,
     alloc: Global,
@@ -220,20 +212,15 @@ fn play_telling<R, E>(
 where
     R: Files<File = File> + Net<Listener = TcpListener, Stream = TcpStream> + Clock,
     E: Output,
-    ensures { IfErr result (λ why. IsMidway why) }
+    ensures why { IfErr result (λ why. IsMidway why) }
+    ensures sound { IfOk result (λ outcome. outcome.has_failed ≡ false) }
 {
     let PeerOrder { peer, order } = trial.asked;
     see_folder(rt, alloc, order.stored, err)?;
+    see_line(&trial.access, err)?;
     err.put_line(StartLine(case))?;
-    let Some(outcome) = play_case(rt, alloc, &trial.access, peer, case)? else {
-        err.put_line(EndMessage::LineEndless)?;
-        return Err(CommandFault::Device);
-    };
-    let outcome = looked_at(rt, alloc, order.stored, outcome, err)?;
-    if outcome.has_failed {
-        err.put_line(FailedIn(case))?;
-    }
-    Ok(outcome)
+    let outcome = play_case(rt, alloc, &trial.access, peer, case, err)?;
+    looked_at(rt, alloc, order.stored, outcome, err)
 }
 
 /// Plays these cases, and reports them.
@@ -258,11 +245,11 @@ where
     for case in cases {
         let outcome = play_telling(rt, alloc, trial, *case, &mut outputs.err)?;
         let tried = outcome.tried(*case);
-        report.take(tried, outcome.has_failed)?;
+        report.take(tried)?;
         print_case(&mut outputs.out, json, tried)?;
     }
     print_end(&mut outputs.out, json, &report)?;
-    status_of(&report)
+    Ok(status_of(&report))
 }
 
 /// The answer where there is no way to the peer: words that name none, or two, are refused.

@@ -1,6 +1,6 @@
 //! The look at what a receiver has stored, and what is told where it cannot be looked at.
 
-ghost use Rattle.std.specs.Prelude.{IfErr};
+ghost use Rattle.std.specs.Prelude.{◌≡◌, IfErr, IfOk};
 ghost use Rattle.std.specs.Result.{IsErrAnd};
 ghost use Rattle.ym_judged.specs.Judged.{IsMidway};
 
@@ -46,7 +46,8 @@ pub(crate) fn looked_at<R: Files<File = File>, E: Output>(
     outcome: Outcome,
     err: &mut E,
 ) -> Result<Outcome, CommandFault>
-    ensures { IfErr result (λ why. IsMidway why) }
+    ensures why { IfErr result (λ why. IsMidway why) }
+    ensures line { IfOk result (λ it. it.has_failed ≡ outcome.has_failed) }
 {
     let (Some(dir), Some(parcel)) = (stored, outcome.sent) else {
         return Ok(outcome);

@@ -68,7 +68,7 @@ pub(crate) struct Line<'w, W: Wire> {
     end: u64,
     /// Nothing will come any more.
     pub(crate) is_closed: bool,
-    /// It failed.
+    /// A read of it failed.
     pub(crate) has_failed: bool,
 }
 
@@ -94,7 +94,8 @@ impl<'w, W: Wire> Line<'w, W> {
         self.is_closed || self.wire.moment() >= self.end
     }
 
-    /// Writes these bytes. A peer that has gone takes none.
+    /// Writes these bytes. Where that fails nothing will come any more, as from a peer that has
+    /// gone. Whether that is why, the wire knows: who has it has to look at its faults.
     pub(crate) fn write(&mut self, bytes: &[u8])
         ensures told { (u : Tape) → W.tells self.new.wire.now u → (t : Tape)
             × W.tells self.old.wire.now t

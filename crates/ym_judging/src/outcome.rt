@@ -22,14 +22,15 @@ pub struct Outcome {
     pub is_mute: bool,
     /// The session came to the end that it has with the reference.
     pub is_finished: bool,
-    /// The line failed.
+    /// A read of the line failed.
     pub has_failed: bool,
 }
 
 impl Outcome {
     /// Nobody was there.
     pub fn unanswered() -> Outcome
-        ensures { result.notes.answered ≡ false }
+        ensures answered { result.notes.answered ≡ false }
+        ensures failed { result.has_failed ≡ false }
     {
         Outcome {
             notes: Notes::new(),
