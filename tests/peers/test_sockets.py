@@ -299,3 +299,17 @@ def test_slow_receiver():
 
     ended = send_to(peer, [("a", b"abc")])
     ended.wants(1, "sender done 0 cancelled\n")
+
+
+@sentence("sockets: receive, of whose first hundred reads none waits")
+def test_reads_that_do_not_wait():
+    """Each is made again, for as long as it was to wait."""
+    with folders() as (log, there):
+        log = os.path.join(log, "log")
+        before = strace(log, "-e", "trace=recvfrom", "-e", "inject=recvfrom:error=EAGAIN:when=1..100")
+        port = free_port()
+        with running("receive", "--port", port, "--eager", there, before=before) as receive:
+            with connected(port, receive) as end:
+                talks((b"", bytes((START,))), (END, bytes((ACK,))))(end)
+            receive.ended().wants(0, "receiver files 0 finished\n")
+        assert sum(it.is_injected for it in calls_of(log)) == 100, "other reads were refused"

@@ -1,20 +1,24 @@
 //! A TCP connection, as a line with a clock.
 
-ghost use Rattle.std.specs.Prelude.{◌≡◌, ◌<◌, ◌≤◌, ℕ, Ok, OnOk, OnErr, length};
+ghost use Rattle.std.specs.Prelude.{◌≡◌, ◌<◌, ◌≤◌, ℕ, Ok, OnOk, OnErr, IfSome, length};
 ghost use Rattle.ym_file.specs.Counts.{Counted};
 
 use crate::drip::Drip;
 use crate::moments::millis_of;
-use std::io;
+use crate::ticks::EARLY_MS;
 use std::io::{ErrorKind, Read, Write};
 use std::marker::Model;
 use std::net::TcpStream;
 use std::time::{Clock, Duration};
+use std::{io, thread};
 use ym_link::{Got, PortFault};
 use ym_port::{Role, Wire};
 
 /// How often a read that was interrupted is tried again.
 const TRIES: u32 = 1000;
+
+/// How many milliseconds pass before a read that did not wait is made again.
+const PAUSE_MS: u64 = 10;
 
 /// How many milliseconds a write may make no headway.
 const WRITE_MS: u64 = 10_000;
@@ -67,6 +71,46 @@ fn read_once(stream: &mut TcpStream, buf: &mut [u8]) -> io::Result<Got>
         }
     }
     Err(io::Error::from(ErrorKind::Interrupted))
+}
+
+/// Whether it is much earlier than this moment. Where the clock fails, it is not.
+fn is_before<R: Clock>(clock: &R, end: u64) -> bool {
+    match clock.monotonic() {
+        Ok(time) => millis_of(time).saturating_add(EARLY_MS) < end,
+        Err(_) => false,
+    }
+}
+
+/// What a read says that got nothing: `None` where it did not wait, since somebody has set the
+/// stream so, and is to be made again. That takes a moment.
+fn unless_early<R: Clock>(clock: &R, end: u64, got: Got) -> Option<Got>
+    ensures { IfSome result (λ g. g ≡ got) }
+{
+    if matches!(got, Got::Quiet) && is_before(clock, end) {
+        thread::sleep(clock, Duration::from_millis(PAUSE_MS));
+        return None;
+    }
+    Some(got)
+}
+
+/// Reads what is there, or waits for it until this moment, in at most so many reads.
+fn read_until<R: Clock>(
+    clock: &R,
+    stream: &mut TcpStream,
+    end: u64,
+    most: u64,
+    buf: &mut [u8],
+) -> io::Result<Got>
+    requires { 0 < length buf.old }
+    ensures { (n : ℕ) → result ≡ Ok (Got.Bytes n) → (0 < n) × (n ≤ length buf.old) }
+{
+    for _ in 0..most {
+        let got = read_once(stream, buf)?;
+        if let Some(got) = unless_early(clock, end, got) {
+            return Ok(got);
+        }
+    }
+    Ok(Got::Quiet)
 }
 
 impl<R: Clock + Drop> SocketWire<R> {
@@ -132,7 +176,9 @@ impl<R: Clock + Drop> SocketWire<R> {
             return Ok(Got::Quiet);
         }
         self.set_wait(millis)?;
-        let got = read_once(&mut self.stream, buf)?;
+        let end = self.last.saturating_add(millis);
+        let most = (millis / PAUSE_MS).saturating_add(1);
+        let got = read_until(&self.clock, &mut self.stream, end, most, buf)?;
         self.drip = self.drip.after(self.last, got);
         Ok(got)
     }

@@ -79,6 +79,24 @@ fn fault_of(error: io::Error) -> TtyFault {
     }
 }
 
+/// Waits a moment: somebody else who has the line open has set it not to wait.
+fn pause<R: Clock>(clock: &R) {
+    thread::sleep(clock, Duration::from_millis(PAUSE_MS));
+}
+
+/// Reads once, or for a tick again and again where the line is set not to wait.
+fn read_waiting<R: Clock, I: Read>(clock: &R, reader: &mut I, buf: &mut [u8]) -> io::Result<usize>
+    ensures { IfOk result (λ count. count ≤ length buf.old) }
+{
+    for _ in 0..TICK_MS / PAUSE_MS {
+        match reader.read(buf) {
+            Err(error) if error.kind() == ErrorKind::WouldBlock => pause(clock),
+            got => return got,
+        }
+    }
+    Err(io::Error::from(ErrorKind::WouldBlock))
+}
+
 impl<R: Clock + Drop, I: Read + Drop, O: Write + Drop> TtyWire<R, I, O> {
     /// A line that this reads and that writes, as this end has it. Whether its reads end by
     /// themselves is found out where it is a terminal.
@@ -140,22 +158,13 @@ impl<R: Clock + Drop, I: Read + Drop, O: Write + Drop> TtyWire<R, I, O> {
         PortFault
     }
 
-    /// Waits a moment: somebody else who has the line open has set it not to wait.
-    fn pause(&self) {
-        thread::sleep(&self.clock, Duration::from_millis(PAUSE_MS));
-    }
-
     /// What a read says that the system refused.
     fn refused(&mut self, error: io::Error) -> Result<Got, TtyFault>
         ensures same { self.new ≡ self.old }
         ensures none { (n : ℕ) → result ≡ Ok (Got.Bytes n) → ⊥ }
     {
         match error.kind() {
-            ErrorKind::Interrupted => Ok(Got::Quiet),
-            ErrorKind::WouldBlock => {
-                self.pause();
-                Ok(Got::Quiet)
-            }
+            ErrorKind::Interrupted | ErrorKind::WouldBlock => Ok(Got::Quiet),
             _ => match fault_of(error) {
                 TtyFault::HungUp => Ok(Got::Closed),
                 fault => Err(fault),
@@ -170,7 +179,7 @@ impl<R: Clock + Drop, I: Read + Drop, O: Write + Drop> TtyWire<R, I, O> {
         ensures count { (n : ℕ) → result ≡ Ok (Got.Bytes n) → (0 < n) × (n ≤ length buf.old) }
     {
         let start = self.look();
-        let count = match self.reader.read(buf) {
+        let count = match read_waiting(&self.clock, &mut self.reader, buf) {
             Ok(count) => count,
             Err(error) => return self.refused(error),
         };
@@ -221,7 +230,7 @@ impl<R: Clock + Drop, I: Read + Drop, O: Write + Drop> TtyWire<R, I, O> {
             Ok(0) => Err(io::Error::from(ErrorKind::WriteZero)),
             Err(error) if error.kind() == ErrorKind::Interrupted => Ok(0),
             Err(error) if error.kind() == ErrorKind::WouldBlock => {
-                self.pause();
+                pause(&self.clock);
                 Ok(0)
             }
             written => written,
