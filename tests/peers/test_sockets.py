@@ -301,6 +301,52 @@ def test_slow_receiver():
     ended.wants(1, "sender done 0 cancelled\n")
 
 
+# What a listener answers at first, so often, and then a connection.
+AT_FIRST = 3
+
+
+@cases(
+    case(
+        "sockets: receive --keep, and a connection that was gone before it was taken",
+        "ECONNABORTED",
+        "the other end broke the connection off",
+    ),
+    case("sockets: receive --keep, and many open files", "EMFILE", "too many files are open"),
+    case("sockets: receive --keep, and many of the system", "ENFILE", "too many files are open"),
+    case("sockets: receive --keep, and little memory", "ENOMEM", "out of memory"),
+)
+def test_outlives(error, why):
+    """It is tried again, with a pause before each try, and told once."""
+    with folders() as (log, there):
+        log, port = os.path.join(log, "log"), free_port()
+        inject = "inject=accept4:error=%s:when=1..%d" % (error, AT_FIRST)
+        before = strace(log, "-e", "trace=accept4,nanosleep,clock_nanosleep", "-e", inject)
+        words = ("receive", "--port", port, "--keep", "--eager", "--verbose", there)
+        with running(*words, before=before) as receive:
+            with connected(port, receive) as end:
+                talks((b"", bytes((START,))), (END, bytes((ACK,))))(end)
+            receive.child.terminate()
+            ended = receive.ended()
+        ended.wants(-signal.SIGTERM, "receiver files 0 finished\n", ended.err)
+        told_once = "no connection at 127.0.0.1:%d: %s; trying again\n" % (port, why)
+        assert ended.err.count("trying again") == 1 and told_once in ended.err, ended.err
+        names = [it.name for it in calls_of(log)][: 2 * AT_FIRST + 1]
+        tries, pauses = names[::2], names[1::2]
+        assert set(tries) == {"accept4"} and all("sleep" in it for it in pauses), names
+
+
+@cases(
+    case("sockets: receive --keep, and a listener that is none", "ENOTSOCK"),
+    case("sockets: receive --keep, and a listener that does not listen", "EINVAL"),
+    case("sockets: receive --keep, and a listener that is closed", "EBADF"),
+)
+def test_ends_where_it_lasts(error):
+    with folders() as (log, there):
+        before = strace(os.path.join(log, "log"), "-e", "inject=accept4:error=%s" % error)
+        ended = run("receive", "--port", free_port(), "--keep", there, before=before)
+        ended.wants(3, "", "fault: device\n")
+
+
 @sentence("sockets: receive, of whose first hundred reads none waits")
 def test_reads_that_do_not_wait():
     """Each is made again, for as long as it was to wait."""

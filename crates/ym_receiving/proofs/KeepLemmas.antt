@@ -4,7 +4,7 @@ use Rattle.std.specs.Result.{IsErrAnd}
 use Rattle.ym_file.specs.Counts.{Counted}
 use Rattle.ym_machine.specs.declared.confirm.Confirm.{Confirm}
 use Rattle.ym_streams.specs.declared.streams.StreamFault.{StreamFault}
-use Rattle.ym_receiving.specs.Keeping.{HoldsSession, Sessions, KeepsOn}
+use Rattle.ym_receiving.specs.Keeping.{Lasting, HoldsSession, Sessions, KeepsOn}
 use Rattle.ym_answer.specs.Page.{Page}
 use Rattle.ym_answer.specs.Status.{IsHostFault}
 use Rattle.ym_answer.specs.declared.command_fault.CommandFault.{CommandFault}
@@ -12,11 +12,11 @@ use Rattle.ym_answer.specs.declared.command_fault.CommandFault.TheVariants as fa
 
 -- no connection could be taken
 pub none_comes : (confirm : Confirm) (taken count failed new_failed : ℕ) (out err : Page) (answer : Result ℕ CommandFault) (new_out new_err : Page)
-    → IsErrAnd answer (λ why. IsHostFault why) → taken ≡ count → Counted failed new_failed → Sessions confirm count out err new_out new_err
+    → IsErrAnd answer (λ why. IsHostFault why) → taken ≡ count → Counted failed new_failed → Lasting → Sessions confirm count out err new_out new_err
     → KeepsOn confirm taken failed new_failed out err answer new_out new_err
-none_comes confirm taken count failed new_failed out err (Ok status) new_out new_err host same counted_failure sessions = absurd host
-none_comes confirm taken count failed new_failed out err (Err why) new_out new_err host same counted_failure sessions =
-    inl (record { why = why; of_host = host; answer_is = refl; counted_failure = counted_failure; sessions = rw same sessions })
+none_comes confirm taken count failed new_failed out err (Ok status) new_out new_err host same counted_failure failure sessions = absurd host
+none_comes confirm taken count failed new_failed out err (Err why) new_out new_err host same counted_failure failure sessions =
+    inl (record { why = why; of_host = host; answer_is = refl; failure = failure; counted_failure = counted_failure; sessions = rw same sessions })
 
 -- the fault of a session could not be told
 pub cannot_tell : (confirm : Confirm) (taken count failed new_failed : ℕ) (out err between between_err : Page) (untold : StreamFault) (answer : Result ℕ CommandFault)

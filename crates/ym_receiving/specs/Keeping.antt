@@ -1,10 +1,12 @@
 -- What `receive --keep` prints and answers: a session for each connection, one after another.
 use Rattle.std.specs.Prelude.{◌≡◌, ◌≤◌, ◌+◌, ◌-◌, ◌^◌, ◌⊎◌, ℕ, Bool, true, false, Result, Ok, Err}
+use Rattle.std.specs.declared.io.Error.{Error}
 use Rattle.ym_file.specs.Counts.{Counted}
 use Rattle.ym_machine.specs.declared.confirm.Confirm.{Confirm}
 use Rattle.ym_streams.specs.declared.streams.StreamFault.{StreamFault}
 use Rattle.ym_answer.specs.Lines.{line}
 use Rattle.ym_answer.specs.Page.{Page, Prints}
+use Rattle.ym_receiving.specs.Accept.{passes}
 use Rattle.ym_receiving.specs.Receiving.{SessionGives, ReceiveGives, ReceivesNothing}
 use Rattle.ym_answer.specs.Status.{IsHostFault, fault_words}
 use Rattle.ym_answer.specs.declared.command_fault.CommandFault.{CommandFault}
@@ -33,12 +35,17 @@ pub data Sessions : Confirm → ℕ → Page → Page → Page → Page → Type
 
 -- ---- How it ends
 
+-- why no connection could be taken, which does not pass
+abbrev pub Lasting : Type 0
+Lasting = (error : Error) × (passes error ≡ false)
+
 -- no connection could be taken any more
 pub record NoneComes (confirm : Confirm) (taken failed new_failed : ℕ) (out err : Page)
     (answer : Result ℕ CommandFault) (new_out new_err : Page) : Type 0 where
   pub why : CommandFault
   pub of_host : IsHostFault why
   pub answer_is : answer ≡ Err why
+  pub failure : Lasting
   pub counted_failure : Counted failed new_failed
   pub sessions : Sessions confirm taken out err new_out new_err
 

@@ -1,3 +1,4 @@
+pub mod Accept
 pub mod Keeping
 pub mod Receiving
 pub use Rattle.ym_file.specs.Counts

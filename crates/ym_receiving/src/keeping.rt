@@ -64,7 +64,7 @@ pub struct Intake<'a, C> {
 
 /// Receives files from one connection after another, of which none was taken yet, and prints them
 /// and how each receiver has ended, also where it ended in a fault, whose line goes to `err`. It
-/// ends where no connection can be taken any more.
+/// ends where no connection can be taken any more, for a reason that does not pass.
 pub fn receive_each<R, C, O, F, E>(
     rt: &R,
     intake: &mut Intake<'_, C>,
