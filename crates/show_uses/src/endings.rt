@@ -278,7 +278,7 @@ static TO_SENDERS: [Heard; 16] = [
         &[b"\xfe"],
         Sight::Nothing,
         false,
-        "nothing whole came, ten times in a row: do both ends have the same speed?",
+        "what comes is no answer of a YMODEM receiver: is one running, at the same speed?",
     ),
     (
         &[b"\x15", b"\xfe"],
