@@ -63,13 +63,13 @@ def test_no_connection(error, why):
 
 @sentence("a reason of the system: no connection can be taken")
 def test_takes_no_connection():
-    """A receiver that has no descriptor for one."""
+    """A receiver whose listener is broken. What passes it waits out (tests/peers)."""
     with folders() as (log, there):
         port = free_port()
-        refusing = ("-e", "inject=accept,accept4:error=EMFILE")
+        refusing = ("-e", "inject=accept,accept4:error=EBADF")
         before = strace(os.path.join(log, "log"), *refusing)
         with running("receive", "-p", port, "--verbose", there, before=before) as receive:
-            told = "no connection at 127.0.0.1:%d: too many files are open\n" % port
+            told = "no connection at 127.0.0.1:%d: it is closed, or not open for this\n" % port
             receive.ended().wants(3, "", listening(port) + told + FAULT)
 
 

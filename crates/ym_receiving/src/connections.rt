@@ -1,6 +1,6 @@
 //! The connections that `receive` takes.
 
-ghost use Rattle.std.specs.Prelude.{◌≡◌, ◌<◌, ◌+◌, ◌-◌, ◌^◌, ℕ, false, OnOk, OnErr, IfOk};
+ghost use Rattle.std.specs.Prelude.{◌≡◌, ◌<◌, ◌+◌, ◌-◌, ◌^◌, ℕ, false, OnOk, OnErr, IfErr, IfOk};
 ghost use Rattle.ym_file.specs.Counts.{Counted};
 ghost use Rattle.ym_receiving.specs.Accept.{passes, gone, wanting, is_one_of};
 
@@ -30,7 +30,7 @@ pub trait Connections {
             × (failures self.new ≡ failures self.old)) }
         ensures failed { OnErr result ((taken self.new ≡ taken self.old)
             × Counted (failures self.old) (failures self.new)) }
-        ensures lasts { OnErr result (λ error. passes error ≡ false) };
+        ensures lasts { IfErr result (λ error. passes error ≡ false) };
 
     /// The port of 127.0.0.1 that they come to.
     fn port(&self) -> u16;
@@ -90,7 +90,7 @@ pub(crate) struct Listening<R: Clock + Drop> {
 impl<R: Clock + Drop> Listening<R> {
     /// Takes the next connection, and waits out what passes.
     fn accept<E: Write + Drop>(&self, teller: &mut Teller<E>) -> io::Result<TcpStream>
-        ensures { OnErr result (λ error. passes error ≡ false) }
+        ensures { IfErr result (λ error. passes error ≡ false) }
     {
         let mut is_told = false;
         for _ in 0..u64::MAX {
@@ -172,7 +172,7 @@ pub(crate) fn take_told<C: Connections, E: Write + Drop>(
         × (C.failures connections.new ≡ C.failures connections.old)) }
     ensures failed { OnErr result ((C.taken connections.new ≡ C.taken connections.old)
         × Counted (C.failures connections.old) (C.failures connections.new)) }
-    ensures lasts { OnErr result (λ error. passes error ≡ false) }
+    ensures lasts { IfErr result (λ error. passes error ≡ false) }
 {
     match connections.take(teller) {
         Ok(stream) => {
