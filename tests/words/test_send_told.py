@@ -1,21 +1,16 @@
-"""What `send` tells of its files and of the line: which file could not be read, and why, that two
-have one name, and that what comes is no answer."""
+"""What `send` tells of its files: which one could not be read, and why, and that two have one name."""
 
-import contextlib
 import os
-import time
 
 from support.cases import case, cases, sentence
 from support.frames import ACK_START, CAN, START
 from support.peers import PlainReceiver, frames_at, send_to
 from support.program import folders, write_files
-from support.telling import FAULT, FILE
+from support.telling import FAULT
 from support.tracing import at_paths, strace
 
 
 LOUD = ("--verbose",)
-NO_ANSWER = "what comes is no answer of a YMODEM receiver: is one running, at the same speed?"
-PROMPT = "what comes is no YMODEM: is a shell or a boot loader's prompt at the other end?"
 RESIZED = "its length has changed since it was looked at"
 MOVED = "another file has taken its place since it was looked at"
 ABSENT = "no such file or directory"
@@ -99,48 +94,6 @@ def test_empty_grows():
         ended = send_to(peer, [], LOUD, paths=[path])
     ended.wants(0, "sender done 1 finished\n", ended.err)
     assert receiver.kept == {"log": b""}, "what was sent"
-
-
-def told_last(ended):
-    return ended.err.splitlines()[-1]
-
-
-def says_always(data):
-    """A receiver that is none: it is never quiet until the sender has ended."""
-
-    def peer(end):
-        with contextlib.suppress(OSError):
-            while True:
-                end.sendall(data)
-                time.sleep(0.02)
-
-    return peer
-
-
-@cases(
-    case("tells that what comes without end is no answer", b"\xfe\x00\x81", NO_ANSWER),
-    case("tells that what comes without end is text", b"[ 1.2] eth0: link is up\r\n", PROMPT),
-)
-def test_endless(data, told):
-    """A line that is never quiet, of which the sender's port drops all: to it nothing came."""
-    ended = send_to(says_always(data), FILE, LOUD)
-    ended.wants(1, "sender done 0 no-reply\n", ended.err)
-    assert told_last(ended) == told, "what it told"
-
-
-@sentence("tells that other bytes came once, and nothing more")
-def test_once():
-    """Nobody is told that they come."""
-
-    def peer(end):
-        end.sendall(b"\xfe\x00\x81")
-        with contextlib.suppress(OSError):
-            while end.recv(4096):
-                pass
-
-    ended = send_to(peer, FILE, LOUD)
-    ended.wants(1, "sender done 0 no-reply\n", ended.err)
-    assert told_last(ended).startswith("nothing came"), "it told %r" % told_last(ended)
 
 
 SAME_NAME = "'%s' and '%s' are both sent as 'a': a receiver keeps one, or refuses the second\n"

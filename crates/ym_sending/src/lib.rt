@@ -3,7 +3,6 @@
 #![tactic(auto)]
 
 mod calling;
-mod heard_wire;
 mod same_names;
 mod sending;
 mod serial;

@@ -13,7 +13,6 @@ ghost use Rattle.ym_answer.specs.Page.{page};
 ghost use Rattle.ym_answer.specs.Status.{IsHostFault, send_answer};
 
 use crate::calling::connect_telling;
-use crate::heard_wire::HeardWire;
 use crate::same_names::tell_same_names;
 use crate::telling::{SenderFinish, tell_outcome};
 use crate::told_source::{Opener, ToldSource, UnreadCell, open_source};
@@ -198,12 +197,12 @@ fn watch_of<'s, 't, E: Write + Drop, C: Clock + Drop>(
     }
 }
 
-/// The same over a line, by the program's own port. Where somebody looks, how far each file is or
-/// whom it waits for is shown, and why the sender has ended told: also which file could not be
-/// read, where its source has said so.
-pub(crate) fn send_on<R, W, S, O, E>(
+/// The same over a port of the program's own. Where somebody looks, how far each file is or whom it
+/// waits for is shown, and why the sender has ended told: also which file could not be read, where
+/// its source has said so.
+pub(crate) fn send_on<R, P, S, O, E>(
     rt: &R,
-    wire: W,
+    port: P,
     sender: &mut SenderFrom<S>,
     files: SentFiles<'_>,
     out: &mut O,
@@ -211,7 +210,7 @@ pub(crate) fn send_on<R, W, S, O, E>(
 ) -> Result<u8, CommandFault>
 where
     R: Clock + AllocGlobal,
-    W: ToldWire + Drop,
+    P: ToldLine + Drop,
     S: Source,
     O: Output,
     E: Write + Drop,
@@ -221,13 +220,10 @@ where
 {
     let is_looked_at = teller.is_loud;
     let shown = RefCell::new(Sending::new(Meter::new(rt.alloc(), rt, teller, QUIET_S)));
-    let wire = HeardWire {
-        wire,
-        watch: watch_of(&shown, is_looked_at),
-    };
+    let watch = watch_of(&shown, is_looked_at);
     let mut port = WatchedPort {
-        port: TimedPort::new(wire, Role::Sender),
-        watch: watch_of(&shown, is_looked_at),
+        port,
+        watch,
         slowest: None,
     };
     let ended = run_sender(&mut port, sender);
@@ -293,7 +289,8 @@ where
     } = outgoing;
     records.start();
     let wire = RecordedWire::new(wire, rt, Role::Sender, &mut records.recorder);
-    let answer = send_on(rt, wire, sender, *files, out, teller);
+    let port = TimedPort::new(wire, Role::Sender);
+    let answer = send_on(rt, port, sender, *files, out, teller);
     records.end(matches!(answer, Ok(0)), teller);
     answer
 }

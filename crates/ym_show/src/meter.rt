@@ -5,7 +5,6 @@ use crate::surplus::Surplus;
 use std::alloc::Global;
 use std::io::Write;
 use std::time::{Clock, Duration, Instant};
-use ym_frame::control_of;
 use ym_teller::Teller;
 use ym_text::{
     Awaited, Came, Coming, EchoMessage, FileMessage, Lately, Progress, Sight, Took, Waiting,
@@ -47,9 +46,6 @@ struct Quiet {
     came: Came,
     /// The same without the delivery that came last.
     before: Came,
-    /// What came since then that is no reply, also what its port drops, and when it last did.
-    beneath: Came,
-    beneath_at: Option<Instant>,
     /// What was seen of the other end.
     seen: Sight,
     /// When bytes came for the first time.
@@ -114,8 +110,6 @@ impl<'t, E: Write + Drop, C: Clock + Drop> Meter<'t, E, C> {
             quiet: Quiet {
                 came: Came::Nothing,
                 before: Came::Nothing,
-                beneath: Came::Nothing,
-                beneath_at: None,
                 seen: Sight::Nothing,
                 first: None,
                 since: None,
@@ -241,16 +235,6 @@ impl<'t, E: Write + Drop, C: Clock + Drop> Meter<'t, E, C> {
         }
     }
 
-    /// These bytes came on the line, of which its port may hand on none. Replies are no matter: of
-    /// those it drops none but late ones.
-    pub fn hear_beneath(&mut self, bytes: &[u8]) {
-        if bytes.iter().all(|&byte| control_of(byte).is_some()) {
-            return;
-        }
-        self.quiet.beneath = self.quiet.beneath.with(bytes);
-        self.quiet.beneath_at = Instant::now(&self.clock).ok();
-    }
-
     /// A delivery has ended. Where other bytes came in it, and nothing whole yet, that is told
     /// once, long before its end gives up: each delivery of them may take half a minute.
     fn look_for_rubbish(&mut self) {
@@ -282,9 +266,8 @@ impl<'t, E: Write + Drop, C: Clock + Drop> Meter<'t, E, C> {
         }
     }
 
-    /// The line echoes. That is told once, and what comes is this end's own.
+    /// The line echoes. That is told once.
     pub fn echo(&mut self, message: EchoMessage) {
-        self.forget_beneath();
         if !self.has_told_echo {
             self.has_told_echo = true;
             self.teller.tell(message);
@@ -301,17 +284,10 @@ impl<'t, E: Write + Drop, C: Clock + Drop> Meter<'t, E, C> {
         self.teller.tell(message);
     }
 
-    /// What came that is no reply counts no more.
-    fn forget_beneath(&mut self) {
-        self.quiet.beneath = Came::Nothing;
-        self.quiet.beneath_at = None;
-    }
-
     /// Its end got on.
     pub fn get_on(&mut self) {
         self.quiet.came = Came::Nothing;
         self.quiet.seen = Sight::Peer;
-        self.forget_beneath();
     }
 
     /// The same of a sender that was asked for a block 0.
@@ -339,37 +315,15 @@ impl<'t, E: Write + Drop, C: Clock + Drop> Meter<'t, E, C> {
         }
     }
 
-    /// For how many milliseconds nothing came. Where replies alone were heard, what is none does
-    /// not count.
-    fn millis_quiet(&self) -> u64 {
-        let Quiet {
-            came,
-            beneath_at,
-            has_heard,
-            since,
-            ..
-        } = self.quiet;
-        let millis = if has_heard {
-            0
-        } else {
-            self.millis_since(since)
-        };
-        match (came, beneath_at) {
-            (Came::Nothing | Came::Text | Came::Other, Some(_)) => {
-                millis.min(self.millis_since(beneath_at))
-            }
-            _ => millis,
-        }
-    }
-
     /// What came since its end last got on, and for how long nothing did.
     pub fn lately(&self) -> Lately {
-        let millis = self.millis_quiet();
+        let millis = if self.quiet.has_heard {
+            0
+        } else {
+            self.millis_since(self.quiet.since)
+        };
         Lately {
-            came: match self.quiet.came {
-                Came::Nothing => self.quiet.beneath,
-                came => came,
-            },
+            came: self.quiet.came,
             seconds: millis / 1000,
             // ten waits are the limit
             is_silent: self.limit.saturating_mul(200) <= millis,

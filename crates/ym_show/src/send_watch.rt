@@ -133,17 +133,6 @@ impl<'s, 't, E: Write + Drop, C: Clock + Drop> SendWatch<'s, 't, E, C> {
             shown.look_at(bytes);
         }
     }
-
-    /// These bytes came on the line below its port, which may hand on none of them.
-    #[inline(always)]
-    pub fn came_beneath(&self, bytes: &[u8]) {
-        if !self.is_looked_at {
-            return;
-        }
-        if let Ok(mut shown) = self.shown.try_borrow_mut() {
-            shown.meter.hear_beneath(bytes);
-        }
-    }
 }
 
 impl<'s, 't, E: Write + Drop, C: Clock + Drop> PortWatch for SendWatch<'s, 't, E, C> {
