@@ -15,7 +15,7 @@ from support.tracing import at_paths, strace
 START = "start the peer: plain\n"
 HUNG_UP = "the line hung up\n"
 BROKE = "the line failed: the device failed, or was unplugged\n"
-NO_BUFFER = "the line failed: error 105 of the system\n"
+NO_BUFFER = "the line failed: out of memory\n"
 NO_WAY = "the line failed: the network does not lead there\n"
 NO_DEVICE = "the line failed: no such device\n"
 KINDS = ("receiver", "sender")
