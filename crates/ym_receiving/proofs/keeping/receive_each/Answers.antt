@@ -11,7 +11,7 @@ pub returns-in_err-stream : goal.returns-in_err-stream
 returns-in_err-stream g c =
     let inv = c.loop-session.invariant in
     let gone = c.in_err-stream.ensures.failed in
-    none_comes _ _ _ _ _ _ _ _ _ _ c.from_residual.ensures.1 (gone.0 ∙ inv.taken) (rw inv.failed at gone.1) (_, c.in_err-stream.ensures.lasts) inv.sessions
+    none_comes _ _ _ _ _ _ _ _ _ _ c.from_residual.ensures.1 (gone.0 ∙ inv.taken) (rw inv.failed at gone.1) (c.before.in_err-stream.field-0.0, c.in_err-stream.ensures.lasts) inv.sessions
 
 pub returns-in_err-hold_session : goal.returns-in_err-hold_session
 returns-in_err-hold_session g c =
