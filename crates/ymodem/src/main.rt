@@ -85,23 +85,32 @@ fn greet<E: Write + Drop>(rt: &HostRuntime, words: &[String], teller: &mut Telle
 
 /// Does what the words ask for, or tells why there are none. The answer is the status. What the
 /// words say of who looks is put where the streams find it.
-fn answer<I: Input, O: Output + Draw, E: Output, T: Write + Drop>(
+fn answer<I, O, E, T>(
     rt: &HostRuntime,
-    streams: &mut Streams<I, O, E>,
-    teller: &mut Teller<T>,
+    mut streams: Streams<I, O, E>,
+    mut teller: Teller<T>,
     is_looked_at: &Cell<bool>,
-) -> u8 {
-    match words(rt) {
+) -> u8
+where
+    I: Input + Drop,
+    O: Output + Draw + Drop,
+    E: Output + Drop,
+    T: Write + Drop,
+{
+    let status = match words(rt) {
         Ok(words) => {
-            greet(rt, words.as_slice(), teller);
-            command(rt, words, streams, teller, is_looked_at)
+            greet(rt, words.as_slice(), &mut teller);
+            command(rt, words, &mut streams, &mut teller, is_looked_at)
         }
         Err(error) if error.kind() == ErrorKind::InvalidData => {
             let _ = rt.eprintln("error: a word is not UTF-8");
             REFUSED
         }
         Err(_) => tell_want_of_memory(rt),
-    }
+    };
+    // What could not be written is tried once more, and is not told again.
+    is_looked_at.set(false);
+    status
 }
 
 /// Tells that there is no memory to begin with. The answer is the status.
@@ -118,34 +127,40 @@ fn faults_of<'a>(rt: &HostRuntime, is_looked_at: &'a Cell<bool>) -> Faults<'a, S
     }
 }
 
-/// Does what the words ask for, over the program's own streams. Each line of the output is one
-/// write, so that several programs can write into one log.
-fn run(rt: &HostRuntime) -> u8 {
-    let look = look(rt);
-    let mut teller = Teller::new(rt.stderr(), look);
-    let is_looked_at = Cell::new(look.at_err);
-    let told = ToldOutput {
-        out: rt.stdout(),
-        faults: faults_of(rt, &is_looked_at),
-    };
-    let Ok(out) = BufWriter::new(rt.alloc(), told) else {
-        return tell_want_of_memory(rt);
-    };
+/// Does what the words ask for, over the program's own streams, where this is its output.
+fn run_over<O: Write + Drop>(
+    rt: &HostRuntime,
+    look: Look,
+    out: O,
+    is_looked_at: &Cell<bool>,
+) -> u8 {
     let shown = ShownOut::new(rt.alloc(), out, rt.stdout().is_terminal());
-    let mut streams = Streams {
+    let streams = Streams {
         input: ToldInput {
             input: rt.stdin(),
-            faults: faults_of(rt, &is_looked_at),
+            faults: faults_of(rt, is_looked_at),
         },
         outputs: Outputs {
             out: Charted::new(rt.alloc(), shown),
             err: ShownOut::new(rt.alloc(), rt.stderr(), look.at_err),
         },
     };
-    let status = answer(rt, &mut streams, &mut teller, &is_looked_at);
-    // What could not be written is tried once more, and is not told again.
-    is_looked_at.set(false);
-    status
+    answer(rt, streams, Teller::new(rt.stderr(), look), is_looked_at)
+}
+
+/// Does what the words ask for. Each line of the output is one write, so that several programs can
+/// write into one log.
+fn run(rt: &HostRuntime) -> u8 {
+    let look = look(rt);
+    let is_looked_at = Cell::new(look.at_err);
+    let told = ToldOutput {
+        out: rt.stdout(),
+        faults: faults_of(rt, &is_looked_at),
+    };
+    match BufWriter::new(rt.alloc(), told) {
+        Ok(out) => run_over(rt, look, out, &is_looked_at),
+        Err(_) => tell_want_of_memory(rt),
+    }
 }
 
 /// What keeps the descriptor of a standard stream from being another's, where that is closed.
