@@ -95,7 +95,7 @@ def templates():
         found |= set(re.findall(r"\bf\.write_str\((?=\"[a-z])" + TEXT, source))
         found |= set(re.findall(r"^\{\s*(?=\"[a-z])" + TEXT + r"\s*\}", source, re.M))
         found |= set(re.findall(r"#\[error\(" + TEXT, source))
-        found |= set(re.findall(r"(?:tell|eprintln)\(\s*" + TEXT, source))
+        found |= set(re.findall(r"(?:tell\(|eprintln\(|eprintln!\(rt;)\s*" + TEXT, source))
     # Of the report of `judge`, which is output, this alone goes to standard error.
     (report,) = files([REPORT])
     found |= set(re.findall(r"write!\(\s*f,\s*\"(start the peer[^\"]*)\"", report))

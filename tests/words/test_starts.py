@@ -161,6 +161,17 @@ def test_one_connection_after_another():
         wants_stored(there, FILE)
 
 
+@sentence("tells which word is not UTF-8")
+def test_odd_word():
+    """The first such word is told by its number; one that is too long to be looked at is not."""
+    told = "error: word %d is not UTF-8: give the file another name, or a link to it\n"
+    odd, long = os.fsdecode(b"caf\xe9.bin"), os.fsdecode(b"\xe9" * 5000)
+    run("send", "-p", free_port(), odd, odd).wants(2, "", told % 4)
+    run(odd).wants(2, "", told % 1)
+    run("sb", "caf\u00e9", long).wants(2, "", "error: a word is not UTF-8\n")
+    run("sb", long, odd).wants(2, "", told % 3)
+
+
 @sentence("tells its version")
 def test_version():
     """The program's version and nothing else goes to standard output."""

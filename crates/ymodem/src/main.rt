@@ -5,10 +5,11 @@
 mod told;
 
 use std::cell::Cell;
+use std::env::{Env, FillError};
 use std::fs::{File, Files};
 use std::io::{BufWriter, ErrorKind, IsTerminal, Stderr, Write};
 use std::process::ExitCode;
-use std::{env, fs, io};
+use std::{env, fs, io, str};
 use told::{Faults, ToldInput, ToldOutput};
 use ym_command::{Charted, Draw, Outputs, Streams, command};
 use ym_streams::{Input, Output};
@@ -21,10 +22,38 @@ const REFUSED: u8 = 2;
 /// The status where memory ran out before the words were read.
 const FAILED: u8 = 3;
 
+/// So many bytes of a word are looked at where one is not UTF-8.
+const LOOKED_AT: usize = 4096;
+
 /// The words of the command line, the program's name first.
 fn words(rt: &HostRuntime) -> io::Result<Vec<String>> {
     let words: Vec<String> = env::args(rt)?.collect(rt.alloc())?;
     Ok(words)
+}
+
+/// The number of the first word that is not UTF-8; the program's name has number 0. A word with
+/// more bytes than are looked at is passed over.
+fn odd_word(rt: &HostRuntime) -> Option<usize> {
+    let mut buf = [0; LOOKED_AT];
+    for number in 0..usize::MAX {
+        match rt.arg(number, &mut buf) {
+            Ok(count) if str::from_utf8(&buf[..count]).is_err() => return Some(number),
+            Ok(_) | Err(FillError::TooLong) => {}
+            Err(FillError::NotPresent) => return None,
+        }
+    }
+    None
+}
+
+/// Tells that a word is not UTF-8, most often a file's name, and which. The answer is the status.
+fn tell_odd_word(rt: &HostRuntime) -> u8 {
+    let _ = match odd_word(rt) {
+        Some(number) => eprintln!(rt;
+            "error: word {number} is not UTF-8: give the file another name, or a link to it"
+        ),
+        None => rt.eprintln("error: a word is not UTF-8"),
+    };
+    REFUSED
 }
 
 /// How many cells a line of the terminal has, where the variable COLUMNS says it. No terminal has
@@ -102,10 +131,7 @@ where
             greet(rt, words.as_slice(), &mut teller);
             command(rt, words, &mut streams, &mut teller, is_looked_at)
         }
-        Err(error) if error.kind() == ErrorKind::InvalidData => {
-            let _ = rt.eprintln("error: a word is not UTF-8");
-            REFUSED
-        }
+        Err(error) if error.kind() == ErrorKind::InvalidData => tell_odd_word(rt),
         Err(_) => tell_want_of_memory(rt),
     };
     // What could not be written is tried once more, and is not told again.
