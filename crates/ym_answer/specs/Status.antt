@@ -2,6 +2,10 @@
 -- where it ended otherwise, 2 where what it was given is refused, and 3 where a device failed, the
 -- connection was closed, or memory ran out.
 use Rattle.std.specs.Prelude.{ℕ, List, codes, Result, Ok, Err}
+use Rattle.std.specs.IoError.{error_kind}
+use Rattle.std.specs.declared.io.Error.{Error}
+use Rattle.std.specs.declared.io.ErrorKind.{ErrorKind}
+use Rattle.std.specs.declared.io.ErrorKind.TheVariants as kind
 use Rattle.ym_file.specs.declared.sink.SinkFault.{SinkFault}
 use Rattle.ym_file.specs.declared.sink.SinkFault.TheVariants as sink
 use Rattle.ym_header.specs.declared.fault.HeaderFault.{HeaderFault}
@@ -80,3 +84,11 @@ IsHostFault fault.TooManyFiles = ⊥
 IsHostFault fault.Closed = ⊥
 IsHostFault fault.Device = Unit {0}
 IsHostFault fault.Memory = Unit {0}
+
+-- which of both an error is told as, by its kind
+abbrev pub fault_for : ErrorKind → CommandFault
+fault_for kind.OutOfMemory = fault.Memory
+fault_for _ = fault.Device
+
+abbrev pub host_fault : Error → CommandFault
+host_fault error = fault_for (error_kind error)

@@ -78,9 +78,10 @@ impl From<AllocError> for CommandFault {
 }
 
 impl From<io::Error> for CommandFault {
-    ghost use Rattle.ym_answer.specs.Status.{IsHostFault};
+    ghost use Rattle.ym_answer.specs.Status.{IsHostFault, host_fault};
+    ghost use Rattle.std.specs.Prelude.{◌≡◌};
 
-    ghost from_gives = { λ fault e. IsHostFault e };
+    ghost from_gives = { λ error e. IsHostFault e × (e ≡ host_fault error) };
 
     fn from(error: io::Error) -> CommandFault {
         match error.kind() {

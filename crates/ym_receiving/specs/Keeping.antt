@@ -1,5 +1,5 @@
 -- What `receive --keep` prints and answers: a session for each connection, one after another.
-use Rattle.std.specs.Prelude.{◌≡◌, ◌≤◌, ◌+◌, ◌-◌, ◌^◌, ◌⊎◌, ℕ, Bool, true, false, Result, Ok, Err}
+use Rattle.std.specs.Prelude.{◌≡◌, ◌≤◌, ◌+◌, ◌-◌, ◌^◌, ◌⊎◌, ℕ, Bool, true, false, Option, Some, Result, Ok, Err}
 use Rattle.std.specs.declared.io.Error.{Error}
 use Rattle.ym_file.specs.Counts.{Counted}
 use Rattle.ym_machine.specs.declared.confirm.Confirm.{Confirm}
@@ -8,7 +8,7 @@ use Rattle.ym_answer.specs.Lines.{line}
 use Rattle.ym_answer.specs.Page.{Page, Prints}
 use Rattle.ym_receiving.specs.Accept.{passes}
 use Rattle.ym_receiving.specs.Receiving.{SessionGives, ReceiveGives, ReceivesNothing}
-use Rattle.ym_answer.specs.Status.{IsHostFault, fault_words}
+use Rattle.ym_answer.specs.Status.{IsHostFault, fault_words, host_fault}
 use Rattle.ym_answer.specs.declared.command_fault.CommandFault.{CommandFault}
 use Rattle.ym_answer.specs.declared.command_fault.CommandFault.TheVariants as fault
 
@@ -35,17 +35,15 @@ pub data Sessions : Confirm → ℕ → Page → Page → Page → Page → Type
 
 -- ---- How it ends
 
--- why no connection could be taken, which does not pass
-abbrev pub Lasting : Type 0
-Lasting = (error : Error) × (passes error ≡ false)
-
--- no connection could be taken any more
-pub record NoneComes (confirm : Confirm) (taken failed new_failed : ℕ) (out err : Page)
-    (answer : Result ℕ CommandFault) (new_out new_err : Page) : Type 0 where
-  pub why : CommandFault
-  pub of_host : IsHostFault why
-  pub answer_is : answer ≡ Err why
-  pub failure : Lasting
+-- No connection could be taken any more. The error of the last refusal does not pass, and the
+-- answer is what it is told as.
+pub record NoneComes (confirm : Confirm) (taken failed new_failed : ℕ) (refusal : Option Error)
+    (out err : Page) (answer : Result ℕ CommandFault) (new_out new_err : Page) : Type 0 where
+  pub error : Error
+  pub refused : refusal ≡ Some error
+  pub lasts : passes error ≡ false
+  pub of_host : IsHostFault (host_fault error)
+  pub answer_is : answer ≡ Err (host_fault error)
   pub counted_failure : Counted failed new_failed
   pub sessions : Sessions confirm taken out err new_out new_err
 
@@ -71,9 +69,10 @@ pub record AreAll (confirm : Confirm) (taken : ℕ) (out err : Page)
 -- Each connection that was taken had a session. It ends where no more can be taken, or where a
 -- fault cannot be told, and at no session that fails.
 abbrev pub KeepsOn :
-    Confirm → ℕ → ℕ → ℕ → Page → Page → Result ℕ CommandFault → Page → Page → Type 0
-KeepsOn confirm taken failed new_failed out err answer new_out new_err =
-    NoneComes confirm taken failed new_failed out err answer new_out new_err
+    Confirm → ℕ → ℕ → ℕ → Option Error → Page → Page → Result ℕ CommandFault → Page → Page
+    → Type 0
+KeepsOn confirm taken failed new_failed refusal out err answer new_out new_err =
+    NoneComes confirm taken failed new_failed refusal out err answer new_out new_err
     ⊎ (CannotTell confirm taken out err answer new_out new_err
     ⊎ AreAll confirm taken out err answer new_out new_err)
 
@@ -83,8 +82,8 @@ KeepsOn confirm taken failed new_failed out err answer new_out new_err =
 abbrev pub KeepGives : Confirm → Page → Page → Result ℕ CommandFault → Page → Page → Type 0
 KeepGives confirm out err answer new_out new_err =
     (ReceivesNothing out answer new_out × (new_err ≡ err))
-    ⊎ ((taken : ℕ) × (failed : ℕ)
-    × KeepsOn confirm taken 0 failed out err answer new_out new_err)
+    ⊎ ((taken : ℕ) × (failed : ℕ) × (refusal : Option Error)
+    × KeepsOn confirm taken 0 failed refusal out err answer new_out new_err)
 
 -- one connection; or, with --keep, one after another
 abbrev pub ReceivesSo :

@@ -1,6 +1,8 @@
 //! The connections that `receive` takes.
 
 ghost use Rattle.std.specs.Prelude.{◌≡◌, ◌<◌, ◌+◌, ◌-◌, ◌^◌, ℕ, false, OnOk, OnErr, IfErr, IfOk};
+ghost use Rattle.std.specs.Prelude.{Option};
+ghost use Rattle.std.specs.declared.io.Error.{Error};
 ghost use Rattle.ym_file.specs.Counts.{Counted};
 ghost use Rattle.ym_receiving.specs.Accept.{passes, gone, wanting, is_one_of};
 
@@ -22,6 +24,9 @@ pub trait Connections {
     /// How often none could be taken: a number of 64 bits that stays at its greatest value.
     ghost failures: { Self → ℕ };
 
+    /// Why none could be taken the last time, where that has happened.
+    ghost refusal: { Self → Option Error };
+
     /// Takes the next one. It waits for it as long as it takes, also where none can be taken for a
     /// reason that passes. Such a reason is told once.
     fn take<E: Write + Drop>(&mut self, teller: &mut Teller<E>) -> io::Result<TcpStream>
@@ -30,6 +35,7 @@ pub trait Connections {
             × (failures self.new ≡ failures self.old)) }
         ensures failed { OnErr result ((taken self.new ≡ taken self.old)
             × Counted (failures self.old) (failures self.new)) }
+        ensures refused { IfErr result (λ error. refusal self.new ≡ Some error) }
         ensures lasts { IfErr result (λ error. passes error ≡ false) };
 
     /// The port of 127.0.0.1 that they come to.
@@ -77,7 +83,7 @@ impl fmt::Display for ForNow {
     }
 }
 
-/// A listener, with how many connections it has given and how often it failed.
+/// A listener, with how many connections it has given, how often it failed, and why it last did.
 #[derive(Drop)]
 pub(crate) struct Listening<R: Clock + Drop> {
     clock: R,
@@ -85,6 +91,7 @@ pub(crate) struct Listening<R: Clock + Drop> {
     port: u16,
     taken: u64,
     failed: u64,
+    refusal: Option<io::Error>,
 }
 
 impl<R: Clock + Drop> Listening<R> {
@@ -115,6 +122,8 @@ impl<R: Clock + Drop> Connections for Listening<R> {
 
     ghost failures = { λ l. l.failed };
 
+    ghost refusal = { λ l. l.refusal };
+
     fn take<E: Write + Drop>(&mut self, teller: &mut Teller<E>) -> io::Result<TcpStream> {
         match self.accept(teller) {
             Ok(stream) => {
@@ -123,6 +132,7 @@ impl<R: Clock + Drop> Connections for Listening<R> {
             }
             Err(error) => {
                 self.failed = self.failed.saturating_add(1);
+                self.refusal = Some(error);
                 Err(error)
             }
         }
@@ -153,6 +163,7 @@ where
                 port,
                 taken: 0,
                 failed: 0,
+                refusal: None,
             })
         }
         Err(error) => {
@@ -172,6 +183,7 @@ pub(crate) fn take_told<C: Connections, E: Write + Drop>(
         × (C.failures connections.new ≡ C.failures connections.old)) }
     ensures failed { OnErr result ((C.taken connections.new ≡ C.taken connections.old)
         × Counted (C.failures connections.old) (C.failures connections.new)) }
+    ensures refused { IfErr result (λ error. C.refusal connections.new ≡ Some error) }
     ensures lasts { IfErr result (λ error. passes error ≡ false) }
 {
     match connections.take(teller) {

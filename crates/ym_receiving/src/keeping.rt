@@ -80,6 +80,7 @@ where
     requires { C.taken intake.old.connections ≡ 0 }
     ensures { KeepsOn intake.old.order.confirm (C.taken intake.new.connections)
         (C.failures intake.old.connections) (C.failures intake.new.connections)
+        (C.refusal intake.new.connections)
         (page (O.contents outputs.old.out) (O.failures outputs.old.out))
         (page (F.contents outputs.old.err) (F.failures outputs.old.err)) result
         (page (O.contents outputs.new.out) (O.failures outputs.new.out))

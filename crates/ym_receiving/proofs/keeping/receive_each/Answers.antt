@@ -10,14 +10,14 @@ loop-session-init g c = record { taken = search rules; failed = refl; sessions =
 pub returns-in_err-stream : goal.returns-in_err-stream
 returns-in_err-stream g c =
     let inv = c.loop-session.invariant in
-    let gone = c.in_err-stream.ensures.failed in
-    none_comes _ _ _ _ _ _ _ _ _ _ c.from_residual.ensures.1 (gone.0 ∙ inv.taken) (rw inv.failed at gone.1) (c.before.in_err-stream.field-0.0, c.in_err-stream.ensures.lasts) inv.sessions
+    let gone = c.in_err-stream.ensures in
+    none_comes _ _ _ _ _ _ c.before.in_err-stream.field-0.0 _ _ _ _ _ c.from_residual.ensures.1 (gone.failed.0 ∙ inv.taken) (rw inv.failed at gone.failed.1) gone.refused gone.lasts inv.sessions
 
 pub returns-in_err-hold_session : goal.returns-in_err-hold_session
 returns-in_err-hold_session g c =
     let inv = c.loop-session.invariant in
     let came = c.in_ok-stream.ensures.ok in
-    cannot_tell _ _ _ _ _ _ _ _ _ _ _ _ _ c.from_residual-in_err-hold_session.ensures.1 (came.0 ∙ ap (λ n. n + 1) inv.taken) inv.sessions
+    cannot_tell _ _ _ _ _ _ _ _ _ _ _ _ _ _ c.from_residual-in_err-hold_session.ensures.1 (came.0 ∙ ap (λ n. n + 1) inv.taken) inv.sessions
     (rw c.in_err-hold_session.was at c.hold_session.ensures)
 
 pub loop-session-preserved : goal.loop-session-preserved
@@ -33,4 +33,4 @@ loop-session-preserved g c =
 pub returns : goal.returns
 returns g c =
     let inv = c.loop-session.invariant in
-    are_all _ _ _ _ _ _ _ _ _ inv.taken c.loop-session-test.false inv.sessions
+    are_all _ _ _ _ _ _ _ _ _ _ inv.taken c.loop-session-test.false inv.sessions
