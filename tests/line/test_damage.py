@@ -48,8 +48,8 @@ def test_clean(flags):
     ),
 )
 def test_damaged(seed, share, flags, files, longest=4):
-    """A line that damages so many of its deliveries, and in both ways; in runs of `longest` bad
-    rounds, no more and no less."""
+    """A line that damages so many of its deliveries, and in both ways; while the sender says one
+    frame in `longest` bad rounds at most, and once in so many."""
     line = Seeded(seed, share, most=20)
     transfer(files, line, flags)
     assert (

@@ -85,7 +85,3 @@ def place(where, files, cut=mixed):
     blocks."""
     eot = 1 + len(cut(files[0][1]))
     return dict(zip(PLACES, (0, 1, 3, eot, len(frames_of(files, cut)) - 1)))[where]
-
-
-def controls_of(data):
-    return bytes(byte for byte in data if byte in CONTROLS)

@@ -15,11 +15,25 @@ import select
 import socket
 import threading
 
-from support.frames import ACK, CONTROLS, DELIVERY, EOT, START, controls_of, has_frame, split
+from support.frames import ACK, CONTROLS, DELIVERY, EOT, START, has_frame, split
 from support.program import LIMIT, connected
 
 
 NOISE = bytes(set(range(256)) - set(CONTROLS))
+
+# Behind so many bytes that are no control byte a sender hears no ACK.
+OTHERS = 4
+
+
+def heard_of(reply):
+    """The control bytes of a reply that a sender hears."""
+    heard, others = b"", 0
+    for byte in reply:
+        if byte not in CONTROLS:
+            others += 1
+        elif byte != ACK or others < OTHERS:
+            heard += bytes((byte,))
+    return heard
 
 
 class Clean:
@@ -44,38 +58,31 @@ class Watch(Clean):
 
     def __init__(self):
         self.is_waiting = True
-        self.came_from_waiting = True
         self.is_header = False
+        self.is_new = False
         self.frame = b""
         self.files = 0
         self.times = 0
 
     def there(self, frame):
-        self.times = self.times + 1 if frame == self.frame and not self.came_from_waiting else 1
-        if self.times == 1:
-            # A data block may have number 0 too, but none is the first that is sent after a wait.
-            self.is_header = self.came_from_waiting and len(frame) > 2 and frame[1] == 0
+        self.is_new = frame != self.frame
+        self.times = 1 if self.is_new else self.times + 1
+        if self.is_new:
+            # A data block may have number 0 too, but stands behind another block.
+            self.is_header = len(self.frame) < 2 < len(frame) and frame[1] == 0
             self.files += self.is_header and frame[3] != 0
         self.frame = frame
-        self.is_waiting = self.came_from_waiting = False
+        self.is_waiting = False
         return self.damaged_frame(frame)
 
     def back(self, reply):
         handed = self.damaged_reply(reply)
-        heard = controls_of(handed)
-        if self.is_waiting:
-            is_called = START in heard
-        else:
-            is_called = False
-            at_end_of_exchange = self.frame[:1] == bytes((EOT,)) or (
-                self.is_header and not self.is_at_end_block()
-            )
-            if at_end_of_exchange and heard[:1] == bytes((ACK,)):
-                self.is_waiting = True
-                is_called = START in heard[1:]
-        if self.is_waiting and is_called:
+        heard = heard_of(handed)
+        # The ACK of an EOT alone is held until its C comes, and the EOT may be written again.
+        if self.is_header and not self.is_at_end_block() and heard[:1] == bytes((ACK,)):
+            self.is_waiting = True
+        if START in heard:
             self.is_waiting = False
-            self.came_from_waiting = True
         return handed
 
     def is_at_end_block(self):
@@ -135,14 +142,22 @@ class Damage:
             made += self.noise(self.random.randint(0, 30)) + bytes((byte,))
         return made
 
-    def unsettled(self, kept):
-        """The same, but filled up at the front, so that nobody waits for more."""
-        return self.noise(DELIVERY - len(kept)) + kept
+    def lone_ack(self):
+        """An ACK without the C that stood behind it, and as little noise before it as leaves it to
+        be heard."""
+        return self.noise(self.random.randint(0, OTHERS - 1)) + bytes((ACK,))
 
 
 class Seeded(Watch):
-    """A line that damages deliveries of both ways at random, in at most `longest` rounds in a row
-    and `most` in all. The last reply comes through, since nobody would repeat it."""
+    """A line that damages deliveries of both ways at random: `most` in all, and for each end in at
+    most `longest` rounds until that has got on. The sender has where it writes another frame, and
+    the receiver where one came to it whole. The last reply comes through, since nobody would repeat
+    it.
+
+    An end that does not get on counts rounds in which the line damages nothing, too: the NAK of a
+    first EOT, a frame that meets noise, an answer that is let pass or comes too late. So it is not
+    a round without damage that ends a row of bad ones, and less than half of what an end bears is
+    damaged."""
 
     def __init__(self, seed, share, most, longest=4):
         super().__init__()
@@ -150,47 +165,58 @@ class Seeded(Watch):
         self.share = share
         self.longest = longest
         self.most = most
-        self.in_a_row = 0
-        self.is_bad = False
+        self.is_bad = self.is_there = False
+        # How many bad rounds there were since the sender got on, and the receiver.
+        self.of_sender = self.of_receiver = 0
         self.bad_frames = self.bad_replies = self.most_in_a_row = 0
+
+    def in_a_row(self):
+        return max(self.of_sender, self.of_receiver)
 
     def may_damage(self, spare=0):
         return (
-            self.in_a_row + spare < self.longest and self.bad_frames + self.bad_replies < self.most
+            self.in_a_row() + spare < self.longest
+            and self.bad_frames + self.bad_replies < self.most
         )
 
     def chosen(self, spare=0):
         return (self.is_bad or self.may_damage(spare)) and self.damage.random.random() < self.share
 
-    def damaged_frame(self, frame):
-        self.is_bad = False
-        if not self.chosen():
-            return frame
+    def spoil(self):
+        """Takes that this round is bad. It ends with a reply."""
+        if not self.is_bad:
+            self.of_sender += 1
+            self.of_receiver += 1
         self.is_bad = True
-        self.bad_frames += 1
-        return self.damage.frame(frame)
+        self.most_in_a_row = max(self.most_in_a_row, self.in_a_row())
+
+    def damaged_frame(self, frame):
+        if self.is_new:
+            self.of_sender, self.is_bad, self.is_there = 0, False, False
+        if self.may_damage() and self.chosen():
+            self.spoil()
+            self.bad_frames += 1
+            return self.damage.frame(frame)
+        if not self.is_there:
+            self.of_receiver, self.is_there = 0, True
+        return frame
 
     def damaged_reply(self, reply):
         made = reply
         # Where the sender then waits, the next round is bad as well.
         if not self.is_at_end_block() and self.chosen(spare=1):
-            self.is_bad = True
+            self.spoil()
             self.bad_replies += 1
             kept = bytes(byte for byte in reply if self.damage.random.random() < 0.5)
-            made = (
-                self.damage.unsettled(kept)
-                if kept == bytes((ACK,)) and len(reply) == 2
-                else self.damage.reply(kept)
-            )
-        self.in_a_row = self.in_a_row + 1 if self.is_bad else 0
-        self.most_in_a_row = max(self.most_in_a_row, self.in_a_row)
+            has_lost_start = kept == bytes((ACK,)) and len(reply) == 2
+            made = self.damage.lone_ack() if has_lost_start else self.damage.reply(kept)
         self.is_bad = False
         return made
 
     def between(self):
         if not self.is_waiting or not self.may_damage():
             return b""
-        self.is_bad = True
+        self.spoil()
         self.bad_frames += 1
         return self.damage.frame(b"\x00")
 
