@@ -5,8 +5,7 @@ The gate proves every crate, tries the edits that have to be refused, and runs t
 Where the toolchain's `rt ci` keeps what it proves, the crates of the program are proved first, by
 themselves (tools/prove.py), and are kept for the gate. It begins when at most two of those that are
 left can be proved side by side: they still get all processors that they can use, and the gate the
-others. Where it keeps nothing, the gate begins at once, and crates of tests yield to those
-of the program (tools/yielding.py). Once the program is proved come, while the
+others. Where it keeps nothing, the gate begins at once. Once the program is proved come, while the
 gate is at the rest, the tests of that very program, folder by folder of tests/. So nothing is
 proved twice, and most tests wait for lines and peers while the gate needs the processors.
 
@@ -43,7 +42,6 @@ import proved
 from libraries import Libraries
 from shares import later
 from shown import RUNNING, ran, reaped, shown, tell
-from yielding import Yielding, environment
 
 ROOT = proved.ROOT
 OUT = os.path.join(ROOT, "out")
@@ -95,7 +93,7 @@ class Gate:
 
     def __init__(self):
         self.lines, self.proved, self.changed = [], set(), threading.Condition()
-        self.began = self.child = self.yielding = None
+        self.began = self.child = None
         self.is_over = self.is_given_up = False
 
     def begin(self):
@@ -111,9 +109,7 @@ class Gate:
         }
         # a group of its own, so that all that it started can be stopped
         words = [*LATER, "rt", "ci"]
-        how |= {"env": environment(), "start_new_session": True}
-        self.child = subprocess.Popen(words, cwd=ROOT, **how)
-        self.yielding = Yielding(self.child.pid, proved.made_of(PROGRAM))
+        self.child = subprocess.Popen(words, cwd=ROOT, start_new_session=True, **how)
         threading.Thread(target=self.follow, daemon=True).start()
 
     def follow(self):
@@ -131,7 +127,6 @@ class Gate:
                     if found:
                         self.proved.add(found[1])
                         self.changed.notify_all()
-        self.yielding.stop()
         with self.changed:
             self.is_over = True
             self.changed.notify_all()
