@@ -4,7 +4,8 @@ use Rattle.std.specs.Int.{w8, w32}
 use Rattle.std.specs.Simd.Lanes.{number_l, digits_l, zip2, pick_l, Each1}
 use Rattle.std.proofs.Common.{sym, ◌∙◌, ap, arith, append_assoc, Fits}
 use Rattle.std.proofs.lemmas.Grind.{flat_map-append}
-use Rattle.std.proofs.lemmas.Nat.{xor_block}
+use Rattle.std.proofs.lemmas.Nat.{xor_block, xor_comm}
+use Rattle.std.specs.Int.Bits.{xor_shifted}
 use Rattle.ym_check.specs.Check.{subtract, body_bits, check_of}
 use Rattle.ym_check.specs.Fold.{sixteen, row_number, row_bytes}
 use Rattle.ym_check.proofs.Division.{run, start, subtract-append}
@@ -35,13 +36,16 @@ xor_words (x ∷ xs) (y ∷ ys) l h k =
 pub row_xor : (xs ys : List ℕ) → AreWords xs → AreWords ys → row_number (zip2 bit_xor xs ys) ≡ bit_xor (row_number xs) (row_number ys)
 row_xor xs ys h k = xor_words xs ys (h.0 ∙ sym k.0) h.1 k.1
 
-pub row_last : (row : List ℕ) → AreWords row → row_number (0 ∷ 0 ∷ 0 ∷ get_or row 0 0 ∷ []) ≡ row_number row * 2 ^ 96 % 2 ^ 128
-row_last (a ∷ b ∷ c ∷ d ∷ []) h = omega (arith, h.1.0)
-row_last row h = absurd (omega (arith, h.0))
-
-pub row_first : (row : List ℕ) → AreWords row → row_number (pick_l 0 (row ++ 0 ∷ 0 ∷ 0 ∷ 0 ∷ []) (1 ∷ 2 ∷ 3 ∷ 4 ∷ [])) ≡ row_number row / 2 ^ 32
-row_first (a ∷ b ∷ c ∷ d ∷ []) h = omega (arith, h.1.0)
-row_first row h = absurd (omega (arith, h.0))
+pub row_across : (row next : List ℕ) → AreWords row → AreWords next →
+    row_number (pick_l 0 (row ++ next) (1 ∷ 2 ∷ 3 ∷ 4 ∷ [])) ≡ bit_xor (row_number row / 2 ^ 32) (row_number next * 2 ^ 96 % 2 ^ 128)
+row_across (a ∷ b ∷ c ∷ d ∷ []) (e ∷ f ∷ g ∷ h ∷ []) k l =
+    let rest = row_number (b ∷ c ∷ d ∷ []) in
+    let low : row_number (a ∷ b ∷ c ∷ d ∷ []) / 2 ^ 32 ≡ rest = omega (arith, k.1.0) in
+    let high : row_number (e ∷ f ∷ g ∷ h ∷ []) * 2 ^ 96 % 2 ^ 128 ≡ e * 2 ^ 96 = omega (arith, l.1.0) in
+    let small : rest < 2 ^ 96 = omega (arith, k.1.1.0, k.1.1.1.0, k.1.1.1.1.0) in
+    let sum : e * 2 ^ 96 + rest ≡ row_number (b ∷ c ∷ d ∷ e ∷ []) = omega arith in
+    sym (ap (λ n. bit_xor n (row_number (e ∷ f ∷ g ∷ h ∷ []) * 2 ^ 96 % 2 ^ 128)) low ∙ ap (bit_xor rest) high ∙ xor_comm rest (e * 2 ^ 96) ∙ xor_shifted e 96 rest small ∙ sum)
+row_across row next k l = absurd (omega (arith, k.0, l.0))
 
 pub row_fits : (row : List ℕ) → AreWords row → row_number row < 2 ^ 128
 row_fits (a ∷ b ∷ c ∷ d ∷ []) h = omega (arith, h.1.0, h.1.1.0, h.1.1.1.0, h.1.1.1.1.0)

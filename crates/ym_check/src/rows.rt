@@ -29,30 +29,25 @@ fn added(row: u32x4, other: u32x4) -> u32x4
     row ^ other
 }
 
-/// A row moved on by three words: what stays of it in the same row.
-#[tactic(auto, using(crate::proofs::FourWords::row_last))]
-fn last_word(row: u32x4) -> u32x4
-    ensures { row_number result ≡ row_number row * 2 ^ 96 % 2 ^ 128 }
+/// The last three words of a row, and the first word of the next one.
+#[tactic(auto, using(crate::proofs::FourWords::row_across, crate::proofs::FourWords::row_fits))]
+fn across(row: u32x4, next: u32x4) -> u32x4
+    ensures sum { row_number result ≡
+        bit_xor (row_number row / 2 ^ 32) (row_number next * 2 ^ 96 % 2 ^ 128) }
+    ensures fits { row_number next < 2 ^ 128 }
 {
-    u32x4::splat(0).shuffle(row, [0, 1, 2, 4])
+    row.shuffle(next, [1, 2, 3, 4])
 }
 
-/// What comes of it into the row behind.
-#[tactic(auto, using(crate::proofs::FourWords::row_first, crate::proofs::FourWords::row_fits))]
-fn first_words(row: u32x4) -> u32x4
-    ensures moved { row_number result ≡ row_number row / 2 ^ 32 }
-    ensures fits { row_number row < 2 ^ 128 }
-{
-    row.shuffle(u32x4::splat(0), [1, 2, 3, 4])
-}
-
-/// Sixty-four bytes, which have the check of all bytes so far.
+/// Sixty-four bytes, which have the check of all bytes so far. The last three words of the row that
+/// went last are still to be added to the third row.
 #[derive(Clone, Copy)]
 struct Rows {
     first: u32x4,
     second: u32x4,
     third: u32x4,
     fourth: u32x4,
+    gone: u32x4,
 }
 
 impl Rows {
@@ -60,7 +55,8 @@ impl Rows {
     fn of_first(check: u16, bytes: &[u8]) -> Self
         requires { length bytes.now ≡ 16 }
         ensures { (before : List ℕ) → check ≡ check_of before → check_of (before ++ bytes.now) ≡
-            check_of (rows_bytes result.first result.second result.third result.fourth) }
+            check_of (rows_bytes result.first result.second result.third result.fourth
+            result.gone) }
     {
         let none = u32x4::splat(0);
         let entered = u32x4::from_array([u32::from(check.swap_bytes()), 0, 0, 0]);
@@ -69,24 +65,28 @@ impl Rows {
             second: none,
             third: none,
             fourth: added(row_of(bytes), entered),
+            gone: none,
         }
     }
 
     /// Takes the next sixteen bytes.
     ///
     /// The first sixteen go: they are added to those behind them in three places. Eleven words are
-    /// two rows and three words, so in one of these places they lie across two rows.
+    /// two rows and three words, so in one of these places they lie across two rows. What comes
+    /// there into the second of these is added together with what the next row adds to it.
     fn with_row(self, next: u32x4) -> Self
-        ensures { check_of (rows_bytes self.first self.second self.third self.fourth ++
+        ensures { check_of (rows_bytes self.first self.second self.third self.fourth self.gone ++
             row_bytes next) ≡
-            check_of (rows_bytes result.first result.second result.third result.fourth) }
+            check_of (rows_bytes result.first result.second result.third result.fourth
+            result.gone) }
     {
         let gone = self.first;
         Rows {
             first: added(self.second, gone),
-            second: added(self.third, last_word(gone)),
-            third: added(self.fourth, first_words(gone)),
+            second: added(self.third, across(self.gone, gone)),
+            third: self.fourth,
             fourth: added(next, gone),
+            gone,
         }
     }
 
@@ -94,9 +94,11 @@ impl Rows {
     fn with_rows(self, bytes: &[u8]) -> Self
         requires { length bytes.now % 16 ≡ 0 }
         ensures { (before : List ℕ) →
-            check_of before ≡ check_of (rows_bytes self.first self.second self.third self.fourth) →
+            check_of before ≡
+            check_of (rows_bytes self.first self.second self.third self.fourth self.gone) →
             check_of (before ++ bytes.now) ≡
-            check_of (rows_bytes result.first result.second result.third result.fourth) }
+            check_of (rows_bytes result.first result.second result.third result.fourth
+            result.gone) }
     {
         let mut rows = self;
         for i in 0..bytes.len() / 16 {
@@ -108,12 +110,13 @@ impl Rows {
     /// The check of the sixty-four bytes.
     fn check(self) -> u16
         ensures { result ≡
-            check_of (rows_bytes self.first self.second self.third self.fourth) }
+            check_of (rows_bytes self.first self.second self.third self.fourth self.gone) }
     {
+        let third = added(self.third, across(self.gone, u32x4::splat(0)));
         let mut bytes = [0; 64];
         self.first.to_le_bytes().copy_to_slice(&mut bytes[..16]);
         self.second.to_le_bytes().copy_to_slice(&mut bytes[16..32]);
-        self.third.to_le_bytes().copy_to_slice(&mut bytes[32..48]);
+        third.to_le_bytes().copy_to_slice(&mut bytes[32..48]);
         self.fourth.to_le_bytes().copy_to_slice(&mut bytes[48..]);
         with_words(0, &bytes)
     }

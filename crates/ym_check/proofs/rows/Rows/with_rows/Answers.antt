@@ -12,7 +12,7 @@ pub loop-i-preserved : goal.loop-i-preserved
 loop-i-preserved c = λ before is.
     let i = c.loop-i.i in
     let r = c.loop-i.rows in
-    taken_more (rows_bytes r.first r.second r.third r.fourth) (row_bytes c.row_of.result) (16 * i) (16 * i + 16 - 16 * i) (16 * (i + 1)) before c.args.bytes.now (omega arith)
+    taken_more (rows_bytes r.first r.second r.third r.fourth r.gone) (row_bytes c.row_of.result) (16 * i) (16 * i + 16 - 16 * i) (16 * (i + 1)) before c.args.bytes.now (omega arith)
     (c.loop-i.invariant before is) c.row_of.ensures ∙
     c.with_row-rows.ensures
 
