@@ -2,7 +2,8 @@
 //!
 //! Modulo x^16 + x^12 + x^5 + 1, x^128 is x^96 + x^40 + 1: sixteen bytes are folded into the
 //! sixteen behind them, which then have the check of them all. So a message is folded from the
-//! front into its last sixteen bytes, and these into their last eight, four and two in the same way.
+//! front into its last sixteen bytes, and these into their last eight, four and two in the same
+//! way.
 
 ghost use Rattle.std.specs.Prelude.{◌≡◌, ◌%◌, List, ℕ, ◌++◌, length, replicate, false};
 ghost use Rattle.ym_check.specs.Check.{bits, body_bits, remainder, check_of};
