@@ -124,6 +124,7 @@ impl Rows {
 
 /// The check of some bytes and of these behind them, sixty-four bytes at a time, where the check of
 /// the first ones is known.
+#[inline(never)] // one of it is enough for a small board
 pub(crate) fn with_chunks(check: u16, bytes: &[u8]) -> u16
     requires { length bytes.now % 64 ≡ 0 }
     ensures { (before : List ℕ) → check ≡ check_of before →
