@@ -122,7 +122,7 @@ impl Rows {
     }
 }
 
-/// The check of some bytes and of these behind them, sixty-four bytes at a time, where the check of
+/// The check of some bytes and of these behind them, sixteen bytes at a time, where the check of
 /// the first ones is known.
 #[inline(never)] // one of it is enough for a small board
 pub(crate) fn with_chunks(check: u16, bytes: &[u8]) -> u16
@@ -130,13 +130,10 @@ pub(crate) fn with_chunks(check: u16, bytes: &[u8]) -> u16
     ensures { (before : List ℕ) → check ≡ check_of before →
         result ≡ check_of (before ++ bytes.now) }
 {
-    let count = bytes.len() / 64;
-    if count == 0 {
+    if bytes.is_empty() {
         return check;
     }
-    let mut rows = Rows::of_first(check, &bytes[..16]).with_rows(&bytes[16..64]);
-    for i in 1..count {
-        rows = rows.with_rows(&bytes[64 * i..64 * i + 64]);
-    }
+    let (first, others) = bytes.split_at(16);
+    let rows = Rows::of_first(check, first).with_rows(others);
     rows.check()
 }
