@@ -233,27 +233,25 @@ impl Timing {
         } else {
             self.pace
         };
-        *self = Timing {
-            role: self.role,
-            pace,
-            out: self.out_after(is_taken, now),
-            sent: next,
-            led_at: if 0 < self.heard.count {
-                self.heard.last
-            } else {
-                now
-            },
-            heard: Arrivals::new(),
-            ear: self.ear.wrote(),
-            hold: self
-                .hold
-                .wrote(is_opening(next), is_repeat, is_doubted, now),
-            echoed: 0,
-            prefix: self.prefix_after(is_taken),
-            is_shaken,
-            vain: vain_after(self.vain, purge),
-            has_cancel: self.has_cancel,
+        let prefix = self.prefix_after(is_taken);
+        let hold = self
+            .hold
+            .wrote(is_opening(next), is_repeat, is_doubted, now);
+        self.out = self.out_after(is_taken, now);
+        self.pace = pace;
+        self.sent = next;
+        self.led_at = if 0 < self.heard.count {
+            self.heard.last
+        } else {
+            now
         };
+        self.heard = Arrivals::new();
+        self.ear = self.ear.wrote();
+        self.hold = hold;
+        self.echoed = 0;
+        self.prefix = prefix;
+        self.is_shaken = is_shaken;
+        self.vain = vain_after(self.vain, purge);
     }
 }
 
