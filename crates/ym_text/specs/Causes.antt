@@ -132,6 +132,6 @@ cause_text cause.Noise =
 -- the line that is made of these words
 abbrev pub words_text : CauseWords → List ℕ
 words_text (words.Text text) = text.now
-words_text (words.Absent told) = absent_text told.peer told.seconds
-words_text (words.Ceased told) = ceased_text told.peer told.seconds
-words_text (words.Slow told) = slow_text told.took
+words_text (words.Timed front seconds middle other behind) =
+    front.now ++ (decimal seconds ++ (middle.now ++ (peer_text other ++ behind.now)))
+words_text (words.Slow took) = slow_text took
