@@ -76,11 +76,14 @@ pub(crate) enum CauseWords {
     Slow(u64),
 }
 
-/// That nothing came.
+/// That nothing came. A sender does not hear all that comes, so it speaks of answers.
 fn absent(peer: Peer, seconds: u64) -> CauseWords
     ensures { absent_text peer seconds ≡ words_text result }
 {
-    let front = "nothing came for ";
+    let front = match peer {
+        Peer::Receiver => "no answer came for ",
+        Peer::Sender => "nothing came for ",
+    };
     let behind = " running, at the same speed?";
     CauseWords::Timed(front, seconds, " s: is the ", peer, behind)
 }
@@ -89,7 +92,10 @@ fn absent(peer: Peer, seconds: u64) -> CauseWords
 fn ceased(peer: Peer, seconds: u64) -> CauseWords
     ensures { ceased_text peer seconds ≡ words_text result }
 {
-    let front = "nothing came any more for ";
+    let front = match peer {
+        Peer::Receiver => "no answer came any more for ",
+        Peer::Sender => "nothing came any more for ",
+    };
     let behind = " stopped, or was the line cut?";
     CauseWords::Timed(front, seconds, " s: has the ", peer, behind)
 }
