@@ -18,7 +18,7 @@ pytestmark = pytest.mark.steadily
 
 # So often it is stopped at most, and so many seconds lie between: fewer than the three after which
 # `receive` asks again.
-STOPS, STOPS_EVERY = 60, 1.3
+STOPS, STOPS_EVERY = 30, 1.3
 ASKS = 3
 
 # So many reads are interrupted, each after so many milliseconds.
