@@ -100,6 +100,7 @@ impl Timing {
     }
 
     /// What an answer says of how long answers take.
+    #[inline(always)]
     fn pace_after(&self, purge: Purge) -> Pace
         ensures { result ≡ table.pace_after purge self.now }
     {
@@ -168,6 +169,7 @@ impl Timing {
     }
 
     /// Whose answers may be under way behind a write.
+    #[inline(always)]
     fn out_after(&self, is_taken: bool, now: u64) -> Out
         ensures { result ≡ table.out_after is_taken now self.now }
     {
@@ -220,6 +222,7 @@ impl Timing {
     }
 
     /// Takes that these bytes were written, behind this purge.
+    #[inline(always)]
     pub fn wrote(&mut self, bytes: &[u8], purge: Purge, now: u64)
         ensures { self.new ≡ table.wrote bytes.now purge now self.old }
     {
