@@ -41,6 +41,9 @@ pub bits-above : (k m a b : ℕ) → k ≤ m → bits k (a * 2 ^ m + b) ≡ bits
 bits-above zero m a b h = refl
 bits-above (suc k) m a b h = rw (bit_at_cat_low a m b k (omega arith), bits-above k m a b (omega arith)) refl
 
+pub bits-low : (k n : ℕ) → bits k n ≡ bits k (n % 2 ^ k)
+bits-low k n = ap (bits k) (sym (shr_split n k)) ∙ bits-above k k (n / 2 ^ k) (n % 2 ^ k) (omega arith)
+
 number_of-lt : (bs : List Bool) → number_of bs < 2 ^ length bs
 number_of-lt [] = omega arith
 number_of-lt (true ∷ bs) = omega (arith, pow-suc 2 (length bs), number_of-lt bs)
@@ -87,12 +90,11 @@ shifted : (n : ℕ) → bits 16 (n * 2 ^ 8 % 2 ^ 16) ≡ bits 8 n ++ replicate 8
 shifted n =
     let high : n * 2 ^ 8 % 2 ^ 16 / 2 ^ 8 ≡ n % 2 ^ 8 = omega arith in
     let low : n * 2 ^ 8 % 2 ^ 16 ≡ n % 2 ^ 8 * 2 ^ 8 + 0 = omega arith in
-    let whole : n / 2 ^ 8 * 2 ^ 8 + n % 2 ^ 8 ≡ n = omega arith in
     bits-split 8 8 (n * 2 ^ 8 % 2 ^ 16) ∙
     ap (λ q. bits 8 q ++ bits 8 (n * 2 ^ 8 % 2 ^ 16)) high ∙
     ap (λ q. bits 8 (n % 2 ^ 8) ++ bits 8 q) low ∙
     ap (λ t. bits 8 (n % 2 ^ 8) ++ t) (bits-above 8 8 (n % 2 ^ 8) 0 (omega arith)) ∙
-    ap (λ t. t ++ replicate 8 false) (sym (bits-above 8 8 (n / 2 ^ 8) (n % 2 ^ 8) (omega arith)) ∙ ap (bits 8) whole)
+    ap (λ t. t ++ replicate 8 false) (sym (bits-low 8 n))
 
 pub check_bits : (bytes : List ℕ) → bits 16 (check_of bytes) ≡ run start (body_bits bytes)
 unfolding check_of

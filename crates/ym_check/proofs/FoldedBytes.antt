@@ -1,30 +1,11 @@
 -- Bytes as words that are folded, and the check of the bytes before them.
-use Rattle.std.specs.Prelude.{◌≡◌, ℕ, ◌+◌, ◌*◌, ◌^◌, ◌<◌, ◌≤◌, suc, Bool, false, List, [], ◌∷◌, ◌++◌, length, get_or, replicate, bit_xor, refl}
-use Rattle.std.specs.Int.{from_be_bytes, w64}
+use Rattle.std.specs.Prelude.{◌≡◌, ℕ, ◌+◌, ◌*◌, ◌^◌, ◌<◌, ◌≤◌, suc, Bool, false, List, [], ◌∷◌, ◌++◌, length, get_or, replicate, refl}
+use Rattle.std.specs.Int.{from_be_bytes, w128}
 use Rattle.std.proofs.Common.{sym, ◌∙◌, ap, arith}
-use Rattle.std.proofs.lemmas.Grind.{flat_map-append}
 use Rattle.std.proofs.lemmas.Nat.{pow-add, mul-add-lt, div-mul-add}
-use Rattle.ym_check.specs.Check.{bits, number_of, minus, subtract, divided, remainder, body_bits}
+use Rattle.ym_check.specs.Check.{bits, minus, subtract, divided, remainder, body_bits}
 use Rattle.ym_check.proofs.Division.{run, start, run-append, length-run, length-subtract, divided-run, subtract-zeros, zeros-subtract, remainder_is_run}
-use Rattle.ym_check.proofs.CheckNumbers.{bits-split, bits-above, bits-number_of}
-use Rattle.ym_check.proofs.Folding.{folded_in}
-
--- ---- bytes that come
-
-remainder-append : (xs ys bs : List Bool) → remainder xs ≡ remainder ys → remainder (xs ++ bs) ≡ remainder (ys ++ bs)
-remainder-append xs ys bs e =
-    let same : run start xs ≡ run start ys = rw (remainder_is_run xs, remainder_is_run ys) at e in
-    rw (remainder_is_run (xs ++ bs), remainder_is_run (ys ++ bs), run-append start xs bs, run-append start ys bs, same) refl
-
--- a word for the bytes so far, what it becomes, and the word of the next bytes
-pub next_word : (word m next : ℕ) (bytes more : List ℕ) → remainder (bits 64 word) ≡ remainder (body_bits bytes) →
-    remainder (bits 64 word ++ replicate 64 false) ≡ remainder (bits 64 m) → bits 64 next ≡ body_bits more →
-    remainder (bits 64 (bit_xor m next)) ≡ remainder (body_bits (bytes ++ more))
-next_word word m next bytes more is folds reads =
-    sym (folded_in 64 word m next folds) ∙
-    remainder-append (bits 64 word) (body_bits bytes) (bits 64 next) is ∙
-    ap (λ t. remainder (body_bits bytes ++ t)) reads ∙
-    ap remainder (sym (flat_map-append (bits 8) bytes more))
+use Rattle.ym_check.proofs.CheckNumbers.{bits-split, bits-above}
 
 subtract_front : (bs v rest : List Bool) → length v ≤ length bs → subtract (bs ++ rest) v ≡ subtract bs v ++ rest
 subtract_front bs [] rest h = refl
@@ -74,27 +55,23 @@ bits-high_first (b ∷ bs) h =
     ap (λ q. bits 8 q ++ bits k n) (div-mul-add b (2 ^ k) (high_first bs) rest) ∙
     ap (λ t. bits 8 b ++ t) (bits-above k k b (high_first bs) (omega arith) ∙ bits-high_first bs (λ i. h (suc i)))
 
-pub word_bits : (bs : List ℕ) (n : ℕ) → length bs ≡ 8 → ((i : ℕ) → get_or bs i 0 < 256) → n ≡ from_be_bytes w64 bs → bits 64 n ≡ body_bits bs
-word_bits (a ∷ b ∷ c ∷ d ∷ e ∷ f ∷ g ∷ h ∷ []) number long small is =
-    let bytes = a ∷ b ∷ c ∷ d ∷ e ∷ f ∷ g ∷ h ∷ [] in
+pub word_bits : (bs : List ℕ) (n : ℕ) → length bs ≡ 16 → ((i : ℕ) → get_or bs i 0 < 256) → n ≡ from_be_bytes w128 bs → bits 128 n ≡ body_bits bs
+word_bits (a ∷ b ∷ c ∷ d ∷ e ∷ f ∷ g ∷ h ∷ i ∷ j ∷ k ∷ l ∷ m ∷ n ∷ o ∷ p ∷ []) number long small is =
+    let bytes = a ∷ b ∷ c ∷ d ∷ e ∷ f ∷ g ∷ h ∷ i ∷ j ∷ k ∷ l ∷ m ∷ n ∷ o ∷ p ∷ [] in
     let same : number ≡ high_first bytes = omega arith in
-    ap (bits 64) same ∙ bits-high_first bytes small
+    ap (bits 128) same ∙ bits-high_first bytes small
 word_bits bs number long small is = absurd (omega arith)
 
 -- ---- what the functions cite
 
 -- two bytes in front of two
-pub two_more : (n m : ℕ) → m ≡ number_of (remainder (bits 16 n)) → remainder (bits 16 n ++ replicate 16 false) ≡ remainder (bits 16 m)
+pub two_more : (n m : ℕ) → bits 16 m ≡ remainder (bits 16 n) → remainder (bits 16 n ++ replicate 16 false) ≡ remainder (bits 16 m)
 two_more n m is =
     let zeros = replicate 16 false in
     let register = run start (bits 16 n) in
     let long : length register ≡ 16 = length-run start (bits 16 n) in
-    let held : bits 16 m ≡ register =
-    ap (bits 16) (is ∙ ap number_of (remainder_is_run (bits 16 n))) ∙
-    ap (λ k. bits k (number_of register)) (sym long) ∙
-    bits-number_of register in
     remainder_is_run (bits 16 n ++ zeros) ∙
     run-append start (bits 16 n) zeros ∙
     entered register zeros long (omega arith) ∙
-    ap (run start) (zeros-subtract 16 register long ∙ sym held) ∙
+    ap (run start) (zeros-subtract 16 register long ∙ sym (is ∙ remainder_is_run (bits 16 n))) ∙
     sym (remainder_is_run (bits 16 m))

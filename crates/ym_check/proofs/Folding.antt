@@ -1,42 +1,44 @@
 -- Bytes in front of others, folded into them: modulo the divisor, x^16 is x^12 + x^5 + 1, and so x^16n is x^12n + x^5n + 1 for n = 2, 4.
 use Rattle.std.specs.Prelude.{◌≡◌, ℕ, ◌+◌, ◌*◌, ◌/◌, ◌%◌, ◌^◌, ◌<◌, zero, suc, Bool, true, false, eqb, cond, List, [], ◌∷◌, ◌++◌, length, replicate, bit_xor, refl}
 use Rattle.std.proofs.Common.{sym, ◌∙◌, ap, arith, length-append}
-use Rattle.std.proofs.lemmas.Nat.{xor_lt, xor_comm, mod_below, shr_le, shl-shr, shr_split}
+use Rattle.std.proofs.lemmas.Nat.{xor_comm, shl-shr}
 use Rattle.std.proofs.Math.ListN.{length-replicate}
 use Rattle.std.proofs.Math.Nat.{div-one}
-use Rattle.ym_check.specs.Check.{bits, number_of, minus, subtract, remainder}
+use Rattle.ym_check.specs.Check.{bits, minus, subtract, remainder}
 use Rattle.ym_check.proofs.Division.{moved, below_divisor, run, start, subtract-append, subtract-zeros, zeros-subtract, remainder_is_run}
-use Rattle.ym_check.proofs.CheckNumbers.{length-bits, bits-xor, bits-split, bits-above, number_of-bits}
+use Rattle.ym_check.proofs.CheckNumbers.{length-bits, bits-xor, bits-split, bits-low}
 use Rattle.ym_check.proofs.Linear.{IsLinear, IsLinearInBits, added, right, left, at_powers, AgreeBelow, agree_nowhere, agree_further, same_below}
 use Rattle.ym_check.proofs.Register.{start-subtract, zeros_in_front}
 
 -- ---- the number that a word in front becomes
 
-abbrev first_of : (a n : ℕ) → ℕ
-first_of a n = bit_xor n (n / 2 ^ a)
+-- with so many functions that move the bits of a word
+module _ (s t u v w : ℕ → ℕ) where
+  abbrev first_by : ℕ → ℕ
+  first_by n = bit_xor n (s n)
 
-abbrev above_of : (a b c n : ℕ) → ℕ
-above_of a b c n = bit_xor (bit_xor (first_of a n) (first_of a n / 2 ^ b)) (n / 2 ^ c)
+  abbrev above_by : ℕ → ℕ
+  above_by n = bit_xor (bit_xor (first_by n) (t (first_by n))) (u n)
+
+  abbrev pub folded_by : ℕ → ℕ
+  folded_by n = bit_xor (bit_xor (above_by n) (v (above_by n))) (w (above_by n))
+
+  pub folded_by-linear : IsLinear s → IsLinear t → IsLinear u → IsLinear v → IsLinear w → IsLinear folded_by
+  folded_by-linear ls lt lu lv lw x y =
+      let same : IsLinear (λ n. n) = λ a b. refl in
+      let first : IsLinear first_by = added (λ n. n) s same ls in
+      let twice : IsLinear (λ n. bit_xor (first_by n) (t (first_by n))) =
+      λ a b. ap (λ n. bit_xor n (t n)) (first a b) ∙ added (λ n. n) t same lt (first_by a) (first_by b) in
+      let above : IsLinear above_by = added (λ n. bit_xor (first_by n) (t (first_by n))) u twice lu in
+      ap (λ n. bit_xor (bit_xor n (v n)) (w n)) (above x y) ∙
+      added (λ n. bit_xor n (v n)) w (added (λ n. n) v same lv) lw (above_by x) (above_by y)
 
 abbrev pub folded_of : (a b c d e w n : ℕ) → ℕ
-folded_of a b c d e w n = bit_xor (bit_xor (above_of a b c n) (above_of a b c n * 2 ^ d % 2 ^ w)) (above_of a b c n * 2 ^ e % 2 ^ w)
-
-first_of-linear : (a : ℕ) → IsLinear (first_of a)
-first_of-linear a = added (λ n. n) (λ n. n / 2 ^ a) (λ x y. refl) (right a)
-
-above_of-linear : (a b c : ℕ) → IsLinear (above_of a b c)
-above_of-linear a b c =
-    let spread : IsLinear (λ n. bit_xor n (n / 2 ^ b)) = added (λ n. n) (λ n. n / 2 ^ b) (λ x y. refl) (right b) in
-    let twice : IsLinear (λ n. bit_xor (first_of a n) (first_of a n / 2 ^ b)) =
-    λ x y. ap (λ n. bit_xor n (n / 2 ^ b)) (first_of-linear a x y) ∙ spread (first_of a x) (first_of a y) in
-    added (λ n. bit_xor (first_of a n) (first_of a n / 2 ^ b)) (λ n. n / 2 ^ c) twice (right c)
+folded_of a b c d e w n = folded_by (λ m. m / 2 ^ a) (λ m. m / 2 ^ b) (λ m. m / 2 ^ c) (λ m. m * 2 ^ d % 2 ^ w) (λ m. m * 2 ^ e % 2 ^ w) n
 
 folded_of-linear : (a b c d e w : ℕ) → IsLinear (folded_of a b c d e w)
-folded_of-linear a b c d e w x y =
-    let spread : IsLinear (λ n. bit_xor (bit_xor n (n * 2 ^ d % 2 ^ w)) (n * 2 ^ e % 2 ^ w)) =
-    added (λ n. bit_xor n (n * 2 ^ d % 2 ^ w)) (λ n. n * 2 ^ e % 2 ^ w) (added (λ n. n) (λ n. n * 2 ^ d % 2 ^ w) (λ u v. refl) (left d w)) (left e w) in
-    ap (λ n. bit_xor (bit_xor n (n * 2 ^ d % 2 ^ w)) (n * 2 ^ e % 2 ^ w)) (above_of-linear a b c x y) ∙
-    spread (above_of a b c x) (above_of a b c y)
+folded_of-linear a b c d e w =
+    folded_by-linear (λ m. m / 2 ^ a) (λ m. m / 2 ^ b) (λ m. m / 2 ^ c) (λ m. m * 2 ^ d % 2 ^ w) (λ m. m * 2 ^ e % 2 ^ w) (right a) (right b) (right c) (left d w) (left e w)
 
 -- ---- the check of a word in front of as many zero bits, and of what it becomes
 
@@ -148,23 +150,8 @@ folded_bits-linear a b = ap (bits 16) (folded_of-linear 4 8 11 5 12 16 a b) ∙ 
 agree_16 : AgreeBelow check_16 folded_bits 16
 agree_16 = agree_further check_16 folded_bits 0 16 (agree_nowhere check_16 folded_bits) refl
 
-folded_16-lt : (n : ℕ) → n < 2 ^ 16 → folded_16 n < 2 ^ 16
-folded_16-lt n l =
-    let less : (k : ℕ) → n / 2 ^ k < 2 ^ 16 = λ k. omega (arith, shr_le n k) in
-    let first = first_of 4 n in
-    let first_lt : first < 2 ^ 16 = xor_lt 16 n (n / 2 ^ 4) l (less 4) in
-    let spread_lt : bit_xor first (first / 2 ^ 8) < 2 ^ 16 = xor_lt 16 first (first / 2 ^ 8) first_lt (omega (arith, shr_le first 8)) in
-    let above = above_of 4 8 11 n in
-    let above_lt : above < 2 ^ 16 = xor_lt 16 (bit_xor first (first / 2 ^ 8)) (n / 2 ^ 11) spread_lt (less 11) in
-    xor_lt 16 (bit_xor above (above * 2 ^ 5 % 2 ^ 16)) (above * 2 ^ 12 % 2 ^ 16)
-    (xor_lt 16 above (above * 2 ^ 5 % 2 ^ 16) above_lt (mod_below (above * 2 ^ 5) (2 ^ 16) (omega arith)))
-    (mod_below (above * 2 ^ 12) (2 ^ 16) (omega arith))
-
-pub fold_16 : (n : ℕ) → n < 2 ^ 16 → folded_16 n ≡ number_of (remainder (bits 16 n))
-fold_16 n l =
-    sym (number_of-bits 16 (folded_16 n) (folded_16-lt n l)) ∙
-    ap number_of (sym (same_below check_16 folded_bits check_16-linear folded_bits-linear refl 16 agree_16 n l)) ∙
-    ap number_of (sym (remainder_is_run (bits 16 n)))
+pub fold_16 : (n : ℕ) → n < 2 ^ 16 → bits 16 (folded_16 n) ≡ remainder (bits 16 n)
+fold_16 n l = sym (remainder_is_run (bits 16 n) ∙ same_below check_16 folded_bits check_16-linear folded_bits-linear refl 16 agree_16 n l)
 
 -- ---- a word and the next one
 
@@ -192,6 +179,13 @@ folded_in w n m next e =
 pub halves : (w n m : ℕ) → remainder (bits w (n / 2 ^ w) ++ replicate w false) ≡ remainder (bits w m) →
     remainder (bits (w + w) n) ≡ remainder (bits w (bit_xor m (n % 2 ^ w)))
 halves w n m e =
-    let low : bits w n ≡ bits w (n % 2 ^ w) =
-    ap (bits w) (sym (shr_split n w)) ∙ bits-above w w (n / 2 ^ w) (n % 2 ^ w) (omega arith) in
-    rw (bits-split w w n, low) (folded_in w (n / 2 ^ w) m (n % 2 ^ w) e)
+    rw (bits-split w w n, bits-low w n) (folded_in w (n / 2 ^ w) m (n % 2 ^ w) e)
+
+pub half_32 : (n m r : ℕ) → remainder (bits 16 (n / 2 ^ 16) ++ replicate 16 false) ≡ remainder (bits 16 m) → bits 16 r ≡ remainder (bits 16 (bit_xor m (n % 2 ^ 16))) → bits 16 r ≡ remainder (bits 32 n)
+half_32 n m r e is = is ∙ sym (halves 16 n m e)
+
+pub half_64 : (n m r : ℕ) → remainder (bits 32 (n / 2 ^ 32) ++ replicate 32 false) ≡ remainder (bits 32 m) → bits 16 r ≡ remainder (bits 32 (bit_xor m (n % 2 ^ 32))) → bits 16 r ≡ remainder (bits 64 n)
+half_64 n m r e is = is ∙ sym (halves 32 n m e)
+
+pub half_128 : (n m r : ℕ) → remainder (bits 64 (n / 2 ^ 64) ++ replicate 64 false) ≡ remainder (bits 64 m) → bits 16 r ≡ remainder (bits 64 (bit_xor m (n % 2 ^ 64))) → bits 16 r ≡ remainder (bits 128 n)
+half_128 n m r e is = is ∙ sym (halves 64 n m e)

@@ -1,9 +1,8 @@
-pub mod Examples
 pub mod Division
 pub mod CheckNumbers
 pub mod Register
 pub mod Linear
 pub mod Folding
 pub mod FoldedBytes
-pub mod Windows
-pub mod TableWords
+pub mod Words
+pub mod FourWords

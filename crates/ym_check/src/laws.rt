@@ -4,6 +4,7 @@ ghost use Rattle.std.specs.Prelude.{◌≡◌, ◌∷◌, [], codes, replicate};
 ghost use Rattle.ym_check.specs.Check.{check_of};
 
 /// Worked values of the check.
+#[tactic(auto, unfolding(crate::specs::Check::check_of))]
 pub fn check_values()
     ensures digits { check_of (codes "123456789") ≡ 0x31c3 }
     ensures nothing { check_of [] ≡ 0x0000 }

@@ -4,5 +4,6 @@
 mod check;
 mod fold;
 pub mod laws;
+mod rows;
 
 pub use check::{CheckState, check16};

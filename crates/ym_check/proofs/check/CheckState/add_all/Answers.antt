@@ -1,14 +1,15 @@
-use Rattle.std.proofs.Common.{◌≡◌, ◌*◌, ◌/◌, ◌++◌, ◌∙◌, ap, append_assoc, length, take, drop}
+use Rattle.std.proofs.Common.{◌≡◌, ◌*◌, ◌/◌, ◌++◌, ◌∙◌, ap, append_assoc, length}
 use Rattle.std.proofs.lemmas.List.{take-append-drop}
 use Rattle.ym_check.specs.Check.{check_of}
 use Rattle.ym_check.proofs.check.CheckState.add_all.Goals as goal
 
 pub returns : goal.returns
 returns c bytes is =
-    let more = c.args.more.now in
-    let mid = length more / 8 * 8 in
-    let words : c.with_words-self-inside.result ≡ check_of (bytes ++ take mid more) =
-    c.with_words-self-inside.ensures bytes (c.self.view_is ∙ is) ∙ ap (λ t. check_of (bytes ++ t)) c.split_at.ensures.front in
-    c.add_each.ensures (bytes ++ take mid more) words ∙
-    ap (λ t. check_of (bytes ++ take mid more ++ t)) c.split_at.ensures.back ∙
-    ap check_of (append_assoc bytes (take mid more) (drop mid more) ∙ ap (λ t. bytes ++ t) (take-append-drop mid more))
+    let chunks = c.split_at.result.0.now in
+    let rest = c.split_at.result.1.now in
+    let words = c.split_at-2.result.0.now in
+    let last = c.split_at-2.result.1.now in
+    let all : chunks ++ rest ≡ c.args.more.now = rw (c.split_at.ensures.front, c.split_at.ensures.back) (take-append-drop (length c.args.more.now / 64 * 64) c.args.more.now) in
+    let behind : words ++ last ≡ rest = rw (c.split_at-2.ensures.front, c.split_at-2.ensures.back) (take-append-drop (length rest / 16 * 16) rest) in
+    c.add_each.ensures ((bytes ++ chunks) ++ words) (c.with_words-self-inside.ensures (bytes ++ chunks) (c.with_chunks-self-inside.ensures bytes (c.self.view_is ∙ is))) ∙
+    ap check_of (append_assoc (bytes ++ chunks) words last ∙ ap (λ t. (bytes ++ chunks) ++ t) behind ∙ append_assoc bytes chunks rest ∙ ap (λ t. bytes ++ t) all)
