@@ -43,20 +43,20 @@ def test_clean(flags):
         for seed, flags in enumerate(([], ["--short"], ["--single"], ["--short", "--single"], []))
     ),
     *(
-        case("3 files, most deliveries damaged, seed %d" % seed, seed, 0.7, flags, few_files())
+        case("3 files, most deliveries damaged, seed %d" % seed, seed, 0.7, flags, few_files(), 3)
         for seed, flags in ((6, []), (7, ["--short"]), (8, ["--single"]), (9, []))
     ),
 )
-def test_damaged(seed, share, flags, files, longest=4):
+def test_damaged(seed, share, flags, files, least):
     """A line that damages so many of its deliveries, and in both ways; while the sender says one
-    frame in `longest` bad rounds at most, and once in so many."""
+    frame in no more bad rounds than the line promises, and once in `least`."""
     line = Seeded(seed, share, most=20)
     transfer(files, line, flags)
     assert (
         line.bad_frames
         and line.bad_replies
         and line.most_in_a_row <= line.longest
-        and line.most_in_a_row >= longest
+        and line.most_in_a_row >= least
     ), "the relay damaged %d frames, %d replies, %d in a row" % (
         line.bad_frames,
         line.bad_replies,

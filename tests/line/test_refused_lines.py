@@ -1,5 +1,6 @@
 """Each read and each write of a connection is refused in turn, at either end. A call that a signal
-interrupts is made again. At every other error what both ends tell is so, and why it failed is told.
+interrupts is made again, a read for what is left of its wait. At every other error what both ends
+tell is so, and why it failed is told.
 """
 
 import functools

@@ -218,35 +218,6 @@ def test_nodelay(do, count):
         wants_nodelay(log, count)
 
 
-def state_of(child):
-    """S where a process waits, T where it is stopped."""
-    with open("/proc/%d/stat" % child.child.pid, encoding="ascii") as it:
-        return it.read().rpartition(")")[2].split()[0]
-
-
-@sentence("sockets: receive, stopped while it waits, goes on")
-def test_is_stopped_and_goes_on():
-    """A stop interrupts the read of a line. That is no failure of the line."""
-    with folders() as (_, there):
-        port = free_port()
-        with running("receive", "--port", port, "--eager", there) as receive, connected(
-            port, receive
-        ) as end:
-            end.settimeout(LIMIT)
-            for _ in range(3):
-                expect(end, bytes((START,)))
-                for by, state in ((signal.SIGSTOP, "T"), (signal.SIGCONT, "S")):
-                    wait_until(lambda: state_of(receive) in "ST", "it waited", receive)
-                    receive.child.send_signal(by)
-                    wait_until(
-                        lambda state=state: state_of(receive) == state,
-                        "it took the signal",
-                        receive,
-                    )
-            end.sendall(END)
-            receive.ended().wants(0, "receiver files 0 finished\n")
-
-
 # A byte is written, and the next one within the second that the program waits for more of a
 # delivery: one of 2048 such bytes would last for a quarter of an hour. The program takes ten of its
 # waits of them: 30 seconds in `receive`, and 100 in `send`.

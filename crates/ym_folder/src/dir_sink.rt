@@ -20,7 +20,6 @@ use crate::probe::check_forced;
 use crate::store_fault::{StoreFault, name_fault, part_fault};
 use crate::write_behind::WriteBehind;
 use std::alloc::{AllocError, Global};
-use std::io;
 use std::io::ErrorKind;
 use std::marker::Model;
 use ym_file::{Sink, SinkFault};
@@ -46,15 +45,21 @@ pub enum Leftover {
     Discarded,
 }
 
+/// How a sink stores files, and in which folder.
+#[derive(Drop)]
+struct Settings {
+    alloc: Global,
+    dir: String,
+    durability: Durability,
+    leftover: Leftover,
+}
+
 /// Stores each file of a batch in a folder: it is written as NAME.part, 64 KiB at a time, and gets
 /// the name NAME when it is whole. Nothing that is there is ever overwritten. It tells no bytes.
 #[derive(Drop)]
 pub struct DirSink<D: Folder + Drop> {
     folder: D,
-    alloc: Global,
-    dir: String,
-    durability: Durability,
-    leftover: Leftover,
+    settings: Settings,
     taking: Option<OpenPart<D::File>>,
     behind: WriteBehind,
     committed: Vec<Header>,
@@ -77,7 +82,7 @@ impl<D: Folder + Drop> Model for DirSink<D> {
       headers = s.committed.items;
       failures = s.failed;
       first = s.first;
-      leftover = s.leftover;
+      leftover = s.settings.leftover;
       replaced = open_replaced s.taking;
       folder = D.seen s.folder;
       part = open_name s.taking;
@@ -86,16 +91,30 @@ impl<D: Folder + Drop> Model for DirSink<D> {
     } };
 
     ghost invariant = { λ s. IsReady s.taking (vec_len s.committed) (vec_capacity s.committed)
-        × IsTold s.failed s.first × ArePlaced D.is_of s.leftover s.taking };
+        × IsTold s.failed s.first × ArePlaced D.is_of s.settings.leftover s.taking };
 }
 
-/// Refuses a place at which something stands. What cannot be told counts as something.
-fn check_free<D: Folder>(folder: &D, at: &FilePlace) -> Result<(), StoreFault> {
-    match folder.is_regular(at) {
-        Ok(_) => Err(StoreFault::IsThere),
-        Err(error) if error.kind() == ErrorKind::NotFound => Ok(()),
-        Err(error) => Err(StoreFault::System(error)),
+/// Refuses a place at which something stands. What cannot be told counts as something. Sees before
+/// the first file that the folder can be forced out to the disk, where that is wanted: each commit
+/// will need it.
+fn check_ready<D: Folder>(
+    folder: &D,
+    how: &Settings,
+    target: &FilePlace,
+    stored: &[Header],
+) -> Result<(), StoreFault> {
+    match folder.is_regular(target) {
+        Ok(_) => return Err(StoreFault::IsThere),
+        Err(error) if error.kind() == ErrorKind::NotFound => {}
+        Err(error) => return Err(StoreFault::System(error)),
     }
+    if !matches!(how.durability, Durability::Disk) || !stored.is_empty() {
+        return Ok(());
+    }
+    if let Err(error) = check_forced(folder, how.dir.as_str()) {
+        return Err(StoreFault::System(error));
+    }
+    Ok(())
 }
 
 /// Whether a part of this name may be removed: where that is wanted, and the disk can have none of
@@ -110,35 +129,41 @@ fn may_discard(leftover: Leftover, stored: &[Header], part_name: &str) -> bool
             .all(|header| !may_be_one(header.name(), part_name))
 }
 
-/// Makes a part new at this place, after one that an earlier run left there was removed where that
-/// is wanted; and tells whether one was.
+/// Makes a part new at this place, where that of the file is free. One that an earlier run left
+/// there is removed before, where that is wanted; and whether one was is told.
 fn open_part<D: Folder>(
     folder: &mut D,
+    how: &Settings,
     part: &FilePlace,
-    leftover: Leftover,
+    target: &FilePlace,
     stored: &[Header],
-) -> io::Result<(D::File, bool)>
+) -> Result<(D::File, bool), StoreFault>
     ensures of { IfOk result (λ made. D.is_of made.0 (name_of part.now)) }
-    ensures asked { IfOk result (λ made. made.1 ≡ true → leftover ≡ Leftover.Discarded) }
+    ensures asked { IfOk result (λ made. made.1 ≡ true → how.now.leftover ≡ Leftover.Discarded) }
     ensures others { OthersStay (name_of part.now) (D.seen folder.old) (D.seen folder.new) }
     ensures free { (under (D.seen folder.new) (name_of part.now)
         ≡ under (D.seen folder.old) (name_of part.now))
         ⊎ (under (D.seen folder.old) (name_of part.now) ≡ None)
-        ⊎ ((leftover ≡ Leftover.Discarded) × NoneMayBe stored.now (name_of part.now)) }
+        ⊎ ((how.now.leftover ≡ Leftover.Discarded) × NoneMayBe stored.now (name_of part.now)) }
     ensures was_free { OnOk result ((under (D.seen folder.old) (name_of part.now) ≡ None)
-        ⊎ ((leftover ≡ Leftover.Discarded) × NoneMayBe stored.now (name_of part.now))) }
+        ⊎ ((how.now.leftover ≡ Leftover.Discarded) × NoneMayBe stored.now (name_of part.now))) }
     ensures empty { OnOk result
         (under (D.seen folder.new) (name_of part.now) ≡ empty_in (D.seen folder.new)) }
 {
-    match make_part(folder, part) {
-        Ok(file) => Ok((file, false)),
+    check_ready(folder, how, target, stored)?;
+    let error = match make_part(folder, part) {
+        Ok(file) => return Ok((file, false)),
         Err(error)
             if error.kind() == ErrorKind::AlreadyExists
-                && may_discard(leftover, stored, part.name()) => {
-            Ok((replace_part(folder, part)?, true))
+                && may_discard(how.leftover, stored, part.name()) => {
+            match replace_part(folder, part) {
+                Ok(file) => return Ok((file, true)),
+                Err(error) => error,
+            }
         }
-        Err(error) => Err(error),
-    }
+        Err(error) => error,
+    };
+    Err(part_fault(error))
 }
 
 impl<D: Folder + Drop> DirSink<D> {
@@ -172,10 +197,12 @@ impl<D: Folder + Drop> DirSink<D> {
         let behind = WriteBehind::new(alloc)?;
         Ok(DirSink {
             folder,
-            alloc,
-            dir,
-            durability,
-            leftover,
+            settings: Settings {
+                alloc,
+                dir,
+                durability,
+                leftover,
+            },
             taking: None,
             behind,
             committed: Vec::new(alloc),
@@ -245,17 +272,6 @@ impl<D: Folder + Drop> DirSink<D> {
         }
     }
 
-    /// Sees before the first file that the folder can be forced out to the disk, where that is
-    /// wanted: each commit will need it.
-    fn check_durable(&self) -> io::Result<()> {
-        match self.durability {
-            Durability::Disk if self.committed.is_empty() => {
-                check_forced(&self.folder, self.dir.as_str())
-            }
-            Durability::Disk | Durability::System => Ok(()),
-        }
-    }
-
     /// Counts a failure, and keeps why the first one was.
     fn fail(&mut self, why: StoreFault) -> SinkFault
         ensures fault { result ≡ SinkFault.Failed }
@@ -288,20 +304,13 @@ impl<D: Folder + Drop> Sink for DirSink<D> {
         ensures adds { Adds self.old self.new }
         ensures empty { OnOk result (put self.new ≡ empty_in self.new.folder) }
     {
-        if self.committed.reserve(1).is_err() {
-            return Err(SinkFault::Memory);
-        }
-        let Ok((part, target)) = places(self.alloc, self.dir.as_str(), header.name()) else {
+        let (settings, stored) = (&self.settings, &mut self.committed);
+        let dir = settings.dir.as_str();
+        let Ok((part, target)) = places(settings.alloc, dir, header.name(), stored) else {
             return Err(SinkFault::Memory);
         };
-        if let Err(why) = check_free(&self.folder, &target) {
-            return Err(self.fail(why));
-        }
-        if let Err(error) = self.check_durable() {
-            return Err(self.fail(StoreFault::System(error)));
-        }
-        let stored = self.committed.as_slice();
-        match open_part(&mut self.folder, &part, self.leftover, stored) {
+        let stored = stored.as_slice();
+        match open_part(&mut self.folder, settings, &part, &target, stored) {
             Ok((file, has_replaced)) => {
                 self.behind.clear();
                 self.taking = Some(OpenPart {
@@ -315,7 +324,7 @@ impl<D: Folder + Drop> Sink for DirSink<D> {
                 });
                 Ok(())
             }
-            Err(error) => Err(self.fail(part_fault(error))),
+            Err(why) => Err(self.fail(why)),
         }
     }
 
@@ -370,8 +379,8 @@ impl<D: Folder + Drop> Sink for DirSink<D> {
                 open,
                 &mut self.folder,
                 &mut self.behind,
-                self.dir.as_str(),
-                self.durability,
+                self.settings.dir.as_str(),
+                self.settings.durability,
             ),
             None => unreachable!(),
         };

@@ -1,7 +1,8 @@
 //! The part that a file is written as: how it is made, how it gets its name, and how one of an
 //! earlier run is removed.
 
-ghost use Rattle.std.specs.Prelude.{◌≡◌, ◌⊎◌, ℤ, true, false, None, OnOk, OnErr, IfOk};
+ghost use Rattle.std.specs.Prelude.{◌≡◌, ◌⊎◌, ◌<◌, ℤ, true, false, None, OnOk, OnErr, IfOk};
+ghost use Rattle.std.specs.Vec.{vec_len, vec_capacity};
 ghost use Rattle.ym_folder.specs.Folder.{AllStay, OthersStay, Made, Removed, TellsNoLinks};
 ghost use Rattle.ym_folder.specs.Folder.{under, empty_in, has_links};
 ghost use Rattle.ym_folder.specs.Part.{IsPartName, MayAdd, NameGiven, NameNotGiven};
@@ -12,6 +13,7 @@ use crate::place::FilePlace;
 use std::alloc::{AllocError, Global};
 use std::io;
 use std::io::ErrorKind;
+use ym_header::Header;
 
 /// How many bytes a file's name has at most, on usual file systems.
 const NAME_LIMIT: usize = 255;
@@ -30,15 +32,20 @@ pub fn part_name(alloc: Global, name: &str) -> Result<String, AllocError>
     Ok(part)
 }
 
-/// The place of the part of a file of this name in a folder, and the place of the file.
+/// The place of the part of a file of this name in a folder, and the place of the file. Room for
+/// one more header is made where those of the files stand that were stored.
 pub(crate) fn places(
     alloc: Global,
     dir: &str,
     name: &str,
+    stored: &mut Vec<Header>,
 ) -> Result<(FilePlace, FilePlace), AllocError>
     ensures part { IfOk result (λ made. IsPartName name.now (name_of made.0)) }
     ensures target { IfOk result (λ made. name_of made.1 ≡ name.now) }
+    ensures same { stored.new.items ≡ stored.old.items }
+    ensures has_room { OnOk result (vec_len stored.new < vec_capacity stored.new) }
 {
+    stored.reserve(1)?;
     let part = FilePlace::new(alloc, dir, part_name(alloc, name)?.as_str())?;
     let target = FilePlace::new(alloc, dir, name)?;
     Ok((part, target))

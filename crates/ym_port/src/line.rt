@@ -78,7 +78,7 @@ impl Line {
     }
 
     /// Takes a byte that came, and says what of it is to be heard.
-    #[inline]
+    #[inline(always)]
     fn byte(&mut self, byte: u8) -> Say
         ensures line { self.new ≡ table.hears_byte byte self.old }
         ensures role { self.new.timing.role ≡ self.old.timing.role }
@@ -89,7 +89,7 @@ impl Line {
     }
 
     /// Takes what came to a sender, and puts what of it is to be heard at the front of `buf`.
-    #[inline]
+    #[inline(always)]
     fn reply(&mut self, came: &[u8], buf: &mut [u8]) -> usize
         requires room { 2 * length came.now ≤ length buf.old }
         ensures line { self.new ≡ table.takes came.now self.old }
@@ -108,7 +108,7 @@ impl Line {
     }
 
     /// The same of what came to a sender and stands in `buf`.
-    #[inline]
+    #[inline(always)]
     fn reply_at_front(&mut self, buf: &mut [u8], count: usize) -> usize
         requires piece { count ≤ PIECE }
         requires room { 2 * count ≤ length buf.old }
@@ -125,7 +125,7 @@ impl Line {
     }
 
     /// The same, where a reply behind which the peer cancels is none.
-    #[inline]
+    #[inline(always)]
     fn reply_in(&mut self, buf: &mut [u8], count: usize) -> usize
         requires some { 0 < count }
         requires piece { count ≤ PIECE }
@@ -166,7 +166,7 @@ impl Line {
     }
 
     /// Takes what came and stands in `buf`, and leaves there what of it is to be heard.
-    #[inline]
+    #[inline(always)]
     pub fn hear(&mut self, buf: &mut [u8], count: usize) -> usize
         requires some { 0 < count }
         requires room { count ≤ table.room_for self.old.timing.role (length buf.old) }
@@ -303,7 +303,7 @@ impl Line {
     }
 
     /// Takes that these bytes are written, behind this purge.
-    #[inline]
+    #[inline(always)]
     pub fn write(&mut self, bytes: &[u8], purge: Purge)
         ensures { self.new ≡ table.writes bytes.now purge self.old }
     {

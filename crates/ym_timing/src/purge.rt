@@ -170,6 +170,7 @@ impl Timing {
     }
 
     /// The start: why the line has to clear before these bytes are written, if it has to.
+    #[inline(always)]
     pub fn purge(&self, bytes: &[u8], now: u64) -> Purge
         ensures { result ≡ table.purge bytes.now now self.now }
     {

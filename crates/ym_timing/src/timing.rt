@@ -157,6 +157,7 @@ impl Timing {
     }
 
     /// Takes a byte that came to a sender behind this frame.
+    #[inline(always)]
     fn reply_byte(&mut self, byte: u8, frame: &[u8], now: u64) -> Say
         ensures new { self.new ≡ table.after_reply byte frame.now now self.old }
         ensures role { self.new.role ≡ self.old.role }
@@ -235,6 +236,7 @@ impl Timing {
     }
 
     /// Takes a byte that came, where this was written last, and says what of it is to be heard.
+    #[inline(always)]
     pub fn byte(&mut self, byte: u8, written: &[u8], now: u64) -> Say
         ensures new { self.new ≡ table.after_byte byte written.now now self.old }
         ensures role { self.new.role ≡ self.old.role }

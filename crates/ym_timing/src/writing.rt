@@ -100,6 +100,7 @@ impl Timing {
     }
 
     /// What an answer says of how long answers take.
+    #[inline(always)]
     fn pace_after(&self, purge: Purge) -> Pace
         ensures { result ≡ table.pace_after purge self.now }
     {
@@ -168,6 +169,7 @@ impl Timing {
     }
 
     /// Whose answers may be under way behind a write.
+    #[inline(always)]
     fn out_after(&self, is_taken: bool, now: u64) -> Out
         ensures { result ≡ table.out_after is_taken now self.now }
     {
@@ -220,6 +222,7 @@ impl Timing {
     }
 
     /// Takes that these bytes were written, behind this purge.
+    #[inline(always)]
     pub fn wrote(&mut self, bytes: &[u8], purge: Purge, now: u64)
         ensures { self.new ≡ table.wrote bytes.now purge now self.old }
     {
@@ -233,27 +236,25 @@ impl Timing {
         } else {
             self.pace
         };
-        *self = Timing {
-            role: self.role,
-            pace,
-            out: self.out_after(is_taken, now),
-            sent: next,
-            led_at: if 0 < self.heard.count {
-                self.heard.last
-            } else {
-                now
-            },
-            heard: Arrivals::new(),
-            ear: self.ear.wrote(),
-            hold: self
-                .hold
-                .wrote(is_opening(next), is_repeat, is_doubted, now),
-            echoed: 0,
-            prefix: self.prefix_after(is_taken),
-            is_shaken,
-            vain: vain_after(self.vain, purge),
-            has_cancel: self.has_cancel,
+        let prefix = self.prefix_after(is_taken);
+        let hold = self
+            .hold
+            .wrote(is_opening(next), is_repeat, is_doubted, now);
+        self.out = self.out_after(is_taken, now);
+        self.pace = pace;
+        self.sent = next;
+        self.led_at = if 0 < self.heard.count {
+            self.heard.last
+        } else {
+            now
         };
+        self.heard = Arrivals::new();
+        self.ear = self.ear.wrote();
+        self.hold = hold;
+        self.echoed = 0;
+        self.prefix = prefix;
+        self.is_shaken = is_shaken;
+        self.vain = vain_after(self.vain, purge);
     }
 }
 

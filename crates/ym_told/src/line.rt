@@ -1,12 +1,12 @@
 //! The lines that are told.
 
 ghost use Rattle.std.specs.Prelude.{◌≡◌, Some};
-ghost use Rattle.ym_told.specs.LineWords.{line_words, short_words};
+ghost use Rattle.ym_told.specs.LineWords.{line_words};
 ghost use Rattle.ym_told.specs.LineOf.{line_told, line_sent, line_answered};
 
 use crate::prefix::BufferedPrefix;
 use crate::standing::BothStanding;
-use crate::words::{ControlWords, FootingWords, KindWords, MeaningWords};
+use crate::words::{control_text, footing_text, kind_text, meaning_text, short_text};
 use std::fmt;
 use ym_explain::{
     AnswerLine, Footing, FrameKind, Meaning, SentLine, SentTold, follows, meaning_of,
@@ -68,60 +68,40 @@ pub enum Telling {
     Zmodem,
 }
 
-/// That a damaged frame ends where another begins.
-#[derive(Clone, Copy)]
-struct ShortWords(bool);
-
-impl fmt::Display for ShortWords {
-    ghost output = { λ short. Some (short_words short.0) };
-
-    fn fmt<W: fmt::Write>(&self, f: &mut fmt::Formatter<W>) -> fmt::Result {
-        match self.0 {
-            true => f.write_str(", and another begins there"),
-            false => Ok(()),
-        }
-    }
-}
-
 impl fmt::Display for Telling {
     ghost output = { λ line. Some (line_words line) };
 
     fn fmt<W: fmt::Write>(&self, f: &mut fmt::Formatter<W>) -> fmt::Result {
-        match *self {
+        let (front, middle, behind) = match *self {
             Telling::Block {
                 number,
                 used,
                 kind,
                 footing,
             } => {
-                let kind = KindWords(kind);
-                let footing = FootingWords(footing);
-                write!(f, "block {number}, {used} bytes: {kind}{footing}")
+                let kind = kind_text(kind);
+                let footing = footing_text(footing);
+                return write!(f, "block {number}, {used} bytes: {kind}{footing}");
             }
-            Telling::Eot { kind, footing } => {
-                let kind = KindWords(kind);
-                let footing = FootingWords(footing);
-                write!(f, "EOT: {kind}{footing}")
-            }
-            Telling::Cancel => f.write_str("CAN CAN: the sender cancels"),
             Telling::Damage {
                 broken,
                 used,
                 short,
             } => {
-                let short = ShortWords(short);
-                write!(f, "damaged, {used} bytes, {broken}{short}")
+                let short = short_text(short);
+                return write!(f, "damaged, {used} bytes, {broken}{short}");
             }
-            Telling::Cut { used } => write!(f, "cut, {used} bytes of a frame and no more"),
+            Telling::Cut { used } => return write!(f, "cut, {used} bytes of a frame and no more"),
+            Telling::Echo { used } => return write!(f, "{used} bytes of the sender's own: an echo"),
+            Telling::Eot { kind, footing } => ("EOT: ", kind_text(kind), footing_text(footing)),
             Telling::Answer { control, meaning } => {
-                let control = ControlWords(control);
-                let meaning = MeaningWords(meaning);
-                write!(f, "{control}: {meaning}")
+                (control_text(control), ": ", meaning_text(meaning))
             }
-            Telling::ReceiverCancel => f.write_str("CAN CAN: the receiver cancels"),
-            Telling::Echo { used } => write!(f, "{used} bytes of the sender's own: an echo"),
-            Telling::Zmodem => f.write_str("a header of ZMODEM"),
-        }
+            Telling::Cancel => ("CAN CAN: the sender cancels", "", ""),
+            Telling::ReceiverCancel => ("CAN CAN: the receiver cancels", "", ""),
+            Telling::Zmodem => ("a header of ZMODEM", "", ""),
+        };
+        write!(f, "{front}{middle}{behind}")
     }
 }
 

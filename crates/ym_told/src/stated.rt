@@ -74,17 +74,17 @@ impl fmt::Display for Announced<'_> {
     ghost output = { λ announced. Some (announced_words announced) };
 
     fn fmt<W: fmt::Write>(&self, f: &mut fmt::Formatter<W>) -> fmt::Result {
-        match self {
+        let text = match self {
             Announced::File(header, _) => {
                 let name = header.name();
                 let length = header.length();
-                write!(f, "  file {name}, {length} bytes\n")
+                return write!(f, "  file {name}, {length} bytes\n");
             }
             Announced::Unread(HeaderFault::NoLength, _) => {
-                f.write_str("  a file with no length behind its name\n")
+                "  a file with no length behind its name\n"
             }
             Announced::Unread(HeaderFault::LengthLarge, _) => {
-                f.write_str("  a file with a length that is too large\n")
+                "  a file with a length that is too large\n"
             }
             Announced::Unread(
                 HeaderFault::NameEmpty
@@ -92,9 +92,10 @@ impl fmt::Display for Announced<'_> {
                 | HeaderFault::NameUnsafe
                 | HeaderFault::Memory,
                 _,
-            ) => f.write_str("  a file with a name that no file may have\n"),
-            Announced::Nothing => Ok(()),
-        }
+            ) => "  a file with a name that no file may have\n",
+            Announced::Nothing => "",
+        };
+        f.write_str(text)
     }
 }
 
