@@ -128,7 +128,7 @@ def test_receiver_ceases():
     """It was there, so nobody is asked whether it runs at the same speed."""
     ended = send_to(falls_silent, FILE, LOUD)
     ended.wants(1, "sender done 0 no-reply\n", ended.err)
-    ceased = r"no answer came any more for \d\d s: has the receiver stopped, or was the line cut\?"
+    ceased = r"nothing came any more for \d\d s: has the receiver stopped, or was the line cut\?"
     assert re.fullmatch(ceased, told_last(ended)), "it told %r" % told_last(ended)
 
 

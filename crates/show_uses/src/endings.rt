@@ -31,7 +31,7 @@ static SENDERS: [(SendState, Option<&str>); 3] = [
     ),
     (
         SendState::NoReply,
-        Some("no answer came for 30 s: is the receiver running, at the same speed?"),
+        Some("nothing came for 30 s: is the receiver running, at the same speed?"),
     ),
     (SendState::Finished, None),
 ];
@@ -114,7 +114,7 @@ static SLOW_LINES: [(Came, Option<u64>, &str); 4] = [
     ),
     (Came::Asks, Some(10_000), "nothing came but C, ten times"),
     (Came::Asks, None, "nothing came but C, ten times"),
-    (Came::Nothing, Some(16_400), "no answer came for 30 s"),
+    (Came::Nothing, Some(16_400), "nothing came for 30 s"),
 ];
 
 #[test]
@@ -227,7 +227,7 @@ static TO_SENDERS: [Heard; 16] = [
         &[b"\x06"],
         Sight::Begun,
         true,
-        "no answer came any more for 27 s: has the receiver stopped",
+        "nothing came any more for 27 s: has the receiver stopped",
     ),
     (
         &[b"\x15", b"\x15"],
@@ -239,21 +239,21 @@ static TO_SENDERS: [Heard; 16] = [
         &[b"\x15"],
         Sight::Peer,
         true,
-        "no answer came any more for 27 s: has the receiver stopped, or was the line cut?",
+        "nothing came any more for 27 s: has the receiver stopped, or was the line cut?",
     ),
     (
         &[b"\x15"],
         Sight::Nothing,
         true,
-        "no answer came any more for",
+        "nothing came any more for",
     ),
-    (&[], Sight::Peer, true, "no answer came any more for 27 s"),
-    (&[b"\xfe"], Sight::Peer, true, "no answer came any more for"),
+    (&[], Sight::Peer, true, "nothing came any more for 27 s"),
+    (&[b"\xfe"], Sight::Peer, true, "nothing came any more for"),
     (
         &[b"\xfe"],
         Sight::Nothing,
         true,
-        "no answer came for 27 s: is the receiver running",
+        "nothing came for 27 s: is the receiver running",
     ),
     (&[b"=> "], Sight::Nothing, true, "what comes is no YMODEM"),
     (

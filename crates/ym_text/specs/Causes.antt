@@ -80,27 +80,18 @@ abbrev pub cause_of : Peer → Lately → Cause
 cause_of other lately =
     cause_for other lately.seen lately.seconds lately.came lately.slow lately.is_silent
 
--- a sender does not hear all that comes: noise and an echo are no answer
-abbrev pub absent_front : Peer → List ℕ
-absent_front peer.Receiver = codes "no answer came for "
-absent_front peer.Sender = codes "nothing came for "
-
 abbrev pub absent_text : Peer → ℕ → List ℕ
 absent_text other seconds =
-    absent_front other ++ (decimal seconds ++ (codes " s: is the "
+    codes "nothing came for " ++ (decimal seconds ++ (codes " s: is the "
     ++ (peer_text other ++ codes " running, at the same speed?")))
 
 abbrev pub stopped_text : Peer → List ℕ
 stopped_text other =
     codes "has the " ++ (peer_text other ++ codes " stopped, or was the line cut?")
 
-abbrev pub ceased_front : Peer → List ℕ
-ceased_front peer.Receiver = codes "no answer came any more for "
-ceased_front peer.Sender = codes "nothing came any more for "
-
 abbrev pub ceased_text : Peer → ℕ → List ℕ
 ceased_text other seconds =
-    ceased_front other
+    codes "nothing came any more for "
     ++ (decimal seconds ++ (codes " s: " ++ stopped_text other))
 
 abbrev pub slow_text : ℕ → List ℕ
@@ -141,6 +132,6 @@ cause_text cause.Noise =
 -- the line that is made of these words
 abbrev pub words_text : CauseWords → List ℕ
 words_text (words.Text text) = text.now
-words_text (words.Timed front seconds middle other behind) =
-    front.now ++ (decimal seconds ++ (middle.now ++ (peer_text other ++ behind.now)))
-words_text (words.Slow took) = slow_text took
+words_text (words.Absent told) = absent_text told.peer told.seconds
+words_text (words.Ceased told) = ceased_text told.peer told.seconds
+words_text (words.Slow told) = slow_text told.took

@@ -9,6 +9,7 @@ use Rattle.ym_core.specs.declared.state.SendState.TheVariants as send
 use Rattle.ym_text.specs.declared.came.Sight.{Sight}
 use Rattle.ym_text.specs.declared.came.Sight.TheVariants as seen
 use Rattle.ym_text.specs.declared.came.Lately.{Lately}
+use Rattle.ym_text.specs.declared.cause.Cause.{Cause}
 use Rattle.ym_text.specs.declared.cause.Peer.TheVariants as peer
 use Rattle.ym_text.specs.declared.reason.Reason.{Reason}
 use Rattle.ym_text.specs.declared.line_message.LineMessage.{LineMessage}

@@ -1,5 +1,5 @@
 -- Moments that `date -u -d @SECONDS` tells, worked out by the definitions.
-use Rattle.std.specs.Prelude.{◌≡◌, ◌*◌, ◌+◌, ◌-◌, ◌/◌, ◌%◌, pos, codes, refl}
+use Rattle.std.specs.Prelude.{◌≡◌, ◌*◌, ◌+◌, ◌-◌, ◌/◌, ◌%◌, ℕ, pos, codes, refl}
 use Rattle.std.specs.Fmt.{digits}
 use Rattle.jiff_core.specs.Calendar.{days_from_civil, day_count, days_of_years, days_of_months}
 use Rattle.ym_text.specs.Moment.{year_10000, moment_text}

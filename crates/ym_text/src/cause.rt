@@ -1,9 +1,10 @@
 //! Why an end heard nothing of use.
 
 ghost use Rattle.std.specs.Prelude.{◌≡◌, Some};
-ghost use Rattle.ym_text.specs.Causes.{absent_text, ceased_text, words_text};
+ghost use Rattle.ym_text.specs.Causes.{absent_text, stopped_text, ceased_text, slow_text};
 ghost use Rattle.ym_text.specs.Causes.{peer_text, silence_of, quiet_of, noise_of, asked_of};
 ghost use Rattle.ym_text.specs.Causes.{heard_of, prompt_of, passed_of, cause_of, cause_text};
+ghost use Rattle.ym_text.specs.Causes.{words_text};
 
 use crate::came::{Came, Lately, Sight};
 use std::fmt;
@@ -65,39 +66,93 @@ pub(crate) enum Cause {
     Noise,
 }
 
+/// That nothing came.
+#[derive(Clone, Copy)]
+pub(crate) struct AbsentWords {
+    /// The other end.
+    pub(crate) peer: Peer,
+    /// For how many seconds nothing came.
+    pub(crate) seconds: u64,
+}
+
+impl fmt::Display for AbsentWords {
+    ghost output = { λ words. Some (absent_text words.peer words.seconds) };
+
+    fn fmt<W: fmt::Write>(&self, f: &mut fmt::Formatter<W>) -> fmt::Result {
+        let seconds = self.seconds;
+        let peer = self.peer.text();
+        write!(
+            f,
+            "nothing came for {seconds} s: is the {peer} running, at the same speed?"
+        )
+    }
+}
+
+/// Whether the other end is there no more.
+#[derive(Clone, Copy)]
+struct StoppedWords {
+    /// The other end.
+    peer: Peer,
+}
+
+impl fmt::Display for StoppedWords {
+    ghost output = { λ words. Some (stopped_text words.peer) };
+
+    fn fmt<W: fmt::Write>(&self, f: &mut fmt::Formatter<W>) -> fmt::Result {
+        let peer = self.peer.text();
+        write!(f, "has the {peer} stopped, or was the line cut?")
+    }
+}
+
+/// That nothing came any more.
+#[derive(Clone, Copy)]
+pub(crate) struct CeasedWords {
+    /// The other end.
+    pub(crate) peer: Peer,
+    /// For how many seconds nothing came.
+    pub(crate) seconds: u64,
+}
+
+impl fmt::Display for CeasedWords {
+    ghost output = { λ words. Some (ceased_text words.peer words.seconds) };
+
+    fn fmt<W: fmt::Write>(&self, f: &mut fmt::Formatter<W>) -> fmt::Result {
+        let seconds = self.seconds;
+        let question = StoppedWords { peer: self.peer };
+        write!(f, "nothing came any more for {seconds} s: {question}")
+    }
+}
+
+/// That answers take too long.
+#[derive(Clone, Copy)]
+pub(crate) struct SlowWords {
+    /// How many seconds one takes.
+    pub(crate) took: u64,
+}
+
+impl fmt::Display for SlowWords {
+    ghost output = { λ words. Some (slow_text words.took) };
+
+    fn fmt<W: fmt::Write>(&self, f: &mut fmt::Formatter<W>) -> fmt::Result {
+        let took = self.took;
+        write!(
+            f,
+            "answers take longer than {took} seconds: use a line that hands on sooner"
+        )
+    }
+}
+
 /// What the line of a cause is made of.
 #[derive(Clone, Copy)]
 pub(crate) enum CauseWords {
     /// A text that is the same each time.
     Text(&'static str),
-    /// A text, so many seconds, a text behind them, the other end, and a text behind that.
-    Timed(&'static str, u64, &'static str, Peer, &'static str),
-    /// That answers take so many seconds.
-    Slow(u64),
-}
-
-/// That nothing came. A sender does not hear all that comes, so it speaks of answers.
-fn absent(peer: Peer, seconds: u64) -> CauseWords
-    ensures { absent_text peer seconds ≡ words_text result }
-{
-    let front = match peer {
-        Peer::Receiver => "no answer came for ",
-        Peer::Sender => "nothing came for ",
-    };
-    let behind = " running, at the same speed?";
-    CauseWords::Timed(front, seconds, " s: is the ", peer, behind)
-}
-
-/// That nothing came any more.
-fn ceased(peer: Peer, seconds: u64) -> CauseWords
-    ensures { ceased_text peer seconds ≡ words_text result }
-{
-    let front = match peer {
-        Peer::Receiver => "no answer came any more for ",
-        Peer::Sender => "nothing came any more for ",
-    };
-    let behind = " stopped, or was the line cut?";
-    CauseWords::Timed(front, seconds, " s: has the ", peer, behind)
+    /// That nothing came.
+    Absent(AbsentWords),
+    /// That nothing came any more.
+    Ceased(CeasedWords),
+    /// That answers take too long.
+    Slow(SlowWords),
 }
 
 /// Why nothing comes.
@@ -201,9 +256,9 @@ impl Cause {
         ensures { cause_text self ≡ words_text result }
     {
         match self {
-            Cause::Absent(peer, seconds) => absent(peer, seconds),
-            Cause::Ceased(peer, seconds) => ceased(peer, seconds),
-            Cause::Slow(took) => CauseWords::Slow(took),
+            Cause::Absent(peer, seconds) => CauseWords::Absent(AbsentWords { peer, seconds }),
+            Cause::Ceased(peer, seconds) => CauseWords::Ceased(CeasedWords { peer, seconds }),
+            Cause::Slow(took) => CauseWords::Slow(SlowWords { took }),
             Cause::Asks => CauseWords::Text(
                 "nothing came but C, ten times: does the receiver get what is written to it?",
             ),
@@ -252,14 +307,9 @@ impl fmt::Display for Cause {
     fn fmt<W: fmt::Write>(&self, f: &mut fmt::Formatter<W>) -> fmt::Result {
         match self.words() {
             CauseWords::Text(text) => f.write_str(text),
-            CauseWords::Timed(front, seconds, middle, peer, behind) => {
-                let peer = peer.text();
-                write!(f, "{front}{seconds}{middle}{peer}{behind}")
-            }
-            CauseWords::Slow(took) => write!(
-                f,
-                "answers take longer than {took} seconds: use a line that hands on sooner"
-            ),
+            CauseWords::Absent(words) => write!(f, "{words}"),
+            CauseWords::Ceased(words) => write!(f, "{words}"),
+            CauseWords::Slow(words) => write!(f, "{words}"),
         }
     }
 }

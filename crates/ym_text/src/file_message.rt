@@ -1,6 +1,5 @@
 //! What is told of files.
 
-use crate::behind::Behind;
 use crate::reason::Reason;
 use crate::shown::Shown;
 use std::fmt;
@@ -40,79 +39,113 @@ pub enum FileMessage<'a> {
     CannotStore(&'a str, Reason),
 }
 
-/// What is told where a part would have the name of its file.
-const OWN_PART: &str = ": its part would have the same name; send it under a shorter one";
+/// Why a file cannot be sent.
+fn write_refused<W: fmt::Write>(
+    f: &mut fmt::Formatter<W>,
+    path: &str,
+    fault: HeaderFault,
+) -> fmt::Result {
+    let path = Shown(path);
+    write!(f, "cannot send '{path}': {fault}")
+}
 
-/// What is told of a part that may be of an earlier run.
-const LEFT_PART: &str = "is there; wait for the receiver that writes it, or use --discard-parts \
-    where an earlier run left it";
+/// Why a file was not sent whole.
+fn write_unread<W: fmt::Write>(f: &mut fmt::Formatter<W>, path: &str, why: Reason) -> fmt::Result {
+    let path = Shown(path);
+    write!(f, "cannot read '{path}': {why}")
+}
 
-/// What is told of a part that may not be removed.
-const USED_PART: &str = "is in use by another program, may not be read, is no regular file, or may \
-    be a file of this batch; wait for that program, or move it away";
+/// That two files are sent under one name.
+fn write_same<W: fmt::Write>(
+    f: &mut fmt::Formatter<W>,
+    first: &str,
+    second: &str,
+    name: &str,
+) -> fmt::Result {
+    let first = Shown(first);
+    let second = Shown(second);
+    let name = Shown(name);
+    write!(
+        f,
+        "'{first}' and '{second}' are both sent as '{name}': a receiver keeps one, or refuses the \
+        second"
+    )
+}
 
-impl<'a> FileMessage<'a> {
-    /// What stands before the name or the path that its line has first.
-    fn front(&self) -> &'static str {
-        match *self {
-            FileMessage::CannotOpen(_, _) => "cannot open ",
-            FileMessage::CannotSend(_, _) => "cannot send ",
-            FileMessage::CannotRead(_, _) => "cannot read ",
-            FileMessage::CannotStoreIn(_, _) => "cannot store in ",
-            FileMessage::NameIsUnsafe(_) => "the sender gave the unsafe name ",
-            FileMessage::SameName(_, _, _) | FileMessage::PartIsReplaced(_) => "",
-            _ => "cannot store ",
-        }
-    }
-
-    /// That name or path.
-    fn name(&self) -> &'a str {
-        match *self {
-            FileMessage::CannotOpen(name, _)
-            | FileMessage::CannotSend(name, _)
-            | FileMessage::CannotRead(name, _)
-            | FileMessage::SameName(name, _, _)
-            | FileMessage::NameIsUnsafe(name)
-            | FileMessage::CannotStoreIn(name, _)
-            | FileMessage::IsThere(name)
-            | FileMessage::IsOwnPart(name)
-            | FileMessage::PartIsLeft(name, _)
-            | FileMessage::PartIsInUse(name, _)
-            | FileMessage::PartIsReplaced(name)
-            | FileMessage::PartIsGone(name, _)
-            | FileMessage::CannotStore(name, _) => name,
-        }
-    }
-
-    /// What stands behind it.
-    fn behind(&self) -> Behind<'a> {
-        match *self {
-            FileMessage::CannotOpen(_, why)
-            | FileMessage::CannotRead(_, why)
-            | FileMessage::CannotStoreIn(_, why)
-            | FileMessage::CannotStore(_, why) => Behind::Refused(why),
-            FileMessage::CannotSend(_, fault) => Behind::Unfit(fault),
-            FileMessage::SameName(_, second, name) => Behind::Same(second, name),
-            FileMessage::PartIsLeft(_, part) => Behind::Part(part, LEFT_PART),
-            FileMessage::PartIsInUse(_, part) => Behind::Part(part, USED_PART),
-            FileMessage::PartIsGone(_, part) => {
-                Behind::Part(part, "was changed by another program")
-            }
-            FileMessage::NameIsUnsafe(_) => Behind::Text(": a path, or with control characters"),
-            FileMessage::IsThere(_) => Behind::Text(": it is there already; move it away first"),
-            FileMessage::IsOwnPart(_) => Behind::Text(OWN_PART),
-            FileMessage::PartIsReplaced(_) => {
-                Behind::Text(", left from an earlier run, was replaced")
-            }
-        }
-    }
+/// Why a name is not taken.
+fn write_unsafe<W: fmt::Write>(f: &mut fmt::Formatter<W>, name: &str) -> fmt::Result {
+    let name = Shown(name);
+    write!(
+        f,
+        "the sender gave the unsafe name '{name}': a path, or with control characters"
+    )
 }
 
 impl fmt::Display for FileMessage<'_> {
     fn fmt<W: fmt::Write>(&self, f: &mut fmt::Formatter<W>) -> fmt::Result {
-        let front = self.front();
-        let name = Shown(self.name());
-        let behind = self.behind();
-        write!(f, "{front}'{name}'{behind}")
+        match *self {
+            FileMessage::CannotOpen(path, why) => {
+                let path = Shown(path);
+                write!(f, "cannot open '{path}': {why}")
+            }
+            FileMessage::CannotSend(path, fault) => write_refused(f, path, fault),
+            FileMessage::CannotRead(path, why) => write_unread(f, path, why),
+            FileMessage::SameName(first, second, name) => write_same(f, first, second, name),
+            FileMessage::NameIsUnsafe(name) => write_unsafe(f, name),
+            FileMessage::CannotStoreIn(path, why) => {
+                let path = Shown(path);
+                write!(f, "cannot store in '{path}': {why}")
+            }
+            FileMessage::IsThere(name) => {
+                let name = Shown(name);
+                write!(
+                    f,
+                    "cannot store '{name}': it is there already; move it away first"
+                )
+            }
+            FileMessage::IsOwnPart(name) => {
+                let name = Shown(name);
+                write!(
+                    f,
+                    "cannot store '{name}': its part would have the same name; send it under a \
+                    shorter one"
+                )
+            }
+            FileMessage::PartIsLeft(name, part) => {
+                let name = Shown(name);
+                let part = Shown(part);
+                write!(
+                    f,
+                    "cannot store '{name}': '{part}' is there; wait for the receiver that \
+                    writes it, or use --discard-parts where an earlier run left it"
+                )
+            }
+            FileMessage::PartIsInUse(name, part) => {
+                let name = Shown(name);
+                let part = Shown(part);
+                write!(
+                    f,
+                    "cannot store '{name}': '{part}' is in use by another program, may not be \
+                    read, is no regular file, or may be a file of this batch; wait for that \
+                    program, or move it away"
+                )
+            }
+            FileMessage::PartIsReplaced(part) => {
+                let part = Shown(part);
+                write!(f, "'{part}', left from an earlier run, was replaced")
+            }
+            FileMessage::PartIsGone(name, part) => {
+                let name = Shown(name);
+                let part = Shown(part);
+                write!(
+                    f,
+                    "cannot store '{name}': '{part}' was changed by another program"
+                )
+            }
+            FileMessage::CannotStore(name, why) => {
+                let name = Shown(name);
+                write!(f, "cannot store '{name}': {why}")
+            }
+        }
     }
 }

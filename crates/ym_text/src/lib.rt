@@ -2,7 +2,6 @@
 //! whom it waits for, and why it failed. A line that tells how far a file is fits its terminal.
 #![tactic(auto)]
 
-mod behind;
 mod came;
 mod cause;
 mod cells;

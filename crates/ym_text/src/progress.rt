@@ -30,12 +30,11 @@ impl fmt::Display for Rate {
         let Some(rate) = self.0 else {
             return Ok(());
         };
-        let (count, unit) = if rate < 10_000 {
-            (rate, " B/s")
-        } else {
-            (rate / 1000, " kB/s")
-        };
-        write!(f, ", {count}{unit}")
+        if rate < 10_000 {
+            return write!(f, ", {rate} B/s");
+        }
+        let thousands = rate / 1000;
+        write!(f, ", {thousands} kB/s")
     }
 }
 
@@ -143,19 +142,17 @@ impl fmt::Display for Brief {
 
     fn fmt<W: fmt::Write>(&self, f: &mut fmt::Formatter<W>) -> fmt::Result {
         let progress = self.progress;
-        let left = progress.seconds_left();
-        let (rate, left, repeats) = match self.detail {
-            Detail::All => return write!(f, "{progress}"),
-            Detail::NoBytes => (progress.rate, left, progress.repeats),
-            Detail::NoRepeats => (progress.rate, left, 0),
-            Detail::NoLeft => (progress.rate, None, 0),
-            Detail::Percent => (None, None, 0),
-        };
         let percent = progress.percent();
-        let rate = Rate(rate);
-        let left = Left(left);
-        let repeats = Repeats(repeats);
-        write!(f, "{percent}%{rate}{left}{repeats}")
+        let rate = Rate(progress.rate);
+        let left = Left(progress.seconds_left());
+        let repeats = Repeats(progress.repeats);
+        match self.detail {
+            Detail::All => write!(f, "{progress}"),
+            Detail::NoBytes => write!(f, "{percent}%{rate}{left}{repeats}"),
+            Detail::NoRepeats => write!(f, "{percent}%{rate}{left}"),
+            Detail::NoLeft => write!(f, "{percent}%{rate}"),
+            Detail::Percent => write!(f, "{percent}%"),
+        }
     }
 }
 
