@@ -1,6 +1,7 @@
 """Reads of a connection that a signal interrupts. That is no failure of the line, and no wait is
 longer for it."""
 
+import contextlib
 import os
 import signal
 import struct
@@ -39,40 +40,40 @@ def stops(child):
         wait_until(lambda state=state: state_of(child) == state, "it took the signal", child)
 
 
-@sentence("sockets: receive, stopped while it waits, goes on")
-def test_is_stopped_and_goes_on():
+@contextlib.contextmanager
+def eager_and_peer():
+    """A `receive` that asks, and the connection of its peer, who ends the batch behind all else."""
     with folders() as (_, there):
         port = free_port()
         with running("receive", "--port", port, "--eager", there) as receive, connected(
             port, receive
         ) as end:
             end.settimeout(LIMIT)
-            for _ in range(3):
-                expect(end, bytes((START,)))
-                stops(receive)
+            yield receive, end
             end.sendall(END)
             receive.ended().wants(0, "receiver files 0 finished\n")
+
+
+@sentence("sockets: receive, stopped while it waits, goes on")
+def test_is_stopped_and_goes_on():
+    with eager_and_peer() as (receive, end):
+        for _ in range(3):
+            expect(end, bytes((START,)))
+            stops(receive)
 
 
 @sentence("sockets: receive, stopped again and again, asks")
 def test_is_stopped_again_and_again():
     """No wait begins anew where it is stopped."""
-    with folders() as (_, there):
-        port = free_port()
-        with running("receive", "--port", port, "--eager", there) as receive, connected(
-            port, receive
-        ) as end:
-            end.settimeout(LIMIT)
-            for _ in range(STOPS):
-                wait_to_read(end, ASKS, STOPS_EVERY)
-                if waiting(end) >= ASKS:
-                    break
-                stops(receive)
-            asked = waiting(end)
-            assert asked >= ASKS, "stopped %d times, it asked %d times" % (STOPS, asked)
-            expect(end, bytes((START,)) * asked)
-            end.sendall(END)
-            receive.ended().wants(0, "receiver files 0 finished\n")
+    with eager_and_peer() as (receive, end):
+        for _ in range(STOPS):
+            wait_to_read(end, ASKS, STOPS_EVERY)
+            if waiting(end) >= ASKS:
+                break
+            stops(receive)
+        asked = waiting(end)
+        assert asked >= ASKS, "stopped %d times, it asked %d times" % (STOPS, asked)
+        expect(end, bytes((START,)) * asked)
 
 
 def wait_set_by(call):
