@@ -37,7 +37,7 @@ struct TimedStream {
 #[derive(Drop)]
 pub struct SocketWire<R: Clock + Drop> {
     clock: R,
-    stream: TimedStream,
+    timed: TimedStream,
     role: Role,
     /// The last moment that the clock told.
     last: u64,
@@ -71,84 +71,22 @@ fn left_until<R: Clock>(clock: &R, end: u64) -> Option<u64> {
 }
 
 impl TimedStream {
-    /// Sets how long reads wait, where that changes: a millisecond at least, since none is no
-    /// limit.
-    fn set_wait(&mut self, millis: u64) -> io::Result<()> {
-        let wait = millis.max(1);
-        if self.set_ms != wait {
-            self.stream
-                .set_read_timeout(Some(Duration::from_millis(wait)))?;
-            self.set_ms = wait;
-        }
+    /// Sets how long reads wait, in milliseconds.
+    #[cold]
+    fn set_wait(&mut self, wait: u64) -> io::Result<()> {
+        self.stream
+            .set_read_timeout(Some(Duration::from_millis(wait)))?;
+        self.set_ms = wait;
         Ok(())
     }
 
-    /// Reads what is there into the front of `buf`, or waits for so many milliseconds, and shorter
-    /// where a signal interrupts that.
-    fn read_once(&mut self, millis: u64, buf: &mut [u8]) -> io::Result<Got>
-        requires { 0 < length buf.old }
-        ensures { (n : ℕ) → result ≡ Ok (Got.Bytes n) → (0 < n) × (n ≤ length buf.old) }
-    {
-        self.set_wait(millis)?;
-        match self.stream.read(buf) {
-            Ok(0) => Ok(Got::Closed),
-            Ok(n) => Ok(Got::Bytes(n)),
-            Err(error) => match error.kind() {
-                ErrorKind::WouldBlock | ErrorKind::TimedOut | ErrorKind::Interrupted => {
-                    Ok(Got::Quiet)
-                }
-                // A peer that ends with bytes unread resets the connection: it is closed too.
-                ErrorKind::ConnectionReset => Ok(Got::Closed),
-                _ => Err(error),
-            },
-        }
-    }
-
-    /// Reads what is there, or waits for it until this moment, which is so many milliseconds away.
-    fn read_until<R: Clock>(
-        &mut self,
-        clock: &R,
-        end: u64,
-        millis: u64,
-        buf: &mut [u8],
-    ) -> io::Result<Got>
-        requires { 0 < length buf.old }
-        ensures { (n : ℕ) → result ≡ Ok (Got.Bytes n) → (0 < n) × (n ≤ length buf.old) }
-    {
-        let mut wait = millis;
-        for _ in 0..=millis / PAUSE_MS {
-            match self.read_once(wait, buf)? {
-                Got::Quiet => {}
-                got => return Ok(got),
-            }
-            match left_until(clock, end) {
-                Some(left) => wait = left,
-                None => break,
-            }
-        }
-        Ok(Got::Quiet)
-    }
-
-    /// Sets how long writes wait, before the first one.
+    /// Sets how long writes wait.
+    #[cold]
     fn bound_writes(&mut self) -> io::Result<()> {
-        if !self.is_write_bounded {
-            self.stream
-                .set_write_timeout(Some(Duration::from_millis(WRITE_MS)))?;
-            self.is_write_bounded = true;
-        }
+        self.stream
+            .set_write_timeout(Some(Duration::from_millis(WRITE_MS)))?;
+        self.is_write_bounded = true;
         Ok(())
-    }
-
-    /// Writes all the bytes. That the peer takes none of them for too long counts as no answer in
-    /// time.
-    fn write_in_time(&mut self, bytes: &[u8]) -> io::Result<()> {
-        self.bound_writes()?;
-        match self.stream.write_all(bytes) {
-            Err(error) if error.kind() == ErrorKind::WouldBlock => {
-                Err(io::Error::from(ErrorKind::TimedOut))
-            }
-            written => written,
-        }
     }
 }
 
@@ -162,7 +100,7 @@ impl<R: Clock + Drop> SocketWire<R> {
         let _ = stream.set_nodelay(true);
         SocketWire {
             clock,
-            stream: TimedStream {
+            timed: TimedStream {
                 stream,
                 set_ms: 0,
                 is_write_bounded: false,
@@ -180,23 +118,9 @@ impl<R: Clock + Drop> SocketWire<R> {
         self.fault
     }
 
-    /// Reads what is there, or waits, unless bytes have been coming for too long.
-    fn read_in_time(&mut self, millis: u64, buf: &mut [u8]) -> io::Result<Got>
-        requires { 0 < length buf.old }
-        ensures same { self.new ≡ self.old }
-        ensures count { (n : ℕ) → result ≡ Ok (Got.Bytes n) → (0 < n) × (n ≤ length buf.old) }
-    {
-        if self.drip.is_overdue(self.role, self.last) {
-            self.drip = Drip::Nothing;
-            return Ok(Got::Quiet);
-        }
-        let end = self.last.saturating_add(millis);
-        let got = self.stream.read_until(&self.clock, end, millis, buf)?;
-        self.drip = self.drip.after(self.last, got);
-        Ok(got)
-    }
-
     /// Counts a failure, and keeps why the first time.
+    #[cold]
+    #[inline(never)]
     fn fail(&mut self, error: io::Error) -> PortFault
         ensures { Counted self.old self.new }
     {
@@ -206,12 +130,159 @@ impl<R: Clock + Drop> SocketWire<R> {
     }
 }
 
+// An error of the system is large. So one is told of where it comes, and what a call of the line
+// answers is small: these are made for each block.
+impl<R: Clock + Drop> SocketWire<R> {
+    /// Has reads wait for so many milliseconds.
+    #[cold]
+    #[inline(never)]
+    fn wait_for(&mut self, wait: u64) -> Result<(), PortFault>
+        ensures ok { OnOk result (self.new ≡ self.old) }
+        ensures failed { OnErr result (Counted self.old self.new) }
+    {
+        match self.timed.set_wait(wait) {
+            Ok(()) => Ok(()),
+            Err(error) => Err(self.fail(error)),
+        }
+    }
+
+    /// What a read comes to that got no bytes, for this reason.
+    #[cold]
+    #[inline(never)]
+    fn unread(&mut self, error: io::Error) -> Result<Got, PortFault>
+        ensures none { (n : ℕ) → result ≡ Ok (Got.Bytes n) → ⊥ }
+        ensures ok { OnOk result (self.new ≡ self.old) }
+        ensures failed { OnErr result (Counted self.old self.new) }
+    {
+        match error.kind() {
+            ErrorKind::WouldBlock | ErrorKind::TimedOut | ErrorKind::Interrupted => Ok(Got::Quiet),
+            // A peer that ends with bytes unread resets the connection: it is closed too.
+            ErrorKind::ConnectionReset => Ok(Got::Closed),
+            _ => Err(self.fail(error)),
+        }
+    }
+
+    /// Reads what is there into the front of `buf`, or waits for so many milliseconds, and shorter
+    /// where a signal interrupts that.
+    #[inline(always)]
+    fn read_once(&mut self, millis: u64, buf: &mut [u8]) -> Result<Got, PortFault>
+        requires { 0 < length buf.old }
+        ensures count { (n : ℕ) → result ≡ Ok (Got.Bytes n) → (0 < n) × (n ≤ length buf.old) }
+        ensures ok { OnOk result (self.new ≡ self.old) }
+        ensures failed { OnErr result (Counted self.old self.new) }
+    {
+        let wait = millis.max(1); // none is no limit
+        if self.timed.set_ms != wait {
+            self.wait_for(wait)?;
+        }
+        match self.timed.stream.read(buf) {
+            Ok(0) => Ok(Got::Closed),
+            Ok(n) => Ok(Got::Bytes(n)),
+            Err(error) => self.unread(error),
+        }
+    }
+
+    /// Reads on where a read of so many milliseconds got nothing, until these are over.
+    #[cold]
+    #[inline(never)]
+    fn read_on(&mut self, millis: u64, buf: &mut [u8]) -> Result<Got, PortFault>
+        requires { 0 < length buf.old }
+        ensures count { (n : ℕ) → result ≡ Ok (Got.Bytes n) → (0 < n) × (n ≤ length buf.old) }
+        ensures ok { OnOk result (self.new ≡ self.old) }
+        ensures failed { OnErr result (Counted self.old self.new) }
+    {
+        let end = self.last.saturating_add(millis);
+        for _ in 0..millis / PAUSE_MS {
+            let left = match left_until(&self.clock, end) {
+                Some(left) => left,
+                None => return Ok(Got::Quiet),
+            };
+            match self.read_once(left, buf)? {
+                Got::Quiet => {}
+                got => return Ok(got),
+            }
+        }
+        Ok(Got::Quiet)
+    }
+
+    /// Reads what is there, or waits.
+    #[inline(always)]
+    fn read_in_time(&mut self, millis: u64, buf: &mut [u8]) -> Result<Got, PortFault>
+        requires { 0 < length buf.old }
+        ensures count { (n : ℕ) → result ≡ Ok (Got.Bytes n) → (0 < n) × (n ≤ length buf.old) }
+        ensures ok { OnOk result (self.new ≡ self.old) }
+        ensures failed { OnErr result (Counted self.old self.new) }
+    {
+        match self.read_once(millis, buf) {
+            Ok(Got::Quiet) => self.read_on(millis, buf),
+            got => got,
+        }
+    }
+
+    /// Counts a write that failed. That the peer takes nothing for too long counts as no answer in
+    /// time.
+    #[cold]
+    #[inline(never)]
+    fn unwritten(&mut self, error: io::Error) -> PortFault
+        ensures { Counted self.old self.new }
+    {
+        match error.kind() {
+            ErrorKind::WouldBlock => self.fail(io::Error::from(ErrorKind::TimedOut)),
+            _ => self.fail(error),
+        }
+    }
+
+    /// Has writes wait no longer than they may, before the first one.
+    #[cold]
+    #[inline(never)]
+    fn bound_writes(&mut self) -> Result<(), PortFault>
+        ensures ok { OnOk result (self.new ≡ self.old) }
+        ensures failed { OnErr result (Counted self.old self.new) }
+    {
+        match self.timed.bound_writes() {
+            Ok(()) => Ok(()),
+            Err(error) => Err(self.unwritten(error)),
+        }
+    }
+
+    /// Writes all of these bytes, which a write before did not take.
+    #[cold]
+    #[inline(never)]
+    fn write_rest(&mut self, bytes: &[u8]) -> Result<(), PortFault>
+        ensures ok { OnOk result (self.new ≡ self.old) }
+        ensures failed { OnErr result (Counted self.old self.new) }
+    {
+        match self.timed.stream.write_all(bytes) {
+            Ok(()) => Ok(()),
+            Err(error) => Err(self.unwritten(error)),
+        }
+    }
+
+    /// Writes all the bytes: by one write, where the system takes them so.
+    #[inline(always)]
+    fn write_in_time(&mut self, bytes: &[u8]) -> Result<(), PortFault>
+        ensures ok { OnOk result (self.new ≡ self.old) }
+        ensures failed { OnErr result (Counted self.old self.new) }
+    {
+        if !self.timed.is_write_bounded {
+            self.bound_writes()?;
+        }
+        match self.timed.stream.write(bytes) {
+            Ok(count) if count == bytes.len() => Ok(()),
+            Ok(count) => self.write_rest(&bytes[count..]),
+            Err(error) if error.kind() == ErrorKind::Interrupted => self.write_rest(bytes),
+            Err(error) => Err(self.unwritten(error)),
+        }
+    }
+}
+
 impl<R: Clock + Drop> Wire for SocketWire<R> {
     ghost tells = { λ _ _. ⊥ };
 
     ghost failures = { λ w. w };
 
     /// The last moment again, where the clock fails.
+    #[inline(always)]
     fn moment(&mut self) -> u64 {
         if let Ok(time) = self.clock.monotonic() {
             self.last = millis_of(time);
@@ -219,18 +290,20 @@ impl<R: Clock + Drop> Wire for SocketWire<R> {
         self.last
     }
 
+    #[inline(always)]
     fn read(&mut self, millis: u64, buf: &mut [u8]) -> Result<Got, PortFault> {
-        match self.read_in_time(millis, buf) {
-            Ok(got) => Ok(got),
-            Err(error) => Err(self.fail(error)),
+        if self.drip.is_overdue(self.role, self.last) {
+            self.drip = Drip::Nothing;
+            return Ok(Got::Quiet);
         }
+        let got = self.read_in_time(millis, buf)?;
+        self.drip = self.drip.after(self.last, got);
+        Ok(got)
     }
 
+    #[inline(always)]
     fn write(&mut self, bytes: &[u8]) -> Result<(), PortFault> {
         self.drip = Drip::Nothing;
-        match self.stream.write_in_time(bytes) {
-            Ok(()) => Ok(()),
-            Err(error) => Err(self.fail(error)),
-        }
+        self.write_in_time(bytes)
     }
 }

@@ -101,8 +101,9 @@ impl<'r, W: Wire + Drop, C: Clock + Drop, A: Append + Drop> RecordedWire<'r, W, 
         &self.wire
     }
 
-    /// Writes what waits to the record.
-    fn write_out(&mut self)
+    /// Writes what waits to the record that is made.
+    #[inline(never)] // kept out of the way of a line of which none is made
+    fn write_waiting(&mut self)
         ensures wire { self.new.wire ≡ self.old.wire }
         ensures role { self.new.role ≡ self.old.role }
         ensures same { GoesOnBy []
@@ -113,7 +114,22 @@ impl<'r, W: Wire + Drop, C: Clock + Drop, A: Append + Drop> RecordedWire<'r, W, 
         self.written = self.last;
     }
 
+    /// Writes what waits to the record, where one is made.
+    #[inline(always)]
+    fn write_out(&mut self)
+        ensures wire { self.new.wire ≡ self.old.wire }
+        ensures role { self.new.role ≡ self.old.role }
+        ensures same { GoesOnBy []
+            (option_map A.taken self.old.recorder.now.to) self.old.recorder.now.lines
+            (option_map A.taken self.new.recorder.now.to) self.new.recorder.now.lines }
+    {
+        if self.recorder.is_kept() {
+            self.write_waiting();
+        }
+    }
+
     /// The same, where the record was written too long ago.
+    #[inline(always)]
     fn write_out_late(&mut self)
         ensures wire { self.new.wire ≡ self.old.wire }
         ensures role { self.new.role ≡ self.old.role }
@@ -126,7 +142,21 @@ impl<'r, W: Wire + Drop, C: Clock + Drop, A: Append + Drop> RecordedWire<'r, W, 
         }
     }
 
+    /// Records what has passed now in the record that is made.
+    #[inline(never)] // as `write_waiting`
+    fn keep_now(&mut self, way: Direction, bytes: &[u8])
+        ensures wire { self.new.wire ≡ self.old.wire }
+        ensures grown { (micros : ℕ) × GoesOnBy (line_of micros way bytes.now)
+            (option_map A.taken self.old.recorder.now.to) self.old.recorder.now.lines
+            (option_map A.taken self.new.recorder.now.to) self.new.recorder.now.lines }
+    {
+        let since = self.start.saturating_add(self.last);
+        self.last = moment_or(&self.clock, since).saturating_sub(self.start);
+        self.recorder.keep(self.last, way, bytes);
+    }
+
     /// Records what has passed now, where a record is made.
+    #[inline(always)]
     fn keep(&mut self, way: Direction, bytes: &[u8])
         ensures wire { self.new.wire ≡ self.old.wire }
         ensures grown { (micros : ℕ) × GoesOnBy (line_of micros way bytes.now)
@@ -134,9 +164,7 @@ impl<'r, W: Wire + Drop, C: Clock + Drop, A: Append + Drop> RecordedWire<'r, W, 
             (option_map A.taken self.new.recorder.now.to) self.new.recorder.now.lines }
     {
         if self.recorder.is_kept() {
-            let since = self.start.saturating_add(self.last);
-            self.last = moment_or(&self.clock, since).saturating_sub(self.start);
-            self.recorder.keep(self.last, way, bytes);
+            self.keep_now(way, bytes);
         }
     }
 }
@@ -146,10 +174,12 @@ impl<'r, W: Wire + Drop, C: Clock + Drop, A: Append + Drop> Wire for RecordedWir
 
     ghost failures = { λ w. W.failures w.wire };
 
+    #[inline(always)]
     fn moment(&mut self) -> u64 {
         self.wire.moment()
     }
 
+    #[inline(always)]
     fn read(&mut self, millis: u64, buf: &mut [u8]) -> Result<Got, PortFault>
         requires { 0 < length buf.old }
         ensures count { (n : ℕ) → result ≡ Ok (Got.Bytes n) → (0 < n) × (n ≤ length buf.old) }
@@ -173,6 +203,7 @@ impl<'r, W: Wire + Drop, C: Clock + Drop, A: Append + Drop> Wire for RecordedWir
         got
     }
 
+    #[inline(always)]
     fn write(&mut self, bytes: &[u8]) -> Result<(), PortFault>
         ensures told { (u : Tape) → W.tells self.new.wire u → (t : Tape) × W.tells self.old.wire t
             × (u ≡ after_write (is_ok result) t bytes.now) }
