@@ -67,7 +67,8 @@ impl<F: ReadAt + Drop> ReadAhead<F> {
 
     /// Copies the bytes from place `at` of the file on, and answers true, where it holds all of
     /// them. Otherwise it copies none.
-    fn copy(&self, at: u64, into: &mut [u8]) -> bool
+    #[inline]
+    pub(crate) fn copy(&self, at: u64, into: &mut [u8]) -> bool
         ensures holds { IsTrue result ↔
             ((self.now.start ≤ at)
             × (at + length into.old ≤ self.now.start + length self.now.bytes)) }

@@ -1,6 +1,6 @@
 //! A source that opens a file and reads it.
 
-ghost use Rattle.std.specs.Prelude.{◌≡◌, ◌≤◌, ◌+◌, ℕ, List, Option, Some, OnOk, OnErr, IfOk, IfSome, length as list_length};
+ghost use Rattle.std.specs.Prelude.{◌≡◌, ◌≤◌, ◌+◌, ℕ, List, Option, Some, true, OnOk, OnErr, IfOk, IfSome, length as list_length};
 ghost use Rattle.ym_file.specs.Counts.{Counted};
 ghost use Rattle.ym_host.specs.ReadAhead.{StandsIn};
 ghost use Rattle.ym_host.specs.ReadSource.{first_of, IsTold};
@@ -120,6 +120,38 @@ impl<O: Opens + Drop> ReadSource<O> {
         }
         Ok(())
     }
+
+    /// Copies the bytes from place `at` on from those that were read ahead, and answers true, where
+    /// all of them are there and more of the file follows. Otherwise it copies none.
+    #[inline(always)]
+    fn copy_ahead(&self, at: u64, into: &mut [u8]) -> bool
+        requires { at + list_length into.old ≤ self.now.size }
+        ensures { result ≡ true → StandsIn into.new at self.now.told }
+    {
+        let size = self.opens.size();
+        let is_last = at + (into.len() as u64) == size;
+        match &self.reading {
+            Some(reading) => !is_last && reading.copy(at, into),
+            None => false,
+        }
+    }
+
+    /// Reads the bytes from place `at` on, and counts it where that fails.
+    #[inline(never)] // it answers an error of the system, which is large, and is seldom called
+    fn read_counted(&mut self, at: u64, into: &mut [u8]) -> Result<(), SourceFault>
+        requires { at + list_length into.old ≤ self.old.size }
+        ensures size { self.new.size ≡ self.old.size }
+        ensures told { self.new.told ≡ self.old.told }
+        ensures fills { self.new.fills ≡ self.old.fills }
+        ensures bytes { OnOk result (StandsIn into.new at self.old.told) }
+        ensures ok { OnOk result (self.new.failures ≡ self.old.failures) }
+        ensures failed { OnErr result (Counted self.old.failures self.new.failures) }
+    {
+        match self.read(at, into) {
+            Ok(()) => Ok(()),
+            Err(error) => Err(self.fail(error)),
+        }
+    }
 }
 
 impl<O: Opens + Drop> Source for ReadSource<O> {
@@ -135,11 +167,12 @@ impl<O: Opens + Drop> Source for ReadSource<O> {
         self.opens.size()
     }
 
+    #[inline(always)]
     fn fill(&mut self, at: u64, into: &mut [u8]) -> Result<(), SourceFault> {
         self.fills = self.fills.saturating_add(1);
-        match self.read(at, into) {
-            Ok(()) => Ok(()),
-            Err(error) => Err(self.fail(error)),
+        if self.copy_ahead(at, into) {
+            return Ok(());
         }
+        self.read_counted(at, into)
     }
 }
