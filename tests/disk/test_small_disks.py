@@ -146,16 +146,19 @@ def with_descriptors(folder):
 
 @cases(
     case("1000 files with 64 descriptors", 1000),
+    case("100 files of 300 bytes with 64 descriptors", 100, (), bytes(300)),
     case("3000 files with 64 descriptors, --no-sync", 3000, ["--no-sync"]),
     case(
         "65535 files with 64 descriptors, --no-sync", 65_535, ["--no-sync"], marks=pytest.mark.long
     ),
 )
-def test_many_files(count, flags=()):
-    """A batch of so many empty files, with 64 descriptors at either end."""
-    names = [str(number) for number in range(count)]
+def test_many_files(count, flags=(), data=b""):
+    """A batch of so many files, with 64 descriptors at either end: each is closed behind its last
+    block."""
+    files = [(str(number), data) for number in range(count)]
+    names = [name for name, _ in files]
     with folders() as (here, there):
-        write_files(here, [(name, b"") for name in names])
+        write_files(here, files)
         port = free_port()
         with running(
             "receive", "--port", port, *flags, there, before=with_descriptors(there)
@@ -164,9 +167,8 @@ def test_many_files(count, flags=()):
             with running("send", "--port", port, *names, before=with_descriptors(here)) as send:
                 send.ended().wants(0, "sender done %d finished\n" % count)
             ended = receive.ended()
-            assert not ended.status and ended.out == told(
-                [(name, b"") for name in names]
-            ), "receive ended with status %d, and told %r" % (ended.status, ended.out[-80:])
+            why = "receive ended with status %d, and told %r" % (ended.status, ended.out[-80:])
+            assert not ended.status and ended.out == told(files), why
         assert set(os.listdir(there)) == set(names), "it stored %d files" % len(os.listdir(there))
 
 
