@@ -6,6 +6,8 @@ import os
 import re
 import time
 
+import pytest
+
 from support.cases import case, cases, sentence
 from support.frames import ACK, ACK_START, CANCEL, END, EOT, NAK, START, block, header
 from support.peers import frames_at, receive_from, send_to
@@ -128,8 +130,26 @@ def test_receiver_ceases():
     """It was there, so nobody is asked whether it runs at the same speed."""
     ended = send_to(falls_silent, FILE, LOUD)
     ended.wants(1, "sender done 0 no-reply\n", ended.err)
-    ceased = r"nothing came any more for \d\d s: has the receiver stopped, or was the line cut\?"
+    ceased = r"no answer came any more for \d\d s: has the receiver stopped, or was the line cut\?"
     assert re.fullmatch(ceased, told_last(ended)), "it told %r" % told_last(ended)
+
+
+def floods(end):
+    """What sends bytes without end that are none of a reply."""
+    with contextlib.suppress(OSError):
+        while True:
+            end.sendall(bytes((0xA5,)) * 16)
+            time.sleep(0.02)
+
+
+@pytest.mark.long
+@sentence("tells that no answer came, where noise comes without end")
+def test_noise_without_end():
+    """Its port hears none of it, so it does not tell that nothing came."""
+    ended = send_to(floods, FILE, LOUD)
+    ended.wants(1, "sender done 0 no-reply\n", ended.err)
+    told = r"no answer came for \d+ s: is the receiver running, at the same speed\?"
+    assert re.fullmatch(told, told_last(ended)), "it told %r" % told_last(ended)
 
 
 # A block 1 that the line damaged.

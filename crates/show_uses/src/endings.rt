@@ -31,7 +31,7 @@ static SENDERS: [(SendState, Option<&str>); 3] = [
     ),
     (
         SendState::NoReply,
-        Some("nothing came for 30 s: is the receiver running, at the same speed?"),
+        Some("no answer came for 30 s: is the receiver running, at the same speed?"),
     ),
     (SendState::Finished, None),
 ];
@@ -40,7 +40,7 @@ static SENDERS: [(SendState, Option<&str>); 3] = [
 static RECEIVERS: [(RecvState, Option<&str>); 4] = [
     (
         RecvState::TooManyErrors,
-        Some("nothing came for 30 s: is the sender running, at the same speed?"),
+        Some("no answer came for 30 s: is the sender running, at the same speed?"),
     ),
     (
         RecvState::OutOfStep,
@@ -114,7 +114,7 @@ static SLOW_LINES: [(Came, Option<u64>, &str); 4] = [
     ),
     (Came::Asks, Some(10_000), "nothing came but C, ten times"),
     (Came::Asks, None, "nothing came but C, ten times"),
-    (Came::Nothing, Some(16_400), "nothing came for 30 s"),
+    (Came::Nothing, Some(16_400), "no answer came for 30 s"),
 ];
 
 #[test]
@@ -149,7 +149,7 @@ fn begins_with(rt: &HostRuntime, pieces: &[&[u8]], want: &str) -> bool {
 
 /// The deliveries that came, and how what is told begins.
 static DELIVERIES: [(&[&[u8]], &str); 6] = [
-    (&[b""], "nothing came for 3 s"),
+    (&[b""], "no answer came for 3 s"),
     (&[b"C", b"CC"], "nothing came but what receivers send"),
     (&[b"C", b"\x15"], "nothing came but what receivers send"),
     (
@@ -227,7 +227,7 @@ static TO_SENDERS: [Heard; 16] = [
         &[b"\x06"],
         Sight::Begun,
         true,
-        "nothing came any more for 27 s: has the receiver stopped",
+        "no answer came any more for 27 s: has the receiver stopped",
     ),
     (
         &[b"\x15", b"\x15"],
@@ -239,21 +239,21 @@ static TO_SENDERS: [Heard; 16] = [
         &[b"\x15"],
         Sight::Peer,
         true,
-        "nothing came any more for 27 s: has the receiver stopped, or was the line cut?",
+        "no answer came any more for 27 s: has the receiver stopped, or was the line cut?",
     ),
     (
         &[b"\x15"],
         Sight::Nothing,
         true,
-        "nothing came any more for",
+        "no answer came any more for",
     ),
-    (&[], Sight::Peer, true, "nothing came any more for 27 s"),
-    (&[b"\xfe"], Sight::Peer, true, "nothing came any more for"),
+    (&[], Sight::Peer, true, "no answer came any more for 27 s"),
+    (&[b"\xfe"], Sight::Peer, true, "no answer came any more for"),
     (
         &[b"\xfe"],
         Sight::Nothing,
         true,
-        "nothing came for 27 s: is the receiver running",
+        "no answer came for 27 s: is the receiver running",
     ),
     (&[b"=> "], Sight::Nothing, true, "what comes is no YMODEM"),
     (
@@ -294,7 +294,7 @@ static TO_RECEIVERS: [Heard; 5] = [
         &[b"\x01\x00"],
         Sight::Peer,
         true,
-        "nothing came any more for 27 s: has the sender stopped, or was the line cut?",
+        "no answer came any more for 27 s: has the sender stopped, or was the line cut?",
     ),
     (
         &[b"G"],

@@ -82,7 +82,7 @@ cause_of other lately =
 
 abbrev pub absent_text : Peer → ℕ → List ℕ
 absent_text other seconds =
-    codes "nothing came for " ++ (decimal seconds ++ (codes " s: is the "
+    codes "no answer came for " ++ (decimal seconds ++ (codes " s: is the "
     ++ (peer_text other ++ codes " running, at the same speed?")))
 
 abbrev pub stopped_text : Peer → List ℕ
@@ -91,7 +91,7 @@ stopped_text other =
 
 abbrev pub ceased_text : Peer → ℕ → List ℕ
 ceased_text other seconds =
-    codes "nothing came any more for "
+    codes "no answer came any more for "
     ++ (decimal seconds ++ (codes " s: " ++ stopped_text other))
 
 abbrev pub slow_text : ℕ → List ℕ

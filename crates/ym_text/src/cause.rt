@@ -66,12 +66,12 @@ pub(crate) enum Cause {
     Noise,
 }
 
-/// That nothing came.
+/// That no answer came. Noise may have: a sender's port hears none of it.
 #[derive(Clone, Copy)]
 pub(crate) struct AbsentWords {
     /// The other end.
     pub(crate) peer: Peer,
-    /// For how many seconds nothing came.
+    /// For how many seconds none came.
     pub(crate) seconds: u64,
 }
 
@@ -83,7 +83,7 @@ impl fmt::Display for AbsentWords {
         let peer = self.peer.text();
         write!(
             f,
-            "nothing came for {seconds} s: is the {peer} running, at the same speed?"
+            "no answer came for {seconds} s: is the {peer} running, at the same speed?"
         )
     }
 }
@@ -104,12 +104,12 @@ impl fmt::Display for StoppedWords {
     }
 }
 
-/// That nothing came any more.
+/// That no answer came any more.
 #[derive(Clone, Copy)]
 pub(crate) struct CeasedWords {
     /// The other end.
     pub(crate) peer: Peer,
-    /// For how many seconds nothing came.
+    /// For how many seconds none came.
     pub(crate) seconds: u64,
 }
 
@@ -119,7 +119,7 @@ impl fmt::Display for CeasedWords {
     fn fmt<W: fmt::Write>(&self, f: &mut fmt::Formatter<W>) -> fmt::Result {
         let seconds = self.seconds;
         let question = StoppedWords { peer: self.peer };
-        write!(f, "nothing came any more for {seconds} s: {question}")
+        write!(f, "no answer came any more for {seconds} s: {question}")
     }
 }
 
@@ -147,9 +147,9 @@ impl fmt::Display for SlowWords {
 pub(crate) enum CauseWords {
     /// A text that is the same each time.
     Text(&'static str),
-    /// That nothing came.
+    /// That no answer came. Noise may have: a sender's port hears none of it.
     Absent(AbsentWords),
-    /// That nothing came any more.
+    /// That no answer came any more.
     Ceased(CeasedWords),
     /// That answers take too long.
     Slow(SlowWords),
