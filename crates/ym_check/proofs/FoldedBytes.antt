@@ -3,8 +3,8 @@ use Rattle.std.specs.Prelude.{◌≡◌, ℕ, ◌+◌, ◌*◌, ◌^◌, ◌<◌
 use Rattle.std.specs.Int.{from_be_bytes, w128}
 use Rattle.std.proofs.Common.{sym, ◌∙◌, ap, arith}
 use Rattle.std.proofs.lemmas.Nat.{pow-add, mul-add-lt, div-mul-add}
-use Rattle.ym_check.specs.Check.{bits, minus, subtract, divided, remainder, body_bits}
-use Rattle.ym_check.proofs.Division.{run, start, run-append, length-run, length-subtract, divided-run, subtract-zeros, zeros-subtract, remainder_is_run}
+use Rattle.ym_check.specs.Check.{bits, minus, subtract, divided, body_bits}
+use Rattle.ym_check.proofs.Division.{run, start, length-run, length-subtract, divided-run, subtract-zeros, zeros-subtract}
 use Rattle.ym_check.proofs.CheckNumbers.{bits-split, bits-above}
 
 subtract_front : (bs v rest : List Bool) → length v ≤ length bs → subtract (bs ++ rest) v ≡ subtract bs v ++ rest
@@ -61,17 +61,3 @@ word_bits (a ∷ b ∷ c ∷ d ∷ e ∷ f ∷ g ∷ h ∷ i ∷ j ∷ k ∷ l �
     let same : number ≡ high_first bytes = omega arith in
     ap (bits 128) same ∙ bits-high_first bytes small
 word_bits bs number long small is = absurd (omega arith)
-
--- ---- what the functions cite
-
--- two bytes in front of two
-pub two_more : (n m : ℕ) → bits 16 m ≡ remainder (bits 16 n) → remainder (bits 16 n ++ replicate 16 false) ≡ remainder (bits 16 m)
-two_more n m is =
-    let zeros = replicate 16 false in
-    let register = run start (bits 16 n) in
-    let long : length register ≡ 16 = length-run start (bits 16 n) in
-    remainder_is_run (bits 16 n ++ zeros) ∙
-    run-append start (bits 16 n) zeros ∙
-    entered register zeros long (omega arith) ∙
-    ap (run start) (zeros-subtract 16 register long ∙ sym (is ∙ remainder_is_run (bits 16 n))) ∙
-    sym (remainder_is_run (bits 16 m))

@@ -72,9 +72,6 @@ fold_at w f lf none same n l =
 abbrev pub folded_64 : ℕ → ℕ
 folded_64 n = folded_of 16 32 44 20 48 64 n
 
-abbrev pub folded_32 : ℕ → ℕ
-folded_32 n = folded_of 8 16 22 10 24 32 n
-
 abbrev pub folded_16 : ℕ → ℕ
 folded_16 n = folded_of 4 8 11 5 12 16 n
 
@@ -122,17 +119,78 @@ agree_quickly F G n e =
     let g : ℕ → List Bool = λ k. run start (G k) in
     agree_further f g 0 n (agree_nowhere f g) (sym (at_powers-quick F 0 n) ∙ e ∙ at_powers-quick G 0 n)
 
-agree_32 : AgreeBelow (in_front 32) (alone 32 folded_32) 32
-agree_32 = agree_quickly (λ n. bits 32 n ++ replicate 32 false) (λ n. bits 32 (folded_32 n)) 32 refl
-
 agree_64 : AgreeBelow (in_front 64) (alone 64 folded_64) 64
 agree_64 = agree_quickly (λ n. bits 64 n ++ replicate 64 false) (λ n. bits 64 (folded_64 n)) 64 refl
 
 pub fold_64 : (n : ℕ) → n < 2 ^ 64 → remainder (bits 64 n ++ replicate 64 false) ≡ remainder (bits 64 (folded_64 n))
 fold_64 n l = fold_at 64 folded_64 (folded_of-linear 16 32 44 20 48 64) refl agree_64 n l
 
-pub fold_32 : (n : ℕ) → n < 2 ^ 32 → remainder (bits 32 n ++ replicate 32 false) ≡ remainder (bits 32 (folded_32 n))
-fold_32 n l = fold_at 32 folded_32 (folded_of-linear 8 16 22 10 24 32) refl agree_32 n l
+-- ---- eight bytes become their check
+
+abbrev two_by : (s t : ℕ → ℕ) → ℕ → ℕ
+two_by s t n = bit_xor (bit_xor n (s n)) (t n)
+
+two_by-linear : (s t : ℕ → ℕ) → IsLinear s → IsLinear t → IsLinear (two_by s t)
+two_by-linear s t ls lt = added (λ n. bit_xor n (s n)) t (added (λ n. n) s (λ a b. refl) ls) lt
+
+abbrev three_by : (s t u : ℕ → ℕ) → ℕ → ℕ
+three_by s t u n = bit_xor (two_by s t n) (u n)
+
+three_by-linear : (s t u : ℕ → ℕ) → IsLinear s → IsLinear t → IsLinear u → IsLinear (three_by s t u)
+three_by-linear s t u ls lt lu = added (two_by s t) u (two_by-linear s t ls lt) lu
+
+after : (f g : ℕ → ℕ) → IsLinear f → IsLinear g → IsLinear (λ n. f (g n))
+after f g lf lg a b = ap f (lg a b) ∙ lf (g a) (g b)
+
+abbrev eighth : ℕ → ℕ
+eighth n = bit_xor n (n / 2 ^ 32)
+
+abbrev fourth : ℕ → ℕ
+fourth n = two_by (λ m. m / 2 ^ 16) (λ m. m / 2 ^ 44) n
+
+abbrev second : ℕ → ℕ
+second n = three_by (λ m. m / 2 ^ 8) (λ m. m / 2 ^ 22) (λ m. m / 2 ^ 32) n
+
+abbrev first : ℕ → ℕ
+first n = three_by (λ m. m / 2 ^ 4) (λ m. m / 2 ^ 11) (λ m. m / 2 ^ 16) n
+
+abbrev last : ℕ → ℕ
+last n = two_by (λ m. m * 2 ^ 5 % 2 ^ 64) (λ m. m * 2 ^ 12 % 2 ^ 64) n
+
+abbrev pub check_64 : ℕ → ℕ
+check_64 n = last (first (second (fourth (eighth n))))
+
+check_64-linear : IsLinear check_64
+check_64-linear =
+    let shift : (k : ℕ) → IsLinear (λ m. m / 2 ^ k) = right in
+    let eight : IsLinear eighth = added (λ n. n) (λ m. m / 2 ^ 32) (λ a b. refl) (shift 32) in
+    let four : IsLinear fourth = two_by-linear (λ m. m / 2 ^ 16) (λ m. m / 2 ^ 44) (shift 16) (shift 44) in
+    let two : IsLinear second = three_by-linear (λ m. m / 2 ^ 8) (λ m. m / 2 ^ 22) (λ m. m / 2 ^ 32) (shift 8) (shift 22) (shift 32) in
+    let one : IsLinear first = three_by-linear (λ m. m / 2 ^ 4) (λ m. m / 2 ^ 11) (λ m. m / 2 ^ 16) (shift 4) (shift 11) (shift 16) in
+    let end : IsLinear last = two_by-linear (λ m. m * 2 ^ 5 % 2 ^ 64) (λ m. m * 2 ^ 12 % 2 ^ 64) (left 5 64) (left 12 64) in
+    after last (λ n. first (second (fourth (eighth n)))) end (after first (λ n. second (fourth (eighth n))) one (after second (λ n. fourth (eighth n)) two (after fourth eighth four eight)))
+
+abbrev word_check : ℕ → List Bool
+word_check n = run start (bits 64 n)
+
+abbrev quotient_bits : ℕ → List Bool
+quotient_bits n = bits 16 (check_64 n)
+
+word_check-linear : IsLinearInBits word_check
+word_check-linear a b = ap (run start) (bits-xor 64 a b) ∙ start-subtract (bits 64 a) (bits 64 b) refl
+
+quotient_bits-linear : IsLinearInBits quotient_bits
+quotient_bits-linear a b = ap (bits 16) (check_64-linear a b) ∙ bits-xor 16 (check_64 a) (check_64 b)
+
+agree_quotient : AgreeBelow word_check quotient_bits 64
+agree_quotient =
+    let same : at_powers (quick (bits 64)) 0 64 ≡ at_powers quotient_bits 0 64 = refl in
+    agree_further word_check quotient_bits 0 64 (agree_nowhere word_check quotient_bits) (sym (at_powers-quick (bits 64) 0 64) ∙ same)
+
+pub quotient_64 : (n : ℕ) → n < 2 ^ 64 → bits 16 (check_64 n % 2 ^ 16) ≡ remainder (bits 64 n)
+quotient_64 n l =
+    sym (bits-low 16 (check_64 n)) ∙
+    sym (remainder_is_run (bits 64 n) ∙ same_below word_check quotient_bits word_check-linear quotient_bits-linear refl 64 agree_quotient n l)
 
 -- two bytes become their check
 abbrev check_16 : ℕ → List Bool
@@ -180,12 +238,6 @@ pub halves : (w n m : ℕ) → remainder (bits w (n / 2 ^ w) ++ replicate w fals
     remainder (bits (w + w) n) ≡ remainder (bits w (bit_xor m (n % 2 ^ w)))
 halves w n m e =
     rw (bits-split w w n, bits-low w n) (folded_in w (n / 2 ^ w) m (n % 2 ^ w) e)
-
-pub half_32 : (n m r : ℕ) → remainder (bits 16 (n / 2 ^ 16) ++ replicate 16 false) ≡ remainder (bits 16 m) → bits 16 r ≡ remainder (bits 16 (bit_xor m (n % 2 ^ 16))) → bits 16 r ≡ remainder (bits 32 n)
-half_32 n m r e is = is ∙ sym (halves 16 n m e)
-
-pub half_64 : (n m r : ℕ) → remainder (bits 32 (n / 2 ^ 32) ++ replicate 32 false) ≡ remainder (bits 32 m) → bits 16 r ≡ remainder (bits 32 (bit_xor m (n % 2 ^ 32))) → bits 16 r ≡ remainder (bits 64 n)
-half_64 n m r e is = is ∙ sym (halves 32 n m e)
 
 pub half_128 : (n m r : ℕ) → remainder (bits 64 (n / 2 ^ 64) ++ replicate 64 false) ≡ remainder (bits 64 m) → bits 16 r ≡ remainder (bits 64 (bit_xor m (n % 2 ^ 64))) → bits 16 r ≡ remainder (bits 128 n)
 half_128 n m r e is = is ∙ sym (halves 64 n m e)

@@ -10,7 +10,7 @@ use Rattle.ym_check.specs.Check.{subtract, body_bits, check_of}
 use Rattle.ym_check.specs.Fold.{sixteen, row_number, row_bytes}
 use Rattle.ym_check.proofs.Division.{run, start, subtract-append}
 use Rattle.ym_check.proofs.Linear.{IsLinearInBits, right, left, AgreeBelow, same_below}
-use Rattle.ym_check.proofs.Register.{start-subtract, zeros_in_front}
+use Rattle.ym_check.proofs.Register.{start-subtract}
 use Rattle.ym_check.proofs.Folding.{padded-linear, agree_quickly, added_behind}
 use Rattle.ym_check.proofs.Words.{word_bytes_bits, E-xor, length-E, same_long, check_from, written}
 
@@ -66,10 +66,10 @@ row_read bs long small = absurd (omega arith)
 
 -- ---- sixteen bytes in front of sixty-four zeros, and what they become
 
-abbrev fours : ℕ → ℕ → ℕ → ℕ → List Bool
+abbrev pub fours : ℕ → ℕ → ℕ → ℕ → List Bool
 fours a b c d = E a ++ (E b ++ (E c ++ E d))
 
-fours-xor : (a b c d s t u v : ℕ) → fours (bit_xor a s) (bit_xor b t) (bit_xor c u) (bit_xor d v) ≡ subtract (fours a b c d) (fours s t u v)
+pub fours-xor : (a b c d s t u v : ℕ) → fours (bit_xor a s) (bit_xor b t) (bit_xor c u) (bit_xor d v) ≡ subtract (fours a b c d) (fours s t u v)
 fours-xor a b c d s t u v =
     rw (
       E-xor a s,
@@ -81,7 +81,7 @@ fours-xor a b c d s t u v =
       subtract-append (E c) (E d) (E u) (E v) (same_long c u),
     ) refl
 
-length-fours : (a b c d : ℕ) → length (fours a b c d) ≡ 512
+pub length-fours : (a b c d : ℕ) → length (fours a b c d) ≡ 512
 unfolding word_bytes_bits sixteen
 length-fours a b c d = refl
 
@@ -131,19 +131,3 @@ moved_on a b c d n l =
     check_from (numbers_bytes a b c d ++ sixteen n) (numbers_bytes (bit_xor b a) (bit_xor c s) (bit_xor d t) (bit_xor n a))
     (rw (with_next_bits a b c d n, numbers_bits (bit_xor b a) (bit_xor c s) (bit_xor d t) (bit_xor n a), fours-xor b c d n a s t a)
     (added_behind 128 512 (E a) (fours b c d n) (behind a) (length-E a) (length-fours b c d n) (length-fours a s t a) (becomes a l)))
-
-no_bits : E 0 ≡ replicate 128 false
-unfolding word_bytes_bits sixteen
-no_bits = refl
-
--- sixteen bytes behind zeros
-pub one_row : (n : ℕ) → check_of (sixteen n) ≡ check_of (numbers_bytes 0 0 0 n)
-unfolding word_bytes_bits
-one_row n =
-    let zeros = replicate 128 false in
-    let same : run start (body_bits (numbers_bytes 0 0 0 n)) ≡ run start (E n) =
-    ap (run start) (numbers_bits 0 0 0 n ∙ ap (λ t. t ++ (t ++ (t ++ E n))) no_bits) ∙
-    zeros_in_front 128 (zeros ++ (zeros ++ E n)) ∙
-    zeros_in_front 128 (zeros ++ E n) ∙
-    zeros_in_front 128 (E n) in
-    check_from (sixteen n) (numbers_bytes 0 0 0 n) (sym same)

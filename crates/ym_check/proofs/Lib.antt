@@ -6,3 +6,4 @@ pub mod Folding
 pub mod FoldedBytes
 pub mod Words
 pub mod FourWords
+pub mod EightRows

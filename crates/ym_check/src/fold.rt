@@ -2,8 +2,8 @@
 //!
 //! Modulo x^16 + x^12 + x^5 + 1, x^128 is x^96 + x^40 + 1: sixteen bytes are folded into the
 //! sixteen behind them, which then have the check of them all. So a message is folded from the
-//! front into its last sixteen bytes, and these into their last eight, four and two in the same
-//! way.
+//! front into its last sixteen bytes, and these into their last eight in the same way, which are
+//! divided at once.
 
 ghost use Rattle.std.specs.Prelude.{◌≡◌, ◌%◌, List, ℕ, ◌++◌, length, replicate, false};
 ghost use Rattle.ym_check.specs.Check.{bits, body_bits, remainder, check_of};
@@ -24,16 +24,6 @@ fn folded_64(word: u64) -> u64
     above ^ (above << 20) ^ (above << 48)
 }
 
-/// The same for four bytes: x^32 is x^24 + x^10 + 1.
-#[tactic(auto, using(crate::proofs::Folding::fold_32))]
-fn folded_32(word: u32) -> u32
-    ensures { remainder (bits 32 word ++ replicate 32 false) ≡ remainder (bits 32 result) }
-{
-    let first = word ^ (word >> 8);
-    let above = first ^ (first >> 16) ^ (word >> 22);
-    above ^ (above << 10) ^ (above << 24)
-}
-
 /// The check of two bytes.
 #[tactic(auto, using(crate::proofs::Folding::fold_16))]
 pub(crate) fn check_of_16(word: u16) -> u16
@@ -44,22 +34,21 @@ pub(crate) fn check_of_16(word: u16) -> u16
     above ^ (above << 5) ^ (above << 12)
 }
 
-/// The check of four bytes.
-#[tactic(auto, using(crate::proofs::Folding::half_32, crate::proofs::FoldedBytes::two_more))]
-fn check_of_32(word: u32) -> u16
-    ensures { bits 16 result ≡ remainder (bits 32 word) }
-{
-    let high = check_of_16((word >> 16) as u16);
-    check_of_16(high ^ ((word % 0x1_0000) as u16))
-}
-
 /// The check of eight bytes.
-#[tactic(auto, using(crate::proofs::Folding::half_64))]
+///
+/// Long division subtracts the divisor wherever the quotient has a bit. The quotient is the word
+/// divided by 1 + y^4 + y^11 + y^16, where y moves a bit one place down. The sixteenth power of that
+/// is 1 + y^64 + .., which is 1 for a word of sixty-four bits. So the word is multiplied by its
+/// eighth, fourth, second and first power in place of the division.
+#[tactic(auto, using(crate::proofs::Folding::quotient_64))]
 fn check_of_64(word: u64) -> u16
     ensures { bits 16 result ≡ remainder (bits 64 word) }
 {
-    let high = folded_32((word >> 32) as u32);
-    check_of_32(high ^ ((word % 0x1_0000_0000) as u32))
+    let eighth = word ^ (word >> 32);
+    let fourth = eighth ^ (eighth >> 16) ^ (eighth >> 44);
+    let second = fourth ^ (fourth >> 8) ^ (fourth >> 22) ^ (fourth >> 32);
+    let quotient = second ^ (second >> 4) ^ (second >> 11) ^ (second >> 16);
+    ((quotient ^ (quotient << 5) ^ (quotient << 12)) % 0x1_0000) as u16
 }
 
 /// The check of sixteen bytes, the first one highest.
@@ -72,7 +61,7 @@ fn check_of_128(word: u128) -> u16
 }
 
 /// Sixteen bytes as they lie in memory.
-fn word_of(bytes: &[u8]) -> u128
+pub(crate) fn word_of(bytes: &[u8]) -> u128
     requires { length bytes.now ≡ 16 }
     ensures { sixteen result ≡ bytes.now }
 {
@@ -93,6 +82,22 @@ fn folded(word: u128) -> u128
     above ^ (above >> 40) ^ (above >> 96)
 }
 
+/// A word and the next one folded into one, which has the check of both.
+#[tactic(auto, using(crate::proofs::Words::folded_on))]
+pub(crate) fn next_word(word: u128, next: u128) -> u128
+    ensures { check_of (sixteen word ++ sixteen next) ≡ check_of (sixteen result) }
+{
+    folded(word) ^ next
+}
+
+/// The check of sixteen bytes as they lie in memory.
+#[tactic(auto, using(crate::proofs::Words::turned))]
+pub(crate) fn check_of_word(word: u128) -> u16
+    ensures { result ≡ check_of (sixteen word) }
+{
+    check_of_128(word.swap_bytes())
+}
+
 /// The check of some bytes and of these behind them, sixteen bytes at a time, where the check of
 /// the first ones is known.
 pub(crate) fn with_words(check: u16, bytes: &[u8]) -> u16
@@ -106,7 +111,7 @@ pub(crate) fn with_words(check: u16, bytes: &[u8]) -> u16
     }
     let mut word = word_of(&bytes[..16]) ^ u128::from(check.swap_bytes()); // high byte first
     for i in 1..count {
-        word = folded(word) ^ word_of(&bytes[16 * i..16 * i + 16]);
+        word = next_word(word, word_of(&bytes[16 * i..16 * i + 16]));
     }
-    check_of_128(word.swap_bytes())
+    check_of_word(word)
 }

@@ -2,7 +2,7 @@ use Rattle.std.proofs.Common.{◌≡◌, ◌+◌, ◌-◌, ◌*◌, ◌++◌, �
 use Rattle.std.proofs.lemmas.List.{take_all}
 use Rattle.ym_check.specs.Check.{check_of}
 use Rattle.ym_check.specs.Fold.{sixteen}
-use Rattle.ym_check.proofs.Words.{first_word, taken_more, folded_on, turned}
+use Rattle.ym_check.proofs.Words.{first_word, taken_more}
 use Rattle.ym_check.proofs.fold.with_words.Goals as goal
 
 pub loop-i-init : goal.loop-i-init
@@ -15,12 +15,12 @@ loop-i-preserved c = λ before is.
     let next = c.word_of-in-loop-i.result in
     taken_more (sixteen c.loop-i.word) (sixteen next) (16 * i) (16 * i + 16 - 16 * i) (16 * (i + 1)) before c.args.bytes.now (omega arith)
     (c.loop-i.invariant before is) c.word_of-in-loop-i.ensures ∙
-    folded_on c.loop-i.word c.folded.result next c.folded.ensures
+    c.next_word-word.ensures
 
 pub returns : goal.returns
 returns c = λ before is.
     let bytes = c.args.bytes.now in
     let all : take (16 * c.loop-i.i) bytes ≡ bytes = take_all (16 * c.loop-i.i) bytes (omega (arith, c.requires, c.loop-i-test.false)) in
-    turned c.loop-i.word c.swap_bytes-2.result c.check_of_128.result c.swap_bytes-2.ensures c.check_of_128.type_inv c.check_of_128.ensures ∙
+    c.check_of_word.ensures ∙
     sym (c.loop-i.invariant before is) ∙
     ap (λ t. check_of (before ++ t)) all
