@@ -96,6 +96,24 @@ impl Arrivals {
         }
     }
 
+    /// The same in place.
+    #[inline(always)]
+    pub(crate) fn takes_reply(&mut self, byte: u8, now: u64)
+        ensures { self.new ≡ table.take_reply byte now self.old }
+    {
+        if self.count != 0 {
+            *self = self.take_reply(byte, now);
+            return;
+        }
+        self.count = 1;
+        self.since = now;
+        self.last = now;
+        self.answered_at = now;
+        self.first = byte;
+        self.is_quiet = false;
+        self.is_late = self.has_waited;
+    }
+
     /// More bytes behind the first two, which tell nothing but that they came.
     #[inline]
     fn take_more(self, bytes: &[u8], now: u64) -> Arrivals
