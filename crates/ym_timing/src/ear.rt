@@ -87,6 +87,14 @@ impl Ear {
         }
     }
 
+    /// The same in place.
+    #[inline(always)]
+    pub(crate) fn led(&mut self)
+        ensures { self.new ≡ table.wrote self.old }
+    {
+        self.others = 0;
+    }
+
     /// Where nothing came for a while, what was is over.
     fn rested(self, now: u64) -> Ear
         ensures { result ≡ table.rested now self }
