@@ -325,15 +325,15 @@ impl Line {
     /// Where nothing has to clear before these bytes, and little changes: takes that they are
     /// written. Where it says no, all is as it was.
     #[inline(always)]
-    pub fn write_at_once(&mut self, bytes: &[u8]) -> bool
+    pub fn write_at_once(&mut self, frame: &[u8]) -> bool
         ensures clear { IsTrue result
-            → table.is_clear (table.purge_for bytes.now self.old) self.old ≡ true }
+            → table.is_clear (table.purge_for frame.now self.old) self.old ≡ true }
         ensures line { self.new ≡ (if result
-            then table.writes bytes.now (table.purge_for bytes.now self.old) self.old
+            then table.writes frame.now (table.purge_for frame.now self.old) self.old
             else self.old) }
     {
-        if self.timing.wrote_at_once(bytes, self.clock.at) {
-            self.written.keep(bytes);
+        if self.timing.wrote_at_once(frame, self.clock.at) {
+            self.written.keep(frame);
             return true;
         }
         false

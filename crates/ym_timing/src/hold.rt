@@ -23,6 +23,18 @@ pub enum FirstAck {
     Brief,
 }
 
+impl FirstAck {
+    /// What was seen of an EOT stays until the next one.
+    fn kept(self) -> FirstAck
+        ensures { result ≡ table.kept self }
+    {
+        match self {
+            FirstAck::Brief => FirstAck::Brief,
+            FirstAck::Counts | FirstAck::Doubted | FirstAck::Dropped => FirstAck::Counts,
+        }
+    }
+}
+
 /// Whether this byte is no control byte.
 fn is_noise(byte: u8) -> bool
     ensures { result ≡ table.is_noise byte }
@@ -97,8 +109,7 @@ impl Hold {
         let first_ack = match self.first_ack {
             first_ack if is_repeat => first_ack,
             _ if is_doubted => FirstAck::Doubted,
-            FirstAck::Brief => FirstAck::Brief,
-            FirstAck::Counts | FirstAck::Doubted | FirstAck::Dropped => FirstAck::Counts,
+            first_ack => first_ack.kept(),
         };
         Hold {
             is_held: false,
@@ -317,11 +328,9 @@ impl Hold {
         ensures { self.new ≡ table.wrote false is_repeat false now self.old }
     {
         self.is_held = false;
-        self.first_ack = match self.first_ack {
-            first_ack if is_repeat => first_ack,
-            FirstAck::Brief => FirstAck::Brief,
-            FirstAck::Counts | FirstAck::Doubted | FirstAck::Dropped => FirstAck::Counts,
-        };
+        if !is_repeat {
+            self.first_ack = self.first_ack.kept();
+        }
         self.asks_left = 0;
         self.asked_at = now;
     }

@@ -194,7 +194,7 @@ impl Timing {
     fn take_all(&mut self, bytes: &[u8], now: u64)
         ensures { self.new ≡ record self.old { heard = take_bytes bytes.now now self.old.heard } }
     {
-        self.heard = self.heard.take_all(bytes, now);
+        self.heard.takes_all(bytes, now);
     }
 
     /// Takes a byte that came to a receiver behind this reply: what comes back of the reply
