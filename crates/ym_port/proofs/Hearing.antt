@@ -95,3 +95,11 @@ kept m limit bytes new rest size copied =
     prefix ∙ (ap (λ (x : List ℕ). take m x) copied
     ∙ (take-take m m bytes (omega arith)
     ∙ (ap (λ (k : ℕ). take k bytes) size_back ∙ take_min limit bytes)))
+
+-- one byte
+pub kept-one : (whole bytes : List ℕ) → 0 < length whole → length bytes ≡ 1
+    → take 1 (set whole 0 (get_or bytes 0 0)) ≡ take 1029 bytes
+kept-one [] bytes some one = absurd (omega (arith, some))
+kept-one (w ∷ whole) [] some one = absurd (omega (arith, one))
+kept-one (w ∷ whole) (b ∷ []) some one = refl
+kept-one (w ∷ whole) (b ∷ (c ∷ bytes)) some one = absurd (omega (arith, one))

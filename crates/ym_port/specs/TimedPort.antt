@@ -303,6 +303,10 @@ cleared (suc more) c l t =
     else clear_on (cleared more) (clear_once c l t).answer (clear_once c l t).line
     (clear_once c l t).tape
 
+-- what the line has to clear of before these bytes
+abbrev pub purge_for : List ℕ → Line → Purge
+purge_for bytes l = clears.purge bytes l.clock.at l.timing
+
 -- these bytes are written, behind this purge
 abbrev pub writes : List ℕ → Purge → Line → Line
 writes bytes c l = record l {

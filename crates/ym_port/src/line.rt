@@ -1,5 +1,6 @@
 //! What an end knows of its line.
 
+ghost use Rattle.std.specs.Prelude.{true, IsTrue, if◌then◌else◌};
 ghost use Rattle.std.specs.Prelude.{◌≡◌, ◌<◌, ◌≤◌, ◌*◌, ◌+◌, ◌-◌, ◌++◌, length, take, drop};
 ghost use Rattle.ym_timing.specs.ByteRows.{bytes_of, heard_of};
 ghost use Rattle.ym_timing.specs.Clears.{dropped};
@@ -124,8 +125,26 @@ impl Line {
         self.reply(&came[..count], buf)
     }
 
-    /// The same, where a reply behind which the peer cancels is none.
+    /// Takes a byte that came alone to a sender and stands at the front of `buf`, and leaves there
+    /// what of it is to be heard. One byte cancels nothing.
     #[inline(always)]
+    fn reply_alone(&mut self, buf: &mut [u8]) -> usize
+        requires room { 2 ≤ length buf.old }
+        requires sender { self.old.timing.role ≡ Role.Sender }
+        ensures line { self.new ≡ table.takes (take 1 buf.old) self.old }
+        ensures role { self.new.timing.role ≡ self.old.timing.role }
+        ensures within { result ≤ length buf.old }
+        ensures sized { length buf.new ≡ length buf.old }
+        ensures heard { take result buf.new ≡ table.heard_in (take 1 buf.old) self.old }
+    {
+        let byte = buf[0];
+        let said = self.byte(byte);
+        put(said, byte, buf, 0)
+    }
+
+    /// The same of several bytes, where a reply behind which the peer cancels is none.
+    // a reply is most often one byte: kept out of its way
+    #[inline(never)]
     fn reply_in(&mut self, buf: &mut [u8], count: usize) -> usize
         requires some { 0 < count }
         requires piece { count ≤ PIECE }
@@ -177,6 +196,7 @@ impl Line {
         ensures heard { take result buf.new ≡ table.heard_in (take count buf.old) self.old }
     {
         let heard = match self.timing.role {
+            Role::Sender if count == 1 => self.reply_alone(buf),
             Role::Sender => self.reply_in(buf, count),
             Role::Receiver => self.frame_in(buf, count),
         };
@@ -300,6 +320,23 @@ impl Line {
             left = self.drop_byte(left, *byte);
         }
         left
+    }
+
+    /// Where nothing has to clear before these bytes, and little changes: takes that they are
+    /// written. Where it says no, all is as it was.
+    #[inline(always)]
+    pub fn write_at_once(&mut self, frame: &[u8]) -> bool
+        ensures clear { IsTrue result
+            → table.is_clear (table.purge_for frame.now self.old) self.old ≡ true }
+        ensures line { self.new ≡ (if result
+            then table.writes frame.now (table.purge_for frame.now self.old) self.old
+            else self.old) }
+    {
+        if self.timing.wrote_at_once(frame, self.clock.at) {
+            self.written.keep(frame);
+            return true;
+        }
+        false
     }
 
     /// Takes that these bytes are written, behind this purge.

@@ -4,6 +4,7 @@ ghost use Rattle.std.specs.Prelude.{◌≡◌, ◌<◌, ◌≤◌, ◌++◌, ◌
 ghost use Rattle.ym_file.specs.Counts.{Counted};
 ghost use Rattle.ym_link.specs.Port.{Tape as PortTape, Data, after_write};
 ghost use Rattle.ym_link.specs.Port.{seen_of, read_gives, read_leaves};
+ghost use Rattle.ym_port.specs.declared.line.TheConstants.{MOST_READS};
 ghost use Rattle.ym_port.specs.TimedPort as table;
 ghost use Rattle.ym_port.specs.Wire.{Tape};
 
@@ -15,7 +16,7 @@ use crate::waits::Waits;
 use crate::wire::Wire;
 use ym_link::{Got, Port, PortFault, Wait};
 use ym_timing as timing;
-use ym_timing::{Purge, Role, Trust};
+use ym_timing::{Role, Trust};
 
 /// A port over a line with a clock. It keeps the rule of `ym_timing`: how long reads wait, what of
 /// that which comes is heard, and when the line clears before a write. It tells the waits that its
@@ -138,24 +139,27 @@ impl<W: Wire + Drop> TimedPort<W> {
         self.await_bytes(wait, buf)
     }
 
-    /// Lets the line clear, where it has to before these bytes are written.
-    #[inline(always)]
-    fn clear_for(&mut self, bytes: &[u8]) -> Result<Purge, PortFault>
+    /// Writes bytes behind what the line has to clear of, which was looked at now.
+    // kept out of the way of a write that has nothing to clear
+    #[cold]
+    #[inline(never)]
+    fn write_behind(&mut self, bytes: &[u8]) -> Result<(), PortFault>
         ensures exact { (u : Tape) → W.tells self.new.wire u → (t : Tape) × W.tells self.old.wire t
-            × (table.clears_for bytes.now self.old.line t
-            ≡ record { answer = result; line = self.new.line; tape = u }) }
+            × table.Writes bytes.now (table.cleared MOST_READS
+            (table.purge_for bytes.now self.old.line) self.old.line t) result self.new.line u }
         ensures waits { self.new.waits ≡ self.old.waits }
         ensures ok { OnOk result (W.failures self.new.wire ≡ W.failures self.old.wire) }
         ensures failed { OnErr result (Counted
             (W.failures self.old.wire) (W.failures self.new.wire)) }
     {
-        let now = self.wire.moment();
-        self.line.look(now);
         let purge = self.line.timing.purge(bytes, self.line.clock.at);
-        if self.line.is_clear(purge) {
-            return Ok(purge);
+        match let_clear(&mut self.wire, &mut self.line, purge) {
+            Ok(purge) => {
+                self.line.write(bytes, purge);
+                self.wire.write(bytes)
+            }
+            Err(fault) => Err(fault),
         }
-        let_clear(&mut self.wire, &mut self.line, purge)
     }
 
     /// Writes bytes behind what the line has to clear of.
@@ -169,13 +173,12 @@ impl<W: Wire + Drop> TimedPort<W> {
         ensures failed { OnErr result (Counted
             (W.failures self.old.wire) (W.failures self.new.wire)) }
     {
-        match self.clear_for(bytes) {
-            Ok(purge) => {
-                self.line.write(bytes, purge);
-                self.wire.write(bytes)
-            }
-            Err(fault) => Err(fault),
+        let now = self.wire.moment();
+        self.line.look(now);
+        if self.line.write_at_once(bytes) {
+            return self.wire.write(bytes);
         }
+        self.write_behind(bytes)
     }
 }
 

@@ -51,6 +51,12 @@ impl Written {
     pub fn keep(&mut self, bytes: &[u8])
         ensures { self.new ≡ take LONGEST_FRAME bytes.now }
     {
+        // most often what a receiver writes
+        if bytes.len() == 1 {
+            self.bytes[0] = bytes[0];
+            self.length = 1;
+            return;
+        }
         let length = bytes.len().min(LONGEST_FRAME);
         self.bytes[..length].copy_from_slice(&bytes[..length]);
         self.length = length;

@@ -4,6 +4,7 @@ pub mod Clears
 pub mod Ear
 pub mod Echoes
 pub mod Arrivals
+pub mod AtOnce
 pub mod Hold
 pub mod Out
 pub mod Pace

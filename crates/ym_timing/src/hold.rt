@@ -2,7 +2,7 @@
 //! that of the end block when nothing came behind it, that of block 1 where it may be a copy's, and
 //! C that ask for what is on its way.
 
-ghost use Rattle.std.specs.Prelude.{◌≡◌};
+ghost use Rattle.std.specs.Prelude.{◌≡◌, false};
 ghost use Rattle.ym_timing.specs.Hold as table;
 
 use crate::ear::{ACK, CAN, NAK, START};
@@ -21,6 +21,18 @@ pub enum FirstAck {
     /// It came, and the C so that a brief moment is enough behind the end block. So it stays until
     /// the next EOT.
     Brief,
+}
+
+impl FirstAck {
+    /// What was seen of an EOT stays until the next one.
+    fn kept(self) -> FirstAck
+        ensures { result ≡ table.kept self }
+    {
+        match self {
+            FirstAck::Brief => FirstAck::Brief,
+            FirstAck::Counts | FirstAck::Doubted | FirstAck::Dropped => FirstAck::Counts,
+        }
+    }
 }
 
 /// Whether this byte is no control byte.
@@ -97,8 +109,7 @@ impl Hold {
         let first_ack = match self.first_ack {
             first_ack if is_repeat => first_ack,
             _ if is_doubted => FirstAck::Doubted,
-            FirstAck::Brief => FirstAck::Brief,
-            FirstAck::Counts | FirstAck::Doubted | FirstAck::Dropped => FirstAck::Counts,
+            first_ack => first_ack.kept(),
         };
         Hold {
             is_held: false,
@@ -276,5 +287,51 @@ impl Hold {
             asks_left: self.asks_left,
             asked_at: self.asked_at,
         }
+    }
+
+    /// The same as `control` in place: what is to be heard of it.
+    #[inline(never)]
+    fn heeds(&mut self, kind: Kind, byte: u8, is_first: bool, now: u64) -> Say
+        ensures hold { self.new ≡ (table.control kind byte is_first now self.old).hold }
+        ensures say { result ≡ (table.control kind byte is_first now self.old).say }
+    {
+        let said = self.control(kind, byte, is_first, now);
+        *self = said.hold;
+        said.say
+    }
+
+    /// Whether an ACK behind a write of this kind is heard at once, and changes nothing.
+    fn lets_pass(&self, kind: Kind) -> bool
+        ensures { result ≡ table.lets_pass kind self.now.first_ack }
+    {
+        match (kind, self.first_ack) {
+            (Kind::Data, FirstAck::Counts) | (Kind::Data, FirstAck::Brief) => true,
+            _ => false,
+        }
+    }
+
+    /// The same, at once where it is an ACK as most come.
+    #[inline(always)]
+    pub(crate) fn takes(&mut self, kind: Kind, byte: u8, is_first: bool, now: u64) -> Say
+        ensures hold { self.new ≡ (table.control kind byte is_first now self.old).hold }
+        ensures say { result ≡ (table.control kind byte is_first now self.old).say }
+    {
+        if byte == ACK && self.lets_pass(kind) {
+            return Say::Byte;
+        }
+        self.heeds(kind, byte, is_first, now)
+    }
+
+    /// The same as `wrote` in place, behind a write that neither opens a file nor is doubted.
+    #[inline(always)]
+    pub(crate) fn led(&mut self, is_repeat: bool, now: u64)
+        ensures { self.new ≡ table.wrote false is_repeat false now self.old }
+    {
+        self.is_held = false;
+        if !is_repeat {
+            self.first_ack = self.first_ack.kept();
+        }
+        self.asks_left = 0;
+        self.asked_at = now;
     }
 }

@@ -3,6 +3,7 @@
 #![tactic(auto)]
 
 mod arrivals;
+mod at_once;
 mod cancel;
 mod clock;
 mod ear;

@@ -91,4 +91,16 @@ impl Out {
             gap: self.gap.max(now.saturating_sub(self.last_at)),
         }
     }
+
+    /// The same as `one` in place.
+    #[inline(always)]
+    pub(crate) fn led(&mut self, now: u64)
+        ensures { self.new ≡ table.one now }
+    {
+        self.owed = Owed::One;
+        self.copies = 1;
+        self.first_at = now;
+        self.last_at = now;
+        self.gap = 0;
+    }
 }

@@ -75,6 +75,22 @@ impl Pace {
         }
     }
 
+    /// The same as `sure` in place.
+    #[inline(always)]
+    pub(crate) fn led(&mut self, took: u64)
+        ensures { self.new ≡ table.sure took self.old }
+    {
+        match self.trust {
+            Trust::Sure if took < self.slowest => {
+                self.slowest -= (self.slowest - took) / 4;
+            }
+            _ => {
+                self.slowest = took;
+                self.trust = Trust::Sure;
+            }
+        }
+    }
+
     /// How long a reply is waited for, or a frame: as long as at first, and longer where answers
     /// take longer.
     pub fn wait(self, role: Role) -> u64
