@@ -26,6 +26,10 @@ new_standing counts =
       cancel_pending = false;
     }
 
+-- to a standing, where this position's frame is filled, if any is
+abbrev pub step_to : Standing → Option Position → Step
+step_to s fills = record { standing = s; fills = fills }
+
 -- no frame is filled
 abbrev pub step : Standing → Step
 step s = record { standing = s; fills = None }

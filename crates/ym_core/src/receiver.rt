@@ -155,6 +155,7 @@ impl ReceiverCore {
     }
 
     /// How it has ended, or that it still runs.
+    #[inline(always)]
     pub fn state(&self) -> RecvState
         ensures { result ≡ self.now.state }
     {
@@ -170,6 +171,7 @@ impl ReceiverCore {
 
     /// The step of the table at one delivery: the receiver behind it, the reply, and what the host
     /// has to do first.
+    #[inline(always)]
     pub fn hear<'a>(self, heard: &HeardRef<'a>) -> Step<'a>
         ensures step { Hears self (owned_heard heard.entry.now) result }
         ensures moves { Moves self result }
@@ -183,6 +185,8 @@ impl ReceiverCore {
 
     /// The receiver where the host could not do what a step asked: it has ended. The reply is then
     /// `Reply::Cancel`.
+    #[cold]
+    #[inline(never)]
     pub fn failed(self) -> ReceiverCore
         ensures { result ≡ record self { state = RecvState.SinkFailed } }
     {

@@ -58,37 +58,33 @@ impl Standing {
     }
 
     /// After a delivery without progress.
-    fn missed(self) -> Standing
-        requires { self.retries < GIVE_UP }
-        ensures step { result ≡ (table.missed self).standing }
-        ensures retries { result.state ≡ SendState.Running → result.retries < GIVE_UP }
+    #[cold]
+    #[inline(never)]
+    fn miss(&mut self)
+        requires { self.old.retries < GIVE_UP }
+        ensures step { self.new ≡ (table.missed self.old).standing }
+        ensures retries { self.new.state ≡ SendState.Running → self.new.retries < GIVE_UP }
     {
-        let retries = self.retries + 1;
-        if retries < GIVE_UP {
-            Standing { retries, ..self }
-        } else {
-            Standing {
-                retries,
-                state: SendState::NoReply,
-                cancel_pending: true,
-                ..self
-            }
+        self.retries += 1;
+        if self.retries >= GIVE_UP {
+            self.state = SendState::NoReply;
+            self.cancel_pending = true;
         }
     }
 
     /// After progress to a position and a mode.
-    fn moved(self, position: Position, mode: Mode) -> Standing
-        ensures { result ≡ table.moved self position mode }
+    #[inline(always)]
+    fn move_to(&mut self, position: Position, mode: Mode)
+        ensures { self.new ≡ table.moved self.old position mode }
     {
-        Standing {
-            position,
-            mode,
-            retries: 0,
-            ..self
-        }
+        self.position = position;
+        self.mode = mode;
+        self.retries = 0;
     }
 
     /// After the source of the frame to be sent has failed.
+    #[cold]
+    #[inline(never)]
     pub fn source_failed(self) -> Standing
         ensures { result ≡ record self { state = SendState.SourceFailed; cancel_pending = true } }
     {
@@ -109,36 +105,42 @@ impl Standing {
         ensures retries { result.standing.state ≡ SendState.Running →
             result.standing.retries < GIVE_UP }
     {
-        let standing = match read.stop {
+        let mut standing = self;
+        let fills = standing.take_scan(read);
+        SendStep { standing, fills }
+    }
+
+    /// The same in place. It answers the position whose frame becomes the sent one.
+    #[inline(always)]
+    pub fn take_scan(&mut self, read: Scan) -> Option<Position>
+        requires { self.old.retries < GIVE_UP }
+        ensures step { table.step_to self.new result ≡
+            table.after_scan self.old read.position read.mode read.stop }
+        ensures within { (counts : List ℕ) → IsPosition counts self.old.position →
+            IsPosition counts read.position → IsPosition counts self.new.position }
+        ensures retries { self.new.state ≡ SendState.Running → self.new.retries < GIVE_UP }
+    {
+        match read.stop {
             Some(Stop::Sends) => {
-                return SendStep {
-                    standing: self.moved(read.position, read.mode),
-                    fills: Some(read.position),
-                };
+                self.move_to(read.position, read.mode);
+                return Some(read.position);
             }
-            Some(Stop::Again) => self.missed(),
-            Some(Stop::Finishes) => Standing {
-                state: SendState::Finished,
-                ..self
-            },
-            Some(Stop::Cancels) => Standing {
-                position: read.position,
-                mode: read.mode,
-                state: SendState::Cancelled,
-                ..self
-            },
+            Some(Stop::Again) => self.miss(),
+            Some(Stop::Finishes) => self.state = SendState::Finished,
+            Some(Stop::Cancels) => {
+                self.position = read.position;
+                self.mode = read.mode;
+                self.state = SendState::Cancelled;
+            }
             None => {
                 if self.mode == read.mode {
-                    self.missed()
+                    self.miss();
                 } else {
-                    self.moved(read.position, read.mode)
+                    self.move_to(read.position, read.mode);
                 }
             }
-        };
-        SendStep {
-            standing,
-            fills: None,
         }
+        None
     }
 
     /// After a delivery of these bytes. Where a position is filled, the host sends its frame, and

@@ -54,6 +54,7 @@ pub fn block_from<S: Source>(source: &mut S, shape: Shape, k: u64) -> Result<Blo
 /// Writes the frame of block k, counted from 1, of the file that a source has to the front of a
 /// buffer, and answers the frame's length, 133 or 1029. The source fills the body right where it
 /// stands in the frame. After a failure of the source nothing is said of the buffer's bytes.
+#[inline(always)]
 pub fn frame_from<S: Source>(
     source: &mut S,
     shape: Shape,
@@ -81,6 +82,7 @@ pub fn frame_from<S: Source>(
 
 /// Makes the frame of block k, whose bytes stand at this position, in a slice of the frame's
 /// length.
+#[inline(always)]
 fn write_frame<S: Source>(
     source: &mut S,
     position: Position,
@@ -103,6 +105,7 @@ fn write_frame<S: Source>(
 }
 
 /// Fills the body of the block at this position from a source.
+#[inline(always)]
 fn read_body<S: Source>(
     source: &mut S,
     position: Position,
@@ -121,6 +124,7 @@ fn read_body<S: Source>(
 }
 
 /// Fills the first bytes of a body from a place of a source on, and the others with padding.
+#[inline(always)]
 fn read_padded<S: Source>(
     source: &mut S,
     start: u64,

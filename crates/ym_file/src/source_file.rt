@@ -87,6 +87,7 @@ impl<S: Source> SourceFile<S> {
     }
 
     /// How many data blocks it is sent in.
+    #[inline(always)]
     pub fn blocks(&self, shape: Shape) -> u64
         ensures { result ≡ blocks_of shape self.now }
     {
@@ -96,6 +97,7 @@ impl<S: Source> SourceFile<S> {
     /// Writes the frame of data block `k`, counted from 1, to the front of a buffer, and answers
     /// the frame's length: at most 1029 bytes. The source fills the body right where it stands in
     /// the frame, in one call. After a failure of the source nothing is said of the buffer's bytes.
+    #[inline(always)]
     pub fn frame(
         &mut self,
         shape: Shape,

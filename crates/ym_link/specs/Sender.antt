@@ -65,11 +65,15 @@ abbrev pub Hears : SenderParts → List ℕ → SenderParts → Type 0
 Hears old bytes new =
     (failed : Bool) × IsStep old (hears (counts old) old.standing (controls_in bytes)) failed new
 
--- what a running sender reads in a delivery
-pub record IsScan (s : SenderParts) (bytes : List ℕ) (read : Scan) : Type 0 where
-  pub runs : s.standing.state ≡ Running
-  pub exact : read ≡ reads (counts s) s.standing.position s.standing.mode (controls_in bytes)
-  pub position : IsPosition (counts s) read.position
+-- what a running sender reads in a delivery, by where it stands
+pub record IsRead (counted : List ℕ) (s : Standing) (bytes : List ℕ) (read : Scan) : Type 0 where
+  pub runs : s.state ≡ Running
+  pub exact : read ≡ reads counted s.position s.mode (controls_in bytes)
+  pub position : IsPosition counted read.position
+
+-- the same by the sender
+abbrev pub IsScan : SenderParts → List ℕ → Scan → Type 0
+IsScan s bytes read = IsRead (counts s) s.standing bytes read
 
 -- what is to be sent: the frame held, CAN CAN, or nothing
 abbrev pub spoken_in : SendState → Mode → Bool → List ℕ → Option (List ℕ)

@@ -38,6 +38,7 @@ pub(crate) trait Listener {
 /// Reads one delivery to the front of the buffer, and answers its length, and what its listener
 /// found where it ended it. A delivery ends when its listener has enough, when the line is quiet,
 /// or at its greatest length. What is left of the last read is dropped.
+#[inline(always)]
 pub(crate) fn take_delivery<P: Port, L: Listener>(
     port: &mut P,
     listener: &L,

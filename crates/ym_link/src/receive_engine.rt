@@ -37,12 +37,14 @@ impl Listener for Frames {
     ghost finds = { λ _. IsFound };
 
     /// Which frame stands at the front of the bytes.
+    #[inline(always)]
     fn found_in(&self, bytes: &[u8]) -> Option<Whole> {
         whole_at(bytes).ok()
     }
 }
 
 /// What is heard of a delivery in which this was found. A block has 128 data bytes at least.
+#[inline(always)]
 fn heard_by(found: Option<Whole>, bytes: &[u8]) -> HeardRef<'_>
     requires { MatchOption found ((length bytes.now ≡ 0) ⊎ (has_item bytes.now ≡ false))
         (IsFound bytes.now) }
@@ -56,6 +58,7 @@ fn heard_by(found: Option<Whole>, bytes: &[u8]) -> HeardRef<'_>
 }
 
 /// Writes a reply, if there is one.
+#[inline(always)]
 fn write_reply<P: Port>(port: &mut P, reply: Reply) -> Result<(), EndFault>
     ensures told { (u : Tape) →
         P.tells port.new u →

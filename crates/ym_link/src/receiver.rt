@@ -39,6 +39,7 @@ impl<K: Sink> Model for ReceiverInto<K> {
 }
 
 /// Has the sink do what a step asks. After a fault it holds what it held before.
+#[inline(always)]
 fn call<K: Sink>(sink: &mut K, alloc: Global, ask: Ask<'_>) -> Result<(), SinkFault>
     requires { MayAsk (K.kept sink.old) ask }
     ensures { CallGives ask.entry (K.kept sink.old) (K.failures sink.old) result (K.kept sink.new)
@@ -97,6 +98,7 @@ impl<K: Sink> ReceiverInto<K> {
     }
 
     /// How it has ended, or that it still runs.
+    #[inline(always)]
     pub fn state(&self) -> RecvState
         ensures { result ≡ self.now.receiver.state }
     {
@@ -104,6 +106,7 @@ impl<K: Sink> ReceiverInto<K> {
     }
 
     /// Whether it still runs.
+    #[inline(always)]
     pub(crate) fn is_running(&self) -> bool
         ensures running { IsTrue result ↔ (self.now.receiver.state ≡ RecvState.Running) }
         ensures receiver { IsReceiver self.now }
@@ -132,6 +135,7 @@ impl<K: Sink> ReceiverInto<K> {
     }
 
     /// The same, with a block's body where it stands.
+    #[inline(always)]
     pub(crate) fn hear_in(&mut self, heard: &HeardRef<'_>) -> Result<Reply, AllocError>
         ensures table { HearsGives self.old (owned_heard heard.now) result self.new }
         ensures bounded { IsWithin self.new.receiver.stage self.new.kept }
@@ -144,6 +148,7 @@ impl<K: Sink> ReceiverInto<K> {
     }
 
     /// Takes the step of the core, once the sink has done what it asks.
+    #[inline(always)]
     fn answer(&mut self, heard: &HeardRef<'_>) -> Result<Reply, AllocError>
         ensures { HearsGives self.old (owned_heard heard.now) result self.new }
     {

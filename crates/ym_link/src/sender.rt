@@ -1,14 +1,16 @@
 //! The sender of a batch, over any source.
 
-ghost use Rattle.std.specs.Prelude.{◌≡◌, ◌↔◌, ◌≤◌, length, MatchOption, Some, None, IfOk, IfErr, IfSome, IsOk, OnOk, OnErr, All, take, true, false};
+ghost use Rattle.std.specs.Prelude.{◌≡◌, ◌↔◌, ◌<◌, ◌≤◌, length, MatchOption, Some, None, IfOk, IfErr, IfSome, IsOk, OnOk, OnErr, All, take, true, false};
 ghost use Rattle.ym_frame.specs.Frame.{IsFrame};
 ghost use Rattle.ym_frame.specs.declared.frame.Item.TheVariants as FrameItem;
 ghost use Rattle.ym_header.specs.Text.{text, end_text};
 ghost use Rattle.ym_file.specs.SourceFile.{IsFile, counts_of};
 ghost use Rattle.ym_core.specs.Position.{IsPosition, done_at};
 ghost use Rattle.ym_link.specs.FrameAt.{IsFrameAt};
-ghost use Rattle.ym_link.specs.Sender.{IsFilled};
-ghost use Rattle.ym_machine.specs.declared.limits.TheConstants.{MOST_FILES};
+ghost use Rattle.ym_link.specs.Sender.{IsFilled, IsRead};
+ghost use Rattle.ym_core.specs.Scan.{controls_in};
+ghost use Rattle.ym_core.specs.Standing.{hears, step_to};
+ghost use Rattle.ym_machine.specs.declared.limits.TheConstants.{GIVE_UP, MOST_FILES};
 
 use crate::delivery::Listener;
 use crate::shaped_batch::ShapedBatch;
@@ -129,6 +131,7 @@ fn copy_end(buffer: &mut [u8; 1029]) -> usize
 /// 1029 bytes. The body of a data block goes from its source right to its place in the frame, and
 /// the source is asked for it once. After a failure of the source nothing is said of the buffer's
 /// bytes.
+#[inline(always)]
 fn frame_at<S: Source>(
     files: &mut Vec<SourceFile<S>>,
     shape: Shape,
@@ -152,6 +155,58 @@ fn frame_at<S: Source>(
         Position::Eot { .. } => Ok(copy_eot(buffer)),
         Position::End => Ok(copy_end(buffer)),
     }
+}
+
+/// Takes the step that a delivery leads to: by what was found in it, else by its bytes. It answers
+/// the position whose frame becomes the sent one.
+// what was found is stepped in place, and the rare way without it stands apart
+#[inline(always)]
+fn step_in<S: Source>(
+    standing: &mut Standing,
+    batch: &ShapedBatch<'_, S>,
+    found: Option<Scan>,
+    bytes: &[u8],
+) -> Option<Position>
+    requires position { IsPosition (counts_of batch.now.shape batch.now.files.now)
+        standing.old.position }
+    requires retries { standing.old.state ≡ SendState.Running → standing.old.retries < GIVE_UP }
+    requires found { IfSome found (λ read.
+        IsRead (counts_of batch.now.shape batch.now.files.now) standing.old bytes.now read) }
+    ensures step { step_to standing.new result ≡
+        hears (counts_of batch.now.shape batch.now.files.now) standing.old
+        (controls_in bytes.now) }
+    ensures within { IsPosition (counts_of batch.now.shape batch.now.files.now)
+        standing.new.position }
+{
+    match found {
+        Some(read) => standing.take_scan(read),
+        None => step_read(standing, batch, bytes),
+    }
+}
+
+/// The same by the bytes alone.
+#[cold]
+#[inline(never)]
+fn step_read<S: Source>(
+    standing: &mut Standing,
+    batch: &ShapedBatch<'_, S>,
+    bytes: &[u8],
+) -> Option<Position>
+    requires position { IsPosition (counts_of batch.now.shape batch.now.files.now)
+        standing.old.position }
+    requires retries { standing.old.state ≡ SendState.Running → standing.old.retries < GIVE_UP }
+    ensures step { step_to standing.new result ≡
+        hears (counts_of batch.now.shape batch.now.files.now) standing.old
+        (controls_in bytes.now) }
+    ensures within { IsPosition (counts_of batch.now.shape batch.now.files.now)
+        standing.new.position }
+{
+    let SendStep {
+        standing: behind,
+        fills,
+    } = standing.after(batch, bytes);
+    *standing = behind;
+    fills
 }
 
 impl<S: Source> SenderFrom<S> {
@@ -188,6 +243,7 @@ impl<S: Source> SenderFrom<S> {
 
     /// What is to be sent now: while it runs, the frame of its place or nothing, and after it gave
     /// up or its source failed, CAN CAN until it hears a delivery.
+    #[inline(always)]
     pub fn frame(&self) -> Option<&[u8]>
         ensures spoken { MatchOption result (spoken self.now ≡ None) (λ bytes.
             spoken self.now ≡ Some bytes.now) }
@@ -223,33 +279,26 @@ impl<S: Source> SenderFrom<S> {
     }
 
     /// The same, where it may have been found already what the sender reads in the delivery.
+    #[inline(always)]
     pub(crate) fn hear_found(&mut self, found: Option<Scan>, bytes: &[u8])
         requires { IfSome found (IsScan self.old bytes.now) }
         ensures { Hears self.old bytes.now self.new }
     {
-        let step = self.step_at(found, bytes);
-        self.standing = step.standing;
-        if let Some(position) = step.fills {
+        let batch = ShapedBatch {
+            files: &self.batch,
+            shape: self.shape,
+        };
+        let fills = step_in(&mut self.standing, &batch, found, bytes);
+        if let Some(position) = fills {
             match frame_at(&mut self.batch, self.shape, position, &mut self.buffer) {
                 Ok(len) => self.len = len,
-                Err(SourceFault) => self.standing = step.standing.source_failed(),
+                Err(SourceFault) => self.standing = self.standing.source_failed(),
             }
         }
     }
 
-    /// What a delivery leads to: by what was found in it, else by its bytes.
-    fn step_at(&self, found: Option<Scan>, bytes: &[u8]) -> SendStep
-        requires { IfSome found (IsScan self.now bytes.now) }
-        ensures step { result ≡ hears (counts self.now) self.now.standing (controls_in bytes.now) }
-        ensures within { IsPosition (counts self.now) result.standing.position }
-    {
-        match found {
-            Some(read) => self.standing.after_scan(read),
-            None => self.standing.after(&self.shaped(), bytes),
-        }
-    }
-
     /// The batch, as the table counts it.
+    #[inline(always)]
     fn shaped(&self) -> ShapedBatch<'_, S>
         ensures { counts_of result.shape result.files.now ≡ counts self.now }
     {
@@ -267,6 +316,7 @@ impl<S: Source> SenderFrom<S> {
     }
 
     /// How it has ended.
+    #[inline(always)]
     pub fn state(&self) -> SendState
         ensures { result ≡ self.now.standing.state }
     {
@@ -289,6 +339,7 @@ impl<S: Source> Listener for SenderFrom<S> {
     ghost finds = { IsScan };
 
     /// What it reads in these bytes, where more of them cannot change what `hear` does with them.
+    #[inline(always)]
     fn found_in(&self, bytes: &[u8]) -> Option<Scan> {
         let standing = self.standing;
         let read = read_delivery(&self.shaped(), standing.position, standing.mode, bytes);
