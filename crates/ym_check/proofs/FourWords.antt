@@ -1,9 +1,11 @@
 -- Sixteen bytes in front of sixty-four others, added to these: modulo the divisor, x^512 is x^384 + x^160 + 1.
-use Rattle.std.specs.Prelude.{◌≡◌, ℕ, ◌+◌, ◌*◌, ◌/◌, ◌%◌, ◌^◌, ◌<◌, Bool, false, List, [], ◌∷◌, ◌++◌, length, take, get_or, replicate, bit_xor, refl}
+use Rattle.std.specs.Prelude.{◌≡◌, ℕ, ◌+◌, ◌*◌, ◌/◌, ◌%◌, ◌^◌, ◌<◌, Bool, false, List, [], ◌∷◌, ◌++◌, length, take, drop, get_or, replicate, bit_xor, refl}
 use Rattle.std.specs.Int.{w8, w32}
 use Rattle.std.specs.Simd.Lanes.{number_l, digits_l, zip2, pick_l, Each1}
 use Rattle.std.proofs.Common.{sym, ◌∙◌, ap, arith, append_assoc, Fits}
+use Rattle.std.proofs.Math.Seq.{take-add}
 use Rattle.std.proofs.lemmas.Grind.{flat_map-append}
+use Rattle.std.proofs.lemmas.List.{take_all}
 use Rattle.std.proofs.lemmas.Nat.{xor_block, xor_comm}
 use Rattle.std.specs.Int.Bits.{xor_shifted}
 use Rattle.ym_check.specs.Check.{subtract, body_bits, check_of}
@@ -12,7 +14,7 @@ use Rattle.ym_check.proofs.Division.{run, start, subtract-append}
 use Rattle.ym_check.proofs.Linear.{IsLinearInBits, right, left, AgreeBelow, same_below}
 use Rattle.ym_check.proofs.Register.{start-subtract}
 use Rattle.ym_check.proofs.Folding.{padded-linear, agree_quickly, added_behind}
-use Rattle.ym_check.proofs.Words.{word_bytes_bits, E-xor, length-E, same_long, check_from, written}
+use Rattle.ym_check.proofs.Words.{word_bytes_bits, E-xor, length-E, same_long, check_from, check-append, written}
 
 abbrev E : ℕ → List Bool
 E n = word_bytes_bits n
@@ -66,10 +68,10 @@ row_read bs long small = absurd (omega arith)
 
 -- ---- sixteen bytes in front of sixty-four zeros, and what they become
 
-abbrev pub fours : ℕ → ℕ → ℕ → ℕ → List Bool
+abbrev fours : ℕ → ℕ → ℕ → ℕ → List Bool
 fours a b c d = E a ++ (E b ++ (E c ++ E d))
 
-pub fours-xor : (a b c d s t u v : ℕ) → fours (bit_xor a s) (bit_xor b t) (bit_xor c u) (bit_xor d v) ≡ subtract (fours a b c d) (fours s t u v)
+fours-xor : (a b c d s t u v : ℕ) → fours (bit_xor a s) (bit_xor b t) (bit_xor c u) (bit_xor d v) ≡ subtract (fours a b c d) (fours s t u v)
 fours-xor a b c d s t u v =
     rw (
       E-xor a s,
@@ -81,7 +83,7 @@ fours-xor a b c d s t u v =
       subtract-append (E c) (E d) (E u) (E v) (same_long c u),
     ) refl
 
-pub length-fours : (a b c d : ℕ) → length (fours a b c d) ≡ 512
+length-fours : (a b c d : ℕ) → length (fours a b c d) ≡ 512
 unfolding word_bytes_bits sixteen
 length-fours a b c d = refl
 
@@ -131,3 +133,18 @@ moved_on a b c d n l =
     check_from (numbers_bytes a b c d ++ sixteen n) (numbers_bytes (bit_xor b a) (bit_xor c s) (bit_xor d t) (bit_xor n a))
     (rw (with_next_bits a b c d n, numbers_bits (bit_xor b a) (bit_xor c s) (bit_xor d t) (bit_xor n a), fours-xor b c d n a s t a)
     (added_behind 128 512 (E a) (fours b c d n) (behind a) (length-E a) (length-fours b c d n) (length-fours a s t a) (becomes a l)))
+
+-- sixty-four bytes, row by row
+pub four_slices : (bs : List ℕ) → length bs ≡ 64 → take 16 bs ++ take 16 (drop 16 bs) ++ take 16 (drop 32 bs) ++ take 16 (drop 48 bs) ≡ bs
+four_slices bs long =
+    let two : take 16 bs ++ take 16 (drop 16 bs) ≡ take 32 bs = sym (take-add 16 16 bs) in
+    let three : take 32 bs ++ take 16 (drop 32 bs) ≡ take 48 bs = sym (take-add 32 16 bs) in
+    let four : take 48 bs ++ take 16 (drop 48 bs) ≡ take 64 bs = sym (take-add 48 16 bs) in
+    rw (two, three, four) (take_all 64 bs (omega (arith, long)))
+
+-- four rows behind other bytes, of which the first one takes the check of these
+pub entered_front : (before a b c d first : List ℕ) → check_of (before ++ a) ≡ check_of first → check_of (before ++ (a ++ b ++ c ++ d)) ≡ check_of (first ++ b ++ c ++ d)
+entered_front before a b c d first is =
+    let left_same : before ++ (a ++ b ++ c ++ d) ≡ (before ++ a) ++ (b ++ c ++ d) = simp append_assoc in
+    let right_same : first ++ (b ++ c ++ d) ≡ first ++ b ++ c ++ d = simp append_assoc in
+    ap check_of left_same ∙ check-append (before ++ a) first (b ++ c ++ d) is ∙ ap check_of right_same

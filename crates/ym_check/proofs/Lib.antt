@@ -6,4 +6,3 @@ pub mod Folding
 pub mod FoldedBytes
 pub mod Words
 pub mod FourWords
-pub mod EightRows

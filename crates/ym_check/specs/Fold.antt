@@ -1,4 +1,4 @@
--- Sixteen bytes in a word or in a row of four words, and more of them in four rows and in eight.
+-- Sixteen bytes in a word or in a row of four words, and sixty-four in four rows.
 use Rattle.std.specs.Prelude.{ℕ, List, ◌++◌, ◌/◌, ◌^◌, bit_xor}
 use Rattle.std.specs.Simd.Lanes.{number_l, digits_l}
 
@@ -20,11 +20,3 @@ abbrev pub rows_bytes : List ℕ → List ℕ → List ℕ → List ℕ → List
 rows_bytes first second third fourth gone =
     let whole = bit_xor (row_number third) (row_number gone / 2 ^ 32) in
     row_bytes first ++ row_bytes second ++ sixteen whole ++ row_bytes fourth
-
--- the bytes of eight rows, one row after another, where the last half of the row before them is
--- still to be added to the sixth
-abbrev pub wide_bytes : (first second third fourth fifth sixth seventh eighth gone : List ℕ) → List ℕ
-wide_bytes first second third fourth fifth sixth seventh eighth gone =
-    let whole = bit_xor (row_number sixth) (row_number gone / 2 ^ 64) in
-    row_bytes first ++ row_bytes second ++ row_bytes third ++ row_bytes fourth ++
-    row_bytes fifth ++ sixteen whole ++ row_bytes seventh ++ row_bytes eighth

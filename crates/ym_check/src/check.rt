@@ -1,8 +1,8 @@
 //! The 16-bit check of a body, as its bytes come.
 //!
 //! C. Forsberg, XMODEM/YMODEM Protocol Reference (1988), "CRC Calculation". The check is defined by
-//! long division over bits. The code takes a hundred and twenty-eight bytes at a time, as
-//! `rows` says, then sixteen, as `fold` says, and what is left byte by byte.
+//! long division over bits. The code takes sixty-four bytes at a time, as `rows` says, then
+//! sixteen, as `fold` says, and what is left byte by byte.
 
 ghost use Rattle.std.specs.Prelude.{◌≡◌, List, ℕ, [], ◌∷◌, ◌++◌};
 ghost use Rattle.ym_check.specs.Check.{check_of};
@@ -56,7 +56,7 @@ impl CheckState {
         ensures { (bytes : List ℕ) → self.old ≡ check_of bytes →
             self.new ≡ check_of (bytes ++ more.now) }
     {
-        let (chunks, rest) = more.split_at(more.len() / 128 * 128);
+        let (chunks, rest) = more.split_at(more.len() / 64 * 64);
         self.value = with_chunks(self.value, chunks);
         let (words, rest) = rest.split_at(rest.len() / 16 * 16);
         self.value = with_words(self.value, words);

@@ -36,10 +36,10 @@ pub(crate) fn check_of_16(word: u16) -> u16
 
 /// The check of eight bytes.
 ///
-/// Long division subtracts the divisor wherever the quotient has a bit. The quotient is the word
-/// divided by 1 + y^4 + y^11 + y^16, where y moves a bit one place down. The sixteenth power of that
-/// is 1 + y^64 + .., which is 1 for a word of sixty-four bits. So the word is multiplied by its
-/// eighth, fourth, second and first power in place of the division.
+/// The quotient of long division is the word divided by 1 + y^4 + y^11 + y^16, where y moves a bit
+/// one place down. The sixteenth power of that is 1 + y^64 + .., so 1 for sixty-four bits: the word
+/// is multiplied by the eighth, fourth, second and first power instead. What remains is the end of
+/// the quotient times the divisor.
 #[tactic(auto, using(crate::proofs::Folding::quotient_64))]
 fn check_of_64(word: u64) -> u16
     ensures { bits 16 result ≡ remainder (bits 64 word) }
@@ -61,7 +61,7 @@ fn check_of_128(word: u128) -> u16
 }
 
 /// Sixteen bytes as they lie in memory.
-pub(crate) fn word_of(bytes: &[u8]) -> u128
+fn word_of(bytes: &[u8]) -> u128
     requires { length bytes.now ≡ 16 }
     ensures { sixteen result ≡ bytes.now }
 {
@@ -84,7 +84,7 @@ fn folded(word: u128) -> u128
 
 /// A word and the next one folded into one, which has the check of both.
 #[tactic(auto, using(crate::proofs::Words::folded_on))]
-pub(crate) fn next_word(word: u128, next: u128) -> u128
+fn next_word(word: u128, next: u128) -> u128
     ensures { check_of (sixteen word ++ sixteen next) ≡ check_of (sixteen result) }
 {
     folded(word) ^ next
@@ -92,7 +92,7 @@ pub(crate) fn next_word(word: u128, next: u128) -> u128
 
 /// The check of sixteen bytes as they lie in memory.
 #[tactic(auto, using(crate::proofs::Words::turned))]
-pub(crate) fn check_of_word(word: u128) -> u16
+fn check_of_word(word: u128) -> u16
     ensures { result ≡ check_of (sixteen word) }
 {
     check_of_128(word.swap_bytes())
@@ -100,6 +100,7 @@ pub(crate) fn check_of_word(word: u128) -> u16
 
 /// The check of some bytes and of these behind them, sixteen bytes at a time, where the check of
 /// the first ones is known.
+#[inline(never)] // one of it is enough for a small board
 pub(crate) fn with_words(check: u16, bytes: &[u8]) -> u16
     requires { length bytes.now % 16 ≡ 0 }
     ensures { (before : List ℕ) → check ≡ check_of before →

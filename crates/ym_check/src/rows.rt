@@ -1,17 +1,15 @@
-//! The check of a hundred and twenty-eight bytes at a time.
+//! The check of sixty-four bytes at a time.
 //!
-//! Modulo x^16 + x^12 + x^5 + 1, x^1024 is x^768 + x^320 + 1: a word of eight bytes in front of
-//! sixteen others is added to these in three places, four, eleven and sixteen words later. So two
+//! Modulo x^16 + x^12 + x^5 + 1, x^512 is x^384 + x^160 + 1: a word of four bytes in front of
+//! sixteen others is added to these in three places, four, eleven and sixteen words later. So four
 //! words in a row can go at once, and no bit moves within a word. A message is folded from the
-//! front into its last hundred and twenty-eight bytes, which have the same check. These are folded
-//! into their last sixty-four in the same way, with words of four bytes, as x^512 is
-//! x^384 + x^160 + 1.
+//! front into its last sixty-four bytes, which have the same check.
 
 ghost use Rattle.std.specs.Prelude.{◌≡◌, ◌%◌, ◌*◌, ◌/◌, ◌^◌, ◌<◌, List, ℕ, ◌++◌, length, bit_xor};
 ghost use Rattle.ym_check.specs.Check.{check_of};
-ghost use Rattle.ym_check.specs.Fold.{sixteen, row_number, row_bytes, rows_bytes, wide_bytes};
+ghost use Rattle.ym_check.specs.Fold.{row_number, row_bytes, rows_bytes};
 
-use crate::fold::{check_of_word, next_word, word_of};
+use crate::fold::with_words;
 use std::simd::prelude::*;
 
 /// Sixteen bytes as they lie in memory: four words.
@@ -41,23 +39,6 @@ fn across(row: u32x4, next: u32x4) -> u32x4
     row.shuffle(next, [1, 2, 3, 4])
 }
 
-/// The last eight bytes of a row, and the first eight of the next one.
-#[tactic(auto, using(crate::proofs::EightRows::row_halves, crate::proofs::FourWords::row_fits))]
-fn halves(row: u32x4, next: u32x4) -> u32x4
-    ensures sum { row_number result ≡
-        bit_xor (row_number row / 2 ^ 64) (row_number next * 2 ^ 64 % 2 ^ 128) }
-    ensures fits { row_number next < 2 ^ 128 }
-{
-    row.shuffle(next, [2, 3, 4, 5])
-}
-
-/// The bytes of a row as one word.
-fn word_of_row(row: u32x4) -> u128
-    ensures { sixteen result ≡ row_bytes row }
-{
-    word_of(&row.to_le_bytes().to_array())
-}
-
 /// Sixty-four bytes, which have the check of all bytes so far. The last three words of the row that
 /// went last are still to be added to the third row.
 #[derive(Clone, Copy)]
@@ -70,6 +51,23 @@ struct Rows {
 }
 
 impl Rows {
+    /// The first sixty-four bytes behind those that have this check.
+    fn of_first(check: u16, bytes: &[u8]) -> Self
+        requires { length bytes.now ≡ 64 }
+        ensures { (before : List ℕ) → check ≡ check_of before → check_of (before ++ bytes.now) ≡
+            check_of (rows_bytes result.first result.second result.third result.fourth
+            result.gone) }
+    {
+        let entered = u32x4::from_array([u32::from(check.swap_bytes()), 0, 0, 0]);
+        Rows {
+            first: added(row_of(&bytes[..16]), entered),
+            second: row_of(&bytes[16..32]),
+            third: row_of(&bytes[32..48]),
+            fourth: row_of(&bytes[48..64]),
+            gone: u32x4::splat(0),
+        }
+    }
+
     /// Takes the next sixteen bytes.
     ///
     /// The first sixteen go: they are added to those behind them in three places. Eleven words are
@@ -91,144 +89,66 @@ impl Rows {
         }
     }
 
+    /// Takes the next sixty-four bytes. After four rows each one stands where it stood.
+    fn with_four(self, bytes: &[u8]) -> Self
+        requires { length bytes.now ≡ 64 }
+        ensures { (before : List ℕ) →
+            check_of before ≡
+            check_of (rows_bytes self.first self.second self.third self.fourth self.gone) →
+            check_of (before ++ bytes.now) ≡
+            check_of (rows_bytes result.first result.second result.third result.fourth
+            result.gone) }
+    {
+        let mut rows = self;
+        for i in 0..4 {
+            rows = rows.with_row(row_of(&bytes[16 * i..16 * i + 16]));
+        }
+        rows
+    }
+
+    /// Takes the next bytes, sixty-four at a time.
+    fn with_all(self, bytes: &[u8]) -> Self
+        requires { length bytes.now % 64 ≡ 0 }
+        ensures { (before : List ℕ) →
+            check_of before ≡
+            check_of (rows_bytes self.first self.second self.third self.fourth self.gone) →
+            check_of (before ++ bytes.now) ≡
+            check_of (rows_bytes result.first result.second result.third result.fourth
+            result.gone) }
+    {
+        let mut rows = self;
+        for i in 0..bytes.len() / 64 {
+            rows = rows.with_four(&bytes[64 * i..64 * i + 64]);
+        }
+        rows
+    }
+
     /// The check of the sixty-four bytes.
     fn check(self) -> u16
         ensures { result ≡
             check_of (rows_bytes self.first self.second self.third self.fourth self.gone) }
     {
         let third = added(self.third, across(self.gone, u32x4::splat(0)));
-        let word = next_word(word_of_row(self.first), word_of_row(self.second));
-        let word = next_word(word, word_of_row(third));
-        check_of_word(next_word(word, word_of_row(self.fourth)))
-    }
-}
-
-/// A hundred and twenty-eight bytes, which have the check of all bytes so far. The last eight bytes
-/// of the row that went last are still to be added to the sixth row.
-#[derive(Clone, Copy)]
-struct Wide {
-    first: u32x4,
-    second: u32x4,
-    third: u32x4,
-    fourth: u32x4,
-    fifth: u32x4,
-    sixth: u32x4,
-    seventh: u32x4,
-    eighth: u32x4,
-    gone: u32x4,
-}
-
-impl Wide {
-    /// The first hundred and twenty-eight bytes behind those that have this check.
-    fn of_first(check: u16, bytes: &[u8]) -> Self
-        requires { length bytes.now ≡ 128 }
-        ensures { (before : List ℕ) → check ≡ check_of before → check_of (before ++ bytes.now) ≡
-            check_of (wide_bytes result.first result.second result.third result.fourth
-            result.fifth result.sixth result.seventh result.eighth result.gone) }
-    {
-        let entered = u32x4::from_array([u32::from(check.swap_bytes()), 0, 0, 0]);
-        Wide {
-            first: added(row_of(&bytes[..16]), entered),
-            second: row_of(&bytes[16..32]),
-            third: row_of(&bytes[32..48]),
-            fourth: row_of(&bytes[48..64]),
-            fifth: row_of(&bytes[64..80]),
-            sixth: row_of(&bytes[80..96]),
-            seventh: row_of(&bytes[96..112]),
-            eighth: row_of(&bytes[112..128]),
-            gone: u32x4::splat(0),
-        }
-    }
-
-    /// Takes the next sixteen bytes.
-    ///
-    /// The first sixteen go: they are added to those behind them in three places. Eleven words are
-    /// five rows and a half, so in one of these places they lie across two rows. What comes there
-    /// into the second of these is added together with what the next row adds to it.
-    fn with_row(self, next: u32x4) -> Self
-        ensures { check_of (wide_bytes self.first self.second self.third self.fourth self.fifth
-            self.sixth self.seventh self.eighth self.gone ++ row_bytes next) ≡
-            check_of (wide_bytes result.first result.second result.third result.fourth
-            result.fifth result.sixth result.seventh result.eighth result.gone) }
-    {
-        let gone = self.first;
-        Wide {
-            first: self.second,
-            second: added(self.third, gone),
-            third: self.fourth,
-            fourth: self.fifth,
-            fifth: added(self.sixth, halves(self.gone, gone)),
-            sixth: self.seventh,
-            seventh: self.eighth,
-            eighth: added(next, gone),
-            gone,
-        }
-    }
-
-    /// Takes the next hundred and twenty-eight bytes.
-    fn with_eight(self, bytes: &[u8]) -> Self
-        requires { length bytes.now ≡ 128 }
-        ensures { (before : List ℕ) → check_of before ≡
-            check_of (wide_bytes self.first self.second self.third self.fourth self.fifth
-            self.sixth self.seventh self.eighth self.gone) →
-            check_of (before ++ bytes.now) ≡
-            check_of (wide_bytes result.first result.second result.third result.fourth
-            result.fifth result.sixth result.seventh result.eighth result.gone) }
-    {
-        let mut rows = self;
-        for i in 0..8usize {
-            rows = rows.with_row(row_of(&bytes[16 * i..16 * i + 16]));
-        }
-        rows
-    }
-
-    /// Takes the next bytes, a hundred and twenty-eight at a time.
-    fn with_all(self, bytes: &[u8]) -> Self
-        requires { length bytes.now % 128 ≡ 0 }
-        ensures { (before : List ℕ) → check_of before ≡
-            check_of (wide_bytes self.first self.second self.third self.fourth self.fifth
-            self.sixth self.seventh self.eighth self.gone) →
-            check_of (before ++ bytes.now) ≡
-            check_of (wide_bytes result.first result.second result.third result.fourth
-            result.fifth result.sixth result.seventh result.eighth result.gone) }
-    {
-        let mut rows = self;
-        for i in 0..bytes.len() / 128 {
-            rows = rows.with_eight(&bytes[128 * i..128 * i + 128]);
-        }
-        rows
-    }
-
-    /// The check of the hundred and twenty-eight bytes.
-    fn check(self) -> u16
-        ensures { result ≡ check_of (wide_bytes self.first self.second self.third self.fourth
-            self.fifth self.sixth self.seventh self.eighth self.gone) }
-    {
-        let none = u32x4::splat(0);
-        let rows = Rows {
-            first: self.first,
-            second: self.second,
-            third: self.third,
-            fourth: self.fourth,
-            gone: none,
-        };
-        let sixth = added(self.sixth, halves(self.gone, none));
-        let rows = rows.with_row(self.fifth).with_row(sixth);
-        rows.with_row(self.seventh).with_row(self.eighth).check()
+        let mut bytes = [0; 64];
+        self.first.to_le_bytes().copy_to_slice(&mut bytes[..16]);
+        self.second.to_le_bytes().copy_to_slice(&mut bytes[16..32]);
+        third.to_le_bytes().copy_to_slice(&mut bytes[32..48]);
+        self.fourth.to_le_bytes().copy_to_slice(&mut bytes[48..]);
+        with_words(0, &bytes)
     }
 }
 
 /// The check of some bytes and of these behind them, where the check of the first ones is known.
 #[inline(never)] // one of it is enough for a small board
 pub(crate) fn with_chunks(check: u16, bytes: &[u8]) -> u16
-    requires { length bytes.now % 128 ≡ 0 }
+    requires { length bytes.now % 64 ≡ 0 }
     ensures { (before : List ℕ) → check ≡ check_of before →
         result ≡ check_of (before ++ bytes.now) }
 {
     if bytes.is_empty() {
         return check;
     }
-    let (first, others) = bytes.split_at(128);
-    let rows = Wide::of_first(check, first).with_all(others);
+    let (first, others) = bytes.split_at(64);
+    let rows = Rows::of_first(check, first).with_all(others);
     rows.check()
 }

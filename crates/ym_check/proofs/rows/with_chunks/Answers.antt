@@ -7,6 +7,6 @@ pub returns : goal.returns
 returns c = λ before is.
     let first = c.split_at.result.0.now in
     let others = c.split_at.result.1.now in
-    let all : first ++ others ≡ c.args.bytes.now = rw (c.split_at.ensures.front, c.split_at.ensures.back) (take-append-drop 128 c.args.bytes.now) in
+    let all : first ++ others ≡ c.args.bytes.now = rw (c.split_at.ensures.front, c.split_at.ensures.back) (take-append-drop 64 c.args.bytes.now) in
     c.check.ensures ∙ sym (c.with_all-rows.ensures (before ++ first) (c.of_first.ensures before is)) ∙
     ap check_of (append_assoc before first others ∙ ap (λ t. before ++ t) all)

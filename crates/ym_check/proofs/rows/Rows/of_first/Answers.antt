@@ -3,8 +3,8 @@ use Rattle.std.specs.Int.Bits.{xor_zero_r}
 use Rattle.ym_check.specs.Check.{check_of}
 use Rattle.ym_check.specs.Fold.{sixteen, row_number, row_bytes}
 use Rattle.ym_check.proofs.Words.{first_word}
-use Rattle.ym_check.proofs.EightRows.{eight_slices, entered_front}
-use Rattle.ym_check.proofs.rows.Wide.of_first.Goals as goal
+use Rattle.ym_check.proofs.FourWords.{four_slices, entered_front}
+use Rattle.ym_check.proofs.rows.Rows.of_first.Goals as goal
 
 pub returns : goal.returns
 returns c = λ before is.
@@ -13,17 +13,11 @@ returns c = λ before is.
     let b = row_bytes c.row_of-2.result in
     let d = row_bytes c.row_of-3.result in
     let e = row_bytes c.row_of-4.result in
-    let f = row_bytes c.row_of-5.result in
-    let g = row_bytes c.row_of-6.result in
-    let h = row_bytes c.row_of-7.result in
-    let i = row_bytes c.row_of-8.result in
     let first = row_bytes c.added.result in
-    let all : a ++ b ++ d ++ e ++ f ++ g ++ h ++ i ≡ bytes =
-    rw (c.row_of-2.ensures, c.row_of-3.ensures, c.row_of-4.ensures, c.row_of-5.ensures, c.row_of-6.ensures, c.row_of-7.ensures, c.row_of-8.ensures)
-    (eight_slices bytes c.requires) in
+    let all : a ++ b ++ d ++ e ≡ bytes = rw (c.row_of-2.ensures, c.row_of-3.ensures, c.row_of-4.ensures) (four_slices bytes c.requires) in
     let entered : check_of (before ++ a) ≡ check_of first =
     first_word c.args.check (row_number c.row_of.result) (c.from.result + 0) before a is c.row_of.ensures (omega (arith, c.from.ensures, c.swap_bytes.ensures)) ∙
     ap (λ n. check_of (sixteen n)) (sym c.added.ensures) in
     ap (λ t. check_of (before ++ t)) (sym all) ∙
-    entered_front before a b d e f g h i first entered ∙
-    ap (λ n. check_of (first ++ b ++ d ++ e ++ f ++ sixteen n ++ h ++ i)) (sym (xor_zero_r (row_number c.row_of-6.result)))
+    entered_front before a b d e first entered ∙
+    ap (λ n. check_of (first ++ b ++ sixteen n ++ e)) (sym (xor_zero_r (row_number c.row_of-3.result)))
