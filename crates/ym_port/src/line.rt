@@ -220,7 +220,9 @@ impl Line {
     fn heed_echo(&mut self)
         ensures { self.new ≡ table.heeds_echo self.old }
     {
-        self.has_echo = self.has_echo || self.comes_back();
+        if self.comes_back() {
+            self.has_echo = true;
+        }
     }
 
     /// Takes that a read waited until then, where the clock tells this.
