@@ -220,7 +220,9 @@ impl Line {
     fn heed_echo(&mut self)
         ensures { self.new ≡ table.heeds_echo self.old }
     {
-        self.has_echo = self.has_echo || self.comes_back();
+        if self.comes_back() {
+            self.has_echo = true;
+        }
     }
 
     /// Takes that a read waited until then, where the clock tells this.
@@ -245,7 +247,8 @@ impl Line {
 
     /// Whether a wait that began then is over, where what comes is not to be heard: none is longer
     /// than one for a reply, so noise without end holds an end no longer.
-    #[inline]
+    #[cold]
+    #[inline(never)]
     pub fn is_over(&self, wait: Expected, start: u64) -> bool
         ensures { result ≡ table.is_over wait start self.now }
     {
@@ -257,7 +260,8 @@ impl Line {
     }
 
     /// Takes that a wait is over, in which nothing came that is to be heard.
-    #[inline]
+    #[cold]
+    #[inline(never)]
     pub fn give_up(&mut self, wait: Expected) -> Vain
         ensures line { self.new ≡ table.gives_up wait self.old }
         ensures role { self.new.timing.role ≡ self.old.timing.role }

@@ -21,6 +21,8 @@ struct Began {
 }
 
 /// Takes that a wait is over.
+// here and below: what it answers is built where it is handed on
+#[inline(always)]
 fn give_up(line: &mut Line, wait: timing::Expected, buf: &mut [u8]) -> Option<Got>
     requires { 0 < length buf.old }
     ensures count { (n : ℕ) → result ≡ Some (Got.Bytes n) → (0 < n) × (n ≤ length buf.old) }
@@ -40,7 +42,7 @@ fn give_up(line: &mut Line, wait: timing::Expected, buf: &mut [u8]) -> Option<Go
 }
 
 /// Takes that nothing of what came is to be heard, in a wait that began then.
-#[cold]
+#[inline(always)]
 fn take_unheard(line: &mut Line, began: Began, buf: &mut [u8]) -> Option<Got>
     requires { 0 < length buf.old }
     ensures count { (n : ℕ) → result ≡ Some (Got.Bytes n) → (0 < n) × (n ≤ length buf.old) }

@@ -54,11 +54,13 @@ impl<W: Wire + Drop> TimedPort<W> {
     fn has_no_room(&self, length: usize) -> bool
         ensures { result ≡ table.has_no_room length self.now.line }
     {
-        let wants_two = match self.line.timing.role {
+        if 2 <= length {
+            return false;
+        }
+        match self.line.timing.role {
             Role::Sender => true,
             Role::Receiver => self.line.timing.has_cancel,
-        };
-        length < 2 && wants_two
+        }
     }
 
     /// Hears CAN CAN, which came while the line cleared.

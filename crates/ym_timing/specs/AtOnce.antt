@@ -7,11 +7,8 @@ use Rattle.ym_timing.specs.Hold as hold
 use Rattle.ym_timing.specs.Out.{one}
 use Rattle.ym_timing.specs.Pace.{sure}
 use Rattle.ym_timing.specs.Sent.{is_same}
-use Rattle.ym_timing.specs.declared.out.Owed.{Owed}
 use Rattle.ym_timing.specs.declared.out.Owed.TheVariants as owed
-use Rattle.ym_timing.specs.declared.role.Role.{Role}
 use Rattle.ym_timing.specs.declared.role.Role.TheVariants.{Sender, Receiver}
-use Rattle.ym_timing.specs.declared.sent.Kind.{Kind}
 use Rattle.ym_timing.specs.declared.sent.Kind.TheVariants as kind
 use Rattle.ym_timing.specs.declared.sent.Sent.{Sent}
 use Rattle.ym_timing.specs.declared.timing.Timing.{Timing}

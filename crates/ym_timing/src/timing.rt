@@ -123,12 +123,12 @@ impl Timing {
             Expected::Reply if self.is_early(wait) => start.saturating_add(PATIENCE),
             Expected::Reply => start.saturating_add(self.pace.wait(self.role)),
         };
+        if !self.hold.is_held {
+            return end;
+        }
         match self.sent.kind {
-            Kind::End | Kind::Data if self.hold.is_held => {
-                self.hold.at.saturating_add(self.hold.moment())
-            }
-            _ if self.hold.is_held => end.max(self.hold.at.saturating_add(WITHIN)),
-            _ => end,
+            Kind::End | Kind::Data => self.hold.at.saturating_add(self.hold.moment()),
+            _ => end.max(self.hold.at.saturating_add(WITHIN)),
         }
     }
 

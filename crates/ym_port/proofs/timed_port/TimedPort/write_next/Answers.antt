@@ -1,5 +1,5 @@
 -- A line that is clear at once.
-use Rattle.std.proofs.Common.{◌≡◌, ◌∙◌, sym, refl, subst, true, is_ok}
+use Rattle.std.proofs.Common.{◌≡◌, sym, refl, subst, true}
 use Rattle.ym_port.specs.TimedPort.{Cleared, Writes, is_clear, purge_for, writes}
 use Rattle.ym_port.specs.declared.line.Line.{Line}
 use Rattle.ym_port.proofs.Dropping.{clears-at-once}
