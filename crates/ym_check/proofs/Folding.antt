@@ -99,55 +99,39 @@ agree_quickly F G n e =
 
 -- ---- sixteen bytes become their check
 
-abbrev two_by : (s t : ℕ → ℕ) → ℕ → ℕ
-two_by s t n = bit_xor (bit_xor n (s n)) (t n)
+-- a word and itself moved down by each of these, added up
+abbrev shifted : List ℕ → ℕ → ℕ
+shifted [] n = n
+shifted (k ∷ ks) n = bit_xor (shifted ks n) (n / 2 ^ k)
 
-two_by-linear : (s t : ℕ → ℕ) → IsLinear s → IsLinear t → IsLinear (two_by s t)
-two_by-linear s t ls lt = added (λ n. bit_xor n (s n)) t (added (λ n. n) s (λ a b. refl) ls) lt
-
-abbrev three_by : (s t u : ℕ → ℕ) → ℕ → ℕ
-three_by s t u n = bit_xor (two_by s t n) (u n)
-
-three_by-linear : (s t u : ℕ → ℕ) → IsLinear s → IsLinear t → IsLinear u → IsLinear (three_by s t u)
-three_by-linear s t u ls lt lu = added (two_by s t) u (two_by-linear s t ls lt) lu
+shifted-linear : (ks : List ℕ) → IsLinear (shifted ks)
+shifted-linear [] a b = refl
+shifted-linear (k ∷ ks) a b = added (shifted ks) (λ n. n / 2 ^ k) (shifted-linear ks) (right k) a b
 
 after : (f g : ℕ → ℕ) → IsLinear f → IsLinear g → IsLinear (λ n. f (g n))
 after f g lf lg a b = ap f (lg a b) ∙ lf (g a) (g b)
 
-abbrev sixteenth : ℕ → ℕ
-sixteenth n = bit_xor n (n / 2 ^ 64)
+-- the fourth power and those above it, of which the last sixty-four bits count
+abbrev upper : ℕ → ℕ
+upper n = shifted (64 ∷ 44 ∷ 16 ∷ []) (shifted (88 ∷ 32 ∷ []) (shifted (64 ∷ []) n)) % 2 ^ 64
 
-abbrev eighth : ℕ → ℕ
-eighth n = two_by (λ m. m / 2 ^ 32) (λ m. m / 2 ^ 88) n
+abbrev quotient : ℕ → ℕ
+quotient n = shifted (16 ∷ 11 ∷ 4 ∷ []) (shifted (32 ∷ 22 ∷ 8 ∷ []) (upper n))
 
--- of which the last sixty-four bits count
-abbrev fourth : ℕ → ℕ
-fourth n = three_by (λ m. m / 2 ^ 16) (λ m. m / 2 ^ 44) (λ m. m / 2 ^ 64) n % 2 ^ 64
-
-abbrev second : ℕ → ℕ
-second n = three_by (λ m. m / 2 ^ 8) (λ m. m / 2 ^ 22) (λ m. m / 2 ^ 32) n
-
-abbrev first : ℕ → ℕ
-first n = three_by (λ m. m / 2 ^ 4) (λ m. m / 2 ^ 11) (λ m. m / 2 ^ 16) n
-
-abbrev last : ℕ → ℕ
-last n = two_by (λ m. m * 2 ^ 5 % 2 ^ 64) (λ m. m * 2 ^ 12 % 2 ^ 64) n
-
-abbrev pub check_128 : ℕ → ℕ
-check_128 n = last (first (second (fourth (eighth (sixteenth n)))))
+abbrev check_128 : ℕ → ℕ
+check_128 n = bit_xor (bit_xor (quotient n) (quotient n * 2 ^ 5 % 2 ^ 64)) (quotient n * 2 ^ 12 % 2 ^ 64)
 
 check_128-linear : IsLinear check_128
 check_128-linear =
-    let shift : (k : ℕ) → IsLinear (λ m. m / 2 ^ k) = right in
-    let sixteen : IsLinear sixteenth = added (λ n. n) (λ m. m / 2 ^ 64) (λ a b. refl) (shift 64) in
-    let eight : IsLinear eighth = two_by-linear (λ m. m / 2 ^ 32) (λ m. m / 2 ^ 88) (shift 32) (shift 88) in
-    let whole = three_by-linear (λ m. m / 2 ^ 16) (λ m. m / 2 ^ 44) (λ m. m / 2 ^ 64) (shift 16) (shift 44) (shift 64) in
-    let four : IsLinear fourth = after (λ m. m % 2 ^ 64) (three_by (λ m. m / 2 ^ 16) (λ m. m / 2 ^ 44) (λ m. m / 2 ^ 64)) (λ a b. xor_mod a b 64) whole in
-    let two : IsLinear second = three_by-linear (λ m. m / 2 ^ 8) (λ m. m / 2 ^ 22) (λ m. m / 2 ^ 32) (shift 8) (shift 22) (shift 32) in
-    let one : IsLinear first = three_by-linear (λ m. m / 2 ^ 4) (λ m. m / 2 ^ 11) (λ m. m / 2 ^ 16) (shift 4) (shift 11) (shift 16) in
-    let end : IsLinear last = two_by-linear (λ m. m * 2 ^ 5 % 2 ^ 64) (λ m. m * 2 ^ 12 % 2 ^ 64) (left 5 64) (left 12 64) in
-    let upper : IsLinear (λ n. fourth (eighth (sixteenth n))) = after fourth (λ n. eighth (sixteenth n)) four (after eighth sixteenth eight sixteen) in
-    after last (λ n. first (second (fourth (eighth (sixteenth n))))) end (after first (λ n. second (fourth (eighth (sixteenth n)))) one (after second (λ n. fourth (eighth (sixteenth n))) two upper))
+    let sh : (ks : List ℕ) → IsLinear (shifted ks) = shifted-linear in
+    let eighth : IsLinear (λ n. shifted (88 ∷ 32 ∷ []) (shifted (64 ∷ []) n)) = after (shifted (88 ∷ 32 ∷ [])) (shifted (64 ∷ [])) (sh (88 ∷ 32 ∷ [])) (sh (64 ∷ [])) in
+    let fourth = after (shifted (64 ∷ 44 ∷ 16 ∷ [])) (λ n. shifted (88 ∷ 32 ∷ []) (shifted (64 ∷ []) n)) (sh (64 ∷ 44 ∷ 16 ∷ [])) eighth in
+    let cut : IsLinear upper = after (λ m. m % 2 ^ 64) (λ n. shifted (64 ∷ 44 ∷ 16 ∷ []) (shifted (88 ∷ 32 ∷ []) (shifted (64 ∷ []) n))) (λ a b. xor_mod a b 64) fourth in
+    let second = after (shifted (32 ∷ 22 ∷ 8 ∷ [])) upper (sh (32 ∷ 22 ∷ 8 ∷ [])) cut in
+    let whole : IsLinear quotient = after (shifted (16 ∷ 11 ∷ 4 ∷ [])) (λ n. shifted (32 ∷ 22 ∷ 8 ∷ []) (upper n)) (sh (16 ∷ 11 ∷ 4 ∷ [])) second in
+    let five : IsLinear (λ n. quotient n * 2 ^ 5 % 2 ^ 64) = after (λ m. m * 2 ^ 5 % 2 ^ 64) quotient (left 5 64) whole in
+    let twelve : IsLinear (λ n. quotient n * 2 ^ 12 % 2 ^ 64) = after (λ m. m * 2 ^ 12 % 2 ^ 64) quotient (left 12 64) whole in
+    added (λ n. bit_xor (quotient n) (quotient n * 2 ^ 5 % 2 ^ 64)) (λ n. quotient n * 2 ^ 12 % 2 ^ 64) (added quotient (λ n. quotient n * 2 ^ 5 % 2 ^ 64) whole five) twelve
 
 abbrev word_check : ℕ → List Bool
 word_check n = run start (bits 128 n)
