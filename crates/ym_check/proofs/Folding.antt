@@ -33,13 +33,6 @@ module _ (s t u v w : ℕ → ℕ) where
       ap (λ n. bit_xor (bit_xor n (v n)) (w n)) (above x y) ∙
       added (λ n. bit_xor n (v n)) w (added (λ n. n) v same lv) lw (above_by x) (above_by y)
 
-abbrev pub folded_of : (a b c d e w n : ℕ) → ℕ
-folded_of a b c d e w n = folded_by (λ m. m / 2 ^ a) (λ m. m / 2 ^ b) (λ m. m / 2 ^ c) (λ m. m * 2 ^ d % 2 ^ w) (λ m. m * 2 ^ e % 2 ^ w) n
-
-folded_of-linear : (a b c d e w : ℕ) → IsLinear (folded_of a b c d e w)
-folded_of-linear a b c d e w =
-    folded_by-linear (λ m. m / 2 ^ a) (λ m. m / 2 ^ b) (λ m. m / 2 ^ c) (λ m. m * 2 ^ d % 2 ^ w) (λ m. m * 2 ^ e % 2 ^ w) (right a) (right b) (right c) (left d w) (left e w)
-
 -- ---- bits in front of zero bits
 
 pub padded-linear : (n : ℕ) (F : ℕ → List Bool) → IsLinearInBits F → ((a b : ℕ) → length (F a) ≡ length (F b)) → IsLinearInBits (λ k. run start (F k ++ replicate n false))
@@ -51,7 +44,11 @@ padded-linear n F linear same a b =
 -- ---- two bytes
 
 abbrev pub folded_16 : ℕ → ℕ
-folded_16 n = folded_of 4 8 11 5 12 16 n
+folded_16 n = folded_by (λ m. m / 2 ^ 4) (λ m. m / 2 ^ 8) (λ m. m / 2 ^ 11) (λ m. m * 2 ^ 5 % 2 ^ 16) (λ m. m * 2 ^ 12 % 2 ^ 16) n
+
+folded_16-linear : IsLinear folded_16
+folded_16-linear =
+    folded_by-linear (λ m. m / 2 ^ 4) (λ m. m / 2 ^ 8) (λ m. m / 2 ^ 11) (λ m. m * 2 ^ 5 % 2 ^ 16) (λ m. m * 2 ^ 12 % 2 ^ 16) (right 4) (right 8) (right 11) (left 5 16) (left 12 16)
 
 -- ---- the register as a number, with which the checker computes: its low sixteen bits count
 
@@ -123,12 +120,11 @@ check_128 n = bit_xor (bit_xor (quotient n) (quotient n * 2 ^ 5 % 2 ^ 64)) (quot
 
 check_128-linear : IsLinear check_128
 check_128-linear =
-    let sh : (ks : List ℕ) → IsLinear (shifted ks) = shifted-linear in
-    let eighth : IsLinear (λ n. shifted (88 ∷ 32 ∷ []) (shifted (64 ∷ []) n)) = after (shifted (88 ∷ 32 ∷ [])) (shifted (64 ∷ [])) (sh (88 ∷ 32 ∷ [])) (sh (64 ∷ [])) in
-    let fourth = after (shifted (64 ∷ 44 ∷ 16 ∷ [])) (λ n. shifted (88 ∷ 32 ∷ []) (shifted (64 ∷ []) n)) (sh (64 ∷ 44 ∷ 16 ∷ [])) eighth in
+    let eighth : IsLinear (λ n. shifted (88 ∷ 32 ∷ []) (shifted (64 ∷ []) n)) = after (shifted (88 ∷ 32 ∷ [])) (shifted (64 ∷ [])) (shifted-linear (88 ∷ 32 ∷ [])) (shifted-linear (64 ∷ [])) in
+    let fourth = after (shifted (64 ∷ 44 ∷ 16 ∷ [])) (λ n. shifted (88 ∷ 32 ∷ []) (shifted (64 ∷ []) n)) (shifted-linear (64 ∷ 44 ∷ 16 ∷ [])) eighth in
     let cut : IsLinear upper = after (λ m. m % 2 ^ 64) (λ n. shifted (64 ∷ 44 ∷ 16 ∷ []) (shifted (88 ∷ 32 ∷ []) (shifted (64 ∷ []) n))) (λ a b. xor_mod a b 64) fourth in
-    let second = after (shifted (32 ∷ 22 ∷ 8 ∷ [])) upper (sh (32 ∷ 22 ∷ 8 ∷ [])) cut in
-    let whole : IsLinear quotient = after (shifted (16 ∷ 11 ∷ 4 ∷ [])) (λ n. shifted (32 ∷ 22 ∷ 8 ∷ []) (upper n)) (sh (16 ∷ 11 ∷ 4 ∷ [])) second in
+    let second = after (shifted (32 ∷ 22 ∷ 8 ∷ [])) upper (shifted-linear (32 ∷ 22 ∷ 8 ∷ [])) cut in
+    let whole : IsLinear quotient = after (shifted (16 ∷ 11 ∷ 4 ∷ [])) (λ n. shifted (32 ∷ 22 ∷ 8 ∷ []) (upper n)) (shifted-linear (16 ∷ 11 ∷ 4 ∷ [])) second in
     let five : IsLinear (λ n. quotient n * 2 ^ 5 % 2 ^ 64) = after (λ m. m * 2 ^ 5 % 2 ^ 64) quotient (left 5 64) whole in
     let twelve : IsLinear (λ n. quotient n * 2 ^ 12 % 2 ^ 64) = after (λ m. m * 2 ^ 12 % 2 ^ 64) quotient (left 12 64) whole in
     added (λ n. bit_xor (quotient n) (quotient n * 2 ^ 5 % 2 ^ 64)) (λ n. quotient n * 2 ^ 12 % 2 ^ 64) (added quotient (λ n. quotient n * 2 ^ 5 % 2 ^ 64) whole five) twelve
@@ -166,7 +162,7 @@ check_16-linear : IsLinearInBits check_16
 check_16-linear a b = ap (run start) (bits-xor 16 a b) ∙ start-subtract (bits 16 a) (bits 16 b) refl
 
 folded_bits-linear : IsLinearInBits folded_bits
-folded_bits-linear a b = ap (bits 16) (folded_of-linear 4 8 11 5 12 16 a b) ∙ bits-xor 16 (folded_16 a) (folded_16 b)
+folded_bits-linear a b = ap (bits 16) (folded_16-linear a b) ∙ bits-xor 16 (folded_16 a) (folded_16 b)
 
 agree_16 : AgreeBelow check_16 folded_bits 16
 agree_16 = agree_further check_16 folded_bits 0 16 (agree_nowhere check_16 folded_bits) refl
