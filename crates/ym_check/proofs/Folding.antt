@@ -1,12 +1,12 @@
 -- Bytes in front of others, folded into them: modulo the divisor, x^16 is x^12 + x^5 + 1, and so x^16n is x^12n + x^5n + 1 for n = 2, 4.
 use Rattle.std.specs.Prelude.{◌≡◌, ℕ, ◌+◌, ◌*◌, ◌/◌, ◌%◌, ◌^◌, ◌<◌, zero, suc, Bool, true, false, eqb, cond, List, [], ◌∷◌, ◌++◌, length, replicate, bit_xor, refl}
 use Rattle.std.proofs.Common.{sym, ◌∙◌, ap, arith, length-append}
-use Rattle.std.proofs.lemmas.Nat.{xor_comm, shl-shr}
+use Rattle.std.proofs.lemmas.Nat.{shl-shr, xor_mod}
 use Rattle.std.proofs.Math.ListN.{length-replicate}
 use Rattle.std.proofs.Math.Nat.{div-one}
 use Rattle.ym_check.specs.Check.{bits, minus, subtract, remainder}
 use Rattle.ym_check.proofs.Division.{moved, below_divisor, run, start, subtract-append, subtract-zeros, zeros-subtract, remainder_is_run}
-use Rattle.ym_check.proofs.CheckNumbers.{length-bits, bits-xor, bits-split, bits-low}
+use Rattle.ym_check.proofs.CheckNumbers.{bits-xor, bits-split, bits-low}
 use Rattle.ym_check.proofs.Linear.{IsLinear, IsLinearInBits, added, right, left, at_powers, AgreeBelow, agree_nowhere, agree_further, same_below}
 use Rattle.ym_check.proofs.Register.{start-subtract, zeros_in_front}
 
@@ -33,20 +33,7 @@ module _ (s t u v w : ℕ → ℕ) where
       ap (λ n. bit_xor (bit_xor n (v n)) (w n)) (above x y) ∙
       added (λ n. bit_xor n (v n)) w (added (λ n. n) v same lv) lw (above_by x) (above_by y)
 
-abbrev pub folded_of : (a b c d e w n : ℕ) → ℕ
-folded_of a b c d e w n = folded_by (λ m. m / 2 ^ a) (λ m. m / 2 ^ b) (λ m. m / 2 ^ c) (λ m. m * 2 ^ d % 2 ^ w) (λ m. m * 2 ^ e % 2 ^ w) n
-
-folded_of-linear : (a b c d e w : ℕ) → IsLinear (folded_of a b c d e w)
-folded_of-linear a b c d e w =
-    folded_by-linear (λ m. m / 2 ^ a) (λ m. m / 2 ^ b) (λ m. m / 2 ^ c) (λ m. m * 2 ^ d % 2 ^ w) (λ m. m * 2 ^ e % 2 ^ w) (right a) (right b) (right c) (left d w) (left e w)
-
--- ---- the check of a word in front of as many zero bits, and of what it becomes
-
-abbrev pub in_front : ℕ → ℕ → List Bool
-in_front w n = run start (bits w n ++ replicate w false)
-
-abbrev pub alone : ℕ → (ℕ → ℕ) → ℕ → List Bool
-alone w f n = run start (bits w (f n))
+-- ---- bits in front of zero bits
 
 pub padded-linear : (n : ℕ) (F : ℕ → List Bool) → IsLinearInBits F → ((a b : ℕ) → length (F a) ≡ length (F b)) → IsLinearInBits (λ k. run start (F k ++ replicate n false))
 padded-linear n F linear same a b =
@@ -54,26 +41,14 @@ padded-linear n F linear same a b =
     let long : length (F a ++ zeros) ≡ length (F b ++ zeros) = omega (arith, length-append (F a) zeros, length-append (F b) zeros, same a b) in
     rw (subtract-append (F a) zeros (F b) zeros (same a b), subtract-zeros n zeros, sym (linear a b)) at (start-subtract (F a ++ zeros) (F b ++ zeros) long)
 
-in_front-linear : (w : ℕ) → IsLinearInBits (in_front w)
-in_front-linear w = padded-linear w (bits w) (bits-xor w) (λ a b. length-bits w a ∙ sym (length-bits w b))
-
-alone-linear : (w : ℕ) (f : ℕ → ℕ) → IsLinear f → IsLinearInBits (alone w f)
-alone-linear w f lf a b =
-    rw (lf a b, bits-xor w (f a) (f b)) (start-subtract (bits w (f a)) (bits w (f b)) (length-bits w (f a) ∙ sym (length-bits w (f b))))
-
-fold_at : (w : ℕ) (f : ℕ → ℕ) → IsLinear f → in_front w 0 ≡ alone w f 0 → AgreeBelow (in_front w) (alone w f) w →
-    (n : ℕ) → n < 2 ^ w → remainder (bits w n ++ replicate w false) ≡ remainder (bits w (f n))
-fold_at w f lf none same n l =
-    rw (remainder_is_run (bits w n ++ replicate w false), remainder_is_run (bits w (f n)))
-    (same_below (in_front w) (alone w f) (in_front-linear w) (alone-linear w f lf) none w same n l)
-
--- ---- the three widths
-
-abbrev pub folded_64 : ℕ → ℕ
-folded_64 n = folded_of 16 32 44 20 48 64 n
+-- ---- two bytes
 
 abbrev pub folded_16 : ℕ → ℕ
-folded_16 n = folded_of 4 8 11 5 12 16 n
+folded_16 n = folded_by (λ m. m / 2 ^ 4) (λ m. m / 2 ^ 8) (λ m. m / 2 ^ 11) (λ m. m * 2 ^ 5 % 2 ^ 16) (λ m. m * 2 ^ 12 % 2 ^ 16) n
+
+folded_16-linear : IsLinear folded_16
+folded_16-linear =
+    folded_by-linear (λ m. m / 2 ^ 4) (λ m. m / 2 ^ 8) (λ m. m / 2 ^ 11) (λ m. m * 2 ^ 5 % 2 ^ 16) (λ m. m * 2 ^ 12 % 2 ^ 16) (right 4) (right 8) (right 11) (left 5 16) (left 12 16)
 
 -- ---- the register as a number, with which the checker computes: its low sixteen bits count
 
@@ -119,78 +94,62 @@ agree_quickly F G n e =
     let g : ℕ → List Bool = λ k. run start (G k) in
     agree_further f g 0 n (agree_nowhere f g) (sym (at_powers-quick F 0 n) ∙ e ∙ at_powers-quick G 0 n)
 
-agree_64 : AgreeBelow (in_front 64) (alone 64 folded_64) 64
-agree_64 = agree_quickly (λ n. bits 64 n ++ replicate 64 false) (λ n. bits 64 (folded_64 n)) 64 refl
+-- ---- sixteen bytes become their check
 
-pub fold_64 : (n : ℕ) → n < 2 ^ 64 → remainder (bits 64 n ++ replicate 64 false) ≡ remainder (bits 64 (folded_64 n))
-fold_64 n l = fold_at 64 folded_64 (folded_of-linear 16 32 44 20 48 64) refl agree_64 n l
+-- a word and itself moved down by each of these, added up
+abbrev shifted : List ℕ → ℕ → ℕ
+shifted [] n = n
+shifted (k ∷ ks) n = bit_xor (shifted ks n) (n / 2 ^ k)
 
--- ---- eight bytes become their check
-
-abbrev two_by : (s t : ℕ → ℕ) → ℕ → ℕ
-two_by s t n = bit_xor (bit_xor n (s n)) (t n)
-
-two_by-linear : (s t : ℕ → ℕ) → IsLinear s → IsLinear t → IsLinear (two_by s t)
-two_by-linear s t ls lt = added (λ n. bit_xor n (s n)) t (added (λ n. n) s (λ a b. refl) ls) lt
-
-abbrev three_by : (s t u : ℕ → ℕ) → ℕ → ℕ
-three_by s t u n = bit_xor (two_by s t n) (u n)
-
-three_by-linear : (s t u : ℕ → ℕ) → IsLinear s → IsLinear t → IsLinear u → IsLinear (three_by s t u)
-three_by-linear s t u ls lt lu = added (two_by s t) u (two_by-linear s t ls lt) lu
+shifted-linear : (ks : List ℕ) → IsLinear (shifted ks)
+shifted-linear [] a b = refl
+shifted-linear (k ∷ ks) a b = added (shifted ks) (λ n. n / 2 ^ k) (shifted-linear ks) (right k) a b
 
 after : (f g : ℕ → ℕ) → IsLinear f → IsLinear g → IsLinear (λ n. f (g n))
 after f g lf lg a b = ap f (lg a b) ∙ lf (g a) (g b)
 
-abbrev eighth : ℕ → ℕ
-eighth n = bit_xor n (n / 2 ^ 32)
+-- the fourth power and those above it, of which the last sixty-four bits count
+abbrev upper : ℕ → ℕ
+upper n = shifted (64 ∷ 44 ∷ 16 ∷ []) (shifted (88 ∷ 32 ∷ []) (shifted (64 ∷ []) n)) % 2 ^ 64
 
-abbrev fourth : ℕ → ℕ
-fourth n = two_by (λ m. m / 2 ^ 16) (λ m. m / 2 ^ 44) n
+abbrev quotient : ℕ → ℕ
+quotient n = shifted (16 ∷ 11 ∷ 4 ∷ []) (shifted (32 ∷ 22 ∷ 8 ∷ []) (upper n))
 
-abbrev second : ℕ → ℕ
-second n = three_by (λ m. m / 2 ^ 8) (λ m. m / 2 ^ 22) (λ m. m / 2 ^ 32) n
+abbrev check_128 : ℕ → ℕ
+check_128 n = bit_xor (bit_xor (quotient n) (quotient n * 2 ^ 5 % 2 ^ 64)) (quotient n * 2 ^ 12 % 2 ^ 64)
 
-abbrev first : ℕ → ℕ
-first n = three_by (λ m. m / 2 ^ 4) (λ m. m / 2 ^ 11) (λ m. m / 2 ^ 16) n
-
-abbrev last : ℕ → ℕ
-last n = two_by (λ m. m * 2 ^ 5 % 2 ^ 64) (λ m. m * 2 ^ 12 % 2 ^ 64) n
-
-abbrev pub check_64 : ℕ → ℕ
-check_64 n = last (first (second (fourth (eighth n))))
-
-check_64-linear : IsLinear check_64
-check_64-linear =
-    let shift : (k : ℕ) → IsLinear (λ m. m / 2 ^ k) = right in
-    let eight : IsLinear eighth = added (λ n. n) (λ m. m / 2 ^ 32) (λ a b. refl) (shift 32) in
-    let four : IsLinear fourth = two_by-linear (λ m. m / 2 ^ 16) (λ m. m / 2 ^ 44) (shift 16) (shift 44) in
-    let two : IsLinear second = three_by-linear (λ m. m / 2 ^ 8) (λ m. m / 2 ^ 22) (λ m. m / 2 ^ 32) (shift 8) (shift 22) (shift 32) in
-    let one : IsLinear first = three_by-linear (λ m. m / 2 ^ 4) (λ m. m / 2 ^ 11) (λ m. m / 2 ^ 16) (shift 4) (shift 11) (shift 16) in
-    let end : IsLinear last = two_by-linear (λ m. m * 2 ^ 5 % 2 ^ 64) (λ m. m * 2 ^ 12 % 2 ^ 64) (left 5 64) (left 12 64) in
-    after last (λ n. first (second (fourth (eighth n)))) end (after first (λ n. second (fourth (eighth n))) one (after second (λ n. fourth (eighth n)) two (after fourth eighth four eight)))
+check_128-linear : IsLinear check_128
+check_128-linear =
+    let eighth : IsLinear (λ n. shifted (88 ∷ 32 ∷ []) (shifted (64 ∷ []) n)) = after (shifted (88 ∷ 32 ∷ [])) (shifted (64 ∷ [])) (shifted-linear (88 ∷ 32 ∷ [])) (shifted-linear (64 ∷ [])) in
+    let fourth = after (shifted (64 ∷ 44 ∷ 16 ∷ [])) (λ n. shifted (88 ∷ 32 ∷ []) (shifted (64 ∷ []) n)) (shifted-linear (64 ∷ 44 ∷ 16 ∷ [])) eighth in
+    let cut : IsLinear upper = after (λ m. m % 2 ^ 64) (λ n. shifted (64 ∷ 44 ∷ 16 ∷ []) (shifted (88 ∷ 32 ∷ []) (shifted (64 ∷ []) n))) (λ a b. xor_mod a b 64) fourth in
+    let second = after (shifted (32 ∷ 22 ∷ 8 ∷ [])) upper (shifted-linear (32 ∷ 22 ∷ 8 ∷ [])) cut in
+    let whole : IsLinear quotient = after (shifted (16 ∷ 11 ∷ 4 ∷ [])) (λ n. shifted (32 ∷ 22 ∷ 8 ∷ []) (upper n)) (shifted-linear (16 ∷ 11 ∷ 4 ∷ [])) second in
+    let five : IsLinear (λ n. quotient n * 2 ^ 5 % 2 ^ 64) = after (λ m. m * 2 ^ 5 % 2 ^ 64) quotient (left 5 64) whole in
+    let twelve : IsLinear (λ n. quotient n * 2 ^ 12 % 2 ^ 64) = after (λ m. m * 2 ^ 12 % 2 ^ 64) quotient (left 12 64) whole in
+    added (λ n. bit_xor (quotient n) (quotient n * 2 ^ 5 % 2 ^ 64)) (λ n. quotient n * 2 ^ 12 % 2 ^ 64) (added quotient (λ n. quotient n * 2 ^ 5 % 2 ^ 64) whole five) twelve
 
 abbrev word_check : ℕ → List Bool
-word_check n = run start (bits 64 n)
+word_check n = run start (bits 128 n)
 
 abbrev quotient_bits : ℕ → List Bool
-quotient_bits n = bits 16 (check_64 n)
+quotient_bits n = bits 16 (check_128 n)
 
 word_check-linear : IsLinearInBits word_check
-word_check-linear a b = ap (run start) (bits-xor 64 a b) ∙ start-subtract (bits 64 a) (bits 64 b) refl
+word_check-linear a b = ap (run start) (bits-xor 128 a b) ∙ start-subtract (bits 128 a) (bits 128 b) refl
 
 quotient_bits-linear : IsLinearInBits quotient_bits
-quotient_bits-linear a b = ap (bits 16) (check_64-linear a b) ∙ bits-xor 16 (check_64 a) (check_64 b)
+quotient_bits-linear a b = ap (bits 16) (check_128-linear a b) ∙ bits-xor 16 (check_128 a) (check_128 b)
 
-agree_quotient : AgreeBelow word_check quotient_bits 64
+agree_quotient : AgreeBelow word_check quotient_bits 128
 agree_quotient =
-    let same : at_powers (quick (bits 64)) 0 64 ≡ at_powers quotient_bits 0 64 = refl in
-    agree_further word_check quotient_bits 0 64 (agree_nowhere word_check quotient_bits) (sym (at_powers-quick (bits 64) 0 64) ∙ same)
+    let same : at_powers (quick (bits 128)) 0 128 ≡ at_powers quotient_bits 0 128 = refl in
+    agree_further word_check quotient_bits 0 128 (agree_nowhere word_check quotient_bits) (sym (at_powers-quick (bits 128) 0 128) ∙ same)
 
-pub quotient_64 : (n : ℕ) → n < 2 ^ 64 → bits 16 (check_64 n % 2 ^ 16) ≡ remainder (bits 64 n)
-quotient_64 n l =
-    sym (bits-low 16 (check_64 n)) ∙
-    sym (remainder_is_run (bits 64 n) ∙ same_below word_check quotient_bits word_check-linear quotient_bits-linear refl 64 agree_quotient n l)
+pub quotient_128 : (n : ℕ) → n < 2 ^ 128 → bits 16 (check_128 n % 2 ^ 16) ≡ remainder (bits 128 n)
+quotient_128 n l =
+    sym (bits-low 16 (check_128 n)) ∙
+    sym (remainder_is_run (bits 128 n) ∙ same_below word_check quotient_bits word_check-linear quotient_bits-linear refl 128 agree_quotient n l)
 
 -- two bytes become their check
 abbrev check_16 : ℕ → List Bool
@@ -203,7 +162,7 @@ check_16-linear : IsLinearInBits check_16
 check_16-linear a b = ap (run start) (bits-xor 16 a b) ∙ start-subtract (bits 16 a) (bits 16 b) refl
 
 folded_bits-linear : IsLinearInBits folded_bits
-folded_bits-linear a b = ap (bits 16) (folded_of-linear 4 8 11 5 12 16 a b) ∙ bits-xor 16 (folded_16 a) (folded_16 b)
+folded_bits-linear a b = ap (bits 16) (folded_16-linear a b) ∙ bits-xor 16 (folded_16 a) (folded_16 b)
 
 agree_16 : AgreeBelow check_16 folded_bits 16
 agree_16 = agree_further check_16 folded_bits 0 16 (agree_nowhere check_16 folded_bits) refl
@@ -224,20 +183,3 @@ added_behind w k prefix rest becomes high low same e =
     omega (arith, length-append before rest, length-append prefix behind, length-replicate k false) in
     rw (subtract-append before rest prefix behind zeros_long, zeros-subtract w prefix high, subtract-zeros k rest, zeros_in_front w rest, e, sym (start-subtract rest becomes (low ∙ sym same)))
     at (start-subtract (before ++ rest) (prefix ++ behind) long)
-
--- the next word is added to what the word in front becomes
-pub folded_in : (w n m next : ℕ) → remainder (bits w n ++ replicate w false) ≡ remainder (bits w m) →
-    remainder (bits w n ++ bits w next) ≡ remainder (bits w (bit_xor m next))
-folded_in w n m next e =
-    let held : run start (bits w n ++ replicate w false) ≡ run start (bits w m) = rw (remainder_is_run (bits w n ++ replicate w false), remainder_is_run (bits w m)) at e in
-    rw (remainder_is_run (bits w n ++ bits w next), remainder_is_run (bits w (bit_xor m next)), xor_comm m next, bits-xor w next m)
-    (added_behind w w (bits w n) (bits w next) (bits w m) (length-bits w n) (length-bits w next) (length-bits w m) held)
-
--- both halves of a word
-pub halves : (w n m : ℕ) → remainder (bits w (n / 2 ^ w) ++ replicate w false) ≡ remainder (bits w m) →
-    remainder (bits (w + w) n) ≡ remainder (bits w (bit_xor m (n % 2 ^ w)))
-halves w n m e =
-    rw (bits-split w w n, bits-low w n) (folded_in w (n / 2 ^ w) m (n % 2 ^ w) e)
-
-pub half_128 : (n m r : ℕ) → remainder (bits 64 (n / 2 ^ 64) ++ replicate 64 false) ≡ remainder (bits 64 m) → bits 16 r ≡ remainder (bits 64 (bit_xor m (n % 2 ^ 64))) → bits 16 r ≡ remainder (bits 128 n)
-half_128 n m r e is = is ∙ sym (halves 64 n m e)

@@ -137,10 +137,7 @@ moved_on a b c d n l =
 -- sixty-four bytes, row by row
 pub four_slices : (bs : List ℕ) → length bs ≡ 64 → take 16 bs ++ take 16 (drop 16 bs) ++ take 16 (drop 32 bs) ++ take 16 (drop 48 bs) ≡ bs
 four_slices bs long =
-    let two : take 16 bs ++ take 16 (drop 16 bs) ≡ take 32 bs = sym (take-add 16 16 bs) in
-    let three : take 32 bs ++ take 16 (drop 32 bs) ≡ take 48 bs = sym (take-add 32 16 bs) in
-    let four : take 48 bs ++ take 16 (drop 48 bs) ≡ take 64 bs = sym (take-add 48 16 bs) in
-    rw (two, three, four) (take_all 64 bs (omega (arith, long)))
+    rw (sym (take-add 16 16 bs)) (rw (sym (take-add 32 16 bs)) (rw (sym (take-add 48 16 bs)) (take_all 64 bs (omega (arith, long)))))
 
 -- four rows behind other bytes, of which the first one takes the check of these
 pub entered_front : (before a b c d first : List ℕ) → check_of (before ++ a) ≡ check_of first → check_of (before ++ (a ++ b ++ c ++ d)) ≡ check_of (first ++ b ++ c ++ d)

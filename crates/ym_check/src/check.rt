@@ -51,6 +51,17 @@ impl CheckState {
         }
     }
 
+    /// Takes the next bytes, sixteen at a time and then one by one.
+    #[inline(never)] // a block has none
+    fn add_rest(&mut self, rest: &[u8])
+        ensures { (bytes : List ℕ) → self.old ≡ check_of bytes →
+            self.new ≡ check_of (bytes ++ rest.now) }
+    {
+        let (words, last) = rest.split_at(rest.len() / 16 * 16);
+        self.value = with_words(self.value, words);
+        self.add_each(last);
+    }
+
     /// Takes the next bytes, in order.
     pub fn add_all(&mut self, more: &[u8])
         ensures { (bytes : List ℕ) → self.old ≡ check_of bytes →
@@ -58,9 +69,10 @@ impl CheckState {
     {
         let (chunks, rest) = more.split_at(more.len() / 64 * 64);
         self.value = with_chunks(self.value, chunks);
-        let (words, rest) = rest.split_at(rest.len() / 16 * 16);
-        self.value = with_words(self.value, words);
-        self.add_each(rest);
+        if rest.is_empty() {
+            return;
+        }
+        self.add_rest(rest);
     }
 
     /// The check of the bytes that were taken.

@@ -2,27 +2,11 @@
 //!
 //! Modulo x^16 + x^12 + x^5 + 1, x^128 is x^96 + x^40 + 1: sixteen bytes are folded into the
 //! sixteen behind them, which then have the check of them all. So a message is folded from the
-//! front into its last sixteen bytes, and these into their last eight in the same way, which are
-//! divided at once.
+//! front into its last sixteen bytes, and these are divided at once.
 
 ghost use Rattle.std.specs.Prelude.{◌≡◌, ◌%◌, List, ℕ, ◌++◌, length, replicate, false};
 ghost use Rattle.ym_check.specs.Check.{bits, body_bits, remainder, check_of};
 ghost use Rattle.ym_check.specs.Fold.{sixteen};
-
-/// Eight bytes folded down: with as many zeros behind them they have the check of the eight bytes
-/// of the result.
-///
-/// They are added in three places, since x^64 is x^48 + x^20 + 1. What would stay in front of the
-/// eight bytes behind is added in the same way: the three sums of that, with what was there, are
-/// `above`.
-#[tactic(auto, using(crate::proofs::Folding::fold_64))]
-fn folded_64(word: u64) -> u64
-    ensures { remainder (bits 64 word ++ replicate 64 false) ≡ remainder (bits 64 result) }
-{
-    let first = word ^ (word >> 16);
-    let above = first ^ (first >> 32) ^ (word >> 44);
-    above ^ (above << 20) ^ (above << 48)
-}
 
 /// The check of two bytes.
 #[tactic(auto, using(crate::proofs::Folding::fold_16))]
@@ -34,30 +18,23 @@ pub(crate) fn check_of_16(word: u16) -> u16
     above ^ (above << 5) ^ (above << 12)
 }
 
-/// The check of eight bytes.
+/// The check of sixteen bytes, the first one highest.
 ///
 /// The quotient of long division is the word divided by 1 + y^4 + y^11 + y^16, where y moves a bit
-/// one place down. The sixteenth power of that is 1 + y^64 + .., so 1 for sixty-four bits: the word
-/// is multiplied by the eighth, fourth, second and first power instead. What remains is the end of
-/// the quotient times the divisor.
-#[tactic(auto, using(crate::proofs::Folding::quotient_64))]
-fn check_of_64(word: u64) -> u16
-    ensures { bits 16 result ≡ remainder (bits 64 word) }
-{
-    let eighth = word ^ (word >> 32);
-    let fourth = eighth ^ (eighth >> 16) ^ (eighth >> 44);
-    let second = fourth ^ (fourth >> 8) ^ (fourth >> 22) ^ (fourth >> 32);
-    let quotient = second ^ (second >> 4) ^ (second >> 11) ^ (second >> 16);
-    ((quotient ^ (quotient << 5) ^ (quotient << 12)) % 0x1_0000) as u16
-}
-
-/// The check of sixteen bytes, the first one highest.
-#[tactic(auto, using(crate::proofs::Folding::half_128))]
+/// one place down. The thirty-second power of that is 1 + y^128 + .., so 1 for this word: it is
+/// multiplied by the sixteenth, eighth, fourth, second and first power instead. Of the quotient the
+/// last sixteen bits count, so the fourth power's last sixty-four.
+#[tactic(auto, using(crate::proofs::Folding::quotient_128))]
 fn check_of_128(word: u128) -> u16
     ensures { bits 16 result ≡ remainder (bits 128 word) }
 {
-    let high = folded_64((word >> 64) as u64);
-    check_of_64(high ^ ((word % 0x1_0000_0000_0000_0000) as u64))
+    let sixteenth = word ^ (word >> 64);
+    let eighth = sixteenth ^ (sixteenth >> 32) ^ (sixteenth >> 88);
+    let fourth = eighth ^ (eighth >> 16) ^ (eighth >> 44) ^ (eighth >> 64);
+    let last = (fourth % 0x1_0000_0000_0000_0000) as u64;
+    let second = last ^ (last >> 8) ^ (last >> 22) ^ (last >> 32);
+    let quotient = second ^ (second >> 4) ^ (second >> 11) ^ (second >> 16);
+    ((quotient ^ (quotient << 5) ^ (quotient << 12)) % 0x1_0000) as u16
 }
 
 /// Sixteen bytes as they lie in memory.

@@ -4,8 +4,5 @@ use Rattle.ym_check.specs.Fold.{rows_bytes}
 use Rattle.ym_check.proofs.rows.Rows.with_four.Given as goal
 
 abbrev pub invariant-loop-i : goal.invariant-loop-i
-invariant-loop-i l =
-    let from = l.fn.self in
-    let rows = l.rows in
-    (before : List ℕ) → check_of before ≡ check_of (rows_bytes from.first from.second from.third from.fourth from.gone) →
-    check_of (before ++ take (16 * l.i) l.bytes) ≡ check_of (rows_bytes rows.first rows.second rows.third rows.fourth rows.gone)
+invariant-loop-i l = (before : List ℕ) → check_of before ≡ check_of (rows_bytes l.fn.self.first l.fn.self.second l.fn.self.third l.fn.self.fourth l.fn.self.gone) →
+    check_of (before ++ take (16 * l.i) l.bytes) ≡ check_of (rows_bytes l.rows.first l.rows.second l.rows.third l.rows.fourth l.rows.gone)
