@@ -3,7 +3,7 @@ use Rattle.ym_core.specs.HeardRef.{owned_heard}
 use Rattle.ym_core.specs.Receiver.{hears}
 use Rattle.ym_core.specs.Step.{call_of}
 use Rattle.ym_link.specs.Calls.{IsCall}
-use Rattle.ym_link.proofs.receiver.ReceiverInto.answer.Goals as goal
+use Rattle.ym_link.proofs.receiver.ReceiverInto.take_step.Goals as goal
 
 pub returns-in-Err-Failed : goal.returns-in-Err-Failed
 returns-in-Err-Failed g c =
