@@ -235,14 +235,21 @@ impl ReceiverCore {
         ensures added { self.new ≡ with_added self.old count }
         ensures core { IsCore self.new }
     {
-        if let Stage::InFile(file) = self.stage {
-            self.stage = Stage::InFile(OpenFile {
-                taken: file.taken + count as u64,
-                blocks: file.blocks + 1,
-                ..file
-            });
+        if let Stage::InFile(file) = &mut self.stage {
+            file.taken += count as u64;
+            file.blocks += 1;
             self.retries = 0;
         }
+    }
+
+    /// The same of [`failed`], in place.
+    ///
+    /// [`failed`]: ReceiverCore::failed
+    #[inline(always)]
+    pub fn fail(&mut self)
+        ensures { self.new ≡ record self.old { state = RecvState.SinkFailed } }
+    {
+        self.state = RecvState::SinkFailed;
     }
 
     /// The receiver where the host could not do what a step asked: it has ended. The reply is then

@@ -171,7 +171,7 @@ impl<K: Sink> ReceiverInto<K> {
                 Ok(Reply::Ack)
             }
             Err(SinkFault::Failed) => {
-                self.core = ReceiverCore::failed(self.core);
+                self.core.fail();
                 Ok(Reply::Cancel)
             }
             Err(SinkFault::Memory) => return Err(AllocError),
