@@ -242,16 +242,6 @@ impl ReceiverCore {
         }
     }
 
-    /// The same of [`failed`], in place.
-    ///
-    /// [`failed`]: ReceiverCore::failed
-    #[inline(always)]
-    pub fn fail(&mut self)
-        ensures { self.new ≡ record self.old { state = RecvState.SinkFailed } }
-    {
-        self.state = RecvState::SinkFailed;
-    }
-
     /// The receiver where the host could not do what a step asked: it has ended. The reply is then
     /// `Reply::Cancel`.
     #[cold]

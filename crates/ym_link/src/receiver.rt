@@ -131,13 +131,13 @@ impl<K: Sink> ReceiverInto<K> {
         ensures bounded { IsWithin self.new.receiver.stage self.new.kept }
         ensures receiver { IsReceiver self.new }
     {
-        self.hear_in(&HeardRef::of(heard))
+        self.hear_in(HeardRef::of(heard))
     }
 
     /// The same, with a block's body where it stands.
     #[inline(always)]
-    pub(crate) fn hear_in(&mut self, heard: &HeardRef<'_>) -> Result<Reply, AllocError>
-        ensures table { HearsGives self.old (owned_heard heard.now) result self.new }
+    pub(crate) fn hear_in(&mut self, heard: HeardRef<'_>) -> Result<Reply, AllocError>
+        ensures table { HearsGives self.old (owned_heard heard.entry) result self.new }
         ensures bounded { IsWithin self.new.receiver.stage self.new.kept }
         ensures receiver { IsReceiver self.new }
     {
@@ -149,11 +149,11 @@ impl<K: Sink> ReceiverInto<K> {
 
     /// Takes the step of the core, once the sink has done what it asks.
     #[inline(always)]
-    fn answer(&mut self, heard: &HeardRef<'_>) -> Result<Reply, AllocError>
-        ensures { HearsGives self.old (owned_heard heard.now) result self.new }
+    fn answer(&mut self, heard: HeardRef<'_>) -> Result<Reply, AllocError>
+        ensures { HearsGives self.old (owned_heard heard.entry) result self.new }
     {
-        match self.core.next_bytes(heard) {
-            Some(bytes) => self.add(heard, bytes),
+        match self.core.next_bytes(&heard) {
+            Some(bytes) => self.add(&heard, bytes),
             None => self.take_step(heard),
         }
     }
@@ -181,10 +181,10 @@ impl<K: Sink> ReceiverInto<K> {
     /// The same of any delivery.
     #[cold]
     #[inline(never)]
-    fn take_step(&mut self, heard: &HeardRef<'_>) -> Result<Reply, AllocError>
-        ensures { HearsGives self.old (owned_heard heard.now) result self.new }
+    fn take_step(&mut self, heard: HeardRef<'_>) -> Result<Reply, AllocError>
+        ensures { HearsGives self.old (owned_heard heard.entry) result self.new }
     {
-        let Step { core, reply, ask } = self.core.hear(heard);
+        let Step { core, reply, ask } = self.core.hear(&heard);
         match call(&mut self.sink, self.alloc, ask) {
             Ok(()) => {
                 self.core = core;

@@ -78,6 +78,14 @@ impl ReceiverCore {
         }
     }
 
+    /// The end where the host could not do what a step asked, in place.
+    #[inline(always)]
+    pub fn fail(&mut self)
+        ensures { self.new ≡ record self.old { state = RecvState.SinkFailed } }
+    {
+        self.state = RecvState::SinkFailed;
+    }
+
     /// Hears where a header is awaited.
     fn hear_awaiting<'a>(self, heard: &HeardRef<'a>) -> Step<'a>
         requires running { self.state ≡ RecvState.Running }
