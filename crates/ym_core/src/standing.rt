@@ -129,8 +129,8 @@ impl Standing {
     }
 
     /// The same where no frame becomes the sent one.
-    #[cold]
-    #[inline(never)]
+    // what was read would go through memory to a call
+    #[inline(always)]
     fn take_other(&mut self, read: Scan)
         requires retries { self.old.retries < GIVE_UP }
         requires other { read.stop ≢ Some Stop.Sends }
