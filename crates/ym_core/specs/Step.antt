@@ -1,6 +1,7 @@
 -- What a step asks of the host, and what the host knows behind it.
-use Rattle.std.specs.Prelude.{ℕ, ◌≡◌, ◌<◌, ◌≤◌, ◌-◌, ◌+◌, List, length, Option, None, Some, Result, Ok, Err}
+use Rattle.std.specs.Prelude.{ℕ, ◌≡◌, ◌≢◌, ◌<◌, ◌≤◌, ◌-◌, ◌+◌, List, length, Option, None, Some, Result, Ok, Err}
 use Rattle.ym_frame.specs.Block.{BlockParts}
+use Rattle.ym_frame.specs.declared.control.Reply.TheVariants.{Ack}
 use Rattle.ym_frame.specs.declared.frame.Item.TheVariants as item
 use Rattle.ym_header.specs.Header.{length_limit}
 use Rattle.ym_header.specs.HeaderReading.{Reads, IsFault}
@@ -8,6 +9,7 @@ use Rattle.ym_header.specs.declared.fault.HeaderFault.{HeaderFault}
 use Rattle.ym_header.specs.declared.reading.Zero.{Zero}
 use Rattle.ym_core.specs.declared.delivery.Heard.{Heard}
 use Rattle.ym_core.specs.declared.delivery.Heard.TheVariants as heard
+use Rattle.ym_core.specs.declared.stage.OpenFile.{OpenFile}
 use Rattle.ym_core.specs.declared.stage.Stage.{Stage}
 use Rattle.ym_core.specs.declared.stage.Stage.TheVariants.{AwaitHeader, InFile}
 use Rattle.ym_core.specs.declared.state.RecvState.TheVariants as state
@@ -65,3 +67,39 @@ pub record Moves (r : table.Receiver) (step : Step) : Type 0 where
 abbrev pub Hears : table.Receiver → Heard → Step → Type 0
 Hears r h step =
     (zero : Result Zero HeaderFault) × Means r h zero × IsStep step (table.hears r zero h)
+
+-- ---- The next block, in place
+
+-- the open file with one more block, of which so many bytes were added
+abbrev pub stage_with : Stage → ℕ → Stage
+stage_with AwaitHeader count = AwaitHeader
+stage_with (InFile file) count =
+    InFile (record file { taken = file.taken + count; blocks = file.blocks + 1 })
+
+abbrev pub with_added : table.Receiver → ℕ → table.Receiver
+with_added r count = record r { stage = stage_with r.stage count; retries = 0 }
+
+-- the row that adds these bytes
+abbrev pub adding : table.Receiver → List ℕ → table.Step
+adding r bytes =
+    record { receiver = with_added r (length bytes); reply = Ack; call = table.Adds bytes }
+
+-- so many bytes may be added as those of one block
+pub record MayAdd (r : table.Receiver) (count : ℕ) : Type 0 where
+  pub file : OpenFile
+  pub in_file : r.stage ≡ InFile file
+  pub some : 0 < count
+  pub fits : count ≤ file.length - file.taken
+  pub short : count ≤ 1024
+
+-- what is heard is the next block of the open file, and these are the bytes that are added
+pub record IsNext (r : table.Receiver) (h : Heard) (bytes : List ℕ) : Type 0 where
+  pub runs : r.state ≡ state.Running
+  pub may : MayAdd r (length bytes)
+  pub step : (zero : Result Zero HeaderFault) → table.hears r zero h ≡ adding r bytes
+
+-- what is heard adds nothing
+abbrev pub AddsNone : table.Receiver → Heard → Type 0
+AddsNone r h =
+    (zero : Result Zero HeaderFault) (bytes : List ℕ) →
+    (table.hears r zero h).call ≢ table.Adds bytes

@@ -1,11 +1,13 @@
 //! The receiver, apart from what its host does with the files.
 
-ghost use Rattle.std.specs.Prelude.{◌≡◌, ◌↔◌, IsTrue};
+ghost use Rattle.std.specs.Prelude.{◌≡◌, ◌↔◌, IsTrue, MatchOption};
 ghost use Rattle.std.specs.Option.{SomeIff};
 ghost use Rattle.ym_core.specs.Receiver as table;
 ghost use Rattle.ym_core.specs.Core.{IsCore, LengthFits, BlocksFit, FilesFit};
 ghost use Rattle.ym_core.specs.HeardRef.{owned_heard};
-ghost use Rattle.ym_core.specs.Step.{Hears, Moves};
+ghost use Rattle.ym_core.specs.Step.{Hears, Moves, IsNext, AddsNone, MayAdd, with_added};
+ghost use Rattle.ym_core.specs.declared.delivery.Heard.TheVariants as Heard;
+ghost use Rattle.ym_frame.specs.declared.frame.Item.TheVariants as FrameItem;
 
 mod steps;
 
@@ -15,6 +17,7 @@ use crate::stage::{OpenFile, Stage};
 use crate::stand::Stand;
 use crate::state::RecvState;
 use std::marker::Model;
+use ym_frame::{BlockRef, ItemRef};
 use ym_header::MOST_LENGTH;
 use ym_machine::{Confirm, GIVE_UP, MOST_FILES};
 
@@ -171,7 +174,6 @@ impl ReceiverCore {
 
     /// The step of the table at one delivery: the receiver behind it, the reply, and what the host
     /// has to do first.
-    #[inline(always)]
     pub fn hear<'a>(self, heard: &HeardRef<'a>) -> Step<'a>
         ensures step { Hears self (owned_heard heard.entry.now) result }
         ensures moves { Moves self result }
@@ -181,6 +183,63 @@ impl ReceiverCore {
         // what always holds of a receiver is known once a field was read
         let _ = &step.core.stage;
         step
+    }
+
+    /// The bytes that a delivery adds to the open file, where it is the file's next block and bytes
+    /// are still missing. The step is then to add them, with `Reply::Ack`, and what [`took`] leaves
+    /// of the receiver.
+    ///
+    /// [`took`]: ReceiverCore::took
+    #[inline(always)]
+    pub fn next_bytes<'a>(&self, heard: &HeardRef<'a>) -> Option<&'a [u8]>
+        ensures { MatchOption result (AddsNone self.now (owned_heard heard.entry.now)) (λ bytes.
+            IsNext self.now (owned_heard heard.entry.now) bytes.now) }
+    {
+        match self.state {
+            RecvState::Running => match self.stage {
+                Stage::InFile(file) => match heard {
+                    HeardRef::Item(ItemRef::Block(block)) => self.missing_of(file, block),
+                    _ => None,
+                },
+                Stage::AwaitHeader => None,
+            },
+            _ => None,
+        }
+    }
+
+    /// The same of a block, where a file is taken.
+    #[inline(always)]
+    fn missing_of<'a>(&self, file: OpenFile, block: &BlockRef<'a>) -> Option<&'a [u8]>
+        requires running { self.now.state ≡ RecvState.Running }
+        requires in_file { self.now.stage ≡ Stage.InFile file }
+        ensures { MatchOption result
+            (AddsNone self.now (Heard.Item (FrameItem.Block block.entry.now))) (λ bytes.
+            IsNext self.now (Heard.Item (FrameItem.Block block.entry.now)) bytes.now) }
+    {
+        // that the count of blocks is small always holds, which is known once a field was read
+        let _ = &self.stage;
+        if u64::from(block.number()) != (file.blocks + 1) % 256 || file.taken >= file.length {
+            return None;
+        }
+        let body = block.body();
+        let count = (file.length - file.taken).min(body.len() as u64);
+        Some(&body[..count as usize])
+    }
+
+    /// Takes the step to which [`next_bytes`] gave so many bytes, in place.
+    ///
+    /// [`next_bytes`]: ReceiverCore::next_bytes
+    #[inline(always)]
+    pub fn took(&mut self, count: usize)
+        requires { MayAdd self.old count }
+        ensures added { self.new ≡ with_added self.old count }
+        ensures core { IsCore self.new }
+    {
+        if let Stage::InFile(file) = &mut self.stage {
+            file.taken += count as u64;
+            file.blocks += 1;
+            self.retries = 0;
+        }
     }
 
     /// The receiver where the host could not do what a step asked: it has ended. The reply is then

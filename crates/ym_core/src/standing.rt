@@ -1,6 +1,6 @@
 //! What a sender keeps beside its files and its frame, and what a delivery makes of it.
 
-ghost use Rattle.std.specs.Prelude.{◌≡◌, ◌<◌, ℕ, List, true, false};
+ghost use Rattle.std.specs.Prelude.{◌≡◌, ◌≢◌, ◌<◌, ℕ, List, None, Some, true, false};
 ghost use Rattle.ym_core.specs.Position.{IsPosition};
 ghost use Rattle.ym_core.specs.Scan.{controls_in};
 ghost use Rattle.ym_core.specs.Standing as table;
@@ -120,11 +120,27 @@ impl Standing {
             IsPosition counts read.position → IsPosition counts self.new.position }
         ensures retries { self.new.state ≡ SendState.Running → self.new.retries < GIVE_UP }
     {
+        if let Some(Stop::Sends) = read.stop {
+            self.move_to(read.position, read.mode);
+            return Some(read.position);
+        }
+        self.take_other(read);
+        None
+    }
+
+    /// The same where no frame becomes the sent one.
+    // what was read would go through memory to a call
+    #[inline(always)]
+    fn take_other(&mut self, read: Scan)
+        requires retries { self.old.retries < GIVE_UP }
+        requires other { read.stop ≢ Some Stop.Sends }
+        ensures step { table.step_to self.new None ≡
+            table.after_scan self.old read.position read.mode read.stop }
+        ensures within { (counts : List ℕ) → IsPosition counts self.old.position →
+            IsPosition counts read.position → IsPosition counts self.new.position }
+        ensures retries { self.new.state ≡ SendState.Running → self.new.retries < GIVE_UP }
+    {
         match read.stop {
-            Some(Stop::Sends) => {
-                self.move_to(read.position, read.mode);
-                return Some(read.position);
-            }
             Some(Stop::Again) => self.miss(),
             Some(Stop::Finishes) => self.state = SendState::Finished,
             Some(Stop::Cancels) => {
@@ -132,7 +148,7 @@ impl Standing {
                 self.mode = read.mode;
                 self.state = SendState::Cancelled;
             }
-            None => {
+            _ => {
                 if self.mode == read.mode {
                     self.miss();
                 } else {
@@ -140,7 +156,6 @@ impl Standing {
                 }
             }
         }
-        None
     }
 
     /// After a delivery of these bytes. Where a position is filled, the host sends its frame, and

@@ -105,7 +105,7 @@ pub fn receive_over<P: Port, K: Sink>(
     let mut buf = [0; DELIVERY_LIMIT];
     while receiver.is_running() {
         let (len, found) = take_delivery(port, &Frames, &mut buf)?;
-        match receiver.hear_in(&heard_by(found, &buf[..len])) {
+        match receiver.hear_in(heard_by(found, &buf[..len])) {
             Ok(reply) => write_reply(port, reply)?,
             Err(_) => return Err(EndFault::Memory),
         }

@@ -39,7 +39,6 @@ impl<K: Sink> Model for ReceiverInto<K> {
 }
 
 /// Has the sink do what a step asks. After a fault it holds what it held before.
-#[inline(always)]
 fn call<K: Sink>(sink: &mut K, alloc: Global, ask: Ask<'_>) -> Result<(), SinkFault>
     requires { MayAsk (K.kept sink.old) ask }
     ensures { CallGives ask.entry (K.kept sink.old) (K.failures sink.old) result (K.kept sink.new)
@@ -70,6 +69,7 @@ impl<K: Sink + Drop> ReceiverInto<K> {
 impl<K: Sink> ReceiverInto<K> {
     ghost use Rattle.ym_core.specs.Receiver.{new_receiver};
     ghost use Rattle.ym_core.specs.HeardRef.{owned_heard};
+    ghost use Rattle.ym_core.specs.Step.{IsNext};
     ghost use Rattle.ym_link.specs.ReceiverInto.{IsReceiver, HearsGives, IsWithin};
 
     /// A receiver into a sink that has no file.
@@ -131,13 +131,13 @@ impl<K: Sink> ReceiverInto<K> {
         ensures bounded { IsWithin self.new.receiver.stage self.new.kept }
         ensures receiver { IsReceiver self.new }
     {
-        self.hear_in(&HeardRef::of(heard))
+        self.hear_in(HeardRef::of(heard))
     }
 
     /// The same, with a block's body where it stands.
     #[inline(always)]
-    pub(crate) fn hear_in(&mut self, heard: &HeardRef<'_>) -> Result<Reply, AllocError>
-        ensures table { HearsGives self.old (owned_heard heard.now) result self.new }
+    pub(crate) fn hear_in(&mut self, heard: HeardRef<'_>) -> Result<Reply, AllocError>
+        ensures table { HearsGives self.old (owned_heard heard.entry) result self.new }
         ensures bounded { IsWithin self.new.receiver.stage self.new.kept }
         ensures receiver { IsReceiver self.new }
     {
@@ -149,10 +149,42 @@ impl<K: Sink> ReceiverInto<K> {
 
     /// Takes the step of the core, once the sink has done what it asks.
     #[inline(always)]
-    fn answer(&mut self, heard: &HeardRef<'_>) -> Result<Reply, AllocError>
+    fn answer(&mut self, heard: HeardRef<'_>) -> Result<Reply, AllocError>
+        ensures { HearsGives self.old (owned_heard heard.entry) result self.new }
+    {
+        match self.core.next_bytes(&heard) {
+            Some(bytes) => self.add(&heard, bytes),
+            None => self.take_step(heard),
+        }
+    }
+
+    /// The same of the next block of the open file, of which these bytes are missing.
+    // this is the common way: the core takes its step in place
+    #[inline(always)]
+    fn add(&mut self, heard: &HeardRef<'_>, bytes: &[u8]) -> Result<Reply, AllocError>
+        requires { IsNext self.old.receiver (owned_heard heard.now) bytes.now }
         ensures { HearsGives self.old (owned_heard heard.now) result self.new }
     {
-        let Step { core, reply, ask } = self.core.hear(heard);
+        match self.sink.add(bytes) {
+            Ok(()) => {
+                self.core.took(bytes.len());
+                Ok(Reply::Ack)
+            }
+            Err(SinkFault::Failed) => {
+                self.core.fail();
+                Ok(Reply::Cancel)
+            }
+            Err(SinkFault::Memory) => return Err(AllocError),
+        }
+    }
+
+    /// The same of any delivery.
+    #[cold]
+    #[inline(never)]
+    fn take_step(&mut self, heard: HeardRef<'_>) -> Result<Reply, AllocError>
+        ensures { HearsGives self.old (owned_heard heard.entry) result self.new }
+    {
+        let Step { core, reply, ask } = self.core.hear(&heard);
         match call(&mut self.sink, self.alloc, ask) {
             Ok(()) => {
                 self.core = core;

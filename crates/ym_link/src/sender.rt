@@ -163,24 +163,22 @@ fn frame_at<S: Source>(
 #[inline(always)]
 fn step_in<S: Source>(
     standing: &mut Standing,
-    batch: &ShapedBatch<'_, S>,
+    files: &[SourceFile<S>],
+    shape: Shape,
     found: Option<Scan>,
     bytes: &[u8],
 ) -> Option<Position>
-    requires position { IsPosition (counts_of batch.now.shape batch.now.files.now)
-        standing.old.position }
+    requires position { IsPosition (counts_of shape files.now) standing.old.position }
     requires retries { standing.old.state ≡ SendState.Running → standing.old.retries < GIVE_UP }
     requires found { IfSome found (λ read.
-        IsRead (counts_of batch.now.shape batch.now.files.now) standing.old bytes.now read) }
+        IsRead (counts_of shape files.now) standing.old bytes.now read) }
     ensures step { step_to standing.new result ≡
-        hears (counts_of batch.now.shape batch.now.files.now) standing.old
-        (controls_in bytes.now) }
-    ensures within { IsPosition (counts_of batch.now.shape batch.now.files.now)
-        standing.new.position }
+        hears (counts_of shape files.now) standing.old (controls_in bytes.now) }
+    ensures within { IsPosition (counts_of shape files.now) standing.new.position }
 {
     match found {
         Some(read) => standing.take_scan(read),
-        None => step_read(standing, batch, bytes),
+        None => step_read(standing, files, shape, bytes),
     }
 }
 
@@ -189,22 +187,20 @@ fn step_in<S: Source>(
 #[inline(never)]
 fn step_read<S: Source>(
     standing: &mut Standing,
-    batch: &ShapedBatch<'_, S>,
+    files: &[SourceFile<S>],
+    shape: Shape,
     bytes: &[u8],
 ) -> Option<Position>
-    requires position { IsPosition (counts_of batch.now.shape batch.now.files.now)
-        standing.old.position }
+    requires position { IsPosition (counts_of shape files.now) standing.old.position }
     requires retries { standing.old.state ≡ SendState.Running → standing.old.retries < GIVE_UP }
     ensures step { step_to standing.new result ≡
-        hears (counts_of batch.now.shape batch.now.files.now) standing.old
-        (controls_in bytes.now) }
-    ensures within { IsPosition (counts_of batch.now.shape batch.now.files.now)
-        standing.new.position }
+        hears (counts_of shape files.now) standing.old (controls_in bytes.now) }
+    ensures within { IsPosition (counts_of shape files.now) standing.new.position }
 {
     let SendStep {
         standing: behind,
         fills,
-    } = standing.after(batch, bytes);
+    } = standing.after(&ShapedBatch { files, shape }, bytes);
     *standing = behind;
     fills
 }
@@ -284,11 +280,7 @@ impl<S: Source> SenderFrom<S> {
         requires { IfSome found (IsScan self.old bytes.now) }
         ensures { Hears self.old bytes.now self.new }
     {
-        let batch = ShapedBatch {
-            files: &self.batch,
-            shape: self.shape,
-        };
-        let fills = step_in(&mut self.standing, &batch, found, bytes);
+        let fills = step_in(&mut self.standing, &self.batch, self.shape, found, bytes);
         if let Some(position) = fills {
             match frame_at(&mut self.batch, self.shape, position, &mut self.buffer) {
                 Ok(len) => self.len = len,

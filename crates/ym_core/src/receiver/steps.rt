@@ -18,7 +18,6 @@ use ym_machine::{Confirm, GIVE_UP, MOST_FILES};
 
 impl ReceiverCore {
     /// The table's step.
-    #[inline(always)]
     pub(super) fn answer<'a>(self, heard: &HeardRef<'a>) -> Step<'a>
         ensures step { Hears self (owned_heard heard.entry.now) result }
         ensures moves { Moves self result }
@@ -42,8 +41,6 @@ impl ReceiverCore {
     }
 
     /// A step without progress.
-    #[cold]
-    #[inline(never)]
     fn stay<'a>(self, reply: Reply) -> Step<'a>
         requires { self.state ≡ RecvState.Running }
         ensures step { IsStep result (table.stays self reply) }
@@ -69,8 +66,6 @@ impl ReceiverCore {
     }
 
     /// The end, with a reply.
-    #[cold]
-    #[inline(never)]
     fn end<'a>(self, state: RecvState, reply: Reply) -> Step<'a>
         requires { state ≢ RecvState.Running }
         ensures step { IsStep result (table.ends self state reply) }
@@ -83,9 +78,15 @@ impl ReceiverCore {
         }
     }
 
+    /// The end where the host could not do what a step asked, in place.
+    #[inline(always)]
+    pub fn fail(&mut self)
+        ensures { self.new ≡ record self.old { state = RecvState.SinkFailed } }
+    {
+        self.state = RecvState::SinkFailed;
+    }
+
     /// Hears where a header is awaited.
-    #[cold]
-    #[inline(never)]
     fn hear_awaiting<'a>(self, heard: &HeardRef<'a>) -> Step<'a>
         requires running { self.state ≡ RecvState.Running }
         requires awaiting { self.stage ≡ Stage.AwaitHeader }
@@ -156,7 +157,6 @@ impl ReceiverCore {
     }
 
     /// Hears where a file is taken.
-    #[inline(always)]
     fn hear_in_file<'a>(self, file: OpenFile, heard: &HeardRef<'a>) -> Step<'a>
         requires running { self.state ≡ RecvState.Running }
         requires in_file { self.stage ≡ Stage.InFile file }
@@ -179,7 +179,6 @@ impl ReceiverCore {
     }
 
     /// A block: the next one, the last one again, or one out of step.
-    #[inline(always)]
     fn hear_block<'a>(self, file: OpenFile, block: &BlockRef<'a>) -> Step<'a>
         requires running { self.state ≡ RecvState.Running }
         requires in_file { self.stage ≡ Stage.InFile file }
@@ -205,7 +204,6 @@ impl ReceiverCore {
     }
 
     /// The next block: what is missing of its body is added, and a body past the length is dropped.
-    #[inline(always)]
     fn take_block<'a>(self, file: OpenFile, body: &'a [u8]) -> Step<'a>
         requires running { self.state ≡ RecvState.Running }
         requires in_file { self.stage ≡ Stage.InFile file }
@@ -238,8 +236,6 @@ impl ReceiverCore {
     }
 
     /// A block past the length: it is counted, and its bytes are dropped.
-    #[cold]
-    #[inline(never)]
     fn drop_block<'a>(self, file: OpenFile) -> Step<'a>
         requires running { self.state ≡ RecvState.Running }
         requires in_file { self.stage ≡ Stage.InFile file }
@@ -278,8 +274,6 @@ impl ReceiverCore {
 
     /// An EOT: before all bytes of the file have come, the first one behind them, or the one that
     /// commits.
-    #[cold]
-    #[inline(never)]
     fn hear_eot<'a>(self, file: OpenFile) -> Step<'a>
         requires running { self.state ≡ RecvState.Running }
         requires in_file { self.stage ≡ Stage.InFile file }

@@ -1,4 +1,4 @@
-use Rattle.std.proofs.Common.{◌≡◌, Some, take, true, subst}
+use Rattle.std.proofs.Common.{Some, take, true, subst}
 use Rattle.ym_link.proofs.Names.{controls_in, hears, SenderParts, IsStep, counts}
 use Rattle.ym_link.proofs.Kept.{failed_hears, failed_sender, unfilled_sender, filled_sender}
 use Rattle.ym_link.proofs.sender.SenderFrom.hear_found.Goals as goal
