@@ -26,6 +26,7 @@ pub(crate) struct ToldSource<'c, 'a, R: Files<File = File>> {
 impl<'c, 'a, R: Files<File = File>> ToldSource<'c, 'a, R> {
     /// Says why it failed first.
     #[cold]
+    #[inline(never)]
     fn explain(&self) {
         if let Some(error) = self.source.first_fault() {
             self.unread.set(Some(Reason::of(&error)));
@@ -46,6 +47,7 @@ impl<'c, 'a, R: Files<File = File>> Source for ToldSource<'c, 'a, R> {
         self.source.length()
     }
 
+    #[inline(always)]
     fn fill(&mut self, at: u64, into: &mut [u8]) -> Result<(), SourceFault> {
         let filled = self.source.fill(at, into);
         if filled.is_err() {
