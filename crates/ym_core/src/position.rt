@@ -40,7 +40,6 @@ pub fn first_position<B: BatchShape>(batch: &B) -> Position
 }
 
 /// The frame behind a position.
-#[inline(always)]
 pub fn next_position<B: BatchShape>(batch: &B, position: Position) -> Position
     requires { IsPosition (B.counts batch.now) position }
     ensures next { result ≡ next_of (B.counts batch.now) position }

@@ -244,8 +244,6 @@ impl ReceiverCore {
 
     /// The receiver where the host could not do what a step asked: it has ended. The reply is then
     /// `Reply::Cancel`.
-    #[cold]
-    #[inline(never)]
     pub fn failed(self) -> ReceiverCore
         ensures { result ≡ record self { state = RecvState.SinkFailed } }
     {

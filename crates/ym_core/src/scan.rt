@@ -33,7 +33,6 @@ pub struct Scan {
 }
 
 /// The frame that is out was acknowledged.
-#[inline(always)]
 fn acknowledged<B: BatchShape>(batch: &B, position: Position) -> Scan
     requires { IsPosition (B.counts batch.now) position }
     ensures reads { result ≡
@@ -61,7 +60,6 @@ fn acknowledged<B: BatchShape>(batch: &B, position: Position) -> Scan
 }
 
 /// Reads one control that begins no CAN CAN.
-#[inline(always)]
 fn read_control<B: BatchShape>(batch: &B, position: Position, mode: Mode, control: Control) -> Scan
     requires { IsPosition (B.counts batch.now) position }
     ensures reads { result ≡ table.reads_control (B.counts batch.now) mode control position }

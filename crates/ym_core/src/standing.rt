@@ -83,8 +83,6 @@ impl Standing {
     }
 
     /// After the source of the frame to be sent has failed.
-    #[cold]
-    #[inline(never)]
     pub fn source_failed(self) -> Standing
         ensures { result ≡ record self { state = SendState.SourceFailed; cancel_pending = true } }
     {

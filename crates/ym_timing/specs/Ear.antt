@@ -68,17 +68,6 @@ numbered first number byte frame e =
     else Broken) e
     else (if is_first number then deaf (Number number byte) e else outside byte e)
 
-abbrev pub is_open : Echo → Bool
-is_open Open = true
-is_open (Head first) = false
-is_open (Number first number) = false
-is_open (Goes place) = false
-is_open Broken = false
-
--- no echo has begun, and no noise came
-abbrev pub is_calm : Ear → Bool
-is_calm e = is_open e.echo && nat_eq e.others 0
-
 abbrev pub goes : ℕ → ℕ → List ℕ → Ear → Listened
 goes place byte frame e =
     if nat_le (length frame) place || not (nat_eq (slice_index frame place) byte) then deaf Broken e

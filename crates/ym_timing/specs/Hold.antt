@@ -133,12 +133,6 @@ has_moment k h = by k h.first_ack
     by kind.Data first_ack.Doubted = true
     by _ _ = false
 
--- an ACK behind a block is heard at once, and leaves what is held
-abbrev pub lets_pass : Kind → FirstAck → Bool
-lets_pass kind.Data first_ack.Counts = true
-lets_pass kind.Data first_ack.Brief = true
-lets_pass _ _ = false
-
 -- C alone right behind a new block 0 asks for what is on its way
 abbrev pub is_stale : ℕ → Bool → ℕ → Hold → Bool
 is_stale byte is_first now h =

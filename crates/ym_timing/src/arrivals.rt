@@ -96,51 +96,26 @@ impl Arrivals {
         }
     }
 
-    /// The same in place.
-    #[inline(always)]
-    pub(crate) fn takes_reply(&mut self, byte: u8, now: u64)
-        ensures { self.new ≡ table.take_reply byte now self.old }
-    {
-        if self.count != 0 {
-            *self = self.take_reply(byte, now);
-            return;
-        }
-        self.count = 1;
-        self.since = now;
-        self.last = now;
-        self.answered_at = now;
-        self.first = byte;
-        self.is_quiet = false;
-        self.is_late = self.has_waited;
-    }
-
-    /// Takes the first two bytes.
-    #[inline(always)]
-    fn takes_two(&mut self, first: u8, second: u8, now: u64)
-        requires { self.old.count ≡ 0 }
-        ensures { self.new ≡ table.take_byte second now (table.take_byte first now self.old) }
-    {
-        self.count = 2;
-        self.since = now;
-        self.last = now;
-        self.first = first;
-        self.second = second;
-        self.is_quiet = false;
-        self.is_late = self.has_waited;
-    }
-
-    /// Takes more bytes behind the first two, which tell nothing but that they came.
-    #[inline(always)]
-    fn takes_more(&mut self, bytes: &[u8], now: u64)
-        requires { 2 ≤ self.old.count }
-        ensures { self.new ≡ table.take_bytes bytes.now now self.old }
+    /// More bytes behind the first two, which tell nothing but that they came.
+    #[inline]
+    fn take_more(self, bytes: &[u8], now: u64) -> Arrivals
+        requires { 2 ≤ self.count }
+        ensures { result ≡ table.take_bytes bytes.now now self }
     {
         if bytes.is_empty() {
-            return;
+            return self;
         }
-        self.count = self.count.saturating_add(bytes.len() as u64).min(FULL);
-        self.last = now;
-        self.is_quiet = false;
+        Arrivals {
+            count: self.count.saturating_add(bytes.len() as u64).min(FULL),
+            since: self.since,
+            last: now,
+            answered_at: self.answered_at,
+            first: self.first,
+            second: self.second,
+            is_quiet: false,
+            has_waited: self.has_waited,
+            is_late: self.is_late,
+        }
     }
 
     /// Bytes that came at one moment, as one after another.
@@ -155,22 +130,7 @@ impl Arrivals {
         if bytes.len() == 1 {
             return one;
         }
-        let mut more = one.take(bytes[1], now);
-        more.takes_more(&bytes[2..], now);
-        more
-    }
-
-    /// The same in place.
-    #[inline(always)]
-    pub(crate) fn takes_all(&mut self, bytes: &[u8], now: u64)
-        ensures { self.new ≡ table.take_bytes bytes.now now self.old }
-    {
-        if self.count == 0 && 2 <= bytes.len() {
-            self.takes_two(bytes[0], bytes[1], now);
-            self.takes_more(&bytes[2..], now);
-            return;
-        }
-        *self = self.take_all(bytes, now);
+        one.take(bytes[1], now).take_more(&bytes[2..], now)
     }
 
     /// A read, or the first part of one, waited in vain.

@@ -26,10 +26,6 @@ impl Clock {
         ensures result { result ≡ self.new.at }
         ensures onward { self.old.at ≤ self.new.at }
     {
-        if self.behind == 0 && self.at <= now {
-            self.at = now;
-            return now;
-        }
         self.behind = self.behind.max(self.at.saturating_sub(now));
         self.at = now.saturating_add(self.behind);
         self.at

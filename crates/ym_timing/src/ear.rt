@@ -220,38 +220,4 @@ impl Ear {
             Echo::Broken => ear.deaf(Echo::Broken),
         }
     }
-
-    /// Whether no echo has begun, and no byte came of late that is no control byte.
-    fn is_calm(&self) -> bool
-        ensures { result ≡ table.is_calm self.now }
-    {
-        match self.echo {
-            Echo::Open => self.others == 0,
-            Echo::Head(_) | Echo::Number(_, _) | Echo::Goes(_) | Echo::Broken => false,
-        }
-    }
-
-    /// The same in place: whether the byte is heard.
-    #[inline(never)]
-    fn takes(&mut self, byte: u8, frame: &[u8], now: u64) -> bool
-        ensures ear { self.new ≡ (table.listen byte frame.now now self.old).ear }
-        ensures heard { result ≡ (table.listen byte frame.now now self.old).is_heard }
-    {
-        let listened = self.listen(byte, frame, now);
-        *self = listened.ear;
-        listened.is_heard
-    }
-
-    /// The same, at once where it is an ACK as most come.
-    #[inline(always)]
-    pub(crate) fn hears(&mut self, byte: u8, frame: &[u8], now: u64) -> bool
-        ensures ear { self.new ≡ (table.listen byte frame.now now self.old).ear }
-        ensures heard { result ≡ (table.listen byte frame.now now self.old).is_heard }
-    {
-        if byte == ACK && self.is_calm() {
-            self.at = now;
-            return true;
-        }
-        self.takes(byte, frame, now)
-    }
 }

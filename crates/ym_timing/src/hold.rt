@@ -289,39 +289,6 @@ impl Hold {
         }
     }
 
-    /// The same as `control` in place: what is to be heard of it.
-    #[inline(never)]
-    fn heeds(&mut self, kind: Kind, byte: u8, is_first: bool, now: u64) -> Say
-        ensures hold { self.new ≡ (table.control kind byte is_first now self.old).hold }
-        ensures say { result ≡ (table.control kind byte is_first now self.old).say }
-    {
-        let said = self.control(kind, byte, is_first, now);
-        *self = said.hold;
-        said.say
-    }
-
-    /// Whether an ACK behind a write of this kind is heard at once, and changes nothing.
-    fn lets_pass(&self, kind: Kind) -> bool
-        ensures { result ≡ table.lets_pass kind self.now.first_ack }
-    {
-        match (kind, self.first_ack) {
-            (Kind::Data, FirstAck::Counts) | (Kind::Data, FirstAck::Brief) => true,
-            _ => false,
-        }
-    }
-
-    /// The same, at once where it is an ACK as most come.
-    #[inline(always)]
-    pub(crate) fn takes(&mut self, kind: Kind, byte: u8, is_first: bool, now: u64) -> Say
-        ensures hold { self.new ≡ (table.control kind byte is_first now self.old).hold }
-        ensures say { result ≡ (table.control kind byte is_first now self.old).say }
-    {
-        if byte == ACK && self.lets_pass(kind) {
-            return Say::Byte;
-        }
-        self.heeds(kind, byte, is_first, now)
-    }
-
     /// The same as `wrote` in place, behind a write that neither opens a file nor is doubted.
     #[inline(always)]
     pub(crate) fn led(&mut self, is_repeat: bool, now: u64)

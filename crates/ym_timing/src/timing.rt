@@ -163,16 +163,21 @@ impl Timing {
         ensures role { self.new.role ≡ self.old.role }
         ensures say { result ≡ table.reply_said byte frame.now now self.old }
     {
-        if !self.ear.hears(byte, frame, now) {
+        let listened = self.ear.listen(byte, frame, now);
+        self.ear = listened.ear;
+        if !listened.is_heard {
             return Say::Nothing;
         }
         let is_first = self.heard.count == 0;
-        let say = self.hold.takes(self.sent.kind, byte, is_first, now);
-        match say {
+        let said = self.hold.control(self.sent.kind, byte, is_first, now);
+        self.hold = said.hold;
+        match said.say {
             Say::Nothing => {}
-            Say::Byte | Say::AckAndByte => self.heard.takes_reply(byte, now),
+            Say::Byte | Say::AckAndByte => {
+                self.heard = self.heard.take_reply(byte, now);
+            }
         }
-        say
+        said.say
     }
 
     /// Whether this byte, which came to a receiver, is one of its reply that comes back; it is
@@ -194,7 +199,7 @@ impl Timing {
     fn take_all(&mut self, bytes: &[u8], now: u64)
         ensures { self.new ≡ record self.old { heard = take_bytes bytes.now now self.old.heard } }
     {
-        self.heard.takes_all(bytes, now);
+        self.heard = self.heard.take_all(bytes, now);
     }
 
     /// Takes a byte that came to a receiver behind this reply: what comes back of the reply
