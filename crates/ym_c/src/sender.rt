@@ -85,7 +85,6 @@ pub extern "C" fn ym_sender_init(sender: &mut YmSender, blocks: &[u64])
 }
 
 /// Makes the frame of the block of this number and this body.
-#[inline(never)] // one of it is enough for a small board
 pub fn seal_frame(frame: &mut [u8], number: u8, body: &[u8])
     requires sized { (length body.now ≡ 128) ⊎ (length body.now ≡ 1024) }
     requires room { length frame.old ≡ length body.now + 5 }
