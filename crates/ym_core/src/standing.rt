@@ -58,8 +58,7 @@ impl Standing {
     }
 
     /// After a delivery without progress.
-    #[cold]
-    #[inline(never)]
+    #[inline]
     fn miss(&mut self)
         requires { self.old.retries < GIVE_UP }
         ensures step { self.new ≡ (table.missed self.old).standing }
