@@ -2,13 +2,13 @@
 itself, and goes on where the other end asks again."""
 
 import os
-import select
 import subprocess
 
 from support.cases import sentence
 from support.frames import ACK, ACK_START, EOT, NAK, START, frames_of
 from support.on_line import started
 from support.program import LIMIT, PROGRAM, folders, write_files
+from support.waits import comes
 
 FILES = [("two blocks", b"2" * 2048)]
 # A plain receiver asks again where nothing came for so many seconds. It has to only where this
@@ -23,7 +23,7 @@ def answered(child, reply, length):
         child.stdin.write(again)
         child.stdin.flush()
         again = bytes((NAK,))
-        while len(got) < length and select.select([child.stdout], [], [], ASKS_AFTER)[0]:
+        while len(got) < length and comes(child.stdout, ASKS_AFTER):
             more = os.read(child.stdout.fileno(), length - len(got))
             assert more, "it has ended"
             got += more

@@ -31,12 +31,18 @@ def counting(end, count):
         end.setsockopt(socket.SOL_SOCKET, socket.SO_RCVLOWAT, 1)
 
 
-def wait_to_read(end, count, seconds):
-    """Waits until a socket has so many bytes, or was closed, and no longer than so many seconds."""
+def comes(end, seconds):
+    """Whether something comes within so many seconds, or its end. `select` takes no descriptor
+    above 1023, and many tests of one process have more."""
     poll = select.poll()
     poll.register(end, select.POLLIN)
+    return bool(poll.poll(1000 * seconds))
+
+
+def wait_to_read(end, count, seconds):
+    """Waits until a socket has so many bytes, or was closed, and no longer than so many seconds."""
     with counting(end, count):
-        poll.poll(1000 * seconds)
+        comes(end, seconds)
 
 
 def wait_for(end, count):

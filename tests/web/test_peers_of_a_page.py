@@ -1,6 +1,5 @@
 """The page beside peers that do what they should not, and late ones beside the module."""
 
-import select
 import threading
 
 import pytest
@@ -30,7 +29,7 @@ from support.page import (
 from support.peers import Pause, PlainReceiver, PlainSender, frames_at, receive_plainly
 from support.program import folders, wants_same, wants_stored, write_files
 from support.rooms import BROWSERS
-from support.waits import wait_for, waiting
+from support.waits import comes, wait_for, waiting
 from support.web_peers import Peer, program_receives, program_sends
 
 
@@ -50,7 +49,7 @@ def ask(end):
     """Asks for a file, each second, until something comes."""
     while not waiting(end):
         end.sendall(START)
-        select.select([end], [], [], 1)
+        comes(end, 1)
 
 
 def wants_none(page):
