@@ -170,6 +170,29 @@ def test_silent_far_end():
         assert "finished" not in ended.out, "loop told %r" % ended.out
 
 
+def written_to(call):
+    """How many bytes a write of a connection was given."""
+    return int(call.arguments.rsplit(", ", 4)[1])
+
+
+@sentence("sockets: send writes the rest of a frame")
+def test_part_of_a_frame():
+    """The system says that it took a byte of the first frame, and hands on none. The rest goes out
+    in the next write, and the frame goes out again, since it came damaged."""
+    files = [("a", b"abc")]
+    with folders() as (here, there), folders() as (log, _):
+        log, port = os.path.join(log, "log"), free_port()
+        part = strace(log, "-e", "trace=sendto", "-e", "inject=sendto:retval=1:when=1")
+        with running("receive", "--port", port, there) as receive:
+            wait_until(lambda: listeners(port), "it listened", receive)
+            words = ("send", "--port", port, *write_files(here, files))
+            run(*words, before=part).wants(0, "sender done 1 finished\n")
+            receive.ended().wants(0, told(files))
+        first, second, *_ = calls_of(log)
+        assert first.is_injected, "no part was taken: %r" % first
+        assert written_to(second) == written_to(first) - 1, "the write behind it: %r" % second
+
+
 def wants_nodelay(log, count):
     calls = calls_of(log)
     sets = [
