@@ -125,13 +125,18 @@ def test_no_reply(peer, told):
     assert told_last(ended) == told, "what it told"
 
 
+def wants_told(peer, told):
+    """What a sender beside this peer tells last, as a pattern."""
+    ended = send_to(peer, FILE, LOUD)
+    ended.wants(1, "sender done 0 no-reply\n", ended.err)
+    assert re.fullmatch(told, told_last(ended)), "it told %r" % told_last(ended)
+
+
 @sentence("tells that a receiver fell silent behind what it refused")
 def test_receiver_ceases():
     """It was there, so nobody is asked whether it runs at the same speed."""
-    ended = send_to(falls_silent, FILE, LOUD)
-    ended.wants(1, "sender done 0 no-reply\n", ended.err)
     ceased = r"no answer came any more for \d\d s: has the receiver stopped, or was the line cut\?"
-    assert re.fullmatch(ceased, told_last(ended)), "it told %r" % told_last(ended)
+    wants_told(falls_silent, ceased)
 
 
 def floods(end):
@@ -146,10 +151,7 @@ def floods(end):
 @sentence("tells that no answer came, where noise comes without end")
 def test_noise_without_end():
     """Its port hears none of it, so it does not tell that nothing came."""
-    ended = send_to(floods, FILE, LOUD)
-    ended.wants(1, "sender done 0 no-reply\n", ended.err)
-    told = r"no answer came for \d+ s: is the receiver running, at the same speed\?"
-    assert re.fullmatch(told, told_last(ended)), "it told %r" % told_last(ended)
+    wants_told(floods, r"no answer came for \d+ s: is the receiver running, at the same speed\?")
 
 
 # A block 1 that the line damaged.
