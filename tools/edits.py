@@ -23,8 +23,8 @@ reads what `rattle check --help` describes: the lines `fn NAME: ..`, the places 
 last line. The calls that `rt`, a script, makes for its own edits could be taken out of it, but they
 are nobody's interface: a new toolchain may rename them, where it keeps its commands.
 
-It begins with what `rt check` kept of the crates, here or in another copy on this machine. What is
-not there is proved first.
+It begins with what a build or `rt check` kept of the crates, here or in another copy on this
+machine. The libraries that are not there are proved first, side by side, as a build does it.
 
 usage: edits.py [--anew] [--jobs N] [CRATE..]
   --anew      tries also what an earlier run settled
@@ -50,6 +50,7 @@ sys.dont_write_bytecode = True
 from edit_checks import Checked, Said, copy, take
 from edit_crates import CRATES, KEPT, ROOT, Listed, Settled, lines_of, sum_of
 from edit_texts import Edit, Unfit
+from libraries import Libraries
 
 # One folder for each checkout: rt notes each folder where it proves, and so it notes few.
 ROOM = os.path.join(tempfile.gettempdir(), "edits-%d-%s" % (os.getuid(), sum_of(ROOT)[:12]))
@@ -77,6 +78,8 @@ class Trial:
         self.settled = Settled(name, self.names, [JUDGEMENT, version, *self.lines], anew)
         self.lock, self.rooms = threading.Lock(), set()
         self.told, self.passed, self.failed = [], 0, 0
+        # The processor seconds that the crate's own proof takes.
+        self.own = 0
         self.edits = [it for it in self.found() if self.is_open(it)]
 
     def found(self):
@@ -152,7 +155,8 @@ class Trial:
             ran = Checked(self.folder)
             if Checked.is_over:
                 return []
-            self.tell("its own proof", ran.seconds)
+            self.own = ran.seconds
+            self.tell("its own proof", self.own)
             said = Said(self.name, ran.text)
             self.told = list(said.states)
             if not ran.status:
@@ -338,6 +342,26 @@ def options(words, listed):
     return anew, lanes, words or list(listed.lines)
 
 
+def used():
+    """The processor minutes of all that has ended."""
+    found = os.times()
+    return (found.children_user + found.children_system) / 60
+
+
+def prove_below(trials):
+    """Has the libraries that these crates stand on proved, each once. Of one that is not, the own
+    proofs of those above it tell."""
+    libraries, told = Libraries(*(it.name for it in trials)), []
+
+    def hear(name, status, _):
+        told.append(name)
+        print("%s: its library%s" % (name, " is not proved" * bool(status)), flush=True)
+
+    libraries.prove(hear)
+    if told:
+        print("the libraries: %.1f processor minutes" % used(), flush=True)
+
+
 def tried(names, listed, anew, lanes, kind=Trial):
     """Tries the edits of these crates. Gives the trials, which are of this kind."""
     version = subprocess.run(["rt", "version"], capture_output=True, text=True, check=True).stdout
@@ -349,7 +373,9 @@ def tried(names, listed, anew, lanes, kind=Trial):
         os.makedirs(ROOM, 0o700)
         try:
             trials = [kind(name, listed, version, anew) for name in names]
-            in_lanes([it for it in trials if it.edits], lanes)
+            is_open = [it for it in trials if it.edits]
+            prove_below(is_open)
+            in_lanes(is_open, lanes)
             return trials
         finally:
             shutil.rmtree(ROOM, ignore_errors=True)
@@ -363,8 +389,8 @@ def main(words):
         trials = tried(names, listed, anew, lanes)
     except KeyboardInterrupt:
         return 130
-    used = os.times()
-    print("%.1f processor minutes" % ((used.children_user + used.children_system) / 60))
+    own = sum(it.own for it in trials) / 60
+    print("%.1f processor minutes, %.1f of them for the crates' own proofs" % (used(), own))
     failed = sum(it.failed for it in trials)
     print("%d passed, %d failed" % (sum(it.passed for it in trials), failed))
     return 1 if failed else 0

@@ -16,6 +16,7 @@ that need no program begin once these are made.
 
 Of each folder a line tells how many tests passed, failed and were skipped, and others why they were
 skipped; where one fails, all that pytest said is told, and the end of it once more behind all else.
+Where pytest is not installed all of them are skipped, and the last lines but the gate's own say so.
 
 What the gate does is told in a line each as it comes. All that it says stands in out/gate.log and
 is written last, so that the last line is its verdict. Where anything else fails the gate is
@@ -23,6 +24,7 @@ stopped. Once all has passed, the program lies where a build leaves it, and `mak
 
 usage: gate.py
 The environment variable INSTALL=install has the packages installed that the tests need, as root.
+Then it fails where pytest is not there all the same.
 """
 
 import filecmp
@@ -239,8 +241,9 @@ def packages():
     )
 
 
-# How the tests of each folder came out, and what was said of those that failed.
-COUNTS, FAILED = [], {}
+# How the tests of each folder came out, what was said of those that failed, and the folders that
+# were skipped since there is no pytest.
+COUNTS, FAILED, WITHOUT_PYTEST = [], {}, []
 # So many of its last lines are told once more at the end: what the gate proved stands between.
 LAST_LINES = 60
 
@@ -252,9 +255,12 @@ def made(name, environment=None, ahead=(), marked=""):
     chosen = ["-m", marked + " and not long"] if marked else []
     words = [*ahead, *checks.words_of(*chosen, os.path.join(checks.TESTS, name))]
     status, said, used = ran(words, env=environment)
+    title = "tests/" + name
+    if status and checks.MISSING in said and not os.environ.get("INSTALL"):
+        WITHOUT_PYTEST.append(title)
+        return 0
     counts = checks.counts_of(said) or (0, 1, 0)
     COUNTS.append(counts)
-    title = "tests/" + name
     if status:
         FAILED[title] = said
     took = (time.monotonic() - began) / 60, used
@@ -267,7 +273,10 @@ def made(name, environment=None, ahead=(), marked=""):
 
 def in_all():
     """How the tests of all folders came out."""
-    return checks.told(map(sum, zip(*COUNTS)))
+    if not WITHOUT_PYTEST:
+        return checks.told(map(sum, zip(*COUNTS)))
+    skipped = " ".join(sorted(set(WITHOUT_PYTEST)))
+    return "skipped, as pytest is not installed (tools/packages.sh install): " + skipped
 
 
 def beside_proofs(name, installed):
@@ -451,7 +460,7 @@ def judged(gate, beside):
         gate.give_up()
     for it in beside:
         failed = failed or (None if it.has_ended_well() else it.name)
-    if COUNTS:
+    if COUNTS or WITHOUT_PYTEST:
         tell("the tests of all folders: %s" % in_all())
     if not failed and not gate.ended() and not are_what_was_tried():
         failed = "the comparison of what was tried with what the gate built"

@@ -1,4 +1,4 @@
-"""Proves the crates that a program is made of side by side, by `rt lib`, and keeps what it made.
+"""Proves the crates that others stand on side by side, by `rt lib`, and keeps what it made.
 
 `rt lib` holds the folders of all crates below its own, so that one at a time works in a tree. So
 each crate is proved in a room: the text of the crates that it needs, with their libraries, by
@@ -85,10 +85,11 @@ def lanes():
 
 
 class Libraries:
-    """The libraries of a program, and what has to be proved of them."""
+    """The libraries that these crates stand on, and what has to be proved of them."""
 
-    def __init__(self, top, are_cut=False):
-        self.names, self.used = [it for it in made_of(top) if it != top], crates()
+    def __init__(self, *tops, are_cut=False):
+        below = {it for top in tops for it in made_of(top) if it != top}
+        self.names, self.used = [it for it in made_of(*tops) if it in below], crates()
         self.verb = ["--statements", "lib"] if are_cut else ["lib"]
         version = proved.kit()
         with open(os.path.join(ROOT, "crates.txt"), encoding="utf-8") as it:

@@ -1,9 +1,9 @@
 #!/bin/sh
 # Which of Debian's packages the tests need beside Python, and whether they are there. A test that
-# needs what is not there is skipped, and says so. Without pytest there is none.
+# needs what is not there is skipped, and says so. Without pytest all of them are.
 #
 # usage: packages.sh           names those that are not installed
-#        packages.sh install   installs them, as root
+#        packages.sh install   installs them first, where it is root's and there is apt-get
 set -eu
 packages="python3-pytest lrzsz socat picocom minicom screen strace mandoc lintian bash zsh fish
     binutils qemu-system-arm qemu-system-misc u-boot-qemu gcc-aarch64-linux-gnu
@@ -27,6 +27,7 @@ get() {
 
 # All at once, and where one of them cannot be had each by itself.
 install() {
+    [ "$(id -u)" = 0 ] && command -v apt-get > /dev/null || return 0
     apt-get update > /dev/null 2>&1 || true
     get $(missing) || for package in $(missing); do get "$package" || true; done
 }

@@ -5,10 +5,10 @@ The crates that changed are proved side by side, over what stands in the crates'
 (tools/libraries.py), and `rt run` proves and builds the program. A program that was proved from the
 text as it is, by the gate too, is taken as it lies here.
 
-Where nothing was proved in this tree before, and `rt ci` keeps what it proves, as that of some
-toolchains does, it proves the crates, in a copy without edits and tests. What it proves is kept for
-the gate, and what the gate proved is taken. The long row, which all others end before, is proved by
-a run of its own, to which the rest yields.
+Where nothing was proved in this tree before, and `rt ci` has kept what it proved of these crates, as
+that of some toolchains does, it proves them, in a copy without edits and tests. So what the gate
+proved is taken, and what it proves is kept for the gate. The long row, which all others end before,
+is proved by a run of its own, to which the rest yields. Where nothing is kept, `rt lib` is quicker.
 
 On a terminal that is one line, rewritten in place; elsewhere it is a line a crate. What `rt` says is
 kept in out/build.log, and is shown where it fails. A build that is interrupted goes on where it was.
@@ -144,7 +144,7 @@ def failed(shown, said):
 
 def prove_libraries(shown, kept, is_alone):
     """Proves the crates below the program that changed, side by side."""
-    libraries, done = Libraries("ymodem", is_alone), []
+    libraries, done = Libraries("ymodem", are_cut=is_alone), []
     count = len(libraries.lacking())
 
     def hear(name, status, said):
@@ -242,18 +242,25 @@ def build_from_nothing(shown, kept, place):
         shutil.copy2(os.path.join(top, "crates", "ymodem", "out", "ymodem"), place)
 
 
-def can_keep():
-    """Whether `rt ci` keeps what it proves, as that of some toolchains does, and can do so: that
-    lies beside the toolchain."""
+def store():
+    """Where `rt ci` keeps what it proves, as that of some toolchains does: beside the toolchain. Or
+    nothing, where it does not, or cannot."""
     rt = os.path.realpath(shutil.which("rt") or "rt")
     kit = os.path.dirname(os.path.dirname(rt))
-    store = kit + "-kept" if os.path.exists(kit + "-kept") else os.path.dirname(kit)
+    found = kit + "-kept" if os.path.exists(kit + "-kept") else os.path.dirname(kit)
     try:
         with open(rt, "rb") as it:
             keeps = b"-kept" in it.read()
     except OSError:
-        return False
-    return keeps and os.access(store, os.W_OK)
+        return None
+    return found if keeps and os.access(found, os.W_OK) else None
+
+
+def gate_has_kept():
+    """Whether `rt ci` has kept what it proved of a crate of the program, of whatever text."""
+    found, names = store(), of_program()
+    kept = os.listdir(found) if found else ()
+    return any(it.startswith("proof-%s-" % name) for it in kept for name in names)
 
 
 def has_kept():
@@ -268,7 +275,7 @@ def build(here=False, is_alone=False):
         return
     shown, has_begun = Shown(sys.stderr), has_kept()
     with log_file() as kept:
-        if can_keep() and not here and not has_begun:
+        if not here and not has_begun and gate_has_kept():
             build_from_nothing(shown, kept, PROGRAM)
         else:
             build_here(shown, kept, is_alone and not has_begun)
@@ -283,7 +290,7 @@ def build(here=False, is_alone=False):
 def first():
     """Proves and builds for the gate. Whatever goes wrong ends this script."""
     shutil.rmtree(os.path.dirname(TRIED), ignore_errors=True)
-    if not can_keep():
+    if not store():
         return
     shown = Shown(sys.stderr)
     with log_file() as kept:

@@ -151,7 +151,8 @@ def test_constant():
 
 @sentence("edits that are settled are not tried again")
 def test_settled():
-    told = ["0.0 processor minutes", "3 passed, 0 failed"]
+    took = "0.0 processor minutes, 0.0 of them for the crates' own proofs"
+    told = [took, "3 passed, 0 failed"]
     assert Tried.once().refused == (0, told), "the second run"
     status, lines = Tried.once().words
     assert (status, lines[0].split()) == (0, ["tools/edits.py", "--anew", "sums"]), "its words"

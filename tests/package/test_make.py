@@ -133,6 +133,18 @@ def test_build_that_is_kept():
         has(err, "FAILED: ym_check", "out/build.log")
 
 
+@sentence("make build where the toolchain has kept nothing of these crates yet")
+def test_build_before_anything_is_kept():
+    """Then it goes as where the toolchain keeps nothing: that is quicker. Of a crate that is not one
+    of the program's, and of a name that goes on, nothing is taken."""
+    with tree(keeps=True) as it:
+        for other in "proof-ym_checked-0", "proof-ym-0", "lock-proof-0":
+            os.makedirs(os.path.join(it.kept, other))
+        os.rmdir(os.path.join(it.kept, "proof-ym_check-0"))
+        assert it.make("program")[0] == 0, "the build of the program alone"
+        wants_libraries(it.called(), crates_of_program() - 1)
+
+
 @sentence("make build over what stands here")
 def test_build_over_what_stands_here():
     """Where crates were proved in this tree, what changed is proved over that, though the toolchain
@@ -427,6 +439,23 @@ def gate_where(name, failed, slow):
 @sentence("the gate where a test fails")
 def test_gate_behind_a_test_that_fails():
     gate_where("line", "tests/line", "late")
+
+
+@sentence("the gate where pytest is not installed")
+def test_gate_without_pytest():
+    """All folders are skipped, and that is said. Where the packages were to be installed it fails."""
+    with tree_with_gate() as it:
+        it.write(os.path.join(it.calls, "pytest"), "#!/bin/sh\necho No module named pytest\nexit 1\n")
+        it.write("tools/packages.sh", "#!/bin/sh\n")
+        status, out, _ = it.run("tools/gate.py")
+        assert (status, out.splitlines()[-1]) == (0, "18 passed, 0 failed"), "how it ended"
+        folders = " ".join(sorted({"tests/" + name for name in [*TESTS, *BESIDE]}))
+        why = "skipped, as pytest is not installed (tools/packages.sh install): "
+        has(out, "the tests of all folders: %s%s\n" % (why, folders))
+        it.environment["INSTALL"] = "install"
+        status, out, _ = it.run("tools/gate.py")
+        assert status == 1, "its status where they were to be installed"
+        has(out, "No module named pytest")
 
 
 @sentence("the gate where memory is not told")

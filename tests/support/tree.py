@@ -96,11 +96,15 @@ STAND_IN_BESIDE = r"""#!/bin/sh
 
 class Tree:
     """A fresh copy of the tree, in a folder with a space in its name, with the stand-ins on the
-    path: of a toolchain that keeps what `rt ci` proves, or of one that does not."""
+    path: of a toolchain that keeps what `rt ci` proves, and has kept a crate of the program, or of
+    one that keeps nothing."""
 
     def __init__(self, top, keeps):
         self.top, self.calls = os.path.join(top, "a tree"), os.path.join(top, "calls")
-        os.makedirs(self.calls)
+        kit = os.path.join(top, "kit")
+        self.kept, commands = kit + "-kept", os.path.join(kit, "bin")
+        for it in (self.calls, commands, *[os.path.join(self.kept, "proof-ym_check-0")] * keeps):
+            os.makedirs(it)
         names = [it for it in os.listdir(ROOT) if it not in ("out", ".git")]
         for name in names:
             source, to = os.path.join(ROOT, name), os.path.join(self.top, name)
@@ -114,12 +118,12 @@ class Tree:
         # What it is a copy of may be one that can only be read.
         subprocess.run(["chmod", "-R", "u+w", self.top], check=True)
         for name, text in ("rt", STAND_IN + KEEPS * keeps), ("rattle", STAND_IN_BESIDE):
-            with open(os.path.join(self.calls, name), "w", encoding="utf-8") as it:
+            with open(os.path.join(commands, name), "w", encoding="utf-8") as it:
                 it.write(text)
             os.chmod(it.name, 0o755)
         self.environment = {
             **os.environ,
-            "PATH": self.calls + ":" + os.environ["PATH"],
+            "PATH": commands + ":" + os.environ["PATH"],
             "CALLED": self.calls,
             "YMODEM": PROGRAM,
         }
