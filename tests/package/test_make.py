@@ -447,6 +447,8 @@ def test_gate_without_pytest():
     with tree_with_gate() as it:
         it.write(os.path.join(it.calls, "pytest"), "#!/bin/sh\necho No module named pytest\nexit 1\n")
         it.write("tools/packages.sh", "#!/bin/sh\n")
+        # it is set where this test is itself made so
+        it.environment.pop("INSTALL", None)
         status, out, _ = it.run("tools/gate.py")
         assert (status, out.splitlines()[-1]) == (0, "18 passed, 0 failed"), "how it ended"
         folders = " ".join(sorted({"tests/" + name for name in [*TESTS, *BESIDE]}))
