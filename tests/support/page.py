@@ -6,6 +6,7 @@ import os
 import random
 
 from support.program import ROOT
+from support.waits import wait_until
 
 
 PAGE = "file://" + os.path.join(ROOT, "out", "web", "index.html")
@@ -90,6 +91,17 @@ def until_ended(page):
 def until_share(page, share):
     """Waits until so much of a transfer has gone."""
     page.until("document.getElementById('bar').value > %s" % share)
+
+
+def until_saved(folder, name):
+    """Waits until the browser has saved a file there. While it does, that may have another name
+    beside its own."""
+
+    def is_saved():
+        there = os.listdir(folder)
+        return name in there and not any(it.endswith((".part", ".crdownload")) for it in there)
+
+    wait_until(is_saved, "the browser has saved " + name)
 
 
 def choose(page, paths, command=""):

@@ -16,6 +16,7 @@ from support.page import (
     firmware,
     text,
     until_ended,
+    until_saved,
     until_says,
     until_share,
     wants_result,
@@ -122,6 +123,8 @@ def test_asks(room):
         assert page.run(ASKS), "it does not ask, and nothing was saved"
         click(page, "#received a")
         assert not page.run(ASKS), "it asks, and all was saved"
+        # the browser may be at it when the folder goes
+        until_saved(there, "a")
         receives(page, here, [("b", b"b"), ("c", b"c")])
         assert page.run(ASKS), "it does not ask, and not all was saved"
         click(page, "#save-all")

@@ -23,6 +23,7 @@ from support.page import (
     picture,
     text,
     until_ended,
+    until_saved,
     until_says,
     until_share,
     wants_result,
@@ -31,7 +32,6 @@ from support.program import folders, stored, wants_same, wants_stored, write_fil
 from support.relay import Seeded
 from support.rooms import BROWSERS
 from support.serial_port import SERIAL
-from support.waits import wait_until
 from support.web_peers import Held, Loader, Peer, lrzsz, program_receives, program_sends
 
 
@@ -79,11 +79,7 @@ def save(page, folder):
     names = page.run("[...document.querySelectorAll('#received a')].map((it) => it.download)")
     for at, name in enumerate(names):
         page.run("document.querySelectorAll('#received a')[%d].click()" % at)
-        # one that is being saved may have another name beside its own
-        is_saved = lambda: name in os.listdir(folder) and not any(
-            it.endswith(".part") for it in os.listdir(folder)
-        )
-        wait_until(is_saved, "the browser has saved " + name)
+        until_saved(folder, name)
 
 
 @cases_in(BROWSERS, case("page: receives, and saves", marks=NEEDS_LRZSZ))
