@@ -325,7 +325,7 @@ def tree_with_gate(keeps=True):
         it.environment["PYTEST"] = shlex.quote(stand_in)
         it.write("web/build.py", '#!/bin/sh\nmkdir -p "$2"\n')
         it.write("tools/portable.py", "#!/bin/sh\n")
-        it.mark("below", "ym_check ym_frame ym_header ym_machine ym_core ym_timing ym_line_c")
+        it.mark("below", "ym_check ym_frame ym_header ym_machine ym_core ym_heard ym_timing ym_line_c")
         yield it
 
 

@@ -17,6 +17,11 @@ TOLERATED = 0.25
 # For so many seconds a check is made again and again on a machine that does not keep time.
 WORTH = 900
 
+
+class Certain(AssertionError):
+    """What no machine excuses: that an end said what is not so."""
+
+
 # Before it is made again, the machine has to have kept time for so many seconds, or so many have
 # passed.
 CALM, PATIENCE = 3, 120

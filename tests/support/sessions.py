@@ -380,7 +380,7 @@ def judged(files, folder, endings, ends, seconds):
         # what lrzsz says of itself is its own
         wants_true(files, kept, [claim for claim, who in zip(claims, ends) if who in OURS])
     except AssertionError as fault:
-        return Outcome(seconds, False, str(fault), told)
+        return Outcome(seconds, False, str(fault) or "a report is false", told)
     return Outcome(
         seconds, kept == dict(files) and all(claim.is_finished for claim in claims), None, told
     )

@@ -6,7 +6,7 @@ when the folder begins. One that takes a fixture is made by pytest, in its turn,
 marked `alone` is made before the others begin. Those marked `slow` begin first.
 
 A test that failed while this machine did not keep time shows nothing. It is made again once the
-machine keeps time, and again where that did not last.
+machine keeps time, and again where that did not last. A report that is false is excused by nothing.
 """
 
 import os
@@ -15,7 +15,7 @@ from concurrent.futures import ThreadPoolExecutor
 
 import _pytest.runner
 import pytest
-from support.pulse import beating
+from support.pulse import Certain, beating
 from support.storing import steadily
 from support.skipping import Skipped, needs
 
@@ -69,8 +69,8 @@ def made(item, arguments):
     while True:
         began, tries = time.monotonic(), tries + 1
         fault = fault_of(lambda: needs(*wanted), {}) or fault_of(test, arguments)
-        has_failed = fault is not None and not isinstance(fault, Skipped)
-        if not has_failed or not beating().shows_nothing(began, first):
+        is_settled = fault is None or isinstance(fault, (Skipped, Certain))
+        if is_settled or not beating().shows_nothing(began, first):
             return Made(fault, time.monotonic() - began, tries > 1)
         beating().wait_for_calm()
 

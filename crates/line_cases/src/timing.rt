@@ -13,7 +13,8 @@
 //! - `cancel`: whether CAN CAN is to be heard.
 
 use super::words::Unread;
-use ym_timing::{Expected, Owed, Purge, Role, Say, Timing, Vain};
+use ym_heard::Say;
+use ym_timing::{Expected, Owed, Purge, Role, Timing, Vain};
 
 /// The frames that are written, and the replies.
 fn frame(index: Option<u8>) -> &'static [u8] {

@@ -7,14 +7,15 @@ ghost use Rattle.ym_line_c.specs.Bulk as bulk;
 ghost use Rattle.ym_line_c.specs.LineCodes as codes;
 ghost use Rattle.ym_line_c.specs.Line.{timing_of, clock_of, purge_of};
 ghost use Rattle.ym_timing.specs.ByteRows as rows;
-ghost use Rattle.ym_timing.specs.Cancel as cancel;
+ghost use Rattle.ym_heard.specs.Cancel as cancel;
 ghost use Rattle.ym_timing.specs.Clears as clears;
-ghost use Rattle.ym_timing.specs.Times as times;
+ghost use Rattle.ym_heard.specs.Times as times;
 ghost use Rattle.ym_timing.specs.Timing as table;
 ghost use Rattle.ym_timing.specs.Writing as writing;
 
+use ym_heard::cancels;
 use ym_line_c::{YmClearing, YmLine, code_of_vain, drop_bytes, hear_bytes, role_of, wait_of};
-use ym_timing::{Timing, cancels};
+use ym_timing::Timing;
 
 /// Makes the line of an end that said and heard nothing, whatever stood there: 0 a sender, any
 /// other a receiver.

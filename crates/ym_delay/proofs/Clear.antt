@@ -10,7 +10,7 @@ use Rattle.ym_port.specs.declared.line.Line.{Line}
 use Rattle.ym_port.specs.declared.line.TheConstants.{CLEAR_PIECE}
 use Rattle.ym_timing.specs.Clears as clears
 use Rattle.ym_timing.specs.Pace.{bound}
-use Rattle.ym_timing.specs.Times.{later, waited}
+use Rattle.ym_heard.specs.Times.{later, waited}
 use Rattle.ym_timing.specs.declared.purge.Purge.{Purge}
 use Rattle.ym_timing.specs.declared.purge.Need.TheVariants.{Several}
 use Rattle.ym_timing.specs.declared.out.Out.{Out}

@@ -9,11 +9,11 @@ use Rattle.ym_port.specs.declared.deed.Deed.TheVariants.{Looked, Waited}
 use Rattle.ym_port.specs.declared.line.Line.{Line}
 use Rattle.ym_timing.specs.ByteRows.{after_bytes}
 use Rattle.ym_timing.specs.Pace as pace
-use Rattle.ym_timing.specs.Times.{later}
+use Rattle.ym_heard.specs.Times.{later}
 use Rattle.ym_timing.specs.Timing.{after_by, after_byte, after_vain, controlled, is_early, holds_a_moment, is_acked, listened_to, takes, until}
-use Rattle.ym_timing.specs.declared.limits.TheConstants.{PATIENCE, WITHIN}
-use Rattle.ym_timing.specs.declared.hold.Say.{Say}
-use Rattle.ym_timing.specs.declared.hold.Say.TheVariants as say
+use Rattle.ym_heard.specs.declared.limits.TheConstants.{PATIENCE, WITHIN}
+use Rattle.ym_heard.specs.declared.hold.Say.{Say}
+use Rattle.ym_heard.specs.declared.hold.Say.TheVariants as say
 use Rattle.ym_timing.specs.declared.pace.Pace.{Pace}
 use Rattle.ym_timing.specs.declared.pace.Trust.{Trust}
 use Rattle.ym_timing.specs.declared.pace.Trust.TheVariants.{Unknown, Doubtful, Sure}

@@ -4,11 +4,11 @@
 use Rattle.std.specs.Prelude.{◌≡◌, ◌⊎◌, ◌+◌, ◌-◌, ◌<◌, ◌≤◌, ◌^◌, ℕ, zero, suc, min, true, List, [], ◌∷◌}
 use Rattle.ym_timing.specs.Clears.{is_answered, several_until}
 use Rattle.ym_timing.specs.Pace.{bound}
-use Rattle.ym_timing.specs.Times.{later}
+use Rattle.ym_heard.specs.Times.{later}
 use Rattle.ym_timing.specs.Writing.{is_late, is_likely, is_prompted, soon}
 use Rattle.ym_timing.specs.declared.purge.Purge.{Purge}
-use Rattle.ym_timing.specs.declared.limits.TheConstants.{APART, FIRST_FRAME, LIKELY, LONGEST}
-use Rattle.ym_timing.specs.declared.limits.TheConstants.{SENDER_QUIET, UNASKED}
+use Rattle.ym_heard.specs.declared.limits.TheConstants.{APART, FIRST_FRAME, LIKELY, LONGEST}
+use Rattle.ym_heard.specs.declared.limits.TheConstants.{SENDER_QUIET, UNASKED}
 use Rattle.ym_timing.specs.declared.pace.Trust.{Trust}
 use Rattle.ym_timing.specs.declared.pace.Trust.TheVariants.{Unknown, Doubtful, Sure}
 use Rattle.ym_timing.specs.declared.role.Role.TheVariants.{Sender}

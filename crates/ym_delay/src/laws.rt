@@ -10,7 +10,7 @@ ghost use Rattle.ym_link.specs.Sender.{IsSender, SenderParts, spoken as sent};
 ghost use Rattle.ym_link.specs.SendOver.{written_for};
 ghost use Rattle.ym_timing.specs.Clears.{several_until};
 ghost use Rattle.ym_timing.specs.Pace.{first_wait};
-ghost use Rattle.ym_timing.specs.Times.{later};
+ghost use Rattle.ym_heard.specs.Times.{later};
 ghost use Rattle.ym_timing.specs.declared.role.Role.TheVariants.{Receiver, Sender};
 ghost use Rattle.ym_timing.specs.declared.purge.Purge.{Purge};
 ghost use Rattle.ym_port.specs.TimedPort.{clears_for};

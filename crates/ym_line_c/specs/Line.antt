@@ -1,6 +1,6 @@
 -- The machine that the numbers of a line stand for, its clock, and how far it is clear.
 use Rattle.ym_timing.specs.declared.purge.Purge.{Purge}
-use Rattle.ym_timing.specs.declared.clock.Clock.{Clock}
+use Rattle.ym_heard.specs.declared.clock.Clock.{Clock}
 use Rattle.ym_timing.specs.declared.timing.Timing.{Timing}
 use Rattle.ym_line_c.specs.LineCodes.{flag_of, role_of, need_of, heed_of}
 use Rattle.ym_line_c.specs.Parts.{pace_of, out_of, sent_of, heard_of, ear_of, hold_of}

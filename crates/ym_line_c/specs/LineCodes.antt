@@ -4,18 +4,18 @@ use Rattle.ym_timing.specs.declared.purge.Need.{Need}
 use Rattle.ym_timing.specs.declared.purge.Need.TheVariants as need
 use Rattle.ym_timing.specs.declared.purge.Heed.{Heed}
 use Rattle.ym_timing.specs.declared.purge.Heed.TheVariants as heed
-use Rattle.ym_timing.specs.declared.ear.Echo.{Echo}
-use Rattle.ym_timing.specs.declared.ear.Echo.TheVariants as echo
-use Rattle.ym_timing.specs.declared.hold.FirstAck.{FirstAck}
-use Rattle.ym_timing.specs.declared.hold.FirstAck.TheVariants as first_ack
+use Rattle.ym_heard.specs.declared.ear.Echo.{Echo}
+use Rattle.ym_heard.specs.declared.ear.Echo.TheVariants as echo
+use Rattle.ym_heard.specs.declared.hold.FirstAck.{FirstAck}
+use Rattle.ym_heard.specs.declared.hold.FirstAck.TheVariants as first_ack
 use Rattle.ym_timing.specs.declared.out.Owed.{Owed}
 use Rattle.ym_timing.specs.declared.out.Owed.TheVariants as owed
 use Rattle.ym_timing.specs.declared.pace.Trust.{Trust}
 use Rattle.ym_timing.specs.declared.pace.Trust.TheVariants as trust
 use Rattle.ym_timing.specs.declared.role.Role.{Role}
 use Rattle.ym_timing.specs.declared.role.Role.TheVariants.{Sender, Receiver}
-use Rattle.ym_timing.specs.declared.sent.Kind.{Kind}
-use Rattle.ym_timing.specs.declared.sent.Kind.TheVariants as kind
+use Rattle.ym_heard.specs.declared.sent.Kind.{Kind}
+use Rattle.ym_heard.specs.declared.sent.Kind.TheVariants as kind
 use Rattle.ym_timing.specs.declared.timing.Expected.{Expected}
 use Rattle.ym_timing.specs.declared.timing.Expected.TheVariants as wait
 use Rattle.ym_timing.specs.declared.timing.Vain.{Vain}

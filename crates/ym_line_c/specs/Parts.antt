@@ -1,10 +1,10 @@
 -- The parts of the machine that their numbers stand for.
-use Rattle.ym_timing.specs.declared.ear.Ear.{Ear}
+use Rattle.ym_heard.specs.declared.ear.Ear.{Ear}
 use Rattle.ym_timing.specs.declared.arrivals.Arrivals.{Arrivals}
-use Rattle.ym_timing.specs.declared.hold.Hold.{Hold}
+use Rattle.ym_heard.specs.declared.hold.Hold.{Hold}
 use Rattle.ym_timing.specs.declared.out.Out.{Out}
 use Rattle.ym_timing.specs.declared.pace.Pace.{Pace}
-use Rattle.ym_timing.specs.declared.sent.Sent.{Sent}
+use Rattle.ym_heard.specs.declared.sent.Sent.{Sent}
 use Rattle.ym_line_c.specs.LineCodes.{flag_of, trust_of, owed_of, kind_of, first_ack_of, echo_of}
 use Rattle.ym_line_c.specs.declared.parts.YmEar.{YmEar}
 use Rattle.ym_line_c.specs.declared.parts.YmHeard.{YmHeard}

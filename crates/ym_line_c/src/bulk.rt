@@ -5,7 +5,8 @@ ghost use Rattle.ym_line_c.specs.Bulk.{after_dropping, cleared_by};
 ghost use Rattle.ym_timing.specs.ByteRows.{after_bytes, bytes_of, heard_of};
 ghost use Rattle.ym_timing.specs.declared.role.Role.{Role};
 
-use ym_timing::{Purge, Role, Say, Timing};
+use ym_heard::Say;
+use ym_timing::{Purge, Role, Timing};
 
 /// The byte ACK.
 const ACK: u8 = 0x06;

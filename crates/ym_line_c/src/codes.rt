@@ -3,7 +3,8 @@
 ghost use Rattle.std.specs.Prelude.{◌≡◌};
 ghost use Rattle.ym_line_c.specs.LineCodes as codes;
 
-use ym_timing::{Echo, Expected, FirstAck, Heed, Kind, Need, Owed, Role, Trust, Vain};
+use ym_heard::{Echo, FirstAck, Kind};
+use ym_timing::{Expected, Heed, Need, Owed, Role, Trust, Vain};
 
 /// Whether this number says yes.
 pub fn flag_of(code: u8) -> bool

@@ -2,12 +2,13 @@
 
 ghost use Rattle.std.specs.Prelude.{◌≡◌};
 ghost use Rattle.ym_line_c.specs.Line.{timing_of, clock_of};
-ghost use Rattle.ym_timing.specs.Times.{new_clock};
+ghost use Rattle.ym_heard.specs.Times.{new_clock};
 ghost use Rattle.ym_timing.specs.Timing.{new_timing};
 
 use crate::codes::{code_of_flag, code_of_role, flag_of, role_of};
 use crate::parts::{YmEar, YmHeard, YmHold, YmOut, YmPace, YmSent};
-use ym_timing::{Clock, Prefix, Role, Timing};
+use ym_heard::Clock;
+use ym_timing::{Prefix, Role, Timing};
 
 /// What an end and its line have said of late, and when.
 #[repr(C)]

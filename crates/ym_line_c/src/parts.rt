@@ -7,7 +7,8 @@ use crate::codes::{
     code_of_first_ack, code_of_flag, code_of_kind, code_of_owed, code_of_trust, codes_of_echo,
     echo_of, first_ack_of, flag_of, kind_of, owed_of, trust_of,
 };
-use ym_timing::{Arrivals, Ear, Hold, Out, Pace, Sent};
+use ym_heard::{Ear, Hold, Sent};
+use ym_timing::{Arrivals, Out, Pace};
 
 /// How long answers take.
 #[repr(C)]

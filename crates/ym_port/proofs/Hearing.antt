@@ -7,7 +7,7 @@ use Rattle.ym_port.specs.TimedPort.{hears_byte}
 use Rattle.ym_port.specs.declared.line.Line.{Line}
 use Rattle.ym_timing.specs.ByteRows.{bytes_of, heard_of, after_bytes}
 use Rattle.ym_timing.specs.Timing.{said, after_byte}
-use Rattle.ym_timing.specs.declared.hold.Say.{Say}
+use Rattle.ym_heard.specs.declared.hold.Say.{Say}
 use Rattle.ym_timing.specs.declared.timing.Timing.{Timing}
 
 -- one byte more

@@ -13,15 +13,15 @@ use Rattle.ym_port.specs.declared.line.Line.{Line}
 use Rattle.ym_port.specs.declared.line.TheConstants.{CLEAR_PIECE, MOST_READS, PIECE}
 use Rattle.ym_port.specs.declared.written.TheConstants.{LONGEST_FRAME}
 use Rattle.ym_timing.specs.ByteRows.{heard_of, after_bytes}
-use Rattle.ym_timing.specs.Cancel.{cancels}
+use Rattle.ym_heard.specs.Cancel.{cancels}
 use Rattle.ym_timing.specs.Clears as clears
 use Rattle.ym_timing.specs.Pace as pace
-use Rattle.ym_timing.specs.Times.{new_clock, told, waited, later}
+use Rattle.ym_heard.specs.Times.{new_clock, told, waited, later}
 use Rattle.ym_timing.specs.Timing.{new_timing, is_acked, until, vain_of, after_byte, after_vain}
 use Rattle.ym_timing.specs.Writing.{wrote}
 use Rattle.ym_timing.specs.declared.purge.Purge.{Purge}
-use Rattle.ym_timing.specs.declared.ear.Echo.{Echo}
-use Rattle.ym_timing.specs.declared.ear.Echo.TheVariants.{Goes}
+use Rattle.ym_heard.specs.declared.ear.Echo.{Echo}
+use Rattle.ym_heard.specs.declared.ear.Echo.TheVariants.{Goes}
 use Rattle.ym_timing.specs.declared.pace.Pace.{Pace}
 use Rattle.ym_timing.specs.declared.pace.Trust.{Trust}
 use Rattle.ym_timing.specs.declared.pace.Trust.TheVariants.{Unknown, Doubtful, Sure}

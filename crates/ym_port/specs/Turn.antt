@@ -13,8 +13,8 @@ use Rattle.ym_frame.specs.declared.frame.Broken.{Broken}
 use Rattle.ym_frame.specs.declared.frame.Item.{Item}
 use Rattle.ym_frame.specs.declared.frame.Item.TheVariants as item
 use Rattle.ym_link.specs.declared.port.TheConstants.{DELIVERY_LIMIT}
-use Rattle.ym_timing.specs.Cancel.{opening_of, is_same}
-use Rattle.ym_timing.specs.declared.cancel.Opening.{Opening}
+use Rattle.ym_heard.specs.Cancel.{opening_of, is_same}
+use Rattle.ym_heard.specs.declared.cancel.Opening.{Opening}
 use Rattle.ym_port.specs.declared.turn.Next.{Next}
 use Rattle.ym_port.specs.declared.turn.Next.TheVariants.{Any, Repeat, Data}
 use Rattle.ym_port.specs.declared.turn.Turn.{Turn}

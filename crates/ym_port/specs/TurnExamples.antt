@@ -1,7 +1,7 @@
 -- A session in which a file is lost, and both ends finish: two files, of which the first has no
 -- bytes, on a line that hands everything on 1.5 seconds later.
 use Rattle.std.specs.Prelude.{◌≡◌, ℕ, List, [], ◌∷◌, true, false, Some, refl}
-use Rattle.ym_timing.specs.declared.cancel.Opening.{Opening}
+use Rattle.ym_heard.specs.declared.cancel.Opening.{Opening}
 use Rattle.ym_port.specs.Turn.{new_turn, replied, is_other, out_of_turn}
 use Rattle.ym_port.specs.declared.turn.Next.TheVariants.{Any, Repeat, Data}
 use Rattle.ym_port.specs.declared.turn.Turn.{Turn}

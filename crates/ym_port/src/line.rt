@@ -10,7 +10,8 @@ ghost use Rattle.ym_port.specs.TimedPort.{cancel};
 ghost use Rattle.ym_port.specs.declared.line.TheConstants.{PIECE};
 
 use crate::written::Written;
-use ym_timing::{Clock, Echo, Expected, Kind, Purge, Role, Say, Timing, Vain, cancels};
+use ym_heard::{Clock, Echo, Kind, Say, cancels};
+use ym_timing::{Expected, Purge, Role, Timing, Vain};
 
 /// The byte ACK.
 pub const ACK: u8 = 0x06;

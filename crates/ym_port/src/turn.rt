@@ -4,8 +4,8 @@ ghost use Rattle.std.specs.Prelude.{◌≡◌, ◌≤◌, IfSome, length};
 ghost use Rattle.ym_port.specs.Turn as table;
 
 use ym_frame::{Whole, has_frame, whole_at};
+use ym_heard::Opening;
 use ym_link::DELIVERY_LIMIT;
-use ym_timing::Opening;
 
 /// The byte ACK.
 const ACK: u8 = 0x06;

@@ -5,8 +5,8 @@ use Rattle.std.proofs.Math.Seq.{drop-cons}
 use Rattle.ym_timing.specs.ByteRows.{bytes_of, heard_of, after_bytes}
 use Rattle.ym_timing.specs.Arrivals.{take_byte, take_bytes}
 use Rattle.ym_timing.specs.Timing.{is_echo, after_echo, after_byte, said}
-use Rattle.ym_timing.specs.declared.hold.Say.{Say}
-use Rattle.ym_timing.specs.declared.hold.Say.TheVariants as say
+use Rattle.ym_heard.specs.declared.hold.Say.{Say}
+use Rattle.ym_heard.specs.declared.hold.Say.TheVariants as say
 use Rattle.ym_timing.specs.declared.arrivals.Arrivals.{Arrivals}
 use Rattle.ym_timing.specs.declared.role.Role.TheVariants.{Receiver}
 use Rattle.ym_timing.specs.declared.timing.Timing.{Timing}

@@ -2,7 +2,7 @@
 use Rattle.std.specs.Prelude.{ℕ, ◌+◌, nat_eq, nat_lt, nat_le, ◌&&◌, ◌||◌, not, Bool, true}
 use Rattle.std.specs.Prelude.{false, List, [], ◌∷◌, if◌then◌else◌}
 use Rattle.ym_timing.specs.declared.arrivals.Arrivals.{Arrivals}
-use Rattle.ym_timing.specs.declared.limits.TheConstants.{FULL}
+use Rattle.ym_heard.specs.declared.limits.TheConstants.{FULL}
 
 abbrev pub new_arrivals : Arrivals
 new_arrivals = record {

@@ -1,16 +1,21 @@
 -- A write behind an answer on a clean line: nothing has to clear before it (this profile).
-use Rattle.std.specs.Prelude.{◌≡◌, ℕ, ◌-◌, Bool, true, false, nat_lt}
+use Rattle.std.specs.Prelude.{◌≡◌, ℕ, ◌-◌, ◌&&◌, ◌||◌, not, Bool, true, false, nat_lt, List}
 use Rattle.ym_timing.specs.Arrivals.{new_arrivals, is_noise}
 use Rattle.ym_timing.specs.Clears.{is_new_frame, is_unsure}
-use Rattle.ym_timing.specs.Ear as ear
-use Rattle.ym_timing.specs.Hold as hold
+use Rattle.ym_heard.specs.Ear as ear
+use Rattle.ym_heard.specs.Hold as hold
 use Rattle.ym_timing.specs.Out.{one}
 use Rattle.ym_timing.specs.Pace.{sure}
-use Rattle.ym_timing.specs.Sent.{is_same}
+use Rattle.ym_heard.specs.Sent.{is_same, next}
+use Rattle.ym_heard.specs.Times.{later}
+use Rattle.ym_heard.specs.declared.limits.TheConstants.{FULL, HELD_UP}
+use Rattle.ym_timing.specs.declared.out.Owed.{Owed}
 use Rattle.ym_timing.specs.declared.out.Owed.TheVariants as owed
+use Rattle.ym_timing.specs.declared.role.Role.{Role}
 use Rattle.ym_timing.specs.declared.role.Role.TheVariants.{Sender, Receiver}
-use Rattle.ym_timing.specs.declared.sent.Kind.TheVariants as kind
-use Rattle.ym_timing.specs.declared.sent.Sent.{Sent}
+use Rattle.ym_heard.specs.declared.sent.Kind.{Kind}
+use Rattle.ym_heard.specs.declared.sent.Kind.TheVariants as kind
+use Rattle.ym_heard.specs.declared.sent.Sent.{Sent}
 use Rattle.ym_timing.specs.declared.timing.Timing.{Timing}
 
 -- one answer was awaited, and came: nothing is on the line, as far as this end knows
@@ -53,10 +58,32 @@ led is_repeat n now t = record t {
   echoed = 0;
 }
 
-abbrev pub followed : Sent → ℕ → Timing → Timing
-followed n now t = led false n now t
+-- ---- Which writes these are
 
-abbrev pub repeated : Sent → ℕ → Timing → Timing
-repeated n now t = record (led true n now t) {
-  prefix = record { is_there = true; first = t.heard.first; second = t.heard.second };
-}
+abbrev pub is_one : Owed → Bool
+is_one owed.One = true
+is_one _ = false
+
+abbrev pub is_answered : ℕ → Timing → Bool
+is_answered now t =
+    is_one t.out.owed && (nat_lt 0 t.heard.count && nat_lt t.heard.count FULL)
+    && nat_lt now (later t.heard.last HELD_UP) && not t.is_shaken
+
+abbrev pub follows : Sent → ℕ → Timing → Bool
+follows n now t = by t.role t.sent.kind n.kind
+  where
+    by : Role → Kind → Kind → Bool
+    by Sender kind.Data kind.Data =
+        is_answered now t && not (is_same t.sent n) && not t.heard.is_late
+    by _ _ _ = false
+
+abbrev pub repeats : Sent → ℕ → Timing → Bool
+repeats n now t = by t.role t.sent.kind n.kind
+  where
+    by : Role → Kind → Kind → Bool
+    by Receiver kind.Eot kind.Eot =
+        is_answered now t && not t.heard.is_quiet && (is_same t.sent n && is_new_frame t)
+    by _ _ _ = false
+
+abbrev pub goes_at_once : List ℕ → ℕ → Timing → Bool
+goes_at_once bytes now t = follows (next t.sent bytes) now t || repeats (next t.sent bytes) now t

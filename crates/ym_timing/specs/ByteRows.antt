@@ -3,8 +3,8 @@ use Rattle.std.specs.Prelude.{ℕ, List, [], ◌∷◌, ◌++◌}
 use Rattle.ym_timing.specs.Clears.{purge}
 use Rattle.ym_timing.specs.Timing.{said, after_byte}
 use Rattle.ym_timing.specs.Writing.{wrote}
-use Rattle.ym_timing.specs.declared.hold.Say.{Say}
-use Rattle.ym_timing.specs.declared.hold.Say.TheVariants as say
+use Rattle.ym_heard.specs.declared.hold.Say.{Say}
+use Rattle.ym_heard.specs.declared.hold.Say.TheVariants as say
 use Rattle.ym_timing.specs.declared.timing.Timing.{Timing}
 
 -- the bytes that are heard of one

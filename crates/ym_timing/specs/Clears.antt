@@ -5,27 +5,27 @@
 -- goes on. While a peer waits in vain it asks; such asks are no answers, and lengthen nothing.
 use Rattle.std.specs.Prelude.{ℕ, ◌+◌, ◌-◌, ◌*◌, ◌/◌, nat_eq, nat_lt, nat_le, ◌&&◌, ◌||◌, not, Bool}
 use Rattle.std.specs.Prelude.{true, false, List, max, min, if◌then◌else◌}
-use Rattle.ym_timing.specs.Ear.{listen}
+use Rattle.ym_heard.specs.Ear.{listen}
 use Rattle.ym_timing.specs.Arrivals.{is_noise}
 use Rattle.ym_timing.specs.Pace.{bound}
-use Rattle.ym_timing.specs.Sent.{next, is_same}
-use Rattle.ym_timing.specs.Times.{later}
+use Rattle.ym_heard.specs.Sent.{next, is_same}
+use Rattle.ym_heard.specs.Times.{later}
 use Rattle.ym_timing.specs.declared.purge.Purge.{Purge}
 use Rattle.ym_timing.specs.declared.purge.Heed.{Heed}
 use Rattle.ym_timing.specs.declared.purge.Heed.TheVariants as heed
 use Rattle.ym_timing.specs.declared.purge.Need.{Need}
 use Rattle.ym_timing.specs.declared.purge.Need.TheVariants as need
-use Rattle.ym_timing.specs.declared.limits.TheConstants.{APART, FAR, HALVINGS, HELD_UP, LONGEST}
-use Rattle.ym_timing.specs.declared.limits.TheConstants.{MOMENT, RECEIVER_QUIET, SENDER_QUIET}
+use Rattle.ym_heard.specs.declared.limits.TheConstants.{APART, FAR, HALVINGS, HELD_UP, LONGEST}
+use Rattle.ym_heard.specs.declared.limits.TheConstants.{MOMENT, RECEIVER_QUIET, SENDER_QUIET}
 use Rattle.ym_timing.specs.declared.out.Owed.{Owed}
 use Rattle.ym_timing.specs.declared.out.Owed.TheVariants as owed
 use Rattle.ym_timing.specs.declared.pace.Trust.{Trust}
 use Rattle.ym_timing.specs.declared.pace.Trust.TheVariants as trust
 use Rattle.ym_timing.specs.declared.role.Role.{Role}
 use Rattle.ym_timing.specs.declared.role.Role.TheVariants.{Sender, Receiver}
-use Rattle.ym_timing.specs.declared.sent.Kind.{Kind}
-use Rattle.ym_timing.specs.declared.sent.Kind.TheVariants as kind
-use Rattle.ym_timing.specs.declared.sent.Sent.{Sent}
+use Rattle.ym_heard.specs.declared.sent.Kind.{Kind}
+use Rattle.ym_heard.specs.declared.sent.Kind.TheVariants as kind
+use Rattle.ym_heard.specs.declared.sent.Sent.{Sent}
 use Rattle.ym_timing.specs.declared.timing.Timing.{Timing}
 
 -- ---- Whether it has to

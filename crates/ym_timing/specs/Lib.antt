@@ -1,15 +1,9 @@
 pub mod ByteRows
-pub mod Cancel
 pub mod Clears
-pub mod Ear
-pub mod Echoes
 pub mod Arrivals
 pub mod AtOnce
-pub mod Hold
 pub mod Out
 pub mod Pace
-pub mod Sent
-pub mod Times
 pub mod Timing
 pub mod TimingExamples
 pub mod Writing

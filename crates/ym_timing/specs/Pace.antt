@@ -4,9 +4,9 @@
 -- is a doubtful one, and counts from the oldest. A repeat may be the other end's own timeout, and
 -- is none.
 use Rattle.std.specs.Prelude.{ℕ, ◌-◌, ◌/◌, nat_lt, nat_le, max, min, if◌then◌else◌}
-use Rattle.ym_timing.specs.Times.{later}
-use Rattle.ym_timing.specs.declared.limits.TheConstants.{MARGIN, FIRST_REPLY, FIRST_FRAME, LONGEST}
-use Rattle.ym_timing.specs.declared.limits.TheConstants.{WITHIN}
+use Rattle.ym_heard.specs.Times.{later}
+use Rattle.ym_heard.specs.declared.limits.TheConstants.{MARGIN, FIRST_REPLY, FIRST_FRAME, LONGEST}
+use Rattle.ym_heard.specs.declared.limits.TheConstants.{WITHIN}
 use Rattle.ym_timing.specs.declared.pace.Pace.{Pace}
 use Rattle.ym_timing.specs.declared.pace.Trust.{Trust}
 use Rattle.ym_timing.specs.declared.pace.Trust.TheVariants.{Unknown, Doubtful, Sure}

@@ -1,22 +1,22 @@
 -- The machine: until when an end waits, and what it hears (this profile).
 use Rattle.std.specs.Prelude.{ℕ, ◌+◌, nat_eq, nat_lt, ◌&&◌, not, Bool, true, false, List, length}
 use Rattle.std.specs.Prelude.{slice_index, max, if◌then◌else◌}
-use Rattle.ym_timing.specs.Ear.{new_ear, listen}
+use Rattle.ym_heard.specs.Ear.{new_ear, listen}
 use Rattle.ym_timing.specs.Arrivals.{new_arrivals, take_byte, take_reply, waited}
-use Rattle.ym_timing.specs.Hold.{new_hold, control, moment, released}
+use Rattle.ym_heard.specs.Hold.{new_hold, control, moment, released}
 use Rattle.ym_timing.specs.Out.{new_out}
 use Rattle.ym_timing.specs.Pace as pace
-use Rattle.ym_timing.specs.Sent as sent
-use Rattle.ym_timing.specs.Times.{later}
-use Rattle.ym_timing.specs.declared.ear.Listened.{Listened}
-use Rattle.ym_timing.specs.declared.hold.Said.{Said}
-use Rattle.ym_timing.specs.declared.hold.Say.{Say}
-use Rattle.ym_timing.specs.declared.hold.Say.TheVariants as say
-use Rattle.ym_timing.specs.declared.limits.TheConstants.{PATIENCE, WITHIN}
+use Rattle.ym_heard.specs.Sent as sent
+use Rattle.ym_heard.specs.Times.{later}
+use Rattle.ym_heard.specs.declared.ear.Listened.{Listened}
+use Rattle.ym_heard.specs.declared.hold.Said.{Said}
+use Rattle.ym_heard.specs.declared.hold.Say.{Say}
+use Rattle.ym_heard.specs.declared.hold.Say.TheVariants as say
+use Rattle.ym_heard.specs.declared.limits.TheConstants.{PATIENCE, WITHIN}
 use Rattle.ym_timing.specs.declared.role.Role.{Role}
 use Rattle.ym_timing.specs.declared.role.Role.TheVariants.{Sender, Receiver}
-use Rattle.ym_timing.specs.declared.sent.Kind.{Kind}
-use Rattle.ym_timing.specs.declared.sent.Kind.TheVariants as kind
+use Rattle.ym_heard.specs.declared.sent.Kind.{Kind}
+use Rattle.ym_heard.specs.declared.sent.Kind.TheVariants as kind
 use Rattle.ym_timing.specs.declared.timing.Timing.{Timing}
 use Rattle.ym_timing.specs.declared.timing.Vain.{Vain}
 use Rattle.ym_timing.specs.declared.timing.Vain.TheVariants as vain

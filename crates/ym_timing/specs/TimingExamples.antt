@@ -4,7 +4,7 @@ use Rattle.ym_timing.specs.Clears.{purge, clear_at}
 use Rattle.ym_timing.specs.Out.{again, one, late}
 use Rattle.ym_timing.specs.Pace.{bound}
 use Rattle.ym_timing.specs.ByteRows.{heard_of, after_bytes, writes}
-use Rattle.ym_timing.specs.Times.{new_clock, told, waited}
+use Rattle.ym_heard.specs.Times.{new_clock, told, waited}
 use Rattle.ym_timing.specs.Timing.{new_timing, until}
 use Rattle.ym_timing.specs.declared.pace.Trust.TheVariants.{Doubtful, Sure}
 use Rattle.ym_timing.specs.declared.role.Role.TheVariants.{Sender, Receiver}

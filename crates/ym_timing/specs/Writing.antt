@@ -6,18 +6,18 @@
 use Rattle.std.specs.Prelude.{ℕ, ◌-◌, nat_lt, nat_le, ◌&&◌, ◌||◌, not, Bool, true, false}
 use Rattle.std.specs.Prelude.{List, max, if◌then◌else◌}
 use Rattle.ym_timing.specs.Clears.{is_new_frame, is_taken, vain_after}
-use Rattle.ym_timing.specs.Ear as ear
+use Rattle.ym_heard.specs.Ear as ear
 use Rattle.ym_timing.specs.Arrivals.{new_arrivals}
-use Rattle.ym_timing.specs.Hold as hold
+use Rattle.ym_heard.specs.Hold as hold
 use Rattle.ym_timing.specs.Out.{one, late, again}
 use Rattle.ym_timing.specs.Pace.{bound, doubtful, sure, wait}
-use Rattle.ym_timing.specs.Sent.{next, is_same}
-use Rattle.ym_timing.specs.Times.{later}
+use Rattle.ym_heard.specs.Sent.{next, is_same}
+use Rattle.ym_heard.specs.Times.{later}
 use Rattle.ym_timing.specs.declared.purge.Purge.{Purge}
 use Rattle.ym_timing.specs.declared.purge.Need.{Need}
 use Rattle.ym_timing.specs.declared.purge.Need.TheVariants as need
-use Rattle.ym_timing.specs.declared.limits.TheConstants.{FRAGMENT, LIKELY, PATIENCE}
-use Rattle.ym_timing.specs.declared.limits.TheConstants.{SENDER_QUIET, SOON, UNASKED}
+use Rattle.ym_heard.specs.declared.limits.TheConstants.{FRAGMENT, LIKELY, PATIENCE}
+use Rattle.ym_heard.specs.declared.limits.TheConstants.{SENDER_QUIET, SOON, UNASKED}
 use Rattle.ym_timing.specs.declared.out.Out.{Out}
 use Rattle.ym_timing.specs.declared.out.Owed.{Owed}
 use Rattle.ym_timing.specs.declared.out.Owed.TheVariants as owed
@@ -26,9 +26,9 @@ use Rattle.ym_timing.specs.declared.pace.Trust.{Trust}
 use Rattle.ym_timing.specs.declared.pace.Trust.TheVariants as trust
 use Rattle.ym_timing.specs.declared.role.Role.{Role}
 use Rattle.ym_timing.specs.declared.role.Role.TheVariants.{Sender, Receiver}
-use Rattle.ym_timing.specs.declared.sent.Kind.{Kind}
-use Rattle.ym_timing.specs.declared.sent.Kind.TheVariants as kind
-use Rattle.ym_timing.specs.declared.sent.Sent.{Sent}
+use Rattle.ym_heard.specs.declared.sent.Kind.{Kind}
+use Rattle.ym_heard.specs.declared.sent.Kind.TheVariants as kind
+use Rattle.ym_heard.specs.declared.sent.Sent.{Sent}
 use Rattle.ym_timing.specs.declared.timing.Prefix.{Prefix}
 use Rattle.ym_timing.specs.declared.timing.Timing.{Timing}
 

@@ -3,15 +3,14 @@
 ghost use Rattle.std.specs.Prelude.{◌≡◌, ◌≤◌};
 ghost use Rattle.ym_timing.specs.Arrivals as table;
 
-use crate::ear::ACK;
-use crate::limits::FULL;
+use ym_heard::{ACK, FULL};
 
 /// What was heard since the last write.
 #[derive(Clone, Copy)]
 pub struct Arrivals {
     /// How many bytes; [`FULL`] stands for more.
     ///
-    /// [`FULL`]: crate::FULL
+    /// [`FULL`]: ym_heard::FULL
     pub count: u64,
     /// When the first came.
     pub since: u64,

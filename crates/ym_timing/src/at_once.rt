@@ -7,17 +7,17 @@ ghost use Rattle.ym_timing.specs.Writing.{wrote};
 ghost use Rattle.ym_timing.specs.declared.purge.Need.{Need};
 
 use crate::arrivals::Arrivals;
-use crate::limits::{FULL, HELD_UP};
 use crate::out::Owed;
 use crate::role::Role;
-use crate::sent::{Kind, Sent};
 use crate::timing::Timing;
+use ym_heard::{FULL, HELD_UP, Kind, Sent};
 
 impl Timing {
     /// Whether one answer was awaited and came, and nothing else is on the line.
     #[inline(always)]
     fn is_answered_alone(&self, now: u64) -> bool
-        ensures { IsTrue result → table.IsAnswered now self.now }
+        ensures result { result ≡ table.is_answered now self.now }
+        ensures answered { IsTrue result → table.IsAnswered now self.now }
     {
         let is_one = match self.out.owed {
             Owed::One => true,
@@ -31,7 +31,8 @@ impl Timing {
     /// Whether a sender goes on to another block.
     #[inline(always)]
     fn follows(&self, next: Sent, now: u64) -> bool
-        ensures { IsTrue result → table.Follows next now self.now }
+        ensures result { result ≡ table.follows next now self.now }
+        ensures follows { IsTrue result → table.Follows next now self.now }
     {
         match (self.role, self.sent.kind, next.kind) {
             (Role::Sender, Kind::Data, Kind::Data) => {
@@ -44,13 +45,13 @@ impl Timing {
     /// Whether a receiver writes the same reply to another frame.
     #[inline(always)]
     fn repeats(&self, next: Sent, now: u64) -> bool
-        ensures { IsTrue result → table.Repeats next now self.now }
+        ensures result { result ≡ table.repeats next now self.now }
+        ensures repeats { IsTrue result → table.Repeats next now self.now }
     {
         match (self.role, self.sent.kind, next.kind) {
             (Role::Receiver, Kind::Eot, Kind::Eot) => {
-                let is_heard = self.heard.count < FULL && !self.heard.is_quiet;
                 let is_other = self.sent.is(next) && self.is_new_frame();
-                self.is_answered_alone(now) && is_heard && is_other
+                self.is_answered_alone(now) && !self.heard.is_quiet && is_other
             }
             _ => false,
         }
@@ -79,6 +80,7 @@ impl Timing {
     /// takes that it was made. Where it says no, all is as it was, and the write goes the long way.
     #[inline(always)]
     pub fn wrote_at_once(&mut self, bytes: &[u8], now: u64) -> bool
+        ensures result { result ≡ table.goes_at_once bytes.now now self.old }
         ensures clear { IsTrue result
             → (clears.purge bytes.now now self.old).need ≡ Need.Nothing }
         ensures new { self.new ≡ (if result

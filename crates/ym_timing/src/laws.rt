@@ -1,24 +1,16 @@
 //! Laws of the rule: what it promises beside each single step.
 
-ghost use Rattle.std.specs.Prelude.{◌≡◌, ◌≤◌, ◌<◌, ◌-◌, ◌+◌, ◌^◌, ℕ, Bool, List, length, true};
+ghost use Rattle.std.specs.Prelude.{◌≡◌, ◌≤◌, ◌<◌, ◌-◌, ◌+◌, ◌^◌, ℕ, List, true};
 ghost use Rattle.std.specs.Prelude.{false};
 ghost use Rattle.ym_timing.specs.Clears.{purge, clear_at, is_unsure, apart_until, late_until};
 ghost use Rattle.ym_timing.specs.Clears.{several_until};
-ghost use Rattle.ym_timing.specs.Ear.{is_first, rested};
-ghost use Rattle.ym_timing.specs.Echoes.{block_of, IsDropped};
-ghost use Rattle.ym_timing.specs.Hold.{control};
 ghost use Rattle.ym_timing.specs.Pace.{bound, doubtful, sure};
-ghost use Rattle.ym_timing.specs.Times.{later};
+ghost use Rattle.ym_heard.specs.Times.{later};
 ghost use Rattle.ym_timing.specs.Writing.{is_prompted};
-ghost use Rattle.ym_timing.specs.declared.ear.Ear.{Ear};
-ghost use Rattle.ym_timing.specs.declared.ear.Echo.{Echo};
-ghost use Rattle.ym_timing.specs.declared.hold.Hold.{Hold};
-ghost use Rattle.ym_timing.specs.declared.hold.Say.TheVariants as say;
-ghost use Rattle.ym_timing.specs.declared.limits.TheConstants.{SENDER_QUIET, UNASKED, WITHIN};
+ghost use Rattle.ym_heard.specs.declared.limits.TheConstants.{SENDER_QUIET, UNASKED};
 ghost use Rattle.ym_timing.specs.declared.out.Owed.{Owed};
 ghost use Rattle.ym_timing.specs.declared.pace.Pace.{Pace};
 ghost use Rattle.ym_timing.specs.declared.role.Role.{Role};
-ghost use Rattle.ym_timing.specs.declared.sent.Kind.{Kind};
 ghost use Rattle.ym_timing.specs.declared.timing.Timing.{Timing};
 
 /// Where one answer is awaited, and neither noise came nor an end was held up, nothing is dropped
@@ -54,21 +46,4 @@ pub fn late_quiet_meets_no_peers_wait()
 pub fn prompt_asks_are_asked_for()
     ensures { (t : Timing) → t.role ≡ Role.Sender → is_prompted t ≡ true
         → t.heard.since - t.led_at ≤ UNASKED }
-{}
-
-/// The ACK of an EOT, and that of the end block, is not heard when it comes.
-pub fn last_acks_are_held()
-    ensures eot { (is_first : Bool) (now : ℕ) (h : Hold)
-        → (control Kind.Eot 0x06 is_first now h).say ≡ say.Nothing }
-    ensures end { (is_first : Bool) (now : ℕ) (h : Hold)
-        → (control Kind.End 0x06 is_first now h).say ≡ say.Nothing }
-{}
-
-/// The echo of a block is dropped whole, whatever bytes its data has, and what stands behind it is
-/// listened to as if it had not come.
-pub fn an_echo_is_dropped_whole()
-    ensures { (first number : ℕ) (body : List ℕ) (now : ℕ) (e : Ear) → is_first first ≡ true
-        → 0 < length body
-        → now + WITHIN < 2 ^ 64 → (rested now e).echo ≡ Echo.Open
-        → IsDropped (block_of first number body) now e }
 {}

@@ -3,8 +3,8 @@
 ghost use Rattle.std.specs.Prelude.{◌≡◌};
 ghost use Rattle.ym_timing.specs.Pace as table;
 
-use crate::limits::{FIRST_FRAME, FIRST_REPLY, LONGEST, MARGIN, WITHIN};
 use crate::role::Role;
+use ym_heard::{FIRST_FRAME, FIRST_REPLY, LONGEST, MARGIN, WITHIN};
 
 /// How much is known of it.
 #[derive(Clone, Copy)]

@@ -3,13 +3,14 @@
 ghost use Rattle.std.specs.Prelude.{◌≡◌, false};
 ghost use Rattle.ym_timing.specs.Clears as table;
 
-use crate::ear::{ACK, CAN};
-use crate::limits::{APART, FAR, HALVINGS, HELD_UP, LONGEST, MOMENT, RECEIVER_QUIET, SENDER_QUIET};
 use crate::out::Owed;
 use crate::pace::Trust;
 use crate::role::Role;
-use crate::sent::{Kind, Sent};
 use crate::timing::Timing;
+use ym_heard::{
+    ACK, APART, CAN, FAR, HALVINGS, HELD_UP, Kind, LONGEST, MOMENT, RECEIVER_QUIET, SENDER_QUIET,
+    Sent,
+};
 
 /// Why a line has to clear.
 #[derive(Clone, Copy)]

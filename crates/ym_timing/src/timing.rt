@@ -7,13 +7,10 @@ ghost use Rattle.ym_timing.specs.Timing as table;
 ghost use Rattle.ym_timing.specs.declared.role.Role.{Role};
 
 use crate::arrivals::Arrivals;
-use crate::ear::{ACK, Ear};
-use crate::hold::{Hold, Say};
-use crate::limits::{PATIENCE, WITHIN};
 use crate::out::Out;
 use crate::pace::Pace;
 use crate::role::Role;
-use crate::sent::{Kind, Sent};
+use ym_heard::{ACK, Ear, Hold, Kind, PATIENCE, Say, Sent, WITHIN};
 
 /// The frame that a receiver heard last.
 #[derive(Clone, Copy)]

@@ -5,13 +5,12 @@ ghost use Rattle.std.specs.Prelude.{◌≡◌};
 ghost use Rattle.ym_timing.specs.Writing as table;
 
 use crate::arrivals::Arrivals;
-use crate::limits::{FRAGMENT, LIKELY, PATIENCE, SENDER_QUIET, SOON, UNASKED};
 use crate::out::{Out, Owed};
 use crate::pace::{Pace, Trust};
 use crate::purge::{Need, Purge, vain_after};
 use crate::role::Role;
-use crate::sent::{Kind, Sent};
 use crate::timing::{Prefix, Timing};
+use ym_heard::{FRAGMENT, Kind, LIKELY, PATIENCE, SENDER_QUIET, SOON, Sent, UNASKED};
 
 /// Whether it was let clear because answers were awaited, and nothing came.
 fn was_vain(purge: Purge) -> bool

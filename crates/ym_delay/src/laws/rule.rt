@@ -5,8 +5,8 @@ ghost use Rattle.ym_core.specs.declared.state.RecvState.TheVariants as receiver_
 ghost use Rattle.ym_link.specs.ReceiverInto.{ReceiverParts};
 ghost use Rattle.ym_link.specs.Sender.{IsSender, SenderParts};
 ghost use Rattle.ym_timing.specs.Writing.{soon};
-ghost use Rattle.ym_timing.specs.declared.limits.TheConstants.{APART, FIRST_FRAME, LONGEST};
-ghost use Rattle.ym_timing.specs.declared.limits.TheConstants.{SENDER_QUIET, SOON};
+ghost use Rattle.ym_heard.specs.declared.limits.TheConstants.{APART, FIRST_FRAME, LONGEST};
+ghost use Rattle.ym_heard.specs.declared.limits.TheConstants.{SENDER_QUIET, SOON};
 ghost use Rattle.ym_timing.specs.declared.timing.Timing.{Timing};
 ghost use Rattle.ym_line.specs.Promise.{AreNew, CommitsAPrefix};
 ghost use Rattle.ym_pair.specs.Pairing.{ends};

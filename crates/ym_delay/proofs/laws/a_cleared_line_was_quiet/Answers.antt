@@ -5,7 +5,7 @@ use Rattle.ym_port.specs.Wire.{Tape, after_moment, moment_of}
 use Rattle.ym_port.specs.declared.deed.Deed.TheVariants.{Looked}
 use Rattle.ym_port.specs.declared.line.Line.{Line}
 use Rattle.ym_timing.specs.Clears as clears
-use Rattle.ym_timing.specs.Times.{later}
+use Rattle.ym_heard.specs.Times.{later}
 use Rattle.ym_timing.specs.declared.purge.Purge.{Purge}
 use Rattle.ym_timing.specs.declared.role.Role.TheVariants.{Sender}
 use Rattle.ym_delay.specs.QuietReads.{IsOverAtOnce, IsSeveral, IsSpent, began}

@@ -7,7 +7,7 @@ use Rattle.ym_port.specs.Wire.{Tape, after_moment, moment_of}
 use Rattle.ym_port.specs.declared.deed.Deed.TheVariants.{Looked}
 use Rattle.ym_port.specs.declared.line.Line.{Line}
 use Rattle.ym_timing.specs.Pace.{first_wait, wait}
-use Rattle.ym_timing.specs.Times.{later}
+use Rattle.ym_heard.specs.Times.{later}
 use Rattle.ym_delay.specs.QuietReads.{IsSpent, began}
 use Rattle.ym_delay.proofs.Quiet.{either, first-at-least, longest, no-room, reads-over}
 use Rattle.ym_delay.proofs.laws.a_quiet_read_waited.Goals as goal

@@ -1,7 +1,7 @@
 use Rattle.std.proofs.Common.{◌≡◌, ◌⊎◌, ◌+◌, ◌-◌, ◌^◌, ◌<◌, ◌≤◌, ◌&&◌, inl, inr, ℕ, zero, suc, min, max, nat_eq, nat_lt, nat_le, not, Bool, true, false, List, [], ◌∷◌, refl, sym, subst, arith}
 use Rattle.ym_timing.specs.Clears.{apart_until, counts_answers, overdue_at, quiet_of, several_until}
 use Rattle.ym_timing.specs.Pace.{bound}
-use Rattle.ym_timing.specs.Times.{later}
+use Rattle.ym_heard.specs.Times.{later}
 use Rattle.ym_timing.specs.Writing.{asked_within, is_opening, is_overdue, is_soon, late_by, likely_by, prompted_by, soon, soon_by}
 use Rattle.ym_timing.specs.declared.out.Owed.{Owed}
 use Rattle.ym_timing.specs.declared.out.Owed.TheVariants as owed

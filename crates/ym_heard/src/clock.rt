@@ -1,7 +1,7 @@
 //! A clock that never runs backwards, over one that may, or that stands still.
 
 ghost use Rattle.std.specs.Prelude.{◌≡◌, ◌≤◌};
-ghost use Rattle.ym_timing.specs.Times as table;
+ghost use Rattle.ym_heard.specs.Times as table;
 
 /// What a clock told, and how far it is behind.
 #[derive(Clone, Copy)]

@@ -1,6 +1,6 @@
 -- Times in milliseconds. Those beyond the greatest one are it (this profile).
 use Rattle.std.specs.Prelude.{ℕ, ◌+◌, ◌-◌, ◌^◌, max, min}
-use Rattle.ym_timing.specs.declared.clock.Clock.{Clock}
+use Rattle.ym_heard.specs.declared.clock.Clock.{Clock}
 
 -- so much later
 abbrev pub later : ℕ → ℕ → ℕ

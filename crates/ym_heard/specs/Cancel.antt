@@ -1,9 +1,9 @@
 -- CAN CAN among what came, and block 0 that comes in place of a repeat (this profile).
 use Rattle.std.specs.Prelude.{ℕ, ◌-◌, nat_eq, ◌&&◌, ◌||◌, Bool, true, false, List, [], ◌∷◌, length}
 use Rattle.std.specs.Prelude.{slice_index, if◌then◌else◌}
-use Rattle.ym_timing.specs.declared.cancel.Cans.{Cans}
-use Rattle.ym_timing.specs.declared.cancel.Cans.TheVariants.{Zero, One, Two}
-use Rattle.ym_timing.specs.declared.cancel.Opening.{Opening}
+use Rattle.ym_heard.specs.declared.cancel.Cans.{Cans}
+use Rattle.ym_heard.specs.declared.cancel.Cans.TheVariants.{Zero, One, Two}
+use Rattle.ym_heard.specs.declared.cancel.Opening.{Opening}
 
 -- ACK, NAK and C stand between two CAN; other bytes do not
 abbrev pub parts : ℕ → Bool

@@ -5,12 +5,12 @@
 -- stands behind the whole of it may be a reply; else nothing is heard until the line was quiet.
 use Rattle.std.specs.Prelude.{ℕ, ◌+◌, ◌-◌, nat_eq, nat_lt, nat_le, ◌&&◌, ◌||◌, not, Bool, true}
 use Rattle.std.specs.Prelude.{false, List, length, slice_index, if◌then◌else◌}
-use Rattle.ym_timing.specs.Times.{later}
-use Rattle.ym_timing.specs.declared.ear.Ear.{Ear}
-use Rattle.ym_timing.specs.declared.ear.Echo.{Echo}
-use Rattle.ym_timing.specs.declared.ear.Echo.TheVariants.{Open, Head, Number, Goes, Broken}
-use Rattle.ym_timing.specs.declared.ear.Listened.{Listened}
-use Rattle.ym_timing.specs.declared.limits.TheConstants.{OTHERS, WITHIN}
+use Rattle.ym_heard.specs.Times.{later}
+use Rattle.ym_heard.specs.declared.ear.Ear.{Ear}
+use Rattle.ym_heard.specs.declared.ear.Echo.{Echo}
+use Rattle.ym_heard.specs.declared.ear.Echo.TheVariants.{Open, Head, Number, Goes, Broken}
+use Rattle.ym_heard.specs.declared.ear.Listened.{Listened}
+use Rattle.ym_heard.specs.declared.limits.TheConstants.{OTHERS, WITHIN}
 
 abbrev pub new_ear : Ear
 new_ear = record { echo = Open; others = 0; at = 0 }

@@ -1,8 +1,8 @@
 -- An echo of the whole of a block (this profile).
 use Rattle.std.specs.Prelude.{◌≡◌, ℕ, ◌-◌, ◌&&◌, not, Bool, true, List, [], ◌∷◌}
-use Rattle.ym_timing.specs.Ear.{listen}
-use Rattle.ym_timing.specs.declared.ear.Ear.{Ear}
-use Rattle.ym_timing.specs.declared.ear.Echo.TheVariants.{Open}
+use Rattle.ym_heard.specs.Ear.{listen}
+use Rattle.ym_heard.specs.declared.ear.Ear.{Ear}
+use Rattle.ym_heard.specs.declared.ear.Echo.TheVariants.{Open}
 
 -- its first byte, its number, its complement, and more
 abbrev pub block_of : ℕ → ℕ → List ℕ → List ℕ

@@ -3,7 +3,7 @@
 //! C that ask for what is on its way.
 
 ghost use Rattle.std.specs.Prelude.{◌≡◌, false};
-ghost use Rattle.ym_timing.specs.Hold as table;
+ghost use Rattle.ym_heard.specs.Hold as table;
 
 use crate::ear::{ACK, CAN, NAK, START};
 use crate::limits::{BRIEF, MOMENT, STALE_ASKS, TOGETHER, WITHIN};
@@ -291,7 +291,7 @@ impl Hold {
 
     /// The same as `wrote` in place, behind a write that neither opens a file nor is doubted.
     #[inline(always)]
-    pub(crate) fn led(&mut self, is_repeat: bool, now: u64)
+    pub fn led(&mut self, is_repeat: bool, now: u64)
         ensures { self.new ≡ table.wrote false is_repeat false now self.old }
     {
         self.is_held = false;

@@ -1,7 +1,7 @@
 //! What an end wrote last.
 
 ghost use Rattle.std.specs.Prelude.{◌≡◌};
-ghost use Rattle.ym_timing.specs.Sent as table;
+ghost use Rattle.ym_heard.specs.Sent as table;
 
 /// What it was.
 #[derive(Clone, Copy)]

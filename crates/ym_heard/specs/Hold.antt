@@ -5,17 +5,17 @@
 -- peer cancels is none.
 use Rattle.std.specs.Prelude.{ℕ, ◌-◌, nat_eq, nat_lt, nat_le, ◌&&◌, ◌||◌, not, Bool, true, false}
 use Rattle.std.specs.Prelude.{if◌then◌else◌}
-use Rattle.ym_timing.specs.Times.{later}
-use Rattle.ym_timing.specs.declared.hold.Hold.{Hold}
-use Rattle.ym_timing.specs.declared.hold.Said.{Said}
-use Rattle.ym_timing.specs.declared.hold.Say.{Say}
-use Rattle.ym_timing.specs.declared.hold.Say.TheVariants as say
-use Rattle.ym_timing.specs.declared.hold.FirstAck.{FirstAck}
-use Rattle.ym_timing.specs.declared.hold.FirstAck.TheVariants as first_ack
-use Rattle.ym_timing.specs.declared.limits.TheConstants.{BRIEF, MOMENT, TOGETHER}
-use Rattle.ym_timing.specs.declared.limits.TheConstants.{STALE_ASKS, WITHIN}
-use Rattle.ym_timing.specs.declared.sent.Kind.{Kind}
-use Rattle.ym_timing.specs.declared.sent.Kind.TheVariants as kind
+use Rattle.ym_heard.specs.Times.{later}
+use Rattle.ym_heard.specs.declared.hold.Hold.{Hold}
+use Rattle.ym_heard.specs.declared.hold.Said.{Said}
+use Rattle.ym_heard.specs.declared.hold.Say.{Say}
+use Rattle.ym_heard.specs.declared.hold.Say.TheVariants as say
+use Rattle.ym_heard.specs.declared.hold.FirstAck.{FirstAck}
+use Rattle.ym_heard.specs.declared.hold.FirstAck.TheVariants as first_ack
+use Rattle.ym_heard.specs.declared.limits.TheConstants.{BRIEF, MOMENT, TOGETHER}
+use Rattle.ym_heard.specs.declared.limits.TheConstants.{STALE_ASKS, WITHIN}
+use Rattle.ym_heard.specs.declared.sent.Kind.{Kind}
+use Rattle.ym_heard.specs.declared.sent.Kind.TheVariants as kind
 
 abbrev pub new_hold : Hold
 new_hold = record {

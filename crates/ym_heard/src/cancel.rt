@@ -1,7 +1,7 @@
 //! CAN CAN among what came, and block 0 that comes in place of a repeat.
 
 ghost use Rattle.std.specs.Prelude.{◌≡◌, ◌≤◌, length};
-ghost use Rattle.ym_timing.specs.Cancel as table;
+ghost use Rattle.ym_heard.specs.Cancel as table;
 
 use crate::ear::{ACK, CAN, NAK, START};
 

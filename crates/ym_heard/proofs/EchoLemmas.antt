@@ -3,12 +3,12 @@ use Rattle.std.proofs.Common.{◌≡◌, ℕ, ◌+◌, ◌-◌, ◌<◌, ◌^◌
 use Rattle.std.proofs.Common.{true, false, not, ◌&&◌, ◌∙◌, ap, refl, arith}
 use Rattle.std.proofs.lemmas.Grind.{common_steps}
 use Rattle.std.proofs.Math.Seq.{get_or-append_seam}
-use Rattle.ym_timing.specs.Echoes.{block_of, ear_after, none_heard, IsDropped}
-use Rattle.ym_timing.specs.Ear.{listen, rested, is_first, other}
-use Rattle.ym_timing.specs.declared.ear.Ear.{Ear}
-use Rattle.ym_timing.specs.declared.ear.Echo.{Echo}
-use Rattle.ym_timing.specs.declared.ear.Echo.TheVariants.{Open, Head, Number, Goes}
-use Rattle.ym_timing.specs.declared.ear.Listened.{Listened}
+use Rattle.ym_heard.specs.Echoes.{block_of, ear_after, none_heard, IsDropped}
+use Rattle.ym_heard.specs.Ear.{listen, rested, is_first, other}
+use Rattle.ym_heard.specs.declared.ear.Ear.{Ear}
+use Rattle.ym_heard.specs.declared.ear.Echo.{Echo}
+use Rattle.ym_heard.specs.declared.ear.Echo.TheVariants.{Open, Head, Number, Goes}
+use Rattle.ym_heard.specs.declared.ear.Listened.{Listened}
 
 abbrev pub ear_at : Echo → ℕ → ℕ → Ear
 ear_at echo others now = record { echo = echo; others = others; at = now }

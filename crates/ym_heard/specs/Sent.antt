@@ -2,9 +2,9 @@
 -- from its data block 256 (this profile).
 use Rattle.std.specs.Prelude.{ℕ, nat_eq, nat_le, ◌&&◌, Bool, List, length, slice_index}
 use Rattle.std.specs.Prelude.{if◌then◌else◌}
-use Rattle.ym_timing.specs.declared.sent.Kind.{Kind}
-use Rattle.ym_timing.specs.declared.sent.Kind.TheVariants.{Nothing, Opening, Data, Eot, End, Short}
-use Rattle.ym_timing.specs.declared.sent.Sent.{Sent}
+use Rattle.ym_heard.specs.declared.sent.Kind.{Kind}
+use Rattle.ym_heard.specs.declared.sent.Kind.TheVariants.{Nothing, Opening, Data, Eot, End, Short}
+use Rattle.ym_heard.specs.declared.sent.Sent.{Sent}
 
 abbrev pub nothing : Sent
 nothing = record { length = 0; first = 0; second = 0; kind = Nothing }

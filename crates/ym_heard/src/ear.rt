@@ -1,24 +1,24 @@
 //! What of that which comes to a sender is no reply: the echo of what it wrote, and noise.
 
 ghost use Rattle.std.specs.Prelude.{◌≡◌};
-ghost use Rattle.ym_timing.specs.Ear as table;
+ghost use Rattle.ym_heard.specs.Ear as table;
 
 use crate::limits::{OTHERS, WITHIN};
 
 /// The byte ACK.
-pub(crate) const ACK: u8 = 0x06;
+pub const ACK: u8 = 0x06;
 
 /// The byte NAK.
-pub(crate) const NAK: u8 = 0x15;
+pub const NAK: u8 = 0x15;
 
 /// The byte C.
-pub(crate) const START: u8 = 0x43;
+pub const START: u8 = 0x43;
 
 /// The byte EOT.
 const EOT: u8 = 0x04;
 
 /// The byte CAN.
-pub(crate) const CAN: u8 = 0x18;
+pub const CAN: u8 = 0x18;
 
 /// How far an echo has come.
 #[derive(Clone, Copy)]
@@ -89,7 +89,7 @@ impl Ear {
 
     /// The same in place.
     #[inline(always)]
-    pub(crate) fn led(&mut self)
+    pub fn led(&mut self)
         ensures { self.new ≡ table.wrote self.old }
     {
         self.others = 0;
