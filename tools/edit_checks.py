@@ -8,6 +8,7 @@ import shutil
 import subprocess
 import tempfile
 import threading
+import time
 
 from proved import RT
 
@@ -104,16 +105,31 @@ def copy(folder, to):
 
 # Of several crates that begin at once each takes the libraries below it, most of them the same.
 TAKING = threading.Lock()
+# So many seconds an rt is waited for that is at work in the folder of a crate. What cannot be taken
+# is proved again, with all that stands below.
+PATIENCE, ASKS_EVERY = 300, 1
+
+
+def hold(folder):
+    """Locks an open folder as rt does, once no other one has it, or fails."""
+    until = time.monotonic() + PATIENCE
+    while True:
+        try:
+            return fcntl.flock(folder, fcntl.LOCK_EX | fcntl.LOCK_NB)
+        except BlockingIOError:
+            if time.monotonic() >= until:
+                raise
+            time.sleep(ASKS_EVERY)
 
 
 def take(crate, part, to):
-    """Takes what `rt check` kept in the folder of a crate, unless an rt is at work there. Gives
+    """Takes what `rt check` kept in the folder of a crate, once no rt is at work there. Gives
     whether it could."""
     made = os.path.join(to, "out", part)
     with TAKING:
         held = os.open(crate, os.O_RDONLY)
         try:
-            fcntl.flock(held, fcntl.LOCK_EX | fcntl.LOCK_NB)
+            hold(held)
             copy(os.path.join(crate, "out", part), made)
             return True
         except (OSError, shutil.Error):

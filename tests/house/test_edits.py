@@ -1,5 +1,6 @@
 """What `make edits` tells of the edits of a small crate that is made for them."""
 
+import fcntl
 import os
 import re
 import shutil
@@ -8,7 +9,7 @@ import tempfile
 import threading
 from concurrent.futures import ThreadPoolExecutor
 
-from edit_checks import take
+from edit_checks import TAKING, take
 from support.cases import sentence
 from support.program import ROOT
 from support.skipping import needs
@@ -158,16 +159,38 @@ def test_settled():
     assert (status, lines[0].split()) == (0, ["tools/edits.py", "--anew", "sums"]), "its words"
 
 
+def with_library(top):
+    """A crate that has a library of many files."""
+    crate = os.path.join(top, "low")
+    made = os.path.join(crate, "out", "rlib")
+    os.makedirs(made)
+    for at in range(500):
+        with open(os.path.join(made, "%d.oantt" % at), "w", encoding="utf-8"):
+            pass
+    return crate
+
+
+@sentence("a library is taken behind an rt that is at work there")
+def test_taken_behind_rt():
+    """It is waited for: what is not taken would be proved again."""
+    with tempfile.TemporaryDirectory(prefix="ymodem-") as top:
+        crate = with_library(top)
+        held = os.open(crate, os.O_RDONLY)
+        fcntl.flock(held, fcntl.LOCK_EX)
+        with ThreadPoolExecutor(1) as pool:
+            taken = pool.submit(take, crate, "rlib", os.path.join(top, "above"))
+            while not TAKING.locked():
+                pass
+            os.close(held)
+            assert taken.result(), "whether it could"
+        assert len(os.listdir(os.path.join(top, "above", "out", "rlib"))) == 500, "what it took"
+
+
 @sentence("crates whose edits begin at once take the same library")
 def test_taken_at_once():
     """None of them takes another one for an rt that is at work there."""
     with tempfile.TemporaryDirectory(prefix="ymodem-") as top:
-        crate = os.path.join(top, "low")
-        made = os.path.join(crate, "out", "rlib")
-        os.makedirs(made)
-        for at in range(500):
-            with open(os.path.join(made, "%d.oantt" % at), "w", encoding="utf-8"):
-                pass
+        crate = with_library(top)
         places = [os.path.join(top, "above", str(at)) for at in range(8)]
         with ThreadPoolExecutor(len(places)) as pool:
             taken = list(pool.map(lambda it: take(crate, "rlib", it), places))
