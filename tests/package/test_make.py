@@ -191,15 +191,15 @@ def test_build_interrupted():
     """What was kept of a proof that did not end is there for the next build."""
     with tree() as it:
         it.mark("slow")
-        # three are those that stand on no other crate
-        interrupt_behind(it, b"\r\x1b[Kproved 3 of %d crates" % (crates_of_program() - 1))
+        # four are those that do not stand on `ym_check`, whose proof does not end
+        interrupt_behind(it, b"\r\x1b[Kproved 4 of %d crates" % (crates_of_program() - 1))
         kept = os.path.join(it.top, "crates", "ym_check", "out")
         assert os.listdir(kept) == ["incremental"], "what was kept of it"
         assert not os.path.exists(os.path.join(it.top, "out", "rooms")), "its rooms"
         it.unmark("slow")
         it.called()
         assert it.make("build")[0] == 0, "the next build"
-        wants_libraries(it.called(), crates_of_program() - 1 - 3)
+        wants_libraries(it.called(), crates_of_program() - 1 - 4)
 
 
 @sentence("make check tries what changed")
