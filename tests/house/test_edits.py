@@ -179,7 +179,7 @@ def test_taken_behind_rt():
         fcntl.flock(held, fcntl.LOCK_EX)
         with ThreadPoolExecutor(1) as pool:
             taken = pool.submit(take, crate, "rlib", os.path.join(top, "above"))
-            while not TAKING.locked():
+            while not TAKING.locked() and not taken.done():
                 pass
             os.close(held)
             assert taken.result(), "whether it could"
