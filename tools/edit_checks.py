@@ -61,6 +61,10 @@ class Said:
         return (unread[0] if unread else told[0]).strip()[:200]
 
 
+def counted(edits):
+    return "1 edit" if len(edits) == 1 else "%d edits" % len(edits)
+
+
 class Checked:
     """A check of the crate in this folder, by one job: its status, what it said, and the processor
     seconds that it took."""

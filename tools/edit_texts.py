@@ -33,6 +33,14 @@ class Unfit(Exception):
     """An edit that cannot be applied, and why."""
 
 
+class Changes:
+    """What an edit makes of a function: the file that it stands in, the text of that ahead of it,
+    and the function with it."""
+
+    def __init__(self, path, was, function, text):
+        self.path, self.was, self.function, self.text = path, was, function, text
+
+
 class Edit:
     """An edit, as its file says it."""
 
@@ -43,8 +51,9 @@ class Edit:
         self.file, self.name = file, os.path.basename(file)
         with open(file, encoding="utf-8", errors="replace") as it:
             self.text = it.read()
-        # What look() finds: the functions, and whether others may be judged otherwise for it.
-        self.functions, self.is_alone, self.names = [], False, set()
+        # What look() finds: the functions, whether others may be judged otherwise for it, and what
+        # it makes of the one function whose copy can have it too.
+        self.functions, self.is_alone, self.changes, self.names = [], False, None, set()
 
     def pairs(self):
         path, old = "", None
@@ -87,15 +96,38 @@ class Edit:
     def look(self, folder):
         """Finds the functions that it changes. An edit of anything but a function's body is to be
         tried alone: of a constant, a definition, a contract, or a function that constants call."""
-        steps = list(self.steps({}, folder))
+        texts = {}
+        steps = list(self.steps(texts, folder))
         if not steps:
             raise Unfit("it has no 'old:' and 'new:' pair")
+        self.functions = []
         for path, was, old, new in steps:
             first, last = changed(was.index(old), old, new)
             inside = [it for it in functions_of(path, was) if it.start <= first and last <= it.end]
             self.functions += inside
             self.is_alone |= not all(it.body < first and not it.is_const for it in inside)
             self.is_alone |= not inside
+        self.changes = None if self.is_alone else self.changes_of_one(steps, texts)
+
+    def changes_of_one(self, steps, texts):
+        """What it makes of the one function that it changes, if a copy can stand for that."""
+        (path, was, *_), first = steps[0], self.functions[0]
+        places = [(step[0], it.start) for step, it in zip(steps, self.functions)]
+        is_one = len(self.functions) == len(steps) and len(set(places)) == 1
+        if not is_one or first.is_of_trait or first.cycle:
+            return None
+        end = first.end + len(texts[path]) - len(was)
+        return Changes(path, was, first, texts[path][first.start : end])
+
+
+def read(path):
+    with open(path, encoding="utf-8") as it:
+        return it.read()
+
+
+def write(path, text):
+    with open(path, "w", encoding="utf-8") as it:
+        it.write(text)
 
 
 def changed(at, old, new):
@@ -109,8 +141,10 @@ class Function:
     """A function of a text: the parts of its path, where it begins with its attributes, where its
     body opens, and where it ends."""
 
-    def __init__(self, path, start, body, end, head):
+    def __init__(self, path, start, body, end, head, is_of_trait=False):
         self.path, self.start, self.body, self.end = path, start, body, end
+        # Where its name ends. A function of a trait, or of an impl of one, stands for no other one.
+        self.named, self.is_of_trait = start + len(head), is_of_trait
         modules = [it for it in path[:-1] if isinstance(it, str)]
         cycle = CYCLE.search(head)
         # Functions that call one another have one proof.
@@ -148,7 +182,7 @@ class Impl:
         head = re.sub(r"'\w+", "", re.split(r"\bwhere\b", head)[0]).strip()
         of_all = head[: angle_end(head)] if head.startswith("<") else ""
         whole, _, of = head[len(of_all) :].rpartition(" for ")
-        named = last_word(of)
+        named, self.is_of_trait = last_word(of), bool(whole)
         is_any = named in re.findall(r"[<,]\s*(\w+)", of_all)
         self.name = (("any" if is_any else named) + last_word(whole)).lower()
         self.given = "".join(re.findall(r"\w+", whole.partition("<")[2])).lower()
@@ -211,14 +245,16 @@ def block_of(text, at, end):
     return None, end
 
 
-def functions_in(text, at, end, path):
-    """The functions of the items between two places of a text without comments and strings."""
+def functions_in(text, at, end, path, is_of_trait=False):
+    """The functions of the items between two places of a text without comments and strings, which
+    are those of a trait, or are not."""
     start = at
     while token := TOKEN.search(text, at, end):
         if token[1]:
             body = body_of(text, token.end(), end)
             at = closing(text, body) if text[body : body + 1] == "{" else body + 1
-            yield Function((*path, token[1]), start, body, at, text[start : token.end()])
+            head = text[start : token.end()]
+            yield Function((*path, token[1]), start, body, at, head, is_of_trait)
         elif token[0] == ";":
             at = token.end()
         elif token[0] in OPENS:
@@ -227,7 +263,8 @@ def functions_in(text, at, end, path):
             opens, at = block_of(text, token.end(), end)
             if opens and token[0] != "macro_rules":
                 part = token[2] or token[3] or Impl(text[token.end() : opens])
-                yield from functions_in(text, opens + 1, at - 1, (*path, part))
+                of_trait = bool(token[3] or isinstance(part, Impl) and part.is_of_trait)
+                yield from functions_in(text, opens + 1, at - 1, (*path, part), of_trait)
         # A bracket or a parenthesis ends no item: an attribute, or a type.
         start = start if token[0] in ("(", "[") else at
 

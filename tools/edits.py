@@ -2,11 +2,13 @@
 """Tries every edit of the crates, those of must-fail/ and those of edits/: with each the prover has
 to refuse the function that it changes.
 
-The prover tells a verdict of each function, so many edits share one check: one of each function at
-a time. An edit of anything but a function's body is tried alone. A function is refused by itself
-where the prover finds a fault in its own proof, and not only in a function that it calls. What a
-shared check leaves open is tried again, at last alone, so that what is told of an edit is about
-that edit. An edit fails that is
+The prover tells a verdict of each function, so many edits share one check. Most are tried on copies
+of their functions, all at once (edit_copies.py). The others are made where the functions stand, one
+of each function at a time: those of functions of traits, those of several functions, and what the
+copies leave open. An edit of anything but a function's body is tried alone. A function is refused
+by itself where the prover finds a fault in its own proof, and not only in a function that it calls.
+What a shared check leaves open is tried again, at last alone, so that what is told of an edit is
+about that edit. An edit fails that is
 
   still proved        the crate is proved with it
   not its own         only other functions are refused, and not the one that it changes
@@ -24,7 +26,8 @@ last line. The calls that `rt`, a script, makes for its own edits could be taken
 are nobody's interface: a new toolchain may rename them, where it keeps its commands.
 
 It begins with what a build or `rt check` kept of the crates, here or in another copy on this
-machine. The libraries that are not there are proved first, side by side, as a build does it.
+machine. The libraries that are not there are proved first, side by side, as a build does it. A
+crate whose own library is there needs no other proof.
 
 usage: edits.py [--anew] [--jobs N] [CRATE..]
   --anew      tries also what an earlier run settled
@@ -48,17 +51,17 @@ from concurrent.futures import FIRST_COMPLETED, ThreadPoolExecutor, wait
 sys.dont_write_bytecode = True
 
 from edit_checks import Checked, Said, copy, take
+from edit_copies import Copies, can_be_copied, proofs_of
 from edit_crates import CRATES, KEPT, ROOT, Listed, Settled, lines_of, sum_of
+from edit_runs import PROVED, Run
 from edit_texts import Edit, Unfit
 from libraries import Libraries
 
 # One folder for each checkout: rt notes each folder where it proves, and so it notes few.
 ROOM = os.path.join(tempfile.gettempdir(), "edits-%d-%s" % (os.getuid(), sum_of(ROOT)[:12]))
 # Counted up where an edit may be judged otherwise than before: what was kept is tried again then.
-JUDGEMENT = 1
+JUDGEMENT = 2
 TRIED = ("must-fail", "edits")
-# What is told of an edit that is not refused.
-PROVED = "still proved"
 
 
 class Trial:
@@ -78,8 +81,9 @@ class Trial:
         self.settled = Settled(name, self.names, [JUDGEMENT, version, *self.lines], anew)
         self.lock, self.rooms = threading.Lock(), set()
         self.told, self.passed, self.failed = [], 0, 0
-        # The processor seconds that the crate's own proof takes.
-        self.own = 0
+        # Whether its library is proved from this text, and else the processor seconds that the
+        # crate's own proof takes.
+        self.is_proved, self.own = False, 0
         self.edits = [it for it in self.found() if self.is_open(it)]
 
     def found(self):
@@ -130,7 +134,7 @@ class Trial:
                 self.rooms.discard(number)
 
     def make_seed(self):
-        """The crates that its checks read, with what was kept of them."""
+        """The crates that its checks read, with what was kept of them. Gives whether that is all."""
         left_out = shutil.ignore_patterns("out", "plants", *TRIED)
         for name in self.names:
             to = os.path.join(self.seed, "crates", name)
@@ -141,43 +145,69 @@ class Trial:
         if os.path.isfile(handles):
             shutil.copy2(handles, self.seed)
         libraries, to = self.names[:-1], os.path.join(self.seed, "crates")
-        take(os.path.join(CRATES, self.name), "incremental", self.folder)
+        is_kept = take(os.path.join(CRATES, self.name), "incremental", self.folder)
         taken = [take(os.path.join(CRATES, it), "rlib", os.path.join(to, it)) for it in libraries]
         # Libraries that were built over others cannot be used.
         for name in libraries if not all(taken) else ():
             shutil.rmtree(os.path.join(to, name, "out"), ignore_errors=True)
+        return is_kept and all(taken)
 
     def begin(self):
-        """Proves the crate as it stands, where each run begins. Gives the runs."""
-        self.make_seed()
-        why = "its crate, or one below it, changed meanwhile"
-        if self.settled.now() == self.settled.sum:
-            ran = Checked(self.folder)
-            if Checked.is_over:
-                return []
-            self.own = ran.seconds
-            self.tell("its own proof", self.own)
-            said = Said(self.name, ran.text)
-            self.told = list(said.states)
-            if not ran.status:
-                return self.runs()
+        """Has the crate proved as it stands, where each run begins. Gives the runs."""
+        is_kept = self.make_seed()
+        if self.settled.now() != self.settled.sum:
+            return self.left_untried("its crate, or one below it, changed meanwhile", self.edits)
+        if not (self.is_proved and is_kept) and not self.is_proved_here(self.edits):
+            return []
+        fit = [it for it in self.edits if self.can_be_applied(it)]
+        proofs = proofs_of(self.name, self.folder)
+        copied = [it for it in fit if can_be_copied(it, proofs) and not self.are_proved]
+        self.others = [it for it in fit if it not in copied]
+        return [Copies(self, copied)] if copied else self.in_place([], self.told)
+
+    def is_proved_here(self, edits):
+        """Proves the crate, and has the prover tell of its functions. Gives whether it is proved;
+        where it is not, these edits are not tried."""
+        ran = Checked(self.folder)
+        if Checked.is_over:
+            return False
+        self.own += ran.seconds
+        self.tell("its own proof", ran.seconds)
+        said = Said(self.name, ran.text)
+        self.told = list(said.states)
+        if ran.status:
             why = "its crate is not proved without it: %s" % said.first_error()
-        for edit in self.edits:
+            self.left_untried(why, edits)
+        return not ran.status
+
+    def left_untried(self, why, edits):
+        for edit in edits:
             self.settle(edit, "not tried: %s" % why, False)
         return []
 
-    def runs(self):
-        runs = self.together([it for it in self.edits if self.can_be_tried(it)])
+    def can_be_applied(self, edit):
+        try:
+            edit.look(self.folder)
+            return True
+        except Unfit as why:
+            self.settle(edit, "cannot be applied: %s" % why)
+            return False
+
+    def in_place(self, edits, told):
+        """The runs of these edits, and of those that no copy can have, where the functions stand.
+        The prover told of these functions."""
+        with self.lock:
+            edits, self.others = [*edits, *self.others], []
+        self.told = self.told or told
+        if edits and not self.told and not self.is_proved_here(edits):
+            return []
+        runs = self.together([it for it in edits if self.is_told(it)])
         for number, run in enumerate(runs, 1):
             run.what = "run %d of %d" % (number, len(runs))
         return runs
 
-    def can_be_tried(self, edit):
-        try:
-            edit.look(self.folder)
-        except Unfit as why:
-            self.settle(edit, "cannot be applied: %s" % why)
-            return False
+    def is_told(self, edit):
+        """Whether the prover tells of the functions that it changes."""
         edit.names = {name for it in edit.functions for name in it.names(self.name, self.told)}
         if edit.functions and not edit.names:
             name = edit.functions[0].path[-1]
@@ -198,96 +228,6 @@ class Trial:
 
     def end(self):
         shutil.rmtree(os.path.dirname(self.seed), ignore_errors=True)
-
-
-class Run:
-    """A check of a crate with some of its edits."""
-
-    def __init__(self, trial, edit):
-        self.trial, self.edits, self.names = trial, [edit], set(edit.names)
-        self.texts, self.what = edit.applied({}, trial.folder), "again"
-
-    def takes(self, edit):
-        """Adds an edit, unless it and those that are there say something of one another."""
-        is_alone = edit.is_alone or self.edits[0].is_alone
-        if is_alone or not self.names.isdisjoint(edit.names):
-            return False
-        try:
-            self.texts = edit.applied(self.texts, self.trial.folder)
-        except Unfit:
-            return False
-        self.names |= edit.names
-        self.edits.append(edit)
-        return True
-
-    def check(self):
-        with self.trial.room() as folder:
-            for path, text in self.texts.items():
-                with open(os.path.join(folder, path), "w", encoding="utf-8") as it:
-                    it.write(text)
-            return Checked(folder)
-
-    def begin(self):
-        """Makes the check, and judges the edits. Gives the runs that what is open needs."""
-        ran = self.check()
-        seconds = ran.seconds
-        if ran.is_killed and not Checked.is_over:
-            ran = self.check()
-            seconds += ran.seconds
-        if Checked.is_over:
-            return []
-        number = "1 edit" if len(self.edits) == 1 else "%d edits" % len(self.edits)
-        self.trial.tell("%s, %s" % (self.what, number), seconds)
-        said = Said(self.trial.name, ran.text)
-        if len(self.edits) == 1:
-            self.trial.settle(self.edits[0], *judged(self.edits[0], ran.status, said))
-            return []
-        if ran.status == 0:
-            # Each function is proved by itself, by the contracts of those that it calls.
-            for edit in self.edits:
-                self.trial.settle(edit, PROVED)
-            return []
-        return self.left(said) if said.has_verdict else self.halves()
-
-    def halves(self):
-        half, together = len(self.edits) // 2, self.trial.together
-        return together(self.edits[:half]) + together(self.edits[half:])
-
-    def left(self, said):
-        """Settles the edits whose own functions are refused. Gives the runs for the others."""
-        # Where a function is refused by itself that no edit changes, an edit may reach further than
-        # its function, so that one that calls others may be refused for these.
-        reaches = not self.names.issuperset(said.refused())
-        left = []
-        for edit in self.edits:
-            if said.refuses(edit.names) and not (reaches and said.waits(edit.names)):
-                self.trial.settle(edit)
-            else:
-                left.append(edit)
-        if self.trial.are_proved and len(left) < len(self.edits):
-            return self.trial.together(left)
-        # Those that wait for a function of another edit may be told of without that.
-        waiting = [it for it in left if said.waits(it.names)] * (len(left) < len(self.edits))
-        alone = [Run(self.trial, it) for it in left if it not in waiting]
-        return self.trial.together(waiting) + alone
-
-
-def judged(edit, status, said):
-    """Why an edit fails that was tried alone, or no word where it does not; and whether the next
-    run would find the same."""
-    is_own = said.refuses(edit.names) or not edit.functions
-    if status == 0:
-        return PROVED, True
-    if said.is_unread(status):
-        return "cannot be read: %s" % said.first_error(), status == 1
-    if status == 1 and is_own:
-        return "", True
-    if status == 1:
-        names, others = " and ".join(sorted(edit.names)), ", ".join(said.refused()[:3])
-        return "not its own: %s: not refused; refused: %s" % (names, others or "no function"), True
-    if status == 3:
-        return "no verdict: %s" % said.first_error(), True
-    return "not tried: its check ended with %d: %s" % (status, said.first_error()), False
 
 
 def free_memory():
@@ -351,7 +291,7 @@ def used():
 def prove_below(trials):
     """Has the libraries that these crates stand on proved, each once. Of one that is not, the own
     proofs of those above it tell."""
-    libraries, told = Libraries(*(it.name for it in trials)), []
+    libraries, told = Libraries(*(it.name for it in trials), with_tops=True), []
 
     def hear(name, status, _):
         told.append(name)
@@ -360,6 +300,9 @@ def prove_below(trials):
     libraries.prove(hear)
     if told:
         print("the libraries: %.1f processor minutes" % used(), flush=True)
+    lacking = libraries.lacking()
+    for it in trials:
+        it.is_proved = it.name in libraries.names and it.name not in lacking
 
 
 def tried(names, listed, anew, lanes, kind=Trial):

@@ -85,11 +85,15 @@ def lanes():
 
 
 class Libraries:
-    """The libraries that these crates stand on, and what has to be proved of them."""
+    """The libraries that these crates stand on, with those that they are themselves where that is
+    wanted, and what has to be proved of them."""
 
-    def __init__(self, *tops, are_cut=False):
+    def __init__(self, *tops, are_cut=False, with_tops=False):
+        self.used = crates()
         below = {it for top in tops for it in made_of(top) if it != top}
-        self.names, self.used = [it for it in made_of(*tops) if it in below], crates()
+        if with_tops:
+            below |= {it for used in self.used.values() for it in used if it in tops}
+        self.names = [it for it in made_of(*tops) if it in below]
         self.verb = ["--statements", "lib"] if are_cut else ["lib"]
         version = proved.kit()
         with open(os.path.join(ROOT, "crates.txt"), encoding="utf-8") as it:

@@ -1,6 +1,7 @@
 """What `make edits` tells of the edits of a small crate that is made for them."""
 
 import fcntl
+import itertools
 import os
 import re
 import shutil
@@ -10,6 +11,8 @@ import threading
 from concurrent.futures import ThreadPoolExecutor
 
 from edit_checks import TAKING, take
+from edit_copies import Group
+from edit_texts import Edit
 from support.cases import sentence
 from support.program import ROOT
 from support.skipping import needs
@@ -47,7 +50,37 @@ pub fn third(n: u8) -> u8
 {
     n + STEP
 }
+
+/// Four more.
+fn fourth(n: u8) -> u8
+    requires { n ≤ 6 }
+    ensures { result ≡ n + 4 }
+{
+    n + 4
+}
+
+/// Nothing, whatever it begins with.
+fn nothing(n: u8) -> u8
+    ensures { result ≡ 0 }
+{
+    if n == 0 { n } else { nothing(n - 1) }
+}
 """
+
+# What one function's proof has of its own, and what one that calls itself has.
+PROOFS = {
+    "fourth/Answers": """use Rattle.std.proofs.Common.{rules}
+use Rattle.sums.proofs.fourth.Goals as goal
+
+pub returns : goal.returns
+returns c = search rules
+""",
+    "+nothing/Invariants": """use Rattle.sums.proofs.+nothing.Given as goal
+
+abbrev pub decreases-nothing : goal.decreases-nothing
+decreases-nothing l = l.n
+""",
+}
 
 # Each by its old text and its new one. They are tried in this order, so that `next.same` stands
 # beside a refused edit of its caller, and `second.same` calls what another edit has refused.
@@ -58,6 +91,9 @@ EDITS = {
     "edits/constant": ("u8 = 3", "u8 = 4"),
     "edits/next.two_steps": ("let sum = n + 1;", "let sum = n + 2;"),
     "edits/second.same": ("let first = next(n);", "let first = n + 1;"),
+    "edits/fourth.less": ("    n + 4", "    n + 3"),
+    "edits/fourth.same": ("    n + 4", "    4 + n"),
+    "edits/nothing.for_ever": ("nothing(n - 1)", "nothing(n)"),
     "edits/third.nowhere": ("n + STRIDE", "n"),
     "edits/third.twice": ("pub fn", "fn"),
 }
@@ -79,6 +115,8 @@ class Tried:
             self.write("crates.txt", "sums:\n")
             self.write("HANDLES", "Handles allowed: none.\n")
             self.write("crates/sums/src/lib.rt", CRATE)
+            for name, text in PROOFS.items():
+                self.write("crates/sums/proofs/%s.antt" % name, text)
             for name, pair in EDITS.items():
                 text = "file: src/lib.rt\nold: %s\nnew: %s\n" % pair
                 self.write("crates/sums/%s.edit" % name, text)
@@ -120,6 +158,7 @@ def fails(name, why):
 def test_proved():
     fails("must-fail/next.same", "still proved")
     fails("edits/second.same", "still proved")
+    fails("edits/fourth.same", "still proved")
 
 
 @sentence("edits of one function are each judged")
@@ -127,8 +166,8 @@ def test_two_of_one_function():
     """The one that fails is told, and the other one is counted as passed."""
     status, lines = Tried.once().all
     assert status == 2, "its status"
-    assert lines[-1] == "3 passed, 5 failed", "its last line"
-    assert sum(it.startswith("FAILED") for it in lines) == 5, "its failures"
+    assert lines[-1] == "5 passed, 6 failed", "its last line"
+    assert sum(it.startswith("FAILED") for it in lines) == 6, "its failures"
 
 
 @sentence("edits that cannot be applied")
@@ -142,18 +181,77 @@ def test_not_compiled():
     fails("must-fail/a.does_not_compile", "cannot be read: src/lib.rt:31:9: error")
 
 
-@sentence("edits of a constant are tried alone")
-def test_constant():
-    """The first edits of three functions share a run, and so do the next ones of two."""
-    runs = sorted(it.rpartition(",")[0] for it in Tried.once().all[1] if ": run " in it)
-    wanted = enumerate(("3 edits", "1 edit", "2 edits"), 1)
-    assert runs == ["sums: run %d of 3, %s" % it for it in wanted], "its runs"
+def runs_of(begins):
+    """The runs whose lines begin so, without what they took."""
+    lines = [it for it in Tried.once().all[1] if it.startswith("sums: " + begins)]
+    return sorted(it.rpartition(",")[0].removeprefix("sums: ") for it in lines)
+
+
+@sentence("edits of functions share a check, on copies of these")
+def test_copies():
+    """Two of them are of one function. What does not compile is left out of the next check."""
+    assert runs_of("copies") == ["copies again, 6 edits", "copies, 7 edits"], "its checks of copies"
+
+
+@sentence("edits that copies leave open are tried where the functions stand")
+def test_in_place():
+    """Those whose copies are proved; and, tried at once, the one that does not compile, that of a
+    function that calls itself, and, alone, that of a constant."""
+    wanted = ["run 1 of 1, 3 edits", "run 1 of 2, 2 edits", "run 2 of 2, 1 edit"]
+    assert runs_of("run") == wanted, "its runs"
+
+
+PLAIN, OTHER = "sums::fourth_copy_1", "sums::fourth_copy_2"
+
+
+def fourth(folder):
+    """The copies of a function that has files of proof."""
+    for name, text in PROOFS.items():
+        path = os.path.join(folder, "proofs", name + ".antt")
+        os.makedirs(os.path.dirname(path), exist_ok=True)
+        with open(path, "w", encoding="utf-8") as it:
+            it.write(text)
+    os.makedirs(os.path.join(folder, "src"))
+    with open(os.path.join(folder, "src", "lib.rt"), "w", encoding="utf-8") as it:
+        it.write(CRATE)
+    file = os.path.join(folder, "fourth.edit")
+    with open(file, "w", encoding="utf-8") as it:
+        it.write("file: src/lib.rt\nold:     n + 4\nnew:     n + 3\n")
+    edit = Edit(file)
+    edit.look(folder)
+    return Group([edit], "sums::fourth", itertools.count(1))
+
+
+@sentence("copies show nothing where the one without an edit is not proved")
+def test_plain_copy():
+    states = {"sums::fourth": "proved", PLAIN: "proved", OTHER: "not proved: it is wrong"}
+    with tempfile.TemporaryDirectory(prefix="ymodem-") as folder:
+        group = fourth(folder)
+        assert group.shows("sums", states, folder), "with one that is proved"
+        for other in ({**states, PLAIN: "not proved: it lacks a file"}, {"sums::fourth": "proved"}):
+            assert not group.shows("sums", other, folder), "with %s" % other
+        shutil.rmtree(os.path.join(folder, "proofs", "fourth"))
+        assert not group.shows("sums", states, folder), "with no files of proof where it stands"
+
+
+@sentence("a copy has its function's files of proof, under its own name")
+def test_copied_proof():
+    with tempfile.TemporaryDirectory(prefix="ymodem-") as folder:
+        group = fourth(folder)
+        group.write_proofs("sums", folder)
+        for name in ("fourth_copy_1", "fourth_copy_2"):
+            with open(os.path.join(folder, "proofs", name, "Answers.antt"), encoding="utf-8") as it:
+                assert "use Rattle.sums.proofs.%s.Goals as goal" % name in it.read(), name
+        assert [it.text.splitlines()[1] for it in group.copies()] == [
+            "fn fourth_copy_1(n: u8) -> u8",
+            "fn fourth_copy_2(n: u8) -> u8",
+        ], "their heads"
 
 
 @sentence("edits that are settled are not tried again")
 def test_settled():
     took = "0.0 processor minutes, 0.0 of them for the crates' own proofs"
-    told = [took, "3 passed, 0 failed"]
+    told = [took, "5 passed, 0 failed"]
     assert Tried.once().refused == (0, told), "the second run"
     status, lines = Tried.once().words
     assert (status, lines[0].split()) == (0, ["tools/edits.py", "--anew", "sums"]), "its words"
