@@ -1,8 +1,9 @@
-"""Checks of a crate with some of its edits, each made on a copy of its function.
+"""Checks of a crate with some of its edits, most of them made on copies of their functions.
 
 Where a function is edited where it stands, all that call it are judged again. Nothing calls a copy
 that stands beside it. So an edit costs the copy's own proof alone, and all edits of a crate share
-one check, also several of one function.
+one check, also several of one function. With them goes one edit of each function of which no copy
+can stand for it, as those of traits: what is ahead of the first proof is most of a short check.
 
 A copy is the function under a name of its own, with its files of proof, in which the name is
 another one, too. Where there are such files a copy without an edit is made as well. If that is not
@@ -10,13 +11,14 @@ proved, the copies show nothing. Then, and where a copy is still proved with its
 tried where the function stands.
 """
 
+import contextlib
 import itertools
 import os
 import re
 import shutil
 
 from edit_checks import Checked, Said, counted
-from edit_texts import read, write
+from edit_texts import Unfit, read, write
 
 # The files of proof that belong to one function.
 PROOFS = ("Answers.antt", "Invariants.antt", "Proof.antt")
@@ -69,26 +71,23 @@ class Group:
             for file in (os.path.join(to, it) for it in os.listdir(to) if it in PROOFS):
                 write(file, path.sub(lambda it: it[1] + copy.name, read(file)))
 
-    def shows(self, crate, told, folder):
+    def shows(self, crate, said, folder):
         """Whether what becomes of its copies is what becomes of the function: the prover tells of
-        it, its files of proof were found, and the copy with no edit is proved."""
+        it, its files of proof were found, and nothing is wrong with the copy that has no edit."""
+        told = said.states
         names = [it for it in self.changes.function.names(crate, told) if "::fn::" not in it]
         with_proof = [it for it in names if has_proof(folder, it)]
         plain = self.plain.names(told) if self.proof else ()
-        are_proved = all(told[it] == "proved" for it in plain) and bool(plain) == bool(self.proof)
-        return bool(names) and with_proof == [self.proof] * bool(self.proof) and are_proved
-
-    def settled(self, said):
-        """The edits whose copies are refused for themselves."""
-        names = {it.edit: it.names(said.states) for it in self.edited}
-        return [it for it in self.edits if said.refuses(names[it]) and not said.waits(names[it])]
+        is_well = bool(plain) == bool(self.proof) and not said.refuses(plain)
+        return bool(names) and with_proof == [self.proof] * bool(self.proof) and is_well
 
 
 class Copies:
-    """A check of a crate with copies of the functions of these edits."""
+    """A check of a crate with copies of the functions of these edits, and with others where their
+    functions stand."""
 
-    def __init__(self, trial, edits, what="copies"):
-        self.trial, self.edits, self.what = trial, edits, what
+    def __init__(self, trial, edits, placed, what="copies"):
+        self.trial, self.edits, self.placed, self.what = trial, edits, placed, what
 
     def groups(self, folder):
         found, proofs, numbers = {}, proofs_of(self.trial.name, folder), itertools.count(1)
@@ -110,37 +109,64 @@ class Copies:
             group.write_proofs(self.trial.name, folder)
         return groups
 
+    def write_placed(self, folder):
+        """Makes the others, where they can still be made."""
+        texts, made = {}, []
+        for edit in self.placed:
+            with contextlib.suppress(Unfit):
+                texts = edit.applied(texts, folder)
+                made.append(edit)
+        for path, text in texts.items():
+            write(os.path.join(folder, path), text)
+        return made
+
     def begin(self):
         """Makes the check, and settles the edits that it shows to be refused. Gives the runs that
-        the others need."""
+        all others need."""
         with self.trial.room() as folder:
-            groups, ran = self.write(folder), Checked(folder)
+            groups, placed = self.write(folder), self.write_placed(folder)
+            ran = Checked(folder)
             seconds = ran.seconds
             if ran.is_killed and not Checked.is_over:
                 ran = Checked(folder)
                 seconds += ran.seconds
             if Checked.is_over:
                 return []
-            self.trial.tell("%s, %s" % (self.what, counted(self.edits)), seconds)
+            self.trial.tell("%s, %s" % (self.what, counted(self.edits + placed)), seconds)
             said = Said(self.trial.name, ran.text)
             if not said.has_verdict:
                 return self.again(unread(groups, folder, ran.text))
-        shown = [it for it in groups if it.shows(self.trial.name, said.states, self.trial.folder)]
-        settled = [it for group in shown for it in group.settled(said)]
-        for edit in settled:
-            self.trial.settle(edit)
         copied = {it.name for group in groups for it in group.copies()}
         told = [it for it in said.states if copied.isdisjoint(it.split("::"))]
-        return self.trial.in_place([it for it in self.edits if it not in settled], told)
+        settled = self.settled(groups, placed, said, told)
+        for edit in settled:
+            self.trial.settle(edit)
+        left = [it for it in (*self.edits, *self.placed) if it not in settled]
+        return self.trial.in_place(left, told)
+
+    def settled(self, groups, placed, said, told):
+        """The edits whose copies, or whose functions, are refused for themselves."""
+        names = {it.edit: it.names(said.states) for group in groups for it in group.edited}
+        names |= {it: it.all_names(self.trial.name, told) for it in placed}
+        plain = [name for group in groups for name in group.plain.names(said.states)]
+        # As where all edits are made where the functions stand.
+        reaches = not {*plain, *itertools.chain(*names.values())}.issuperset(said.refused())
+        shown = [it for it in groups if it.shows(self.trial.name, said, self.trial.folder)]
+        return [
+            it
+            for it in (*itertools.chain(*(group.edits for group in shown)), *placed)
+            if said.refuses(names[it]) and not (reaches and said.waits(names[it]))
+        ]
 
     def again(self, unread):
-        """The runs where the crate does not compile, which hides all others: without these copies,
-        or with none."""
+        """The runs where the crate does not compile, which hides all else: without these copies, or
+        with none."""
         left = [it for it in self.edits if unread and it not in unread]
-        more = [Copies(self.trial, left, "copies again")] if left else []
+        more = [Copies(self.trial, left, self.placed, "copies again")] if left else []
         if not (self.trial.told or self.trial.is_proved_here(self.edits)):
             return []
-        return more + self.trial.in_place([it for it in self.edits if it not in left], [])
+        others = [it for it in self.edits if it not in left] + ([] if left else self.placed)
+        return more + self.trial.in_place(others, [])
 
 
 def unread(groups, folder, said):
@@ -180,3 +206,14 @@ def can_be_copied(edit, proofs):
     folder of another name, and a copy of it calls the function itself."""
     of_itself = "+" + edit.changes.function.path[-1] if edit.changes else ""
     return bool(edit.changes) and of_itself not in [it.split("::")[-1] for it in proofs]
+
+
+def one_of_each(edits):
+    """One edit of each function, of those that need not be tried alone."""
+    found, taken = [], set()
+    for edit in edits:
+        functions = {(path, it.start) for path, it in edit.places()}
+        if not edit.is_alone and taken.isdisjoint(functions):
+            found.append(edit)
+            taken |= functions
+    return found

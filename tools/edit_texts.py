@@ -109,6 +109,14 @@ class Edit:
             self.is_alone |= not inside
         self.changes = None if self.is_alone else self.changes_of_one(steps, texts)
 
+    def all_names(self, crate, told):
+        """The prover's names of the functions that it changes."""
+        return {name for it in self.functions for name in it.names(crate, told)}
+
+    def places(self):
+        """The functions that it changes, each with its file."""
+        return zip((path for path, _, _ in self.pairs()), self.functions)
+
     def changes_of_one(self, steps, texts):
         """What it makes of the one function that it changes, if a copy can stand for that."""
         (path, was, *_), first = steps[0], self.functions[0]

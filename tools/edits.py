@@ -51,7 +51,7 @@ from concurrent.futures import FIRST_COMPLETED, ThreadPoolExecutor, wait
 sys.dont_write_bytecode = True
 
 from edit_checks import Checked, Said, copy, take
-from edit_copies import Copies, can_be_copied, proofs_of
+from edit_copies import Copies, can_be_copied, one_of_each, proofs_of
 from edit_crates import CRATES, KEPT, ROOT, Listed, Settled, lines_of, sum_of
 from edit_runs import PROVED, Run
 from edit_texts import Edit, Unfit
@@ -162,8 +162,9 @@ class Trial:
         fit = [it for it in self.edits if self.can_be_applied(it)]
         proofs = proofs_of(self.name, self.folder)
         copied = [it for it in fit if can_be_copied(it, proofs) and not self.are_proved]
-        self.others = [it for it in fit if it not in copied]
-        return [Copies(self, copied)] if copied else self.in_place([], self.told)
+        placed = one_of_each([it for it in fit if it not in copied]) if copied else []
+        self.others = [it for it in fit if it not in (*copied, *placed)]
+        return [Copies(self, copied, placed)] if copied else self.in_place([], self.told)
 
     def is_proved_here(self, edits):
         """Proves the crate, and has the prover tell of its functions. Gives whether it is proved;
@@ -208,7 +209,7 @@ class Trial:
 
     def is_told(self, edit):
         """Whether the prover tells of the functions that it changes."""
-        edit.names = {name for it in edit.functions for name in it.names(self.name, self.told)}
+        edit.names = edit.all_names(self.name, self.told)
         if edit.functions and not edit.names:
             name = edit.functions[0].path[-1]
             self.settle(edit, "not its own: the prover tells of no function %s there" % name, False)

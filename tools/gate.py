@@ -21,6 +21,7 @@ Where pytest is not installed all of them are skipped, and the last lines but th
 What the gate does is told in a line each as it comes. All that it says stands in out/gate.log and
 is written last, so that the last line is its verdict. Where anything else fails the gate is
 stopped. Once all has passed, the program lies where a build leaves it, and `make install` takes it.
+All crates are green then, and `make check` goes on from there.
 
 usage: gate.py
 The environment variable INSTALL=install has the packages installed that the tests need, as root.
@@ -472,7 +473,7 @@ def main():
         sys.exit(__doc__)
     signal.signal(signal.SIGTERM, lambda *_: sys.exit(143))
     os.makedirs(OUT, exist_ok=True)
-    gate, beside = Gate(), []
+    gate, beside, began_with = Gate(), [], proved.sums()
     try:
         result = judged(gate, beside)
     except KeyboardInterrupt:
@@ -488,6 +489,7 @@ def main():
         return 1
     if not result:
         proved.note(PROGRAM)
+        proved.note_green(dict(proved.sums().items() & began_with.items()))
         Libraries(PROGRAM).take()
     return result
 

@@ -18,7 +18,7 @@ usage: prove.py [alone|play|check|first]
   play    plays the example session, by the program where it is built and no source has changed since,
           else by `rt try`, which proves nothing
   check   proves what changed, and tries unproved the tests of the crates that changed since the last
-          green run, in them and in the crates of tests that use them
+          green run, of it or of the gate, in them and in the crates of tests that use them
   first   for the gate: has `rt ci` prove the program's crates, whatever stands here, since the gate
           takes nothing but what that kept, and puts the program into out/tried; where nothing is
           kept, it is not there
@@ -26,7 +26,6 @@ usage: prove.py [alone|play|check|first]
 
 import contextlib
 import difflib
-import json
 import os
 import re
 import shutil
@@ -53,7 +52,6 @@ ROW, BEHIND = ("ym_sending", "ym_receiving"), later(5)
 # Two runs prove twice as many crates at once as there are processors, and each goes by all memory
 # that is free. So much of it for each processor holds them.
 HOLDS_TWO = 3_000_000_000
-GREEN = os.path.join(ROOT, "out", "green.json")
 
 BEGUN = re.compile(r"rt: chose --jobs \d+ for (\w+)")
 PROVED = re.compile(r"rt: (\w+) (?:proved$|is kept: )")
@@ -372,13 +370,7 @@ def wrong_in(name, words):
 
 
 def check():
-    try:
-        with open(GREEN, encoding="utf-8") as it:
-            green = json.load(it)
-    except (OSError, ValueError):
-        green = {}
-    used = crates()
-    now = {name: proved.sum_of([name]) for name in used}
+    used, green, now = crates(), proved.green(), proved.sums()
     changed = {name for name in now if green.get(name) != now[name]}
     build(here=True)
     shown, red, built, names = Shown(sys.stderr), set(), of_program(), tried_for(changed)
@@ -393,9 +385,7 @@ def check():
     shown.clear()
     # A crate is green once its tests are, those in other crates too.
     not_green = red.union(*(used[name] for name in red))
-    green.update({name: now[name] for name in changed - not_green})
-    with open(GREEN, "w", encoding="utf-8") as it:
-        json.dump(green, it)
+    proved.note_green({name: now[name] for name in changed - not_green})
     told = [" ".join(it for it in used if it in some) or "nothing" for some in (changed, red)]
     print("changed since the last green run: %s; failed: %s" % tuple(told), file=sys.stderr)
     return 1 if red else 0

@@ -15,6 +15,8 @@ ROOT = os.path.dirname(os.path.dirname(os.path.abspath(__file__)))
 CRATES = os.path.join(ROOT, "crates")
 PROGRAM = os.path.join(CRATES, "ymodem", "out", "ymodem")
 NOTE = os.path.join(ROOT, "out", "proved.json")
+# For which text each crate was seen green: it and its tests, those in other crates too.
+GREEN = os.path.join(ROOT, "out", "green.json")
 # What the proof of a crate reads, and then what its program is run on.
 PROOF_PARTS = ("src", "specs", "proofs")
 # `rt`, where it asks whether libraries changed.
@@ -64,6 +66,28 @@ def sum_of(names, parts=PARTS):
 def sum_of_file(name):
     with open(name, "rb") as it:
         return hashlib.sha256(it.read()).hexdigest()
+
+
+def sums():
+    """The sum of each crate's files."""
+    return {name: sum_of([name]) for name in crates()}
+
+
+def green():
+    """The sums of the crates as they were seen green."""
+    try:
+        with open(GREEN, encoding="utf-8") as it:
+            return dict(json.load(it))
+    except (OSError, ValueError):
+        return {}
+
+
+def note_green(seen):
+    """Takes down that these crates were seen green, by their sums."""
+    found = {**green(), **seen}
+    os.makedirs(os.path.dirname(GREEN), exist_ok=True)
+    with open(GREEN, "w", encoding="utf-8") as it:
+        json.dump(found, it)
 
 
 def kit():

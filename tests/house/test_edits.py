@@ -10,7 +10,7 @@ import tempfile
 import threading
 from concurrent.futures import ThreadPoolExecutor
 
-from edit_checks import TAKING, take
+from edit_checks import TAKING, Said, take
 from edit_copies import Group
 from edit_texts import Edit
 from support.cases import sentence
@@ -189,15 +189,16 @@ def runs_of(begins):
 
 @sentence("edits of functions share a check, on copies of these")
 def test_copies():
-    """Two of them are of one function. What does not compile is left out of the next check."""
-    assert runs_of("copies") == ["copies again, 6 edits", "copies, 7 edits"], "its checks of copies"
+    """Two of them are of one function. One of a function that calls itself is made where that
+    stands. What does not compile is left out of the next check."""
+    assert runs_of("copies") == ["copies again, 7 edits", "copies, 8 edits"], "its checks of copies"
 
 
 @sentence("edits that copies leave open are tried where the functions stand")
 def test_in_place():
-    """Those whose copies are proved; and, tried at once, the one that does not compile, that of a
-    function that calls itself, and, alone, that of a constant."""
-    wanted = ["run 1 of 1, 3 edits", "run 1 of 2, 2 edits", "run 2 of 2, 1 edit"]
+    """Those whose copies are proved; and the one that does not compile. That of a constant is tried
+    alone."""
+    wanted = ["run 1 of 1, 3 edits", "run 1 of 2, 1 edit", "run 2 of 2, 1 edit"]
     assert runs_of("run") == wanted, "its runs"
 
 
@@ -224,14 +225,19 @@ def fourth(folder):
 
 @sentence("copies show nothing where the one without an edit is not proved")
 def test_plain_copy():
-    states = {"sums::fourth": "proved", PLAIN: "proved", OTHER: "not proved: it is wrong"}
+    own, calls = "no proof: expected answers", "not proved: it calls sums::next, which is refused"
     with tempfile.TemporaryDirectory(prefix="ymodem-") as folder:
         group = fourth(folder)
-        assert group.shows("sums", states, folder), "with one that is proved"
-        for other in ({**states, PLAIN: "not proved: it lacks a file"}, {"sums::fourth": "proved"}):
-            assert not group.shows("sums", other, folder), "with %s" % other
+
+        def shows(plain):
+            states = {"sums::fourth": "proved", PLAIN: plain, OTHER: own}
+            lines = ["fn %s: %s" % it for it in states.items() if it[1]]
+            return group.shows("sums", Said("sums", "\n".join(lines)), folder)
+
+        assert shows("proved") and shows(calls), "with one that is proved, by itself"
+        assert not shows(own) and not shows(None), "with one that is refused, or is not told of"
         shutil.rmtree(os.path.join(folder, "proofs", "fourth"))
-        assert not group.shows("sums", states, folder), "with no files of proof where it stands"
+        assert not shows("proved"), "with no files of proof where the function stands"
 
 
 @sentence("a copy has its function's files of proof, under its own name")

@@ -368,7 +368,8 @@ def test_gate():
         count = len(TESTS) + len(BESIDE)
         told = "the tests of all folders: %d passed, 0 failed, %d skipped\n" % (2 * count, count)
         has(out, told)
-        assert (it.make("build")[0], it.called()) == (0, []), "a build behind it"
+        for goal in ("build", "check"):
+            assert (it.make(goal)[0], it.called()) == (0, []), "make %s behind it" % goal
 
 
 @sentence("the gate of a toolchain that keeps nothing")
