@@ -3,7 +3,7 @@
 import os
 
 from edit_checks import Checked, Said, counted
-from edit_texts import Unfit
+from edit_texts import Unfit, write
 
 # What is told of an edit that is not refused.
 PROVED = "still proved"
@@ -32,8 +32,7 @@ class Run:
     def check(self):
         with self.trial.room() as folder:
             for path, text in self.texts.items():
-                with open(os.path.join(folder, path), "w", encoding="utf-8") as it:
-                    it.write(text)
+                write(os.path.join(folder, path), text)
             return Checked(folder)
 
     def begin(self):

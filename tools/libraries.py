@@ -104,7 +104,7 @@ class Libraries:
             below = [self.sums[it] for it in self.used[name] if it in self.sums]
             made_from = [version, self.lines[name], sum_of([name], PROOF_PARTS), below]
             self.sums[name] = hashlib.sha256(repr(made_from).encode()).hexdigest()
-        self.noted, self.rows = noted(), self.rows_of()
+        self.noted, self.rows = proved.noted(NOTE), self.rows_of()
         self.lock, self.running, self.is_over = threading.Lock(), set(), False
 
     def lacking(self):
@@ -231,14 +231,6 @@ class Libraries:
 
 def is_line(line):
     return bool(line.strip()) and not line.startswith("#")
-
-
-def noted():
-    try:
-        with open(NOTE, encoding="utf-8") as it:
-            return dict(json.load(it))
-    except (OSError, ValueError):
-        return {}
 
 
 def bring(name):

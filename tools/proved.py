@@ -73,13 +73,18 @@ def sums():
     return {name: sum_of([name]) for name in crates()}
 
 
-def green():
-    """The sums of the crates as they were seen green."""
+def noted(file):
+    """What was taken down in a file of notes; nothing, where there is none."""
     try:
-        with open(GREEN, encoding="utf-8") as it:
+        with open(file, encoding="utf-8") as it:
             return dict(json.load(it))
     except (OSError, ValueError):
         return {}
+
+
+def green():
+    """The sums of the crates as they were seen green."""
+    return noted(GREEN)
 
 
 def note_green(seen):
