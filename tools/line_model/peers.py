@@ -119,8 +119,7 @@ def rb_sector(line, ask, wait):
         elif byte == CAN:
             if (yield from line.byte(SECOND)) == CAN:
                 return None
-        if byte is not None:
-            yield from line.purge(SECOND)
+        yield from line.purge(SECOND)
         yield Write(bytes([ask]))
         if ask == NAK:
             wait = 4 * SECOND

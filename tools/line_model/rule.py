@@ -178,11 +178,19 @@ class Timing:
         is_repeat = self.role == "receiver" and not self.is_new_frame()
         return is_far and is_repeat and self.heard.since < self.out.last_at + self.slowest // 2
 
+    def is_put_off(self):
+        """Whether a copy is put off, so that not each comes as long behind a peer's ask."""
+        is_known = self.role == "sender" and self.trust != "unknown" and self.sent.kind != "end"
+        is_third = self.out.copies % 3 == 0 and self.heard.is_late
+        return is_known and FAR <= self.slowest and is_third
+
     def need(self, following, now):
         taken = self.is_taken(following)
         if self.out.owed == "several" and taken and not self.has_crossed():
             return "several"
         if self.heard.is_noise() or self.was_held_up(now):
+            return "quiet"
+        if self.out.owed == "several" and self.is_put_off():
             return "quiet"
         return "late" if self.out.owed == "late" and taken else "nothing"
 

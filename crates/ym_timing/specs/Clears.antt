@@ -3,7 +3,7 @@
 -- Answers to several writes come no later than answers take, and no farther apart than the writes
 -- were: both are enough. Where an end or the line stood still they come in a row, as soon as it
 -- goes on. While a peer waits in vain it asks; such asks are no answers, and lengthen nothing.
-use Rattle.std.specs.Prelude.{ℕ, ◌+◌, ◌-◌, ◌*◌, ◌/◌, nat_eq, nat_lt, nat_le, ◌&&◌, ◌||◌, not, Bool}
+use Rattle.std.specs.Prelude.{ℕ, ◌+◌, ◌-◌, ◌*◌, ◌/◌, ◌%◌, nat_eq, nat_lt, nat_le, ◌&&◌, ◌||◌, not, Bool}
 use Rattle.std.specs.Prelude.{true, false, List, max, min, if◌then◌else◌}
 use Rattle.ym_heard.specs.Ear.{listen}
 use Rattle.ym_timing.specs.Arrivals.{is_noise}
@@ -68,9 +68,32 @@ has_crossed t = crossed_by t.role t.pace.trust t
 abbrev pub several_by : Bool → Timing → Bool
 several_by taken t = taken && not (has_crossed t)
 
+abbrev pub ends_batch : Kind → Bool
+ends_batch kind.End = true
+ends_batch _ = false
+
+-- A peer that asks again and again lets its own line clear before each ask, and drops what comes
+-- meanwhile. Where answers take long, copies may come just then each time, as long behind an ask as
+-- the way there and back takes. So each third one is put off. The end block's is not: whoever has
+-- acknowledged that may be gone, and its ACK comes once.
+abbrev pub put_off_by : Role → Trust → Kind → Bool
+put_off_by Receiver trust k = false
+put_off_by Sender trust.Unknown k = false
+put_off_by Sender trust.Doubtful k = not (ends_batch k)
+put_off_by Sender trust.Sure k = not (ends_batch k)
+
+-- three writes were made, or six and so on, and the peer had waited before it asked once more
+abbrev pub is_third : Timing → Bool
+is_third t = nat_eq (t.out.copies % 3) 0 && t.heard.is_late
+
+abbrev pub is_put_off : Timing → Bool
+is_put_off t =
+    put_off_by t.role t.pace.trust t.sent.kind && (nat_le FAR t.pace.slowest && is_third t)
+
 abbrev pub need_by : Owed → Bool → Bool → Timing → Need
 need_by owed.Several taken unsure t =
-    if several_by taken t then need.Several else (if unsure then need.Quiet else need.Nothing)
+    if several_by taken t then need.Several
+    else (if unsure || is_put_off t then need.Quiet else need.Nothing)
 need_by owed.Late taken unsure t =
     if unsure then need.Quiet else (if taken then need.Late else need.Nothing)
 need_by owed.One taken unsure t = if unsure then need.Quiet else need.Nothing

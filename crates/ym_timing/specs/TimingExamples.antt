@@ -5,7 +5,7 @@ use Rattle.ym_timing.specs.Out.{again, one, late}
 use Rattle.ym_timing.specs.Pace.{bound}
 use Rattle.ym_timing.specs.ByteRows.{heard_of, after_bytes, writes}
 use Rattle.ym_heard.specs.Times.{new_clock, told, waited}
-use Rattle.ym_timing.specs.Timing.{new_timing, until}
+use Rattle.ym_timing.specs.Timing.{new_timing, until, after_vain}
 use Rattle.ym_timing.specs.declared.pace.Trust.TheVariants.{Doubtful, Sure}
 use Rattle.ym_timing.specs.declared.role.Role.TheVariants.{Sender, Receiver}
 use Rattle.ym_timing.specs.declared.timing.Timing.{Timing}
@@ -228,6 +228,23 @@ far_ended = after_bytes ack_start eot 21000 (writes eot 17000 (after_bytes nak e
 
 far_ended-clear : clear_at (purge opening 21000 far_ended) far_ended ≡ 23250
 far_ended-clear = refl
+
+-- rb asks each five seconds, and drops what comes in the last of them. Here each copy comes four
+-- seconds behind an ask. So the third one is put off, and comes soon behind the next ask.
+abbrev asked_again : ℕ → Timing → Timing
+asked_again now t = after_bytes nak block_1 now (after_vain Reply now t)
+
+abbrev far_asked : Timing
+far_asked = asked_again 24000 (writes block_1 19000 (asked_again 19000 (writes block_1 14000
+    (asked_again 14000 far))))
+
+far_asked-clear : clear_at (purge block_1 24000 far_asked) far_asked ≡ 25250
+far_asked-clear = refl
+
+-- and the next one goes at once
+far_asked-next : clear_at (purge block_1 29000 (asked_again 29000 (writes block_1 25250 far_asked)))
+    (asked_again 29000 (writes block_1 25250 far_asked)) ≡ 0
+far_asked-next = refl
 
 -- ---- An answer that was stuck
 

@@ -17,7 +17,7 @@ use ym_heard::{
 pub enum Need {
     /// It has not.
     Nothing,
-    /// Noise, or what came while the end itself was held up, may be on it.
+    /// Noise, or what came while the end itself was held up, may be on it; or a copy is put off.
     Quiet,
     /// What was stuck in it may be on it.
     Late,
@@ -145,6 +145,19 @@ impl Timing {
         }
     }
 
+    /// Whether a copy that was asked for is put off, so that not each one comes as long behind an
+    /// ask: a peer that asks again and again may drop what comes just then. Whoever has
+    /// acknowledged the end block may be gone, and its ACK comes once.
+    fn is_put_off(&self) -> bool
+        ensures { result ≡ table.is_put_off self.now }
+    {
+        let is_third = self.out.copies % 3 == 0 && self.heard.is_late;
+        match (self.role, self.pace.trust, self.sent.kind) {
+            (Role::Receiver, _, _) | (_, Trust::Unknown, _) | (_, _, Kind::End) => false,
+            _ => FAR <= self.pace.slowest && is_third,
+        }
+    }
+
     /// Why the line has to clear before this.
     fn need(&self, next: Sent, now: u64) -> Need
         ensures { result ≡ table.need_of next now self.now }
@@ -154,6 +167,7 @@ impl Timing {
         match self.out.owed {
             Owed::Several if is_taken && !self.has_crossed() => Need::Several,
             _ if is_unsure => Need::Quiet,
+            Owed::Several if self.is_put_off() => Need::Quiet,
             Owed::Late if is_taken => Need::Late,
             _ => Need::Nothing,
         }
