@@ -10,6 +10,12 @@ STALE_ASKS = 10
 OTHERS = 4
 
 
+def is_empty(zero):
+    """Whether a block 0 says that its file has no bytes."""
+    length = bytes(zero[3:]).partition(b"\0")[2]
+    return length[:1] == b"0" and length[1:2] in (b"", b"\0", b" ")
+
+
 @dataclass
 class Sent:
     length: int = 0
@@ -19,6 +25,7 @@ class Sent:
 
     def then(self, data):
         at = lambda place: data[place] if place < len(data) else 0
+        first = "empty" if is_empty(data) else "opening"
         if len(data) == 1:
             kind = "eot"
         elif len(data) <= 3:
@@ -26,7 +33,7 @@ class Sent:
         elif at(1):
             kind = "data"
         elif self.kind in ("nothing", "eot", "short"):
-            kind = "opening" if at(3) else "end"
+            kind = first if at(3) else "end"
         else:
             kind = self.kind
         return Sent(len(data), at(0), at(1), kind)
@@ -130,6 +137,16 @@ class Hold:
             self.first_ack = "counts"
         return bytes([byte])
 
+    def at_empty(self, byte):
+        """Behind block 0 of a file without bytes."""
+        if byte == ACK and self.first_ack == "doubted":
+            self.first_ack = "dropped"
+            return b""
+        was, is_reply = self.first_ack, byte in (ACK, START)
+        if was == "dropped" and is_reply:
+            self.first_ack = "counts"
+        return b"" if was == "dropped" and byte == START else bytes([byte])
+
     def at_moment(self, is_end, byte, now):
         """Behind the end block, or a block 1 whose ACK may be that of a copy of block 0."""
         if byte == ACK:
@@ -148,6 +165,8 @@ class Hold:
             return b""
         if kind == "eot":
             return self.at_eot(byte, now)
+        if kind == "empty":
+            return self.at_empty(byte)
         if kind == "end" or (kind == "data" and self.first_ack == "doubted"):
             return self.at_moment(kind == "end", byte, now)
         return bytes([byte])

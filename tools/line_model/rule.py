@@ -24,6 +24,8 @@ FRAGMENT = 64
 FULL = 2_048
 HALVINGS = 4
 PATIENCE = 2_500
+# block 0 of a file with bytes, and of one without
+OPENINGS = ("opening", "empty")
 
 
 @dataclass
@@ -212,7 +214,7 @@ class Timing:
             soon = min(quiet, self.slowest + 2 * MOMENT) // (1 << self.vain)
             until = frm + max(MOMENT, soon)
         else:
-            counts = self.role == "sender" and self.sent.kind in ("data", "opening")
+            counts = self.role == "sender" and self.sent.kind in ("data", *OPENINGS)
             if counts and clearing.has_brought and clearing.owed == 0:
                 return 0
             apart = frm + self.out.gap + APART
@@ -282,7 +284,7 @@ class Timing:
         return is_one and self.trust == "sure" and self.heard.count > 0 and is_overdue
 
     def is_likely(self):
-        is_first = self.role == "sender" and self.sent.kind == "opening"
+        is_first = self.role == "sender" and self.sent.kind in OPENINGS
         is_one = self.out.owed == "one" and self.trust == "unknown"
         return is_first and is_one and self.asked_within(LIKELY)
 
@@ -300,13 +302,14 @@ class Timing:
         if not repeat:
             calm = self.sent.kind == "data"
             shaken = clearing.need != "nothing" or (self.is_shaken and not calm)
-        empty = self.sent.kind == "opening" and following.kind == "eot"
+        is_last = self.sent.kind in OPENINGS and following.kind == "eot"
+        empty = following.kind == "empty" or is_last
         copied = self.out.owed == "likely" and taken
         out = self.out_after(taken, now)
         self.learn(clearing, taken)
         if clearing.need in ("late", "several"):
             self.vain = 0 if clearing.has_brought else min(HALVINGS, self.vain + 1)
-        self.hold.wrote(following.kind == "opening", repeat, (shaken and empty) or copied, now)
+        self.hold.wrote(following.kind in OPENINGS, repeat, (shaken and empty) or copied, now)
         if self.role == "receiver" and taken:
             self.front = (self.heard.first, self.heard.second)
         self.led_at = self.heard.last if self.heard.count else now

@@ -91,7 +91,7 @@ start now h = by h.first_ack
     by first_ack.Counts = stored now h
     by first_ack.Brief = stored now h
 
--- the first ACK C may be that of a copy of block 0
+-- the first ACK C may be that of a copy of the frame before
 abbrev pub eot_ack : ℕ → Hold → Said
 eot_ack now h = by h.first_ack
   where
@@ -107,6 +107,30 @@ at_eot byte now h =
     else (if nat_eq byte 0x43 then start now h
     else (if nat_eq byte 0x15 then holding false h.at first_ack.Counts say.Byte h
     else holding false h.at h.first_ack say.Byte h))
+
+-- The EOT of a file without bytes is acknowledged also by a receiver that never saw its block 0. So
+-- that block's own ACK C has to come: the first one may be that of a copy of the EOT before.
+abbrev pub empty_ack : Hold → Said
+empty_ack h = by h.first_ack
+  where
+    by : FirstAck → Said
+    by first_ack.Doubted = holding false h.at first_ack.Dropped say.Nothing h
+    by first_ack.Dropped = holding false h.at first_ack.Counts say.Byte h
+    by first_ack.Counts = record { hold = h; say = say.Byte }
+    by first_ack.Brief = record { hold = h; say = say.Byte }
+
+-- the C that belongs to the ACK that was dropped
+abbrev pub empty_start : Hold → Said
+empty_start h = by h.first_ack
+  where
+    by : FirstAck → Said
+    by first_ack.Dropped = holding false h.at first_ack.Counts say.Nothing h
+    by _ = record { hold = h; say = say.Byte }
+
+abbrev pub at_empty : ℕ → Hold → Said
+at_empty byte h =
+    if nat_eq byte 0x06 then empty_ack h
+    else (if nat_eq byte 0x43 then empty_start h else record { hold = h; say = say.Byte })
 
 -- What a peer prints behind the ACK of the end block may have C in it, or NAK: CAN alone takes that
 -- ACK back. C right behind the ACK of block 1 shows that it was that of a copy of block 0.
@@ -144,6 +168,7 @@ other k byte now h =
 
 abbrev pub by_kind : Kind → ℕ → ℕ → Hold → Said
 by_kind kind.Eot byte now h = at_eot byte now h
+by_kind kind.Empty byte now h = at_empty byte h
 by_kind k byte now h = other k byte now h
 
 abbrev pub passed_over : ℕ → Hold → Said

@@ -1,9 +1,12 @@
 -- What an end wrote last, and what it was: a frame's number alone does not tell block 0 of a file
 -- from its data block 256 (this profile).
-use Rattle.std.specs.Prelude.{ℕ, nat_eq, nat_le, ◌&&◌, Bool, List, length, slice_index}
+use Rattle.std.specs.Prelude.{ℕ, nat_eq, nat_le, ◌==◌, ◌&&◌, ◌||◌, Bool, List, drop, length}
+use Rattle.std.specs.Prelude.{slice_index}
 use Rattle.std.specs.Prelude.{if◌then◌else◌}
+use Rattle.std.specs.List.{after_first}
 use Rattle.ym_heard.specs.declared.sent.Kind.{Kind}
-use Rattle.ym_heard.specs.declared.sent.Kind.TheVariants.{Nothing, Opening, Data, Eot, End, Short}
+use Rattle.ym_heard.specs.declared.sent.Kind.TheVariants.{Nothing, Opening, Empty, Data, Eot, End}
+use Rattle.ym_heard.specs.declared.sent.Kind.TheVariants.{Short}
 use Rattle.ym_heard.specs.declared.sent.Sent.{Sent}
 
 abbrev pub nothing : Sent
@@ -12,19 +15,39 @@ nothing = record { length = 0; first = 0; second = 0; kind = Nothing }
 abbrev pub byte_at : List ℕ → ℕ → ℕ
 byte_at bytes place = slice_index bytes place
 
--- the first block of a file stands at the front of a batch, or behind an EOT; an empty name ends
--- the batch
-abbrev pub zero_kind : Kind → ℕ → Kind
-zero_kind Nothing fourth = if nat_eq fourth 0 then End else Opening
-zero_kind Eot fourth = if nat_eq fourth 0 then End else Opening
-zero_kind Short fourth = if nat_eq fourth 0 then End else Opening
-zero_kind Opening fourth = Opening
-zero_kind Data fourth = Data
-zero_kind End fourth = End
+abbrev pub is_zero : ℕ → Bool
+is_zero byte = byte == 0
+
+-- behind a block 0's head stand the name, 00, and the file's length in digits, which a space or 00
+-- ends (the reference's "YMODEM Batch File Transmission")
+abbrev pub behind_name : List ℕ → List ℕ
+behind_name body = after_first is_zero body
+
+abbrev pub states_zero : List ℕ → Bool
+states_zero rest =
+    nat_eq (byte_at rest 0) 0x30 && (nat_eq (byte_at rest 1) 0 || nat_eq (byte_at rest 1) 0x20)
+
+-- it says that its file has no bytes
+abbrev pub is_empty : List ℕ → Bool
+is_empty bytes = states_zero (behind_name (drop 3 bytes))
+
+-- an empty name ends the batch
+abbrev pub first_kind : List ℕ → Kind
+first_kind bytes =
+    if nat_eq (byte_at bytes 3) 0 then End else (if is_empty bytes then Empty else Opening)
+
+-- the first block of a file stands at the front of a batch, or behind an EOT
+abbrev pub zero_kind : Kind → List ℕ → Kind
+zero_kind Nothing bytes = first_kind bytes
+zero_kind Eot bytes = first_kind bytes
+zero_kind Short bytes = first_kind bytes
+zero_kind Opening bytes = Opening
+zero_kind Empty bytes = Empty
+zero_kind Data bytes = Data
+zero_kind End bytes = End
 
 abbrev pub block_kind : Kind → List ℕ → Kind
-block_kind last bytes = if nat_eq (byte_at bytes 1) 0 then zero_kind last (byte_at bytes 3)
-    else Data
+block_kind last bytes = if nat_eq (byte_at bytes 1) 0 then zero_kind last bytes else Data
 
 abbrev pub kind_of : Kind → List ℕ → Kind
 kind_of last bytes =

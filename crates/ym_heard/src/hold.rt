@@ -1,6 +1,6 @@
 //! What of a reply a sender hears later, or not at all: the ACK of an EOT with the C behind it,
-//! that of the end block when nothing came behind it, that of block 1 where it may be a copy's, and
-//! C that ask for what is on its way.
+//! that of the end block when nothing came behind it, that of block 1 where it may be a copy's,
+//! that of an empty file's block 0 where it may be an EOT's, and C that ask for what is on its way.
 
 ghost use Rattle.std.specs.Prelude.{◌≡◌, false};
 ghost use Rattle.ym_heard.specs.Hold as table;
@@ -9,12 +9,14 @@ use crate::ear::{ACK, CAN, NAK, START};
 use crate::limits::{BRIEF, MOMENT, STALE_ASKS, TOGETHER, WITHIN};
 use crate::sent::Kind;
 
-/// What is known of the first ACK C of an EOT, and of the first ACK of block 1.
+/// What is known of the first ACK C of an EOT or of an empty file's block 0, and of the first ACK
+/// of block 1.
 #[derive(Clone, Copy)]
 pub enum FirstAck {
     /// It counts.
     Counts,
-    /// It may be that of a copy of block 0: it is dropped, behind block 1 where C comes with it.
+    /// It may be that of a copy of the frame before: it is dropped, behind block 1 where C comes
+    /// with it.
     Doubted,
     /// Its ACK was dropped, and its C is.
     Dropped,
@@ -59,7 +61,8 @@ pub struct Hold {
     pub is_held: bool,
     /// When it came.
     pub at: u64,
-    /// What is known of the first ACK C of an EOT, and of the first ACK of block 1.
+    /// What is known of the first ACK C of an EOT or of an empty file's block 0, and of the first
+    /// ACK of block 1.
     pub first_ack: FirstAck,
     /// How many more C may be passed over.
     pub asks_left: u8,
@@ -102,7 +105,7 @@ impl Hold {
     }
 
     /// What was written may be a new block 0, behind which C are passed over, or what has a first
-    /// ACK that may be that of a copy of block 0; a repeat leaves the latter as it is.
+    /// ACK that may be that of a copy of the frame before; a repeat leaves the latter as it is.
     pub fn wrote(self, is_opening: bool, is_repeat: bool, is_doubted: bool, now: u64) -> Hold
         ensures { result ≡ table.wrote is_opening is_repeat is_doubted now self }
     {
@@ -202,6 +205,27 @@ impl Hold {
         }
     }
 
+    /// A control byte behind block 0 of a file without bytes. Its first ACK C may be that of a copy
+    /// of the EOT before. Then block 0 is asked for again, and answered by another one: the EOT of
+    /// such a file is acknowledged also by a receiver that never saw its block 0.
+    fn at_empty(self, byte: u8) -> Said
+        ensures { result ≡ table.at_empty byte self }
+    {
+        match (byte, self.first_ack) {
+            (ACK, FirstAck::Doubted) => {
+                self.holding(false, self.at, FirstAck::Dropped, Say::Nothing)
+            }
+            (ACK, FirstAck::Dropped) => self.holding(false, self.at, FirstAck::Counts, Say::Byte),
+            (START, FirstAck::Dropped) => {
+                self.holding(false, self.at, FirstAck::Counts, Say::Nothing)
+            }
+            _ => Said {
+                hold: self,
+                say: Say::Byte,
+            },
+        }
+    }
+
     /// Whether this byte, which is not to be heard, leaves the ACK that is held. What a peer prints
     /// behind the ACK of the end block may have C in it, or NAK: CAN alone takes that ACK back. C
     /// right behind the ACK of block 1 shows that it was that of a copy of block 0.
@@ -268,6 +292,7 @@ impl Hold {
         }
         match kind {
             Kind::Eot => self.at_eot(byte, now),
+            Kind::Empty => self.at_empty(byte),
             kind if self.has_moment(kind) => self.at_moment(is_end(kind), byte, now),
             _ => Said {
                 hold: self,

@@ -1,6 +1,6 @@
 //! What an end wrote last.
 
-ghost use Rattle.std.specs.Prelude.{◌≡◌};
+ghost use Rattle.std.specs.Prelude.{◌≡◌, ◌≤◌, length, position};
 ghost use Rattle.ym_heard.specs.Sent as table;
 
 /// What it was.
@@ -10,6 +10,8 @@ pub enum Kind {
     Nothing,
     /// Block 0 of a file.
     Opening,
+    /// Block 0 of a file that it says has no bytes.
+    Empty,
     /// A data block.
     Data,
     /// The end of a file's data.
@@ -40,6 +42,47 @@ fn byte_at(bytes: &[u8], place: usize) -> u8
     if place < bytes.len() { bytes[place] } else { 0 }
 }
 
+/// Where a name ends.
+fn name_end(body: &[u8]) -> Option<usize>
+    ensures { result ≡ position table.is_zero body.now }
+{
+    body.iter().position(|byte| *byte == 0)
+}
+
+/// What stands behind the name in a block 0's body: the file's length first.
+fn behind_name(body: &[u8]) -> &[u8]
+    ensures { result.now ≡ table.behind_name body.entry.now }
+{
+    match name_end(body) {
+        Some(end) => &body[end + 1..],
+        None => &[],
+    }
+}
+
+/// Whether a block 0 says that its file has no bytes.
+fn is_empty(bytes: &[u8]) -> bool
+    requires { 3 ≤ length bytes.now }
+    ensures { result ≡ table.is_empty bytes.now }
+{
+    let rest = behind_name(&bytes[3..]);
+    let end = byte_at(rest, 1);
+    byte_at(rest, 0) == b'0' && (end == 0 || end == b' ')
+}
+
+/// What the first block 0 of a file is.
+fn first_kind(bytes: &[u8]) -> Kind
+    requires { 3 ≤ length bytes.now }
+    ensures { result ≡ table.first_kind bytes.now }
+{
+    if byte_at(bytes, 3) == 0 {
+        Kind::End
+    } else if is_empty(bytes) {
+        Kind::Empty
+    } else {
+        Kind::Opening
+    }
+}
+
 impl Sent {
     /// Nothing was written.
     pub fn nothing() -> Sent
@@ -55,17 +98,12 @@ impl Sent {
 
     /// What a block with number 0 is, behind this: the first of a file stands at the front of a
     /// batch or behind an EOT.
-    fn zero_kind(self, fourth: u8) -> Kind
-        ensures { result ≡ table.zero_kind self.kind fourth }
+    fn zero_kind(self, bytes: &[u8]) -> Kind
+        requires { 3 ≤ length bytes.now }
+        ensures { result ≡ table.zero_kind self.kind bytes.now }
     {
         match self.kind {
-            Kind::Nothing | Kind::Eot | Kind::Short => {
-                if fourth == 0 {
-                    Kind::End
-                } else {
-                    Kind::Opening
-                }
-            }
+            Kind::Nothing | Kind::Eot | Kind::Short => first_kind(bytes),
             kind => kind,
         }
     }
@@ -80,7 +118,7 @@ impl Sent {
         } else if bytes.len() <= 3 {
             Kind::Short
         } else if second == 0 {
-            self.zero_kind(byte_at(bytes, 3))
+            self.zero_kind(bytes)
         } else {
             Kind::Data
         };

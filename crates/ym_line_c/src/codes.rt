@@ -98,6 +98,7 @@ pub fn kind_of(code: u8) -> Kind
         2 => Kind::Data,
         3 => Kind::Eot,
         4 => Kind::End,
+        5 => Kind::Empty,
         _ => Kind::Short,
     }
 }
@@ -112,7 +113,8 @@ pub fn code_of_kind(kind: Kind) -> u8
         Kind::Data => 2,
         Kind::Eot => 3,
         Kind::End => 4,
-        Kind::Short => 5,
+        Kind::Empty => 5,
+        Kind::Short => 6,
     }
 }
 

@@ -162,6 +162,7 @@ late_until from t = later from (max (halved (late_quiet t) t.vain) MOMENT)
 abbrev pub counts_answers : Role → Kind → Bool
 counts_answers Sender kind.Data = true
 counts_answers Sender kind.Opening = true
+counts_answers Sender kind.Empty = true
 counts_answers _ _ = false
 
 abbrev pub is_answered : Purge → Timing → Bool

@@ -246,6 +246,40 @@ far_asked-next : clear_at (purge block_1 29000 (asked_again 29000 (writes block_
     (asked_again 29000 (writes block_1 25250 far_asked)) ≡ 0
 far_asked-next = refl
 
+-- ---- A file without bytes, behind a line that stood still
+
+abbrev opening_empty : List ℕ
+opening_empty = 0x01 ∷ 0x00 ∷ 0xFF ∷ 0x62 ∷ 0x00 ∷ 0x30 ∷ 0x20 ∷ 0x1A ∷ []
+
+-- An EOT was written three times, and the answer to one of them came. Those to the others are
+-- overdue long before block 0 of the next file is written.
+abbrev stored_late : Timing
+stored_late = after_bytes ack_start eot 24000 (writes eot 21036 (writes eot 11036 (writes eot 1036
+    (after_bytes ack block_2 1036 quick))))
+
+stored_late-clear : clear_at (purge opening_empty 24000 stored_late) stored_late ≡ 25250
+stored_late-clear = refl
+
+-- Yet another one comes. It says nothing of block 0, and is not heard: a receiver that has no block
+-- 0 would acknowledge the EOT of this file, too.
+abbrev stale : Timing
+stale = after_bytes ack_start opening_empty 31000 (writes opening_empty 25250 stored_late)
+
+stale-heard : heard_of ack_start opening_empty 31000 (writes opening_empty 25250 stored_late) ≡ []
+stale-heard = refl
+
+-- so block 0 is asked for, written once more and answered
+stale-asked : heard_of start opening_empty 34000 stale ≡ start
+stale-asked = refl
+
+stale-answered : heard_of ack_start opening_empty 34012 (writes opening_empty 34000
+    (after_bytes start opening_empty 34000 stale)) ≡ ack_start
+stale-answered = refl
+
+-- A file with bytes needs no such care: its block 1 is refused by who has no block 0.
+stale-other : heard_of ack_start opening 31000 (writes opening 25250 stored_late) ≡ ack_start
+stale-other = refl
+
 -- ---- An answer that was stuck
 
 -- a receiver whose ACK of block 1 is stuck, so that both ends ask once more: 4000 is what an answer

@@ -156,6 +156,7 @@ is_late t = late_by t.role t.out.owed t.pace.trust t
 
 abbrev pub opening_kind : Kind → Bool
 opening_kind kind.Opening = true
+opening_kind kind.Empty = true
 opening_kind _ = false
 
 abbrev pub is_opening : Sent → Bool
@@ -205,22 +206,25 @@ abbrev pub is_shaken_after : Bool → Purge → Timing → Bool
 is_shaken_after is_repeat c t =
     if is_repeat then t.is_shaken else (has_cleared c || (t.is_shaken && not (is_data t.sent.kind)))
 
+-- Block 0 of a file without bytes, and an EOT right behind one. The EOT of such a file is
+-- acknowledged also by a receiver that never saw its block 0, so nothing else would show it.
 abbrev pub empty_kinds : Kind → Kind → Bool
+empty_kinds last kind.Empty = true
 empty_kinds kind.Opening kind.Eot = true
+empty_kinds kind.Empty kind.Eot = true
 empty_kinds _ _ = false
 
--- an EOT right behind block 0: an ACK C may be that of a copy of block 0
-abbrev pub is_empty_file : Sent → Sent → Bool
-is_empty_file last n = empty_kinds last.kind n.kind
+abbrev pub is_of_empty_file : Sent → Sent → Bool
+is_of_empty_file last n = empty_kinds last.kind n.kind
 
--- the first ACK may be that of a copy of block 0, since that most likely was damaged, or since the
--- line had to clear before the EOT of an empty file
+-- the first ACK may be that of a copy of the frame before: of a block 0 that most likely was
+-- damaged, or where the line had to clear before block 0 or the EOT of an empty file
 abbrev pub is_doubted : Sent → Bool → Bool → Timing → Bool
 is_doubted n taken shaken t = by t.out.owed
   where
     by : Owed → Bool
     by owed.Likely = taken
-    by _ = shaken && is_empty_file t.sent n
+    by _ = shaken && is_of_empty_file t.sent n
 
 -- ---- The write
 

@@ -233,7 +233,7 @@ impl Timing {
         ensures { result ≡ table.is_answered purge self.now }
     {
         match (self.role, self.sent.kind) {
-            (Role::Sender, Kind::Data) | (Role::Sender, Kind::Opening) => {
+            (Role::Sender, Kind::Data | Kind::Opening | Kind::Empty) => {
                 purge.has_brought && purge.owed == 0
             }
             _ => false,

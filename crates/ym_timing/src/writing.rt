@@ -209,14 +209,15 @@ impl Timing {
         }
     }
 
-    /// Whether the first ACK of what is written now may be that of a copy of block 0, since that
-    /// most likely was damaged, or since the line had to clear before the EOT of an empty file.
+    /// Whether the first ACK of what is written now may be that of a copy of the frame before: of a
+    /// block 0 that most likely was damaged, or where the line had to clear before block 0 or the
+    /// EOT of an empty file.
     fn is_doubted(&self, next: Sent, is_taken: bool, is_shaken: bool) -> bool
         ensures { result ≡ table.is_doubted next is_taken is_shaken self.now }
     {
         match self.out.owed {
             Owed::Likely => is_taken,
-            _ => is_shaken && is_empty_file(self.sent, next),
+            _ => is_shaken && is_of_empty_file(self.sent, next),
         }
     }
 
@@ -262,17 +263,17 @@ fn is_opening(next: Sent) -> bool
     ensures { result ≡ table.is_opening next }
 {
     match next.kind {
-        Kind::Opening => true,
+        Kind::Opening | Kind::Empty => true,
         _ => false,
     }
 }
 
-/// Whether no data block stands between them.
-fn is_empty_file(last: Sent, next: Sent) -> bool
-    ensures { result ≡ table.is_empty_file last next }
+/// Whether it is block 0 of a file that has no bytes, or the EOT behind one.
+fn is_of_empty_file(last: Sent, next: Sent) -> bool
+    ensures { result ≡ table.is_of_empty_file last next }
 {
     match (last.kind, next.kind) {
-        (Kind::Opening, Kind::Eot) => true,
+        (_, Kind::Empty) | (Kind::Opening | Kind::Empty, Kind::Eot) => true,
         _ => false,
     }
 }
